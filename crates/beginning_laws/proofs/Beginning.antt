@@ -39,7 +39,7 @@ use Rattle.beginning_laws.specs.Laws.{HoldsStart, ReadsOn, StartsAreRead, Answer
 use Rattle.beginning_laws.proofs.Messages.{all_behind}
 
 -- one that has failed answers that again, with nothing written
-asked_again : (version : Version) (first old : MachineState) (result : Result Input Error) (new : MachineState) → first.active.output ≡ record { version = version; bytes = []; is_closed = false }
+asked_again : (version : Version) (first old : MachineState) (result : Result Input Error) (new : MachineState) → first.active.output ≡ record { version = version; bytes = []; is_closed = false; has_commands = false }
     → FailsForMemory first old → IsRead old result new → RefusesInput version result new
 asked_again version first old result new nothing failed steps =
     go steps.admission (subst (λ (kept : Option Error). AdmitsWhere kept None old steps.admission steps.between) (ap kept_error failed.phase) steps.admits) steps.goes_on
@@ -81,7 +81,7 @@ module _ (starts : StartsAreRead) (inputs : InputsAreAnswered) (start : AttemptS
   is_kind : kind_of old ≡ new_kind version options
   is_kind = λ i. record { version = is_new.version_is i; options = is_new.options_are i; is_input_closed = is_new.opened i; reads = is_new.reads i }
 
-  nothing : old.active.output ≡ record { version = version; bytes = []; is_closed = false }
+  nothing : old.active.output ≡ record { version = version; bytes = []; is_closed = false; has_commands = false }
   nothing = is_new.active.output
 
   holds : HoldsStart start (new_kind version options) messages (bytes_of cuts ++ []) old

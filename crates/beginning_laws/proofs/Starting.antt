@@ -70,8 +70,8 @@ module _ (start_kept : StartsAreKept) (keeps : MessagesAreKept) (start : Attempt
       (ap (λ (x : Item × List ℕ). x.0) both, ap (λ (x : Item × List ℕ). x.1) both)
 
   -- it has written nothing
-  fresh_output : (vm : MachineState) → AwaitsStart start kind vm → vm.active.output ≡ record { version = kind.version; bytes = []; is_closed = false }
-  fresh_output vm awaits = subst (λ (k : Kind). vm.active.output ≡ record { version = k.version; bytes = []; is_closed = false }) awaits.kind_is awaits.waits.active.output
+  fresh_output : (vm : MachineState) → AwaitsStart start kind vm → vm.active.output ≡ record { version = kind.version; bytes = []; is_closed = false; has_commands = false }
+  fresh_output vm awaits = subst (λ (k : Kind). vm.active.output ≡ record { version = k.version; bytes = []; is_closed = false; has_commands = false }) awaits.kind_is awaits.waits.active.output
 
   begun_so : (old new : MachineState) → AwaitsStart start kind old → HasBegun start.given (shown_state start.new.state shows.state) (start_told start shows) payload old new → HasStarted start (start_told start shows) kind [] new
   begun_so old new awaits h = record {
@@ -91,7 +91,7 @@ module _ (start_kept : StartsAreKept) (keeps : MessagesAreKept) (start : Attempt
 
   module _ (old : MachineState) (first : AwaitsStart start kind old) where
     -- what fails behind a machine that has written nothing
-    fails_behind : (between new : MachineState) → between.active.output ≡ record { version = kind.version; bytes = []; is_closed = false } → FailsForMemory between new → FailsForMemory old new
+    fails_behind : (between new : MachineState) → between.active.output ≡ record { version = kind.version; bytes = []; is_closed = false; has_commands = false } → FailsForMemory between new → FailsForMemory old new
     fails_behind between new same failed = memory_over old between new (same ∙ sym (fresh_output old first)) failed
 
     fails_taken : (coming : List ℕ) (between new : MachineState) (taken : Taken start (start_told start shows) kind messages coming between) → FailsForMemory taken.begun new → FailsForMemory old new

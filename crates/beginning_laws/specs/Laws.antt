@@ -76,14 +76,14 @@ ArrivalsAreRead = (start : AttemptStart) (kind : Kind) (m : Machine) (unread : L
 pub record AnswersInput (start : AttemptStart) (kind : Kind) (m : Machine) (old : MachineState) (result : Result Input Error) (new : MachineState) : Type 0 where
   pub answer : result ≡ Ok start.given.input
   pub asked : IsAsked start kind m new
-  pub written : new.active.output ≡ record { version = kind.version; bytes = []; is_closed = false }
+  pub written : new.active.output ≡ record { version = kind.version; bytes = []; is_closed = false; has_commands = false }
   pub others : new ≡ record old { active = new.active }
 
 -- or the answer is that memory was refused, and nothing was written
 pub record RefusesInput (version : Version) (result : Result Input Error) (new : MachineState) : Type 0 where
   pub answer : result ≡ Err out_of_memory
   pub phase : new.phase ≡ phases.Failed out_of_memory
-  pub output : new.active.output ≡ ended (record { version = version; bytes = []; is_closed = false })
+  pub output : new.active.output ≡ ended (record { version = version; bytes = []; is_closed = false; has_commands = false })
 
 abbrev pub InputsAreAnswered : Type 0
 InputsAreAnswered = (start : AttemptStart) (shows : ShowsStart start) (kind : Kind) (read : List InputMessage) (old : MachineState) (result : Result Input Error) (new : MachineState)

@@ -90,7 +90,7 @@ pub record HasStarted (start : AttemptStart) (told : StartMessage) (kind : Kind)
   pub start_is : vm.start ≡ Some (without_state told)
   pub commands : vm.active.commands.items ≡ commands_in read
   pub gathers : Gathers start.given vm.active (gathered_all read (machine_at_start start.shown [] []))
-  pub output : vm.active.output ≡ record { version = kind.version; bytes = []; is_closed = false }
+  pub output : vm.active.output ≡ record { version = kind.version; bytes = []; is_closed = false; has_commands = false }
 
 -- its input was read: calls see this machine
 pub record IsAsked (start : AttemptStart) (kind : Kind) (m : Machine) (vm : MachineState) : Type 0 where

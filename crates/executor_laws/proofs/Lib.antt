@@ -2,4 +2,3 @@ pub mod Outcomes
 pub mod Flying
 pub mod Living
 pub mod Turning
-pub mod Childless

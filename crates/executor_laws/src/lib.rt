@@ -4,7 +4,6 @@
 //! functions do nothing: their contracts are the laws.
 #![tactic(auto)]
 
-ghost use Rattle.executor_laws.specs.Childless.{NextExecutorRepliesAreSame};
 ghost use Rattle.executor_laws.specs.Flying.{OthersFollow, OutcomesAreNew, OutcomesAreOpen, OutcomesBegin, OutcomesStay};
 ghost use Rattle.executor_laws.specs.Living.{ExecutorsBegin, ExecutorsStayLive, ExecutorsTurn};
 ghost use Rattle.executor_laws.specs.Outcomes.{OutcomesAreTaken};
@@ -29,9 +28,4 @@ pub fn executors_live()
     ensures begins { ExecutorsBegin }
     ensures stays { ExecutorsStayLive }
     ensures turns { ExecutorsTurn }
-{}
-
-/// As long as no cancellation has come, it does not matter which children the machine tracks.
-pub fn children_change_nothing()
-    ensures { NextExecutorRepliesAreSame }
 {}

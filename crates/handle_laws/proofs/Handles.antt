@@ -20,8 +20,7 @@ use Rattle.attempt_model.specs.Results.{Slots, Ready, slot_in, slot_of, handle_s
 use Rattle.attempt_model.specs.Machine.{Machine, AwaitsTree, is_cancelled, reply_where_asleep, reply_where_cancelled, reply_where_unknown, reply_to_children, reply_where_awake, reply_to_await, reply_unless_refused}
 use Rattle.attempt_tables.proofs.Waking.{awake-map}
 use Rattle.handle_laws.specs.Trees.{IdFits, LeavesFit, AllLeavesFit, IsWithin, AreWithin, SlotsFit}
-use Rattle.handle_laws.specs.Awaiting.{HandlesFit, IsLeft, AwaitsLeave, AwaitedTreesFit}
-use Rattle.handle_laws.proofs.Fitting.{future_fits}
+use Rattle.handle_laws.specs.Awaiting.{HandlesFit, IsLeft, AwaitsLeave}
 
 -- ---- what handles stand for
 
@@ -193,6 +192,3 @@ awaits_leave same_header given m after tree left e = by_refusal (refusal_of give
     by_refusal None e =
         by_resolution (resolution_of given.options.signal_delivery m.slots (awaited_tree given.options.implicit_cancellation tree) m.queue m.ready) refl e
     by_refusal (Some refusal) e = absurd cc
-
-pub awaited_trees_fit : AwaitedTreesFit
-awaited_trees_fit = record { records = future_fits; handles = handles_fit; awaits = awaits_leave }

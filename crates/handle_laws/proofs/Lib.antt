@@ -1,3 +1,4 @@
 pub mod Fitting
 pub mod Handles
+pub mod Children
 pub mod Machines

@@ -1,5 +1,5 @@
 -- What a machine is told: bytes, that no more come, an error of its host; its input is read.
-use Rattle.std.proofs.Common.{◌≡◌, inl, inr, ℕ, ◌-◌, nat_lt, if◌then◌else◌, Bool, true, false, List, [], ◌∷◌, Option, Some, None, Result, Ok, Err, refl, sym, ap, subst, ◌∙◌}
+use Rattle.std.proofs.Common.{◌≡◌, ◌≤◌, ◌+◌, ◌*◌, ◌^◌, min, drop, arith, inl, inr, ℕ, ◌-◌, nat_lt, if◌then◌else◌, Bool, true, false, List, [], ◌∷◌, Option, Some, None, Result, Ok, Err, refl, sym, ap, subst, ◌∙◌}
 use Rattle.std.specs.declared.alloc.AllocError.{AllocError}
 use Rattle.journal_model.specs.declared.handler.Input.{Input}
 use Rattle.journal_model.specs.declared.options.SignalDelivery.{SignalDelivery}
@@ -23,7 +23,11 @@ use Rattle.vm_context.specs.Following.{KnowsState, start_of}
 use Rattle.vm_context.specs.Output.{all_taken}
 use Rattle.vm_machine.specs.Entries.{ComesCommand, ComesNotification}
 use Rattle.vm_machine.specs.Incoming.{incoming_of}
-use Rattle.vm_machine.specs.Input.{Leaves}
+use Rattle.vm_machine.specs.Input.{Leaves, counted, skipped, at_input}
+use Rattle.vm_context.specs.Journal.{JournalCounts}
+use Rattle.vm_types.specs.declared.options.JournalReplay.{JournalReplay}
+use Rattle.attempt_model.specs.Children.{Child}
+use Rattle.vm_results.specs.Children.{AreMade}
 use Rattle.vm_machine.specs.Starting.{ComesStart}
 use Rattle.vm_machine.specs.declared.entry_error.EntryError.{EntryError}
 use Rattle.vm_machine.specs.declared.incoming.Incoming.{Incoming}
@@ -35,12 +39,12 @@ use Rattle.vm_start.specs.declared.phase.Phase.TheVariants as phases
 use Rattle.vm_feeding.specs.Asking.{TakesOutput}
 use Rattle.vm_feeding.specs.Closing.{is_waiting, ClosesWhere, ClosesInput, input_closed}
 use Rattle.vm_feeding.specs.Failing.{HasFailed}
-use Rattle.vm_feeding.specs.Feeding.{has_failed, with_bytes, with_input, TakesEach, StopsAt, RestsWhere, Rests, IsFed}
+use Rattle.vm_feeding.specs.Feeding.{has_failed, with_bytes, with_input, TakesEach, StopsAt, RestsWhere, IsFed}
 use Rattle.vm_feeding.specs.Passed.{is_active, IsElsewhere, Takes, TakesAs, Receives, MachineState}
 use Rattle.vm_feeding.specs.Telling.{IsTold}
 use Rattle.vm_start.specs.Starts.{pairs_of}
 use Rattle.vm_types.specs.declared.options.VMOptions.{VMOptions}
-use Rattle.host_laws.proofs.Keeping.{Keeps, Replays, StandsIn, Stands, moved, when_active, active_again, IsLike, keeps_like, replays_like, like_again, results_like, output_like, failed, steps_stand}
+use Rattle.host_laws.proofs.Keeping.{Keeps, made_like, counted_like, Replays, StandsIn, Stands, moved, when_active, active_again, IsLike, keeps_like, replays_like, like_again, results_like, output_like, failed, steps_stand}
 
 has_failed_stands : (cause : Result Error AllocError) (old new : MachineState) → HasFailed cause old new → Stands new
 has_failed_stands cause old new is = failed cause old is.answer new is.fails
@@ -70,6 +74,8 @@ keeps_but_commands delivery old new is keeps = record {
   state = subst (λ (state : KnownState). KnowsState state keeps.start keeps.done) (sym (ap (λ (a : Active). a.state) is)) keeps.state;
   opened = ap (λ (a : Active). a.output.is_closed) is ∙ keeps.opened;
   delivers = ap (λ (a : Active). delivery_of a.results) is ∙ keeps.delivers;
+  made = made_like old new (ap (λ (a : Active). a.journal.completions) is) (ap (λ (a : Active). a.children) is) keeps.made;
+  counted = counted_like old new (ap (λ (a : Active). a.journal.completions) is) keeps.counted;
 }
 
 command_stands : (message : RawMessage) (done : Unit {0}) (phase : Phase) (delivery : SignalDelivery) (old : Active) (phase' : Phase) (new : Active) → ComesCommand message phase old (Ok done) phase' new
@@ -106,6 +112,8 @@ start_stands message start phases.WaitingStart delivery old phase' new comes sta
         state = subst (λ (state : KnownState). KnowsState state (start_of comes.reads.whole.partial_state (pairs_of comes.reads.whole.state_map)) []) (sym (ap (λ (a : Active). a.state) is)) begins.knows;
         opened = ap (λ (a : Active). a.output.is_closed) is ∙ stands.0.opened;
         delivers = ap (λ (a : Active). delivery_of a.results) is ∙ stands.0.delivers;
+        made = made_like old new (ap (λ (a : Active). a.journal.completions) is) (ap (λ (a : Active). a.children) is) stands.0.made;
+        counted = counted_like old new (ap (λ (a : Active). a.journal.completions) is) stands.0.counted;
       },
       ap (λ (a : Active). a.is_replaying) is ∙ stands.1,
     )
@@ -184,12 +192,26 @@ still_has : (messages : List RawMessage) → still_replays true messages ≡ has
 still_has [] = refl
 still_has (message ∷ messages) = refl
 
+-- no fewer completions are counted behind the input, and so many at most
+counts_behind : (replay : JournalReplay) (messages : List RawMessage) (old new : Active) → new.journal ≡ counted replay messages (at_input old) → old.journal.completions ≤ 2 ^ 32
+    → (old.journal.completions ≤ new.journal.completions) × (new.journal.completions ≤ 2 ^ 32)
+counts_behind JournalReplay.Enabled messages old new is most =
+    let same : new.journal.completions ≡ old.journal.completions = ap (λ (j : JournalCounts). j.completions) is in (omega (arith, same), omega (arith, same, most))
+counts_behind JournalReplay.Disabled messages old new is most =
+    let same : new.journal.completions ≡ min (old.journal.completions + 2 * skipped messages) (2 ^ 32) = ap (λ (j : JournalCounts). j.completions) is in
+    (omega (arith, same, most), omega (arith, same, most))
+
+still_made : (children : List Child) (count more : ℕ) → count ≤ more → AreMade count children → AreMade more children
+still_made [] count more less made = tt
+still_made (child ∷ children) count more less made = let first = made.0 in (omega (arith, less, first), still_made children count more less made.1)
+
 module _ (old between : MachineState) (others : between ≡ record old { active = between.active }) (calls : is_active old.phase ≡ true) (stands : Stands old) where
   -- what is left is what is replayed
   leaves_stands : (replaying : old.active.is_replaying ≡ true) (start : StartMessage) (read : Result InputCommandMessage InputError) (reading : Reading) (result : Result Input Error) (new : MachineState)
       → Leaves old.options.journal_replay old.active read between.active → Gives old.version old.options start between.active read reading → AnswersReading reading between result new → Stands new
   leaves_stands replaying start (Ok message) (readings.Given input) result new leaves gives answers =
       let kept = when_active old.phase old.options.signal_delivery old.active calls stands in
+      let counts = counts_behind old.options.journal_replay (drop 1 old.active.commands.items) old.active between.active leaves.journal kept.0.counted in
       active_again old between.active new (answers.1 ∙ others) calls (
       record {
         start = kept.0.start;
@@ -197,6 +219,9 @@ module _ (old between : MachineState) (others : between ≡ record old { active 
         state = subst (λ (state : KnownState). KnowsState state kept.0.start kept.0.done) (sym (ap (λ (a : Active). a.state) leaves.others)) kept.0.state;
         opened = ap (λ (a : Active). a.output.is_closed) leaves.others ∙ kept.0.opened;
         delivers = ap (λ (a : Active). delivery_of a.results) leaves.others ∙ kept.0.delivers;
+        made = subst (λ (cs : List Child). AreMade between.active.journal.completions cs) (sym (ap (λ (a : Active). a.children) leaves.others))
+            (still_made old.active.children old.active.journal.completions between.active.journal.completions (counts.0) kept.0.made);
+        counted = counts.1;
       }
       )
       (inr (leaves.replaying ∙ ap (λ (replays : Bool). still_replays replays between.active.commands.items) replaying ∙ still_has between.active.commands.items))

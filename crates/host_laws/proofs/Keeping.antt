@@ -1,18 +1,27 @@
 -- What is kept of a machine by each call, and that its clauses speak of it then.
-use Rattle.std.proofs.Common.{◌≡◌, ◌⊎◌, inl, inr, true, false, List, [], Option, Some, None, Result, Ok, Err, refl, sym, ap, subst, ◌∙◌}
+use Rattle.std.proofs.Common.{◌≡◌, ◌⊎◌, ◌≤◌, ◌<◌, ◌+◌, ◌^◌, inl, inr, ℕ, zero, suc, Bool, true, false, List, [], Option, Some, None, Result, Ok, Err, refl, sym, ap, subst, ◌∙◌, arith}
+use Rattle.std.proofs.lemmas.Bool.{cases_lt}
 use Rattle.std.specs.declared.alloc.AllocError.{AllocError}
+use Rattle.journal_model.specs.History.{completions_of}
+use Rattle.journal_model.specs.Refusal.{Refusal, refusal_of}
 use Rattle.journal_model.specs.Request.{Request}
 use Rattle.journal_model.specs.Run.{Invocation}
 use Rattle.journal_model.specs.State.{StartState}
-use Rattle.journal_model.specs.declared.options.ImplicitCancellationOption.{ImplicitCancellationOption}
+use Rattle.journal_model.specs.declared.call.Answer.{Answer}
+use Rattle.journal_model.specs.declared.call.Call.{Call}
 use Rattle.journal_model.specs.declared.options.SignalDelivery.{SignalDelivery}
-use Rattle.attempt_model.specs.Machine.{Machine}
+use Rattle.attempt_model.specs.Children.{Child}
+use Rattle.attempt_model.specs.Machine.{Machine, Reply, Answered, Work, ToMake, work_of, reply_to_make, reply_to_work, reply_unless_refused, reply_to}
+use Rattle.attempt_model.specs.Requests.{PutState, put_all, requests_by}
 use Rattle.protocol_errors.specs.declared.error.Error.{Error}
 use Rattle.protocol_stream.specs.declared.decoder.RawMessage.{RawMessage}
 use Rattle.protocol_types.specs.Version.{version_number}
 use Rattle.protocol_types.specs.declared.version.Version.{Version}
 use Rattle.vm_awaits.specs.Views.{AsyncResults, delivery_of, queue_of, ready_of, slots_of}
-use Rattle.vm_calls.specs.Active.{Sees, left_of, has_left}
+use Rattle.vm_results.specs.Children.{AreMade}
+use Rattle.vm_commands.specs.HeaderEquality.{same_header}
+use Rattle.vm_calls.specs.Active.{Sees, left_of, has_left, HasCompletions}
+use Rattle.vm_calls.specs.Making.{Replies}
 use Rattle.vm_calls.specs.Passed.{commands_of}
 use Rattle.vm_calls.specs.Spent.{IsSpent}
 use Rattle.vm_calls.specs.declared.active.Active.{Active}
@@ -23,21 +32,33 @@ use Rattle.vm_start.specs.Failing.{Fails}
 use Rattle.vm_start.specs.Phases.{kept_error}
 use Rattle.vm_start.specs.declared.phase.Phase.{Phase}
 use Rattle.vm_start.specs.declared.phase.Phase.TheVariants as phases
-use Rattle.vm_feeding.specs.Passed.{MachineFails, is_active, AdmitsWhere, GoesOn, Steps, Admission, Admitted, Elsewhere, Stopped, MachineState}
+use Rattle.vm_feeding.specs.Passed.{MachineFails, is_active, AdmitsWhere, GoesOn, Steps, Admission, Admitted, Elsewhere, Stopped, IsOf, MachineState}
 use Rattle.vm_feeding.specs.Handles.{id_of}
 use Rattle.vm_refusals.specs.declared.refusal_error.RefusalError.{RefusalError}
 use Rattle.vm_types.specs.declared.options.JournalMismatchRetryBehavior.{JournalMismatchRetryBehavior}
-use Rattle.host_laws.specs.Standing.{IsSeen, IsSpokenOf}
+use Rattle.host_laws.specs.Standing.{IsSpokenOf}
 
 -- ---- what is kept
 
--- what is known of the state is known of some start and requests, frames can be written, and signals are delivered so
+-- what is known of the state is known of some start and requests, frames can be written, signals are delivered so, and each child is a
+-- completion that was made; so many completions there are at most
 pub record Keeps (delivery : SignalDelivery) (active : Active) : Type 0 where
   pub start : StartState
   pub done : List Request
   pub state : KnowsState active.state start done
   pub opened : active.output.is_closed ≡ false
   pub delivers : delivery_of active.results ≡ delivery
+  pub made : AreMade active.journal.completions active.children
+  pub counted : active.journal.completions ≤ 2 ^ 32
+
+-- so it is where completions and children are as before
+pub made_like : (old new : Active) → new.journal.completions ≡ old.journal.completions → new.children ≡ old.children → AreMade old.journal.completions old.children
+    → AreMade new.journal.completions new.children
+made_like old new completions children made =
+    subst (λ (n : ℕ). AreMade n new.children) (sym completions) (subst (λ (cs : List Child). AreMade old.journal.completions cs) (sym children) made)
+
+pub counted_like : (old new : Active) → new.journal.completions ≡ old.journal.completions → old.journal.completions ≤ 2 ^ 32 → new.journal.completions ≤ 2 ^ 32
+counted_like old new completions counted = subst (λ (n : ℕ). n ≤ 2 ^ 32) (sym completions) counted
 
 -- it replays where something is left; or nothing is, and it does
 abbrev pub Replays : Active → Type 0
@@ -79,13 +100,15 @@ active_again old active new is calls keeps replays =
 
 -- ---- what a call changes that puts no command
 
--- what is told of replaying, state, output and delivery is as before
+-- what is told of replaying, state, output, delivery and completions is as before, and children stay completions that were made
 pub record IsLike (old new : Active) : Type 0 where
   pub replaying : new.is_replaying ≡ old.is_replaying
   pub commands : new.commands.items ≡ old.commands.items
   pub state : new.state ≡ old.state
   pub closed : new.output.is_closed ≡ old.output.is_closed
   pub delivers : delivery_of new.results ≡ delivery_of old.results
+  pub completions : new.journal.completions ≡ old.journal.completions
+  pub made : AreMade old.journal.completions old.children → AreMade new.journal.completions new.children
 
 pub keeps_like : (delivery : SignalDelivery) (old new : Active) → IsLike old new → Keeps delivery old → Keeps delivery new
 keeps_like delivery old new like keeps = record {
@@ -94,6 +117,8 @@ keeps_like delivery old new like keeps = record {
   state = subst (λ (state : KnownState). KnowsState state keeps.start keeps.done) (sym like.state) keeps.state;
   opened = like.closed ∙ keeps.opened;
   delivers = like.delivers ∙ keeps.delivers;
+  made = like.made keeps.made;
+  counted = counted_like old new like.completions keeps.counted;
 }
 
 pub replays_like : (old new : Active) → IsLike old new → Replays old → Replays new
@@ -119,6 +144,8 @@ results_like old new is delivers = record {
   state = ap (λ (a : Active). a.state) is;
   closed = ap (λ (a : Active). a.output.is_closed) is;
   delivers = delivers;
+  completions = ap (λ (a : Active). a.journal.completions) is;
+  made = made_like old new (ap (λ (a : Active). a.journal.completions) is) (ap (λ (a : Active). a.children) is);
 }
 
 -- nothing changes
@@ -129,6 +156,8 @@ same_like old new is = record {
   state = ap (λ (a : Active). a.state) is;
   closed = ap (λ (a : Active). a.output.is_closed) is;
   delivers = ap (λ (a : Active). delivery_of a.results) is;
+  completions = ap (λ (a : Active). a.journal.completions) is;
+  made = made_like old new (ap (λ (a : Active). a.journal.completions) is) (ap (λ (a : Active). a.children) is);
 }
 
 -- what is written changes alone
@@ -139,6 +168,8 @@ output_like old new is closed = record {
   state = ap (λ (a : Active). a.state) is;
   closed = closed;
   delivers = ap (λ (a : Active). delivery_of a.results) is;
+  completions = ap (λ (a : Active). a.journal.completions) is;
+  made = made_like old new (ap (λ (a : Active). a.journal.completions) is) (ap (λ (a : Active). a.children) is);
 }
 
 -- ---- machines that fail
@@ -177,14 +208,17 @@ module _ {Taken : Type 0} (Makes : MachineState → Result Taken Error → Machi
 
 -- ---- the abstract machine that is seen
 
--- an invocation of the machine's version and id
-abbrev pub given_of : MachineState → ImplicitCancellationOption → Invocation
-given_of vm option = record {
+-- an invocation of the machine's version, id and options
+abbrev pub given_of : MachineState → Invocation
+given_of vm = record {
   version = version_number vm.version;
-  options = record { implicit_cancellation = option; signal_delivery = vm.options.signal_delivery };
+  options = record { implicit_cancellation = vm.options.implicit_cancellation; signal_delivery = vm.options.signal_delivery };
   input = record { invocation_id = id_of vm.start; key = []; random_seed = 0; headers = []; input = []; scope = None; limit_key = None; idempotency_key = None };
   start = record { is_whole = false; entries = [] };
 }
+
+pub is_of : (vm : MachineState) → IsOf (given_of vm) vm
+is_of vm = record { version = refl; cancellation = refl }
 
 abbrev pub machine_in : StartState → List Request → Active → Machine
 machine_in start done active = record {
@@ -197,7 +231,7 @@ machine_in start done active = record {
   slots = slots_of active.results;
   start = start;
   done = done;
-  children = [];
+  children = active.children;
 }
 
 abbrev delivered : Active → SignalDelivery → AsyncResults
@@ -214,16 +248,19 @@ seen given active keeps replaying = record {
   signals = refl;
   opened = keeps.opened;
   children = refl;
+  made = keeps.made;
 }
 
--- a machine that is seen is kept
-pub seen_keeps : (given : Invocation) (active : Active) (m : Machine) → Sees given active m → Keeps given.options.signal_delivery active
-seen_keeps given active m sees = record {
+-- a machine that is seen is kept, where its completions are so many at most
+pub seen_keeps : (given : Invocation) (active : Active) (m : Machine) → Sees given active m → m.completions ≤ 2 ^ 32 → Keeps given.options.signal_delivery active
+seen_keeps given active m sees counted = record {
   start = m.start;
   done = m.done;
   state = sees.state;
   opened = sees.opened;
   delivers = ap (λ (results : AsyncResults). results.delivery) sees.results;
+  made = subst (λ (n : ℕ). AreMade n active.children) (sym sees.completions) (subst (λ (cs : List Child). AreMade m.completions cs) (sym sees.children) sees.made);
+  counted = subst (λ (n : ℕ). n ≤ 2 ^ 32) (sym sees.completions) counted;
 }
 
 pub seen_replays : (given : Invocation) (active : Active) (m : Machine) → Sees given active m → Replays active
@@ -235,8 +272,42 @@ spoken_of vm keeps (inl spent) = inr spent
 spoken_of vm keeps (inr replaying) = inl (record {
   machine = machine_in keeps.start keeps.done vm.active;
   given = given_of vm;
-  version = λ option. refl;
-  id = λ option. refl;
-  cancellation = λ option. refl;
-  sees = λ option. seen (given_of vm option) vm.active keeps replaying;
+  is_of = is_of vm;
+  id = refl;
+  sees = seen (given_of vm) vm.active keeps replaying;
 })
+
+-- ---- completions
+
+-- a call that makes what it answers takes its completions
+abbrev counted_in : Reply → ℕ
+counted_in (Answered answer machine) = machine.completions
+counted_in _ = 0
+
+module _ (same : Call → Request → Request → Bool) (given : Invocation) (m : Machine) (call : Call) (answer : Answer) (machine : Machine) where
+  by_put : (requests : List Request) (put : Option PutState) → reply_to_make (same call) given m call requests put ≡ Answered answer machine → machine.completions ≡ m.completions + completions_of call
+  by_put requests None is = absurd cc
+  by_put requests (Some put) is = sym (ap counted_in is)
+
+  by_refusal : (refusal : Option Refusal) → work_of call ≡ ToMake → reply_unless_refused (same call) given m call refusal ≡ Answered answer machine → machine.completions ≡ m.completions + completions_of call
+  by_refusal (Some refusal) work is = absurd cc
+  by_refusal None work is =
+      let requests = requests_by m.start m.done m.left m.completions call in
+      by_put requests (put_all (same call) requests (record { left = m.left; written = m.written })) (sym (ap (λ (w : Work). reply_to_work (same call) given m call w) work) ∙ is)
+
+  pub takes_completions : work_of call ≡ ToMake → reply_to same given m call ≡ Answered answer machine → machine.completions ≡ m.completions + completions_of call
+  takes_completions work is = by_refusal (refusal_of given.version call) work is
+
+within : (count taken : ℕ) (old : Active) → count ≡ old.journal.completions → HasCompletions taken old → count ≤ 2 ^ 32 → count + taken ≤ 2 ^ 32
+within count zero old is has counted = omega (arith, counted)
+within count (suc more) old is has counted = elim (cases_lt (2 ^ 32) (count + suc more)) [
+  | inl lt ↦ absurd (has (inl (subst (λ (n : ℕ). 2 ^ 32 < n + suc more) is lt)))
+  | inr ge ↦ ge
+]
+
+-- so many there are then
+pub counts_on : (checks_off : Bool) (given : Invocation) (call : Call) (answer : Answer) (start : StartState) (done : List Request) (old new : Active) → work_of call ≡ ToMake → old.journal.completions ≤ 2 ^ 32
+    → (replies : Replies checks_off given (machine_in start done old) call answer old new) → replies.machine.completions ≤ 2 ^ 32
+counts_on checks_off given call answer start done old new work counted replies =
+    subst (λ (n : ℕ). n ≤ 2 ^ 32) (sym (takes_completions (same_header checks_off) given (machine_in start done old) call answer replies.machine work replies.replies))
+    (within old.journal.completions (completions_of call) old refl replies.has counted)

@@ -1,7 +1,6 @@
 -- What the clauses of calls ask of a machine, and that it is so of one that was made and asked any calls.
 use Rattle.std.specs.Prelude.{◌≡◌, ◌⊎◌, List}
 use Rattle.journal_model.specs.Run.{Invocation}
-use Rattle.journal_model.specs.declared.options.ImplicitCancellationOption.{ImplicitCancellationOption}
 use Rattle.attempt_model.specs.Machine.{Machine}
 use Rattle.protocol_types.specs.declared.version.Version.{Version}
 use Rattle.vm_feeding.specs.Beginning.{IsNew}
@@ -13,16 +12,13 @@ use Rattle.vm_feeding.specs.Handles.{id_of}
 use Rattle.vm_types.specs.declared.options.VMOptions.{VMOptions}
 use Rattle.host_laws.specs.Hosting.{HostCall, DoesEach}
 
--- What a machine keeps for calls is what an abstract machine keeps, and that of an invocation of its version and its id, whichever calls a
--- cancellation is passed on to: so there is one that tracks no child, of which commands are told, and one with the machine's own option,
--- of which awaits are.
+-- What a machine keeps for calls is what an abstract machine keeps, and that of an invocation of its version, its id and its options.
 pub record IsSeen (vm : MachineState) : Type 0 where
   pub machine : Machine
-  pub given : ImplicitCancellationOption → Invocation
-  pub version : (option : ImplicitCancellationOption) → IsOf (given option) vm
-  pub id : (option : ImplicitCancellationOption) → (given option).input.invocation_id ≡ id_of vm.start
-  pub cancellation : (option : ImplicitCancellationOption) → (given option).options.implicit_cancellation ≡ option
-  pub sees : (option : ImplicitCancellationOption) → Sees (given option) vm.active machine
+  pub given : Invocation
+  pub is_of : IsOf given vm
+  pub id : given.input.invocation_id ≡ id_of vm.start
+  pub sees : Sees given vm.active machine
 
 -- so it is, or it replays and nothing is left
 abbrev pub IsSpokenOf : MachineState → Type 0

@@ -85,11 +85,6 @@ sound_read t of request_of request payload read = by_fault (payload_fault LEVELS
     by_fault (Some fault) is =
         let wrong : None ≡ Some request = sym (ap (λ (f : Option Fault). unless_wrong f (request_of (of LEVELS (fields payload)))) is) ∙ read in absurd cc
 
--- of one that the store does not record only soundness is asked
-not_recorded : {R : Type 0} (t : RecordType) (of : ℕ → List Field → R) (request_of : R → Option Request) (request : Request) (payload : List ℕ)
-    → request_read t of request_of payload ≡ Some request → read_as t (λ fs. Frame.NotAccepted) payload ≡ Frame.NotAccepted
-not_recorded t of request_of request payload read = read_sound t (λ fs. Frame.NotAccepted) payload (sound_read t of request_of request payload read).sound
-
 recorded : {R : Type 0} (t : RecordType) (of : ℕ → List Field → R) (request_of : R → Option Request) (request : Request) (payload : List ℕ)
     → request_read t of request_of payload ≡ Some request → read_as t (λ fs. command_or_broken (request_of (of LEVELS fs))) payload ≡ Frame.Command request
 recorded t of request_of request payload read =
@@ -114,7 +109,7 @@ request_read_as version (Request.PeekPromise key n name) h = recorded records.Pe
 request_read_as version (Request.CompletePromise key value n name) h = recorded records.CompletePromiseCommand complete_promise_command_of request_of_complete_promise (Request.CompletePromise key value n name) (request_payload (Request.CompletePromise key value n name)) (payload_read (Request.CompletePromise key value n name) h)
 request_read_as version (Request.OneWayCall call time m name) h = recorded records.OneWayCallCommand one_way_call_command_of (λ one. Some (request_of_one_way_call one)) (Request.OneWayCall call time m name) (request_payload (Request.OneWayCall call time m name)) (payload_read (Request.OneWayCall call time m name) h)
 request_read_as version (Request.SendSignal target key value name) h = recorded records.SendSignalCommand send_signal_command_of request_of_send_signal (Request.SendSignal target key value name) (request_payload (Request.SendSignal target key value name)) (payload_read (Request.SendSignal target key value name) h)
-request_read_as version (Request.Run n name) h = not_recorded records.RunCommand run_command_of (λ one. Some (request_of_run one)) (Request.Run n name) (request_payload (Request.Run n name)) (payload_read (Request.Run n name) h)
+request_read_as version (Request.Run n name) h = recorded records.RunCommand run_command_of (λ one. Some (request_of_run one)) (Request.Run n name) (request_payload (Request.Run n name)) (payload_read (Request.Run n name) h)
 request_read_as version (Request.AttachInvocation target n name) h = recorded records.AttachInvocationCommand attach_invocation_command_of request_of_attach_invocation (Request.AttachInvocation target n name) (request_payload (Request.AttachInvocation target n name)) (payload_read (Request.AttachInvocation target n name) h)
 request_read_as version (Request.GetInvocationOutput target n name) h = recorded records.GetInvocationOutputCommand get_invocation_output_command_of request_of_get_invocation_output (Request.GetInvocationOutput target n name) (request_payload (Request.GetInvocationOutput target n name)) (payload_read (Request.GetInvocationOutput target n name) h)
 request_read_as version (Request.CompleteAwakeable id value name) h = recorded records.CompleteAwakeableCommand complete_awakeable_command_of request_of_complete_awakeable (Request.CompleteAwakeable id value name) (request_payload (Request.CompleteAwakeable id value name)) (payload_read (Request.CompleteAwakeable id value name) h)

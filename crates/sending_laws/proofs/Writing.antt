@@ -12,7 +12,6 @@ use Rattle.protocol_stream.specs.Frame.{spelled, message_of}
 use Rattle.protocol_stream.proofs.Spellings.{spelled-frame_bytes}
 use Rattle.vm_context.specs.Output.{Written, with_frame}
 use Rattle.vm_calls.specs.declared.active.Active.{Active}
-use Rattle.vm_waiting.specs.Suspending.{over_ids}
 use Rattle.vm_start.specs.Failure.{told_error}
 use Rattle.sending_laws.specs.Sent.{Sent, Asks, Awaits, Suspends, Fails, Ends, sent_frame, sent_stream}
 use Rattle.sending_laws.specs.Writing.{Sends, CommandsAreWritten, AwaitsAreWritten, SuspensionsAreWritten, ErrorsAreWritten, EndsAreWritten, FramesAreWritten}
@@ -36,12 +35,12 @@ sends_one sent old new opens is =
     }
 
 awaits_written : AwaitsAreWritten
-awaits_written tree done old new opens fits tells =
-    record { fits = record { told = fits; short = tells.0.0 opens }; sends = sends_one (Awaits (over_ids old tree)) old.output new.output opens tells.0.1 }
+awaits_written ids done old new opens fits tells =
+    record { fits = record { told = fits; short = tells.0.0 opens }; sends = sends_one (Awaits ids) old.output new.output opens tells.0.1 }
 
 suspensions_written : SuspensionsAreWritten
-suspensions_written tree old new opens fits is =
-    let sends = sends_one (Suspends (over_ids old tree)) old.output (with_frame (sent_frame old.output.version (Suspends (over_ids old tree))) old.output) opens refl in
+suspensions_written ids old new opens fits is =
+    let sends = sends_one (Suspends ids) old.output (with_frame (sent_frame old.output.version (Suspends ids)) old.output) opens refl in
     record {
       fits = record { told = fits; short = is.fits opens };
       sends = record {

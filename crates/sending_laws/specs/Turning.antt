@@ -1,26 +1,31 @@
 -- What one turn sends is a list of such frames: by the relation of the call that it made, what the abstract machine's reply sends.
-use Rattle.std.specs.Prelude.{◌≡◌, ℕ, Bool, true, false, List, [], map, Ok}
+use Rattle.std.specs.Prelude.{◌≡◌, Bool, true, false, List, [], ◌++◌, map, Option, Some, Ok}
 use Rattle.std.specs.List.{AllByRecursion}
 use Rattle.protocol_types.specs.declared.message_type.MessageType.TheVariants as types
 use Rattle.protocol_types.specs.Version.{version_number}
-use Rattle.journal_model.specs.declared.call.Call.{Call}
+use Rattle.journal_model.specs.declared.notification.NotificationId.{NotificationId}
+use Rattle.journal_model.specs.declared.notification.NotificationId.TheVariants.{CompletionId}
 use Rattle.journal_model.specs.declared.call.Answer.{Answer}
-use Rattle.journal_model.specs.AwaitTree.{AwaitTree, Pending, is_awake, map_leaves}
-use Rattle.journal_model.specs.Run.{Invocation}
-use Rattle.attempt_model.specs.Results.{slot_of}
-use Rattle.attempt_model.specs.Machine.{Machine, Reply, AwaitsTree, Finished, FailedBy, Fault, reply_to}
+use Rattle.journal_model.specs.AwaitTree.{AwaitTree, Single, Pending, is_awake, map_leaves}
+use Rattle.journal_model.specs.Event.{Frame}
+use Rattle.journal_model.specs.Future.{tree_of}
+use Rattle.journal_model.specs.Request.{Request}
+use Rattle.attempt_model.specs.Results.{Slots, slot_of}
+use Rattle.attempt_model.specs.Machine.{Machine, Reply, Answered, Finished, FailedBy, Fault}
 use Rattle.position_laws.specs.Replies.{SendsReply}
 use Rattle.vm_awaits.specs.Views.{slots_of}
-use Rattle.vm_commands.specs.HeaderEquality.{same_header}
 use Rattle.vm_context.specs.Output.{Written}
 use Rattle.vm_calls.specs.declared.active.Active.{Active}
-use Rattle.vm_calls.specs.Making.{Replies}
-use Rattle.vm_waiting.specs.Suspending.{over_ids, Writes, IsSuspended, TellsIf}
+use Rattle.vm_calls.specs.Active.{writes_frames}
+use Rattle.vm_waiting.specs.Suspending.{Writes, IsSuspended, TellsIf}
+use Rattle.vm_waiting.specs.WaitsFor.{awaited_ids, waits_as}
+use Rattle.vm_waiting.specs.declared.waits_for.WaitsFor.{WaitsFor}
+use Rattle.vm_waiting.specs.declared.waits_for.WaitsFor.TheVariants.{Future, Child}
 use Rattle.vm_start.specs.Failing as failing
 use Rattle.protocol_errors.specs.declared.error.Error.{Error}
 use Rattle.request_laws.specs.Fitting.{RequestFits}
 use Rattle.handle_laws.specs.Trees.{TreeFits}
-use Rattle.sending_laws.specs.Sent.{Sent, AllFit, is_recorded, frame_meant}
+use Rattle.sending_laws.specs.Sent.{Sent, Asks, AllFit, is_recorded, frame_meant}
 use Rattle.sending_laws.specs.Writing.{Sends}
 
 -- frames that fit are behind what was written, and the frames that they are meant as are what such a reply sends
@@ -30,22 +35,26 @@ pub record TurnSends (is_closed : Bool) (m : Machine) (reply : Reply) (old new :
   pub written : Sends coming old new
   pub sends : SendsReply (version_number old.version) is_closed m reply (map (frame_meant old.version) coming)
 
--- a call that was answered, whose requests fit and are such as a store records
+-- a call that was answered, whose requests fit and are such as a store records: a call's own, or those by which an await passes a cancellation on
 abbrev pub AnswersSend : Type 0
-AnswersSend = (is_closed checks_off : Bool) (given : Invocation) (m : Machine) (call : Call) (answer : Answer) (old new : Active) → (replies : Replies checks_off given m call answer old new)
-    → AllByRecursion RequestFits replies.more → AllByRecursion (λ request. is_recorded request ≡ true) replies.more
-    → TurnSends is_closed m (reply_to (same_header checks_off) given m call) old.output new.output
+AnswersSend = (is_closed : Bool) (m after : Machine) (answer : Answer) (more : List Request) (old new : Written) → after.written ≡ m.written ++ more → new ≡ writes_frames more old
+    → AllByRecursion RequestFits more → AllByRecursion (λ request. is_recorded request ≡ true) more → TurnSends is_closed m (Answered answer after) old new
+
+-- what the run waits for there, of which a handle that stands for nothing is a leaf too
+abbrev pub leaves_over : Slots → WaitsFor → AwaitTree (Option NotificationId)
+leaves_over slots (Future left) = map_leaves (slot_of slots) (tree_of left)
+leaves_over slots (Child completion) = Single (Some (CompletionId completion))
 
 -- an await that stays, which may be told or not
 abbrev pub StaysSend : Type 0
-StaysSend = (told : Bool) (done : Unit {0}) (m after : Machine) (left : AwaitTree ℕ) (old new : Active) → old.output.is_closed ≡ false → TreeFits (over_ids old left) → TellsIf told left old (Ok done) new
-    → TurnSends false m (AwaitsTree left after) old.output new.output
+StaysSend = (told : Bool) (done : Unit {0}) (m after : Machine) (waits : WaitsFor) (old new : Active) → old.output.is_closed ≡ false → TreeFits (awaited_ids old waits)
+    → TellsIf told (awaited_ids old waits) old (Ok done) new → TurnSends false m (waits_as waits after) old.output new.output
 
--- an await that is suspended, for the tree that the machine's reply waits for
+-- an await that is suspended, for what the machine's reply waits for; a child alone is not awake by itself
 abbrev pub SuspensionsSend : Type 0
-SuspensionsSend = (m after : Machine) (left : AwaitTree ℕ) (old new : Active) → old.output.is_closed ≡ false → slots_of old.results ≡ after.slots → TreeFits (over_ids old left)
-    → is_awake (map_leaves (slot_of after.slots) left) (λ leaf. Pending) ≡ false → IsSuspended left old new
-    → TurnSends true m (AwaitsTree left after) old.output new.output
+SuspensionsSend = (m after : Machine) (waits : WaitsFor) (old new : Active) → old.output.is_closed ≡ false → slots_of old.results ≡ after.slots → TreeFits (awaited_ids old waits)
+    → is_awake (leaves_over after.slots waits) (λ leaf. Pending) ≡ false → IsSuspended (awaited_ids old waits) old new
+    → TurnSends true m (waits_as waits after) old.output new.output
 
 abbrev pub EndsSend : Type 0
 EndsSend = (is_closed : Bool) (done : Unit {0}) (m after : Machine) (old new : Written) → old.is_closed ≡ false → Writes types.End [] old (Ok done) new → TurnSends is_closed m (Finished after) old new
@@ -53,9 +62,20 @@ EndsSend = (is_closed : Bool) (done : Unit {0}) (m after : Machine) (old new : W
 abbrev pub FailuresSend : Type 0
 FailuresSend = (is_closed : Bool) (m : Machine) (fault : Fault) (error : Error) (old new : Written) → old.is_closed ≡ false → failing.Writes error old new → TurnSends is_closed m (FailedBy fault) old new
 
+-- a call that was stopped midway: its requests that were written by then, and behind them what is sent then, which is its error or nothing
+pub record StopSends (more : List Request) (behind : List Sent) (old new : Written) : Type 0 where
+  pub fit : AllFit old.version (map Asks more ++ behind)
+  pub written : Sends (map Asks more ++ behind) old new
+  pub meant : map (frame_meant old.version) (map Asks more ++ behind) ≡ map Frame.Command more ++ map (frame_meant old.version) behind
+
+abbrev pub StopsSend : Type 0
+StopsSend = (more : List Request) (behind : List Sent) (old new : Written) → AllByRecursion RequestFits more → AllByRecursion (λ request. is_recorded request ≡ true) more
+    → AllFit old.version behind → Sends behind (writes_frames more old) new → StopSends more behind old new
+
 pub record TurnsSend : Type 0 where
   pub answers : AnswersSend
   pub stays : StaysSend
   pub suspensions : SuspensionsSend
   pub ends : EndsSend
   pub failures : FailuresSend
+  pub stops : StopsSend

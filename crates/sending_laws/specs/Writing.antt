@@ -1,13 +1,14 @@
 -- What is written is what is sent, and what a turn sends.
-use Rattle.std.specs.Prelude.{◌≡◌, ℕ, true, false, List, [], ◌∷◌, ◌++◌, map, Ok}
+use Rattle.std.specs.Prelude.{◌≡◌, true, false, List, [], ◌∷◌, ◌++◌, map, Ok}
 use Rattle.protocol_types.specs.declared.message_type.MessageType.TheVariants as types
+use Rattle.journal_model.specs.declared.notification.NotificationId.{NotificationId}
 use Rattle.journal_model.specs.AwaitTree.{AwaitTree}
 use Rattle.journal_model.specs.Request.{Request}
 use Rattle.protocol_errors.specs.declared.error.Error.{Error}
 use Rattle.vm_context.specs.Output.{Written}
 use Rattle.vm_calls.specs.declared.active.Active.{Active}
 use Rattle.vm_calls.specs.Active.{writes_frames}
-use Rattle.vm_waiting.specs.Suspending.{over_ids, Writes, IsSuspended, TellsIf}
+use Rattle.vm_waiting.specs.Suspending.{Writes, IsSuspended, TellsIf}
 use Rattle.vm_start.specs.Failure.{told_error}
 use Rattle.vm_start.specs.Failing as failing
 use Rattle.handle_laws.specs.Trees.{TreeFits}
@@ -27,12 +28,11 @@ abbrev pub CommandsAreWritten : Type 0
 CommandsAreWritten = (requests : List Request) (old : Written) → Sends (map Asks requests) old (writes_frames requests old)
 
 abbrev pub AwaitsAreWritten : Type 0
-AwaitsAreWritten = (tree : AwaitTree ℕ) (done : Unit {0}) (old new : Active) → old.output.is_closed ≡ false → TreeFits (over_ids old tree) → TellsIf true tree old (Ok done) new
-    → SendsOne (Awaits (over_ids old tree)) old.output new.output
+AwaitsAreWritten = (ids : AwaitTree NotificationId) (done : Unit {0}) (old new : Active) → old.output.is_closed ≡ false → TreeFits ids → TellsIf true ids old (Ok done) new
+    → SendsOne (Awaits ids) old.output new.output
 
 abbrev pub SuspensionsAreWritten : Type 0
-SuspensionsAreWritten = (tree : AwaitTree ℕ) (old new : Active) → old.output.is_closed ≡ false → TreeFits (over_ids old tree) → IsSuspended tree old new
-    → SendsOne (Suspends (over_ids old tree)) old.output new.output
+SuspensionsAreWritten = (ids : AwaitTree NotificationId) (old new : Active) → old.output.is_closed ≡ false → TreeFits ids → IsSuspended ids old new → SendsOne (Suspends ids) old.output new.output
 
 abbrev pub ErrorsAreWritten : Type 0
 ErrorsAreWritten = (error : Error) (old new : Written) → old.is_closed ≡ false → failing.Writes error old new → SendsOne (Fails (told_error error)) old new

@@ -37,7 +37,8 @@ pub fn frames_are_written()
     ensures { FramesAreWritten }
 {}
 
-/// What one turn writes, by the relation of its call, is a list of such frames, and they are what the abstract machine's reply sends.
+/// What one turn writes, by the relation of its call, is a list of such frames, and they are what the abstract machine's reply sends. Of a
+/// call that stops midway they are the requests that were written by then, and what is sent behind them.
 pub fn turns_send()
     ensures { TurnsSend }
 {}

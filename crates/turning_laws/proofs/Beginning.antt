@@ -104,7 +104,7 @@ module _ {H : Type 0} (function : H → Handler) (next : Handler) (version : Ver
       cancellation = ap (λ (a : Attempt H). a.cancellation) does.1 ∙ unasked.cancellation;
       kind = on.started.kind_is;
       of_run = of_run;
-      fed = record { input = by.input; uncancelled = by.uncancelled };
+      fed = by;
       started = refl;
       bytes = none_held;
       whole = on.whole;
@@ -132,7 +132,7 @@ module _ {H : Type 0} (function : H → Handler) (next : Handler) (version : Ver
       none_held = nothing_held fed.vm.state.decoder (input_bytes (map piece_of on.some)) both
 
       none_read : on.some ≡ []
-      none_read = no_bytes on.some (all_in_front MessageFits on.some on.still (subst (AllByRecursion MessageFits) on.parts by.input.fit)) (nothing_more fed.vm.state.decoder (input_bytes (map piece_of on.some)) both)
+      none_read = no_bytes on.some (all_in_front MessageFits on.some on.still (subst (AllByRecursion MessageFits) on.parts by.fit)) (nothing_more fed.vm.state.decoder (input_bytes (map piece_of on.some)) both)
 
   lacks : FailsForMemory new.vm.state fed.vm.state → Outcome
   lacks failed = (
@@ -147,7 +147,7 @@ module _ {H : Type 0} (function : H → Handler) (next : Handler) (version : Ver
   begun (inr (inr failed)) = lacks failed
 
   all_begun : Outcome
-  all_begun = begun (starts start shows (kind_where version options false) messages (start.frame ∷ []) (input_bytes (map piece_of messages)) new.vm.state fed.vm.state can by.input holds
+  all_begun = begun (starts start shows (kind_where version options false) messages (start.frame ∷ []) (input_bytes (map piece_of messages)) new.vm.state fed.vm.state can by holds
       (new.vm.state, refl, does.0))
 
 pub feeds_new : {H : Type 0} (over : Option Finish) (bytes : Bytes) (before after : Attempt H) → before.over ≡ over → before.over ≡ None → FeedsUnless over bytes before after

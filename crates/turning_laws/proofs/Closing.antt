@@ -12,7 +12,7 @@ use Rattle.turning_laws.specs.Machine.phases
 use Rattle.turning_laws.specs.Machine.{Written, FailsNow, FailsAs, MachineState, is_waiting, input_closed, ClosesWhere, ClosesInput as ClosesMachine, HasFailed, IsDriven}
 use Rattle.turning_laws.specs.Reading.{start_told, Kind, kind_of, HasStarted}
 use Rattle.turning_laws.specs.Sending.{sent_stream, AllFit, frame_meant}
-use Rattle.turning_laws.specs.Words.{Error, Version, Handler, Invocation, Machine, LiveAttempt, HasReadJournal, untracked, childless, VMOptions, item_at, IsNote}
+use Rattle.turning_laws.specs.Words.{Error, Version, Handler, Invocation, Machine, LiveAttempt, HasReadJournal, VMOptions, item_at, IsNote}
 
 closes_new : {H : Type 0} (over : Option Finish) (before after : Attempt H) → before.over ≡ over → before.over ≡ None → ClosesUnless over before after
     → ClosesMachine before.vm.state after.vm.state × (after ≡ record before { vm = after.vm })
@@ -20,7 +20,15 @@ closes_new (Some finish) before after is none does = cc
 closes_new None before after is none does = does
 
 closed_driven : (given : Invocation) (m : Machine) (vm : MachineState) → IsDriven given m vm → IsDriven given m (input_closed vm)
-closed_driven given m vm d = record { sees = d.sees; phase = d.phase; version = d.version; written = d.written; id = d.id; cancellation = d.cancellation; reads = d.reads }
+closed_driven given m vm d = record {
+  sees = d.sees;
+  phase = d.phase;
+  version = record { version = d.version.version; cancellation = d.version.cancellation };
+  written = d.written;
+  commands = d.commands;
+  id = d.id;
+  reads = d.reads;
+}
 
 module _ {H : Type 0} (function : H → Handler) (next : Handler) (version : Version) (options : VMOptions) (live : LiveAttempt) (is_closed : Bool) (before after : Attempt H)
     (s : Serves function next version options live is_closed before) (does : ClosesMachine before.vm.state after.vm.state × (after ≡ record before { vm = after.vm })) where
@@ -70,8 +78,8 @@ module _ {H : Type 0} (function : H → Handler) (next : Handler) (version : Ver
       journal = r.journal;
       input = ap (λ (a : Attempt H). a.input) does.1 ∙ r.input;
       answers = ap (λ (a : Attempt H). a.answers) does.1 ∙ r.answers;
-      driven = subst (λ (vm : MachineState). IsDriven (untracked live.start.given) (childless live.machine) vm) (sym same)
-          (closed_driven (untracked live.start.given) (childless live.machine) before.vm.state r.driven);
+      driven = subst (λ (vm : MachineState). IsDriven live.start.given live.machine vm) (sym same)
+          (closed_driven live.start.given live.machine before.vm.state r.driven);
       numbers = r.numbers;
     }
 
@@ -119,7 +127,7 @@ module _ {H : Type 0} (function : H → Handler) (next : Handler) (version : Ver
   by_stage n (inr waits) = inr (early waits.0 waits.1.0 waits.1.1 n)
 
   stood : HasNotRead function next version options live is_closed before ⊎ HasRead function next version options live before → Outcome
-  stood (inl n) = by_stage n (stage live before.vm.state.phase s.fed.input n.started.phase)
+  stood (inl n) = by_stage n (stage live before.vm.state.phase s.fed n.started.phase)
   stood (inr r) = inl (stays r.journal r.driven.phase (inr (stays_read r.journal r.driven.phase r)))
 
 pub closes_keep : {H : Type 0} (function : H → Handler) (next : Handler) (version : Version) (options : VMOptions) → ClosesServing function next version options

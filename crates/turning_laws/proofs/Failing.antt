@@ -1,35 +1,41 @@
 -- A call is not carried out: for which cause, and what is told of it.
-use Rattle.std.proofs.Common.{◌≡◌, ◌⊎◌, inl, inr, ◌∙◌, ℕ, ◌==◌, false, true≢false, List, [], ◌∷◌, ◌++◌, map, Option, Result, Ok, Err, IfOk, refl, sym, ap, subst}
+use Rattle.std.proofs.Common.{◌≡◌, ◌⊎◌, inl, inr, ◌∙◌, ℕ, ◌==◌, true, false, true≢false, List, [], ◌∷◌, ◌++◌, map, Option, Result, Ok, Err, IfOk, refl, sym, ap, subst}
 use Rattle.std.specs.List.{AllByRecursion}
 use Rattle.std.specs.declared.alloc.AllocError.{AllocError}
 use Rattle.journal_model.specs.Notification.{Bytes}
 use Rattle.attempt_model.specs.Machine.{FailedBy, Fault, Mismatch, UncompletedInReplay, EndInReplay, KeysNotText, ChildNotId, Refused}
 use Rattle.vm_awaits.specs.Views.{slots_of}
 use Rattle.vm_outcomes.specs.Causes.{TellsEither, CauseTells}
+use Rattle.vm_outcomes.proofs.Midway.{stops_midway}
 use Rattle.vm_refusals.specs.Refusals.{refusal_code}
 use Rattle.vm_refusals.specs.declared.refusal.CallRefusal.{CallRefusal}
 use Rattle.vm_types.specs.declared.options.JournalMismatchRetryBehavior.{JournalMismatchRetryBehavior}
 use Rattle.vm_types.specs.declared.options.JournalReplay.{JournalReplay}
 use Rattle.vm_types.specs.declared.options.JournalReplay.TheVariants.{Enabled, Disabled}
-use Rattle.turning_laws.specs.Serving.{IsOfStore}
-use Rattle.turning_laws.proofs.Notes.{TellsNotes, cause_tells, fails_with}
+use Rattle.handle_laws.proofs.Fitting.{all_append}
+use Rattle.turning_laws.specs.Attempts.{is_covered}
+use Rattle.turning_laws.proofs.Reading.{turns_send}
+use Rattle.turning_laws.proofs.Notes.{TellsNotes, notes_follow, cause_tells, fails_with}
 use Rattle.turning_laws.specs.Machine.phases
 use Rattle.turning_laws.specs.Keeping.{FailsWith, TellsBy}
-use Rattle.turning_laws.specs.Machine.{MachineState, Written, TellsCause, out_of_memory, told_error, Fails, Cause, ByFault, NoNumber, TooLong, NoReplay, NoRuns, NoMemory, FailsWhen}
+use Rattle.turning_laws.specs.Machine.{writes_frames, MachineState, Written, TellsCause, out_of_memory, told_error, Fails, Cause, ByFault, NoNumber, TooLong, NoReplay, NoRuns, NoMemory, HasPut, requests_passed_on, FailsWhen}
 use Rattle.turning_laws.specs.Reading.{Kind}
-use Rattle.turning_laws.specs.Sending.{Sent, Fails as SentFails, sent_stream, AllFit, frame_meant}
-use Rattle.turning_laws.specs.Words.{internal, unsupported_feature, journal_mismatch, Error, Version, Answer, Call, Event, answers_of, Text, Handler, arrivals_carried, requests_carried, IsNote, LiveAttempt, untracked, childless, VMOptions, Refusal, RepliesAsRun}
+use Rattle.turning_laws.specs.Sending.{Sent, Asks, Fails as SentFails, sent_stream, AllFit, frame_meant}
+use Rattle.turning_laws.specs.Sending.{IsOfStore as IsSentOfStore}
+use Rattle.turning_laws.specs.Words.{internal, unsupported_feature, journal_mismatch, Error, Version, Answer, Call, Event, Frame, answers_of, Text, Request, Handler, arrivals_carried, requests_carried, FollowsSo, IsNote, LiveAttempt, VMOptions, Refusal, ImplicitCancellationOption, Commands, RepliesAsRun}
 use Rattle.turning_laws.specs.Turning.{IsOwnCause, IsToldAs, FailsBy}
-use Rattle.turning_laws.proofs.Now.{Now, call_of, reply_at}
-use Rattle.turning_laws.proofs.Replies.{failed_of}
-use Rattle.turning_laws.proofs.Sending.{of_output, opened}
+use Rattle.turning_laws.proofs.Now.{Now, compares, call_of, reply_at}
+use Rattle.turning_laws.proofs.Midway.{PassesOn, passes_on, no_front, none_written}
+use Rattle.turning_laws.proofs.Stored.{notes_of_store}
+use Rattle.turning_laws.proofs.Sending.{passed_of_store, of_output, opened, passed_may, passed_fit, passed_recorded}
 
 -- what a failing turn has told, and why
-pub record FailsSo (next : Handler) (version : Version) (live : LiveAttempt) (answers : List Answer) (vm new : MachineState) (error : Error) : Type 0 where
+pub record FailsSo (next : Handler) (version : Version) (id : Text) (events : List Event) (live : LiveAttempt) (answers : List Answer) (vm new : MachineState) (error : Error) : Type 0 where
   pub coming : List Sent
   pub fit : AllFit version coming
+  pub of_store : AllByRecursion IsSentOfStore coming
   pub bytes : new.active.output.bytes ≡ vm.active.output.bytes ++ sent_stream version coming
-  pub notes : AllByRecursion IsNote (map (frame_meant version) coming)
+  pub follows : FollowsSo next live.start.given id events (live.coming ++ map (frame_meant version) coming)
   pub kept : Error
   pub phase : new.phase ≡ phases.Failed kept
   pub by : FailsBy next version live (next live.start.given.input answers) vm new error coming
@@ -53,22 +59,25 @@ no_mismatch : (code : ℕ) → (code ≡ internal) ⊎ (code ≡ unsupported_fea
 no_mismatch code (inl is) = ap (λ (n : ℕ). n == journal_mismatch) is
 no_mismatch code (inr is) = ap (λ (n : ℕ). n == journal_mismatch) is
 
--- the machine fails with what tells such a cause, or for want of memory
-module _ (next : Handler) (version : Version) (asked : JournalMismatchRetryBehavior) (live : LiveAttempt) (call : Call) (old new : MachineState) (invocation : Bytes) (error kept : Error) (between : Written) (sent : List Sent)
-    (tells : TellsCause version asked (Ok error) old.active.output kept between) (sends : TellsBy kept sent) where
+-- the machine fails with what tells such a cause, or for want of memory, behind requests of the call that were written by then
+module _ (next : Handler) (version : Version) (asked : JournalMismatchRetryBehavior) (live : LiveAttempt) (call : Call) (old new : MachineState) (left : Commands) (invocation : Bytes) (error kept : Error)
+    (more : List Request) (between : Written) (notes : List Sent) (tells : TellsCause version asked (Ok error) (writes_frames more old.active.output) kept between) (sends : TellsBy kept notes) where
   abbrev Told : Cause → Type 0
-  Told cause = IsToldAs version live call old new cause kept sent ⊎ (kept ≡ out_of_memory)
+  Told cause = IsToldAs version live call old new more cause kept (map Asks more ++ notes) ⊎ (kept ≡ out_of_memory)
 
   abbrev CauseTold : Cause → Type 0
-  CauseTold cause = CauseTells version invocation live.machine.left new.active.journal (slots_of new.active.results) call cause error
+  CauseTold cause = CauseTells version invocation left new.active.journal (slots_of new.active.results) call cause error
 
-  with_code : (error.code.0 ≡ internal) ⊎ (error.code.0 ≡ unsupported_feature) → (FailsWith error old.active.output kept × (sent ≡ SentFails (told_error kept) ∷ [])) ⊎ (kept ≡ out_of_memory)
-  with_code is = go (fails_with version asked error old.active.output kept between (no_mismatch error.code.0 is) tells) sends
+  abbrev TellsFrame : Type 0
+  TellsFrame = FailsWith error old.active.output kept × (map Asks more ++ notes ≡ map Asks more ++ SentFails (told_error kept) ∷ [])
+
+  with_code : (error.code.0 ≡ internal) ⊎ (error.code.0 ≡ unsupported_feature) → TellsFrame ⊎ (kept ≡ out_of_memory)
+  with_code is = go (fails_with version asked error (writes_frames more old.active.output) kept between (no_mismatch error.code.0 is) tells) sends
     where
-      go : FailsWith error old.active.output kept ⊎ (kept ≡ out_of_memory) → TellsBy kept sent → (FailsWith error old.active.output kept × (sent ≡ SentFails (told_error kept) ∷ [])) ⊎ (kept ≡ out_of_memory)
+      go : FailsWith error (writes_frames more old.active.output) kept ⊎ (kept ≡ out_of_memory) → TellsBy kept notes → TellsFrame ⊎ (kept ≡ out_of_memory)
       go (inr lacks) told = inr lacks
       go (inl fails) (inr none) = inr none.0
-      go (inl fails) (inl frame) = inl (fails, frame)
+      go (inl fails) (inl frame) = inl (fails, ap (λ (some : List Sent). map Asks more ++ some) frame)
 
   refusal_told : (refusal : Refusal) → CauseTold (ByFault (Refused refusal)) → Told (ByFault (Refused refusal))
   refusal_told refusal told =
@@ -105,8 +114,9 @@ module _ (next : Handler) (version : Version) (asked : JournalMismatchRetryBehav
 
 -- ---- such a cause
 
-run_recorded : (name : Text) → IsOfStore (Call.Run name) → ⊥
-run_recorded name of_store = true≢false (sym (of_store (record { is_whole = false; entries = [] }) [] [] 0).0)
+-- a run is not carried out
+run_uncovered : (cancellation : ImplicitCancellationOption) (name : Text) → is_covered cancellation (Call.Run name) ≡ true → ⊥
+run_uncovered cancellation name e = true≢false (sym e)
 
 never_replayed : (replay : JournalReplay) → replay ≡ Enabled → replay ≡ Disabled → ⊥
 never_replayed replay on off = cc
@@ -122,60 +132,89 @@ module _ (next : Handler) (version : Version) (options : VMOptions) (id : Text) 
   own_fault ChildNotId as_run = as_run
   own_fault (Refused refusal) as_run = as_run
 
-  own : (cause : Cause) → FailsWhen (untracked live.start.given) (childless live.machine) (call_of next live n.at) vm cause
+  own : (far : HasPut live.start.given live.machine (call_of next live n.at) vm) (cause : Cause) → FailsWhen live.start.given live.machine (call_of next live n.at) vm far cause
       → IsOwnCause next live.start.given (arrivals_carried live.read) live.calls cause
-  own (ByFault fault) when =
-      own_fault fault (subst (RepliesAsRun next live.start.given (requests_carried live.read) (arrivals_carried live.read) live.calls)
-      (failed_of (reply_at next live vm n.at) fault (sym n.same ∙ when)) n.as_run)
-  own NoNumber when = tt
-  own TooLong when = tt
-  own NoReplay when = never_replayed options.journal_replay replays (sym (ap (λ (k : Kind). k.options.journal_replay) n.kind) ∙ when.1)
-  own NoRuns when = run_recorded when.0 (subst IsOfStore when.1 n.recorded)
-  own NoMemory when = tt
+  own far (ByFault fault) when =
+      own_fault fault (subst (RepliesAsRun next live.start.given (requests_carried live.read) (arrivals_carried live.read) live.calls) when n.as_run)
+  own far NoNumber when = tt
+  own far TooLong when = tt
+  own far NoReplay when = never_replayed options.journal_replay replays (sym (ap (λ (k : Kind). k.options.journal_replay) n.kind) ∙ when.1)
+  own far NoRuns when =
+      run_uncovered options.implicit_cancellation when.0 (subst (λ (call : Call). is_covered options.implicit_cancellation call ≡ true) when.1 n.covered)
+  own far NoMemory when = tt
 
-  module _ (error : Error) (new : MachineState) (sent : List Sent) where
+  module _ (error : Error) (new : MachineState) (far : HasPut live.start.given live.machine (call_of next live n.at) vm) (notes : List Sent) where
     abbrev By : Type 0
-    By = FailsBy next version live (call_of next live n.at) vm new error sent
+    By = FailsBy next version live (call_of next live n.at) vm new error (map Asks far.more ++ notes)
 
     for_memory : error ≡ out_of_memory → By
-    for_memory lacks = record { cause = NoMemory; own = tt; when = tt; told = lacks }
+    for_memory lacks = record { far = far; cause = NoMemory; own = tt; when = tt; told = lacks }
 
-    by_told : (cause : Cause) → FailsWhen (untracked live.start.given) (childless live.machine) (call_of next live n.at) vm cause → (invocation : Bytes) (told : Result Error AllocError)
-        → IfOk told (λ e. CauseTells vm.version invocation live.machine.left new.active.journal (slots_of new.active.results) (call_of next live n.at) cause e)
-        → (kept : Error) (between : Written) → TellsCause vm.version vm.options.journal_mismatch_retry_behavior told vm.active.output kept between → TellsBy kept sent → error ≡ kept → By
+    by_told : (cause : Cause) → FailsWhen live.start.given live.machine (call_of next live n.at) vm far cause → (invocation : Bytes) (told : Result Error AllocError)
+        → IfOk told (λ e. CauseTells vm.version invocation far.put.left new.active.journal (slots_of new.active.results) (call_of next live n.at) cause e)
+        → (kept : Error) (between : Written) → TellsCause vm.version vm.options.journal_mismatch_retry_behavior told (writes_frames far.more vm.active.output) kept between → TellsBy kept notes → error ≡ kept → By
     by_told cause when invocation (Err refused) told kept between tells sends same = for_memory (same ∙ tells.0)
     by_told cause when invocation (Ok e) told kept between tells sends same =
-        elim (told_as next vm.version vm.options.journal_mismatch_retry_behavior live (call_of next live n.at) vm new invocation e kept between sent tells sends cause (own cause when) told) [
+        elim (told_as next vm.version vm.options.journal_mismatch_retry_behavior live (call_of next live n.at) vm new far.put.left invocation e kept far.more between notes tells sends cause (own far cause when) told) [
           | inl is_told ↦ record {
+            far = far;
             cause = cause;
-            own = own cause when;
+            own = own far cause when;
             when = when;
-            told = subst (λ (some : Error). IsToldAs version live (call_of next live n.at) vm new cause some sent) (sym same)
-                (subst (λ (v : Version). IsToldAs v live (call_of next live n.at) vm new cause kept sent) (ap (λ (k : Kind). k.version) n.kind) is_told);
+            told = subst (λ (some : Error). IsToldAs version live (call_of next live n.at) vm new far.more cause some (map Asks far.more ++ notes)) (sym same)
+                (subst (λ (v : Version). IsToldAs v live (call_of next live n.at) vm new far.more cause kept (map Asks far.more ++ notes)) (ap (λ (k : Kind). k.version) n.kind) is_told);
           }
           | inr lacks ↦ for_memory (same ∙ lacks)
         ]
 
-    by_cause : (f : Fails (untracked live.start.given) (childless live.machine) (call_of next live n.at) vm error new) → TellsBy f.fails.told sent → By
-    by_cause f sends = elim f.fails.answers [
-      | inl same ↦ by_told f.has_cause.cause f.has_cause.when _ f.told f.has_cause.tells f.fails.told f.fails.before f.fails.tells sends same
-      | inr lacks ↦ for_memory lacks
-    ]
+  by_cause : (error : Error) (new : MachineState) (f : Fails live.start.given live.machine (call_of next live n.at) vm error new) (notes : List Sent) → TellsBy f.fails.told notes
+      → FailsBy next version live (call_of next live n.at) vm new error (map Asks f.far.more ++ notes)
+  by_cause error new f notes sends = elim f.fails.answers [
+    | inl same ↦ by_told error new f.far notes f.has_cause.cause f.has_cause.when _ f.told f.has_cause.tells f.fails.told f.fails.before f.fails.tells sends same
+    | inr lacks ↦ for_memory error new f.far notes lacks
+  ]
+
+  -- ---- what it has written by then
+
+  module _ (far : HasPut live.start.given live.machine (call_of next live n.at) vm) where
+    -- the run goes on with the others
+    passed_follow : (notes : List Frame) → AllByRecursion IsNote notes → FollowsSo next live.start.given id events (live.coming ++ (map Frame.Command far.more ++ notes))
+    passed_follow notes all = by_reply (passes_on (compares vm) live.start.given live.machine (call_of next live n.at))
+      where
+        by_reply : PassesOn (reply_at next live vm n.at) (requests_passed_on live.start.given live.machine (call_of next live n.at))
+            → FollowsSo next live.start.given id events (live.coming ++ (map Frame.Command far.more ++ notes))
+        by_reply (inl none) =
+            subst (λ (more : List Request). FollowsSo next live.start.given id events (live.coming ++ (map Frame.Command more ++ notes)))
+            (sym (none_written live.start.given live.machine (call_of next live n.at) vm far (no_front far.front far.behind (sym far.parts ∙ none)))) (notes_follow next live.start.given id events live.coming notes n.follows all)
+        by_reply (inr (inl mismatch)) = absurd (subst (RepliesAsRun next live.start.given (requests_carried live.read) (arrivals_carried live.read) live.calls) mismatch n.as_run)
+        by_reply (inr (inr answers)) =
+            n.keeps.stops far.put far.more notes (stops_midway live.start.given live.machine (call_of next live n.at) vm far Answer.Cancelled answers.0 answers.1) far.written all
+
+    all_of_store : (notes : List Sent) → AllByRecursion IsNote (map (frame_meant version) notes) → AllByRecursion IsSentOfStore (map Asks far.more ++ notes)
+    all_of_store notes all = all_append IsSentOfStore (map Asks far.more) notes (passed_of_store far.more (passed_may next version options id events live vm n far)) (notes_of_store version notes all)
 
   pub fails_so : (answers : List Answer) → answers ≡ answers_of n.at.stands.steps → (error : Error) (new : MachineState)
-      → Fails (untracked live.start.given) (childless live.machine) (call_of next live n.at) vm error new
-      → FailsSo next version live answers vm new error
+      → Fails live.start.given live.machine (call_of next live n.at) vm error new
+      → FailsSo next version id events live answers vm new error
   fails_so answers same error new f =
       let of_version = of_output next version options id events live vm n in
-      let told : TellsNotes f.fails.told vm.active.output f.fails.before =
-      cause_tells vm.version vm.options.journal_mismatch_retry_behavior f.told vm.active.output f.fails.told f.fails.before (opened next version options id events live vm n)
+      let told : TellsNotes f.fails.told (writes_frames f.far.more vm.active.output) f.fails.before =
+      cause_tells vm.version vm.options.journal_mismatch_retry_behavior f.told (writes_frames f.far.more vm.active.output) f.fails.told f.fails.before (opened next version options id events live vm n)
       f.fails.tells in
+      let notes : AllByRecursion IsNote (map (frame_meant version) told.coming) = subst (λ (v : Version). AllByRecursion IsNote (map (frame_meant v) told.coming)) of_version told.notes in
+      let stop = turns_send.stops f.far.more told.coming vm.active.output f.fails.before (passed_fit next version options id events live vm n f.far) (passed_recorded next version options id events live vm n f.far) told.fit told.written in
       record {
-        coming = told.coming;
-        fit = subst (λ (v : Version). AllFit v told.coming) of_version told.fit;
-        bytes = ap (λ (o : Written). o.bytes) f.fails.output ∙ told.written.bytes ∙ ap (λ (v : Version). vm.active.output.bytes ++ sent_stream v told.coming) of_version;
-        notes = subst (λ (v : Version). AllByRecursion IsNote (map (frame_meant v) told.coming)) of_version told.notes;
+        coming = map Asks f.far.more ++ told.coming;
+        fit = subst (λ (v : Version). AllFit v (map Asks f.far.more ++ told.coming)) of_version stop.fit;
+        of_store = all_of_store f.far told.coming notes;
+        bytes = ap (λ (o : Written). o.bytes) f.fails.output ∙ stop.written.bytes
+            ∙ ap (λ (v : Version). vm.active.output.bytes ++ sent_stream v (map Asks f.far.more ++ told.coming)) of_version;
+        follows =
+            subst (λ (frames : List Frame). FollowsSo next live.start.given id events (live.coming ++ frames))
+            (sym (subst (λ (v : Version). map (frame_meant v) (map Asks f.far.more ++ told.coming) ≡ map Frame.Command f.far.more ++ map (frame_meant v) told.coming) of_version stop.meant))
+            (passed_follow f.far (map (frame_meant version) told.coming) notes);
         kept = f.fails.told;
         phase = f.fails.phase_is;
-        by = subst (λ (call : Call). FailsBy next version live call vm new error told.coming) (sym (ap (λ (some : List Answer). next live.start.given.input some) same)) (by_cause error new told.coming f told.tells);
+        by = subst (λ (call : Call). FailsBy next version live call vm new error (map Asks f.far.more ++ told.coming)) (sym (ap (λ (some : List Answer). next live.start.given.input some) same))
+            (by_cause error new f told.coming told.tells);
       }

@@ -1,7 +1,7 @@
 -- An attempt that is fed the next bytes reads on, or memory was refused.
 use Rattle.std.proofs.Common.{◌≡◌, ◌⊎◌, inl, inr, ◌∙◌, ℕ, Bool, List, [], ◌∷◌, ◌++◌, append_assoc, map, Option, None, refl, sym, ap, subst}
 use Rattle.std.proofs.lemmas.List.{append_cancel_right}
-use Rattle.std.specs.List.{AllByRecursion, list_any}
+use Rattle.std.specs.List.{AllByRecursion}
 use Rattle.journal_model.proofs.Extension.{run-same}
 use Rattle.input_laws.proofs.Telling.{arrivals_carried-append}
 use Rattle.machine_laws.specs.Laws.{MachinesStayLive}
@@ -10,13 +10,13 @@ use Rattle.beginning_laws.proofs.Passed.{stays_active}
 use Rattle.turning_laws.specs.Serving.{IsFedBy, kind_where, HasNotRead, HasRead, Serves}
 use Rattle.turning_laws.specs.Keeping.{IsLiveAt, StaysServing, ServesOn, LacksMemory, WritesNothing, FeedsServing}
 use Rattle.turning_laws.proofs.Beginning.{bytes_append, feeds_new}
-use Rattle.turning_laws.proofs.Driven.{messages_number}
-use Rattle.turning_laws.proofs.Messages.{messages_append, messages_childless, unread_arrive, unread_fit, journal_more, fed_same, fed_more}
+use Rattle.turning_laws.proofs.Driven.{messages_written, messages_number}
+use Rattle.turning_laws.proofs.Messages.{messages_append, unread_arrive, unread_fit, journal_more, fed_same, fed_more}
 use Rattle.turning_laws.proofs.Over.{serves_by, waits_same}
 use Rattle.turning_laws.specs.Attempts.{Attempt}
-use Rattle.turning_laws.specs.Machine.{Sees, Written, Phase, MachineState, has_failed, IsFed, IsDriven}
+use Rattle.turning_laws.specs.Machine.{Sees, are_any, Written, Phase, MachineState, has_failed, IsFed, IsDriven}
 use Rattle.turning_laws.specs.Reading.{bytes_of, IsFedEach, AreWaitedFor, phase_behind, TakesFirst, InputsAreKept, FailsForMemory, IsInputOf, start_told, Kind, kind_of, ReadsOn, JournalsAreRead, IsArrival}
-use Rattle.turning_laws.specs.Words.{item_at, version_number, Version, AwaitTree, NotificationId, input_bytes, input_left, ends_awaits, IsAccepted, Event, answers_of, Bytes, Text, Arrival, Handler, Invocation, Progress, Ending, GoesOn, Waits, run, InputMessage, piece_of, arrivals_carried, Machine, machine_at_start, with_messages, IsMachineAt, LiveAttempt, handed_bytes, after_reading, untracked, childless, is_cancellation, id_of, run_options, VMOptions}
+use Rattle.turning_laws.specs.Words.{item_at, version_number, Version, AwaitTree, NotificationId, input_bytes, input_left, IsAccepted, Event, answers_of, Bytes, Text, Arrival, Handler, Invocation, Progress, Ending, GoesOn, Waits, run, InputMessage, piece_of, arrivals_carried, Machine, machine_at_start, with_messages, IsMachineAt, LiveAttempt, handed_bytes, after_reading, id_of, run_options, VMOptions}
 
 -- a run that goes on does not wait
 goes_on : (ending : Ending) (tree : AwaitTree (Option NotificationId)) → ending ≡ GoesOn → ending ≡ Waits tree → ⊥
@@ -62,10 +62,7 @@ module _ {H : Type 0} (function : H → Handler) (next : Handler) (version : Ver
         (ap (λ (held : Bytes). held ++ bytes) s.started) parts held_is
 
     fed_by : IsFedBy (after_reading (handed_bytes live bytes) some still after.vm.state.decoder)
-    fed_by = record {
-      input = subst (IsInputOf live.start) (fed_same live some still parts) s.fed.input;
-      uncancelled = ap (λ (all : List InputMessage). list_any is_cancellation (arrivals_carried all)) (sym (fed_same live some still parts)) ∙ s.fed.uncancelled;
-    }
+    fed_by = subst (IsInputOf live.start) (fed_same live some still parts) s.fed
 
     reads_on : kind_of after.vm.state ≡ kind_where version options is_closed → item_at after.vm.state.decoder ≡ None
         → HasNotRead function next version options (after_reading (handed_bytes live bytes) some still after.vm.state.decoder) is_closed after
@@ -87,7 +84,7 @@ module _ {H : Type 0} (function : H → Handler) (next : Handler) (version : Ver
   not_read : JournalsAreRead → HasNotRead function next version options live is_closed before → Outcome
   not_read journals n =
       go (journals live.start (start_told live.start n.shows) (kind_where version options is_closed) live.read live.unread (bytes ∷ []) (input_left events id) before.vm.state after.vm.state
-      s.fed.input n.started s.whole all_bytes fed)
+      s.fed n.started s.whole all_bytes fed)
     where
       go : ReadsOn live.start (start_told live.start n.shows) (kind_where version options is_closed) live.read live.unread (input_left events id) after.vm.state
           ⊎ FailsForMemory before.vm.state after.vm.state → Outcome
@@ -111,26 +108,29 @@ module _ {H : Type 0} (function : H → Handler) (next : Handler) (version : Ver
   -- its input was read
   module _ (r : HasRead function next version options live before) where
     arrive : AllByRecursion IsArrival live.unread
-    arrive = unread_arrive live r.journal s.fed.input
+    arrive = unread_arrive live r.journal s.fed
 
-    module _ (t : TakesFirst (untracked live.start.given) live.unread (input_left events id) before.vm.state after.vm.state) where
+    module _ (t : TakesFirst live.start.given live.unread (input_left events id) before.vm.state after.vm.state) where
       kind_is : kind_of after.vm.state ≡ kind_of before.vm.state
       kind_is = ap kind_of t.kept.others
 
-      sees : Sees (untracked live.start.given) after.vm.state.active (childless (with_messages live.machine t.some))
+      sees : Sees live.start.given after.vm.state.active (with_messages live.machine t.some)
       sees =
-          subst (λ (m : Machine). Sees (untracked live.start.given) after.vm.state.active m)
-          (arrivals_gathered t.some (childless live.machine) (all_in_front IsArrival t.some t.still (subst (AllByRecursion IsArrival) t.parts arrive)) ∙ messages_childless live.machine t.some)
-          (t.kept.sees r.driven.phase (childless live.machine) r.driven.sees)
+          subst (λ (m : Machine). Sees live.start.given after.vm.state.active m)
+          (arrivals_gathered t.some live.machine (all_in_front IsArrival t.some t.still (subst (AllByRecursion IsArrival) t.parts arrive)))
+          (t.kept.sees r.driven.phase live.machine r.driven.sees)
 
-      driven : IsDriven (untracked live.start.given) (childless (with_messages live.machine t.some)) after.vm.state
+      driven : IsDriven live.start.given (with_messages live.machine t.some) after.vm.state
       driven = record {
         sees = sees;
         phase = t.kept.phase ∙ ap (λ (p : Phase). phase_behind t.some p) r.driven.phase ∙ stays_active t.some;
-        version = r.driven.version ∙ ap (λ (k : Kind). version_number k.version) (sym kind_is);
+        version = record {
+          version = r.driven.version.version ∙ ap (λ (k : Kind). version_number k.version) (sym kind_is);
+          cancellation = r.driven.version.cancellation ∙ ap (λ (k : Kind). k.options.implicit_cancellation) (sym kind_is);
+        };
         written = ap (λ (w : Written). w.version) t.kept.output ∙ r.driven.written ∙ ap (λ (k : Kind). k.version) (sym kind_is);
+        commands = ap (λ (w : Written). w.has_commands) t.kept.output ∙ r.driven.commands ∙ sym (ap are_any (messages_written live.machine t.some));
         id = r.driven.id ∙ ap (λ (vm : MachineState). id_of vm.start) (sym t.kept.others);
-        cancellation = r.driven.cancellation ∙ ap (λ (k : Kind). ends_awaits k.options.implicit_cancellation) (sym kind_is);
         reads = ap (λ (k : Kind). k.reads) kind_is ∙ r.driven.reads;
       }
 
@@ -152,14 +152,14 @@ module _ {H : Type 0} (function : H → Handler) (next : Handler) (version : Ver
         }))),
       )
 
-    read_outcome : TakesFirst (untracked live.start.given) live.unread (input_left events id) before.vm.state after.vm.state ⊎ FailsForMemory before.vm.state after.vm.state → Outcome
+    read_outcome : TakesFirst live.start.given live.unread (input_left events id) before.vm.state after.vm.state ⊎ FailsForMemory before.vm.state after.vm.state → Outcome
     read_outcome (inr failed) = lacks failed
     read_outcome (inl t) = outcome t
 
     has_read : InputsAreKept → Outcome
     has_read keeps =
-        read_outcome (keeps (untracked live.start.given) live.unread (bytes ∷ []) (input_left events id) before.vm.state after.vm.state (ap has_failed r.driven.phase) s.whole
-        (unread_fit live r.journal s.fed.input)
+        read_outcome (keeps live.start.given live.unread (bytes ∷ []) (input_left events id) before.vm.state after.vm.state (ap has_failed r.driven.phase) s.whole
+        (unread_fit live r.journal s.fed)
         (subst (λ (p : Phase). AreWaitedFor live.unread p) (sym r.driven.phase) (arrivals_waited_for live.unread arrive)) all_bytes fed)
 
   stood : JournalsAreRead → InputsAreKept → HasNotRead function next version options live is_closed before ⊎ HasRead function next version options live before → Outcome
@@ -174,11 +174,8 @@ feeds_keep function next version options stays journals keeps id events live is_
 
 pub events_keep : {H : Type 0} (function : H → Handler) (next : Handler) (version : Version) (options : VMOptions) → StaysServing function next version options
 events_keep function next version options live is_closed a more coming s may =
-    record { handler = s.handler; going = s.going; cancellation = s.cancellation; kind = s.kind; of_run = s.of_run; fed = by; started = s.started; bytes = s.bytes; whole = s.whole; stands = stands s.stands }
+    record { handler = s.handler; going = s.going; cancellation = s.cancellation; kind = s.kind; of_run = s.of_run; fed = fed_more live more may s.fed; started = s.started; bytes = s.bytes; whole = s.whole; stands = stands s.stands }
   where
-    by : IsFedBy (record live { unread = live.unread ++ more; coming = coming })
-    by = let b = fed_more live more may s.fed in record { input = b.input; uncancelled = b.uncancelled }
-
     stands : HasNotRead function next version options live is_closed a ⊎ HasRead function next version options live a
         → HasNotRead function next version options (record live { unread = live.unread ++ more; coming = coming }) is_closed a
         ⊎ HasRead function next version options (record live { unread = live.unread ++ more; coming = coming }) a

@@ -10,7 +10,9 @@ pub mod Closing
 pub mod Reading
 pub mod Covered
 pub mod Texts
+pub mod Ids
 pub mod Replies
+pub mod Midway
 pub mod Now
 pub mod Sending
 pub mod Stored

@@ -6,7 +6,7 @@ use Rattle.turning_laws.specs.Attempts.{Turn}
 use Rattle.turning_laws.specs.Keeping.{FailsWith}
 use Rattle.turning_laws.specs.Machine.{MachineState, Written, Cause, ByFault, NoNumber, TooLong, NoReplay, NoRuns, NoMemory}
 use Rattle.turning_laws.specs.Sending.{Sent}
-use Rattle.turning_laws.specs.Words.{internal, unsupported_feature, Error, Version, Call, Handler, arrivals_carried, LiveAttempt, VMOptions}
+use Rattle.turning_laws.specs.Words.{internal, unsupported_feature, Error, Version, Call, Request, Handler, arrivals_carried, LiveAttempt, VMOptions}
 use Rattle.turning_laws.specs.Turning.{IsOwnCause, IsToldAs, FailsBy, TurnServes, TurnsMatch}
 use Rattle.turning_laws.proofs.Failing.{refused_code, either_code}
 
@@ -19,8 +19,8 @@ as_told told old error own (inr long) = inl (ap (λ (e : Error). e.code.0) long.
 as_told told old error (inl is) (inl same) = inl (ap (λ (e : Error). e.code.0) same ∙ is)
 as_told told old error (inr is) (inl same) = inr (ap (λ (e : Error). e.code.0) same ∙ is)
 
-module _ (next : Handler) (version : Version) (live : LiveAttempt) (call : Call) (old new : MachineState) (error : Error) (sent : List Sent) where
-  by_cause : (cause : Cause) → IsOwnCause next live.start.given (arrivals_carried live.read) live.calls cause → IsToldAs version live call old new cause error sent → IsOwnCode error
+module _ (next : Handler) (version : Version) (live : LiveAttempt) (call : Call) (old new : MachineState) (more : List Request) (error : Error) (sent : List Sent) where
+  by_cause : (cause : Cause) → IsOwnCause next live.start.given (arrivals_carried live.read) live.calls cause → IsToldAs version live call old new more cause error sent → IsOwnCode error
   by_cause (ByFault (Refused refusal)) own tells =
       let code : tells.0.code.0 ≡ refusal_code tells.1.0 = ap (λ (e : Error). e.code.0) tells.1.1.1.plain in
       as_told tells.0 old.active.output error (elim (refused_code tells.1.0) [ inl is ↦ inl (code ∙ is) | inr is ↦ inr (code ∙ is) ]) tells.2
@@ -35,12 +35,15 @@ module _ (next : Handler) (version : Version) (live : LiveAttempt) (call : Call)
   by_cause NoRuns own tells = absurd own
   by_cause NoMemory own tells = inl (ap (λ (e : Error). e.code.0) tells)
 
-  own_code : FailsBy next version live call old new error sent → IsOwnCode error
-  own_code by = by_cause by.cause by.own by.told
+own_code : (next : Handler) (version : Version) (live : LiveAttempt) (call : Call) (old new : MachineState) (error : Error) (sent : List Sent) → FailsBy next version live call old new error sent → IsOwnCode error
+own_code next version live call old new error sent by = by_cause next version live call old new by.far.more error sent by.cause by.own by.told
 
 pub turns_match : {H : Type 0} (function : H → Handler) (next : Handler) (version : Version) (options : VMOptions) → TurnServes function next version options → TurnsMatch function next version options
 turns_match function next version options keeps id events live before error after queued f l s turns =
     elim (keeps id events live before (Turn.Failed error) after queued f l s turns).behind.0 [
       | inl by ↦ own_code next version live _ before.vm.state after.vm.state error _ by
-      | inr uncovered ↦ inr (ap (λ (e : Error). e.code.0) uncovered.1)
+      | inr uncovered ↦ elim uncovered.1 [
+        | inl plain ↦ inr (ap (λ (e : Error). e.code.0) plain)
+        | inr lacks ↦ inl (ap (λ (e : Error). e.code.0) lacks)
+      ]
     ]

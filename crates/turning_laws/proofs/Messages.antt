@@ -1,15 +1,14 @@
 -- Messages of an attempt's input, some of which were read.
-use Rattle.std.proofs.Common.{◌≡◌, ◌∙◌, Bool, false, ◌||◌, List, [], ◌∷◌, ◌++◌, append_assoc, refl, sym, ap, subst}
+use Rattle.std.proofs.Common.{◌≡◌, ◌∙◌, List, [], ◌∷◌, ◌++◌, append_assoc, refl, sym, ap, subst}
 use Rattle.std.proofs.lemmas.List.{append_cancel_left}
-use Rattle.std.specs.List.{AllByRecursion, list_any}
+use Rattle.std.specs.List.{AllByRecursion}
 use Rattle.journal_model.specs.Value.{result_of_value}
-use Rattle.input_laws.proofs.Telling.{arrivals_carried-append}
 use Rattle.beginning_laws.proofs.Messages.{all_behind, all_in_front}
 use Rattle.handle_laws.proofs.Fitting.{all_append}
 use Rattle.turning_laws.specs.Serving.{IsFedBy}
 use Rattle.turning_laws.specs.Keeping.{MayCome}
 use Rattle.turning_laws.specs.Reading.{MessageFits, IsArrival, IsInputOf}
-use Rattle.turning_laws.specs.Words.{Entry, Recorded, Arrived, completion, Arrival, InputMessage, CarriesInput, CarriesRequest, CarriesArrival, CarriesOutcome, arrivals_carried, Machine, with_arrival, with_entry, with_entries, entries_carried, with_messages, LiveAttempt, HasReadJournal, childless, is_cancellation}
+use Rattle.turning_laws.specs.Words.{Recorded, completion, InputMessage, CarriesInput, CarriesRequest, CarriesArrival, CarriesOutcome, Machine, with_arrival, with_entry, with_messages, LiveAttempt, HasReadJournal}
 
 pub messages_append : (m : Machine) (some more : List InputMessage) → with_messages m (some ++ more) ≡ with_messages (with_messages m some) more
 messages_append m [] more = refl
@@ -17,14 +16,6 @@ messages_append m (CarriesInput new ∷ some) more = messages_append m some more
 messages_append m (CarriesRequest request ∷ some) more = messages_append (with_entry m (Recorded request)) some more
 messages_append m (CarriesArrival type arrival ∷ some) more = messages_append (with_arrival m arrival) some more
 messages_append m (CarriesOutcome number value ∷ some) more = messages_append (with_arrival m (completion number (result_of_value value))) some more
-
-entries_childless : (m : Machine) (entries : List Entry) → with_entries (childless m) entries ≡ childless (with_entries m entries)
-entries_childless m [] = refl
-entries_childless m (Recorded request ∷ entries) = entries_childless (with_entry m (Recorded request)) entries
-entries_childless m (Arrived arrival ∷ entries) = entries_childless (with_arrival m arrival) entries
-
-pub messages_childless : (m : Machine) (messages : List InputMessage) → with_messages (childless m) messages ≡ childless (with_messages m messages)
-messages_childless m messages = entries_childless m (entries_carried messages)
 
 -- ---- behind the journal
 
@@ -63,19 +54,9 @@ module _ (live : LiveAttempt) (r : HasReadJournal live) where
 pub fed_same : (live : LiveAttempt) (some still : List InputMessage) → live.unread ≡ some ++ still → live.read ++ live.unread ≡ (live.read ++ some) ++ still
 fed_same live some still parts = ap (λ (rest : List InputMessage). live.read ++ rest) parts ∙ sym (append_assoc live.read some still)
 
-none_of_both : (xs ys : List Arrival) → list_any is_cancellation xs ≡ false → list_any is_cancellation ys ≡ false → list_any is_cancellation (xs ++ ys) ≡ false
-none_of_both [] ys none others = others
-none_of_both (x ∷ xs) ys none others = go (is_cancellation x) (list_any is_cancellation xs) none (none_of_both xs ys)
-  where
-    go : (b more : Bool) → (b || more) ≡ false → (more ≡ false → list_any is_cancellation ys ≡ false → list_any is_cancellation (xs ++ ys) ≡ false) → (b || list_any is_cancellation (xs ++ ys)) ≡ false
-    go false more e both = both e others
-    go _ more e both = cc
-
-some_may : (more : List InputMessage) → AllByRecursion MayCome more → AllByRecursion IsArrival more × AllByRecursion MessageFits more × (list_any is_cancellation (arrivals_carried more) ≡ false)
-some_may [] all = (tt, tt, refl)
-some_may (CarriesArrival ty arrival ∷ more) all =
-    let rest = some_may more all.1 in
-    ((tt, rest.0), (all.0.0, rest.1), none_of_both (arrival ∷ []) (arrivals_carried more) (ap (λ (b : Bool). b || false) all.0.1) rest.2)
+some_may : (more : List InputMessage) → AllByRecursion MayCome more → AllByRecursion IsArrival more × AllByRecursion MessageFits more
+some_may [] all = (tt, tt)
+some_may (CarriesArrival ty arrival ∷ more) all = let rest = some_may more all.1 in ((tt, rest.0), (all.0, rest.1))
 some_may (_ ∷ more) all = absurd all.0
 
 -- more messages are on their way
@@ -84,16 +65,10 @@ fed_more live more may by =
     let come = some_may more may in
     let same : (live.read ++ live.unread) ++ more ≡ live.read ++ (live.unread ++ more) = append_assoc live.read live.unread more in
     record {
-      input = record {
-        journal = by.input.journal;
-        later = by.input.later ++ more;
-        parts = sym same ∙ ap (λ (all : List InputMessage). all ++ more) by.input.parts
-            ∙ ap (λ (rest : List InputMessage). CarriesInput live.start.new ∷ rest) (append_assoc live.start.journal by.input.later more);
-        arrivals = all_append IsArrival by.input.later more by.input.arrivals come.0;
-        fit = subst (AllByRecursion MessageFits) same (all_append MessageFits (live.read ++ live.unread) more by.input.fit come.1);
-      };
-      uncancelled =
-          ap (λ (all : List InputMessage). list_any is_cancellation (arrivals_carried all)) (sym same)
-          ∙ ap (λ (arrivals : List Arrival). list_any is_cancellation arrivals) (arrivals_carried-append (live.read ++ live.unread) more)
-          ∙ none_of_both (arrivals_carried (live.read ++ live.unread)) (arrivals_carried more) by.uncancelled come.2;
+      journal = by.journal;
+      later = by.later ++ more;
+      parts = sym same ∙ ap (λ (all : List InputMessage). all ++ more) by.parts
+          ∙ ap (λ (rest : List InputMessage). CarriesInput live.start.new ∷ rest) (append_assoc live.start.journal by.later more);
+      arrivals = all_append IsArrival by.later more by.arrivals come.0;
+      fit = subst (AllByRecursion MessageFits) same (all_append MessageFits (live.read ++ live.unread) more by.fit come.1);
     }

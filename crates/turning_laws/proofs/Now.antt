@@ -1,22 +1,19 @@
 -- What is known of a machine of whose attempt the input was read, at a turn.
-use Rattle.std.proofs.Common.{◌≡◌, ◌∙◌, suc, Bool, true, false, ◌||◌, List, [], ◌∷◌, ◌++◌, map, length, refl, sym, ap, subst}
-use Rattle.std.specs.List.{list_any}
+use Rattle.std.proofs.Common.{◌≡◌, ◌∙◌, suc, Bool, true, List, map, length, sym, ap, subst}
 use Rattle.state_laws.proofs.States.{starts_text}
-use Rattle.input_laws.proofs.Telling.{arrivals_carried-append}
 use Rattle.attempt_calls.proofs.Simulating.{simulates}
 use Rattle.attempt_laws.proofs.Coming.{kinds_by_asking}
-use Rattle.children_laws.proofs.Coming.{next_replies_are_same}
 use Rattle.vm_commands.specs.HeaderEquality.{same_header}
 use Rattle.vm_commands.proofs.Comparing.{compares_reflexively}
-use Rattle.turning_laws.specs.Serving.{IsOfStore, AwaitsWithin, HasNumbers, kind_where, HasRead, Serves}
+use Rattle.turning_laws.specs.Serving.{IsOfStore, IsFedBy, AwaitsWithin, HasNumbers, kind_where, HasRead, Serves}
 use Rattle.turning_laws.specs.Keeping.{IsLiveAt}
 use Rattle.turning_laws.proofs.Covered.{covered_stored, covered_within}
 use Rattle.turning_laws.proofs.Messages.{unread_fit}
 use Rattle.turning_laws.proofs.Reading.{no_arrival_is_held}
 use Rattle.turning_laws.specs.Attempts.{Attempt, is_covered}
-use Rattle.turning_laws.specs.Machine.{checks_off, MachineState, IsDriven, TracksNone}
+use Rattle.turning_laws.specs.Machine.{checks_off, MachineState, IsDriven}
 use Rattle.turning_laws.specs.Reading.{kind_of}
-use Rattle.turning_laws.specs.Words.{version_number, Version, Answer, Call, item_at, arrivals_within, input_left, is_input_closed, child_of, Event, answers_of, Text, Arrival, Request, Handler, Invocation, Progress, piece_of, arrivals_carried, requests_carried, FollowsSo, Machine, Reply, reply_to, IsInRun, LiveAttempt, without_children, untracked, childless, childless_reply, is_cancellation, run_options, VMOptions, ImplicitCancellationOption, Disabled, Enabled, starting_state, Queued, AreOfKind, Fits, next_call, RepliesAsRun, AsksByText, StandsWithJournal, JournalsStand, KeepsOn, MachinesKeepOn, HasTextKeys, IsTypedCall}
+use Rattle.turning_laws.specs.Words.{version_number, Version, Answer, Call, item_at, arrivals_within, input_left, is_input_closed, Event, answers_of, Text, Request, Handler, Invocation, Progress, piece_of, arrivals_carried, requests_carried, FollowsSo, Reply, reply_to, IsInRun, LiveAttempt, run_options, VMOptions, ImplicitCancellationOption, starting_state, Queued, AreOfKind, Fits, next_call, RepliesAsRun, AsksByText, StandsWithJournal, JournalsStand, KeepsOn, MachinesKeepOn, HasTextKeys, IsTypedCall}
 use Rattle.turning_laws.proofs.Texts.{shown_text, HasTextKey, typed_key, asks_on}
 
 -- what its requests are compared by
@@ -36,34 +33,21 @@ pub record Now (next : Handler) (version : Version) (options : VMOptions) (id : 
   pub whole : arrivals_within (map piece_of live.unread) (length live.held) ≡ 0
   pub follows : FollowsSo next live.start.given id events live.coming
   pub kind : kind_of vm ≡ kind_where version options (is_input_closed events id)
-  pub driven : IsDriven (untracked live.start.given) (childless live.machine) vm
+  pub driven : IsDriven live.start.given live.machine vm
   pub numbers : HasNumbers live.machine
   pub typed : IsTypedCall (call_of next live at)
   -- what its run has asked for with that call too is by keys that are text
   pub by_text : AsksByText next live.start.given (arrivals_carried live.read) (suc live.calls)
+  pub covered : is_covered options.implicit_cancellation (call_of next live at) ≡ true
   pub recorded : IsOfStore (call_of next live at)
   pub within : AwaitsWithin (run_options options) (call_of next live at)
   pub of_options : live.start.given.options ≡ run_options options
   pub of_version : live.start.given.version ≡ version_number version
-  pub same : reply_to (compares vm) (untracked live.start.given) (childless live.machine) (call_of next live at) ≡ childless_reply (reply_at next live vm at)
+  -- its messages fit
+  pub fed : IsFedBy live
   pub as_run : RepliesAsRun next live.start.given (requests_carried live.read) (arrivals_carried live.read) live.calls (reply_at next live vm at)
 
 -- ---- where the input was read
-
-none_in_front : (xs ys : List Arrival) → list_any is_cancellation (xs ++ ys) ≡ false → list_any is_cancellation xs ≡ false
-none_in_front [] ys none = refl
-none_in_front (x ∷ xs) ys none = go (is_cancellation x) none (none_in_front xs ys)
-  where
-    go : (b : Bool) → (b || list_any is_cancellation (xs ++ ys)) ≡ false → (list_any is_cancellation (xs ++ ys) ≡ false → list_any is_cancellation xs ≡ false) → (b || list_any is_cancellation xs) ≡ false
-    go false e rest = rest e
-    go _ e rest = cc
-
-pub tracks_none : (given : Invocation) (m : Machine) (call : Call) → TracksNone (untracked given) m call
-tracks_none given m call = go given.options.implicit_cancellation
-  where
-    go : (option : ImplicitCancellationOption) → child_of (without_children option) m.completions call ≡ []
-    go Disabled = refl
-    go (Enabled calls sends) = refl
 
 module _ {H : Type 0} (function : H → Handler) (next : Handler) (version : Version) (options : VMOptions) (stand : JournalsStand) (keep_on : MachinesKeepOn) (id : Text) (events : List Event) (live : LiveAttempt)
     (before : Attempt H) (queued : options.signal_delivery ≡ Queued) (f : FollowsSo next live.start.given id events live.coming)
@@ -86,11 +70,6 @@ module _ {H : Type 0} (function : H → Handler) (next : Handler) (version : Ver
   kinds : AreOfKind next live.start.given (arrivals_carried live.read) live.calls
   kinds = kinds_by_asking next live.start.given (arrivals_carried live.read) live.calls (stands.asked by_text)
 
-  no_cancellation : list_any is_cancellation (arrivals_carried live.read) ≡ false
-  no_cancellation =
-      none_in_front (arrivals_carried live.read) (arrivals_carried live.unread)
-      (ap (λ (arrivals : List Arrival). list_any is_cancellation arrivals) (sym (arrivals_carried-append live.read live.unread)) ∙ s.fed.uncancelled)
-
   abbrev asked : Call
   asked = function before.handler live.start.given.input before.answers
 
@@ -110,7 +89,7 @@ module _ {H : Type 0} (function : H → Handler) (next : Handler) (version : Ver
     at = stands.at;
     keeps = keep_on (compares before.vm.state) next (run_options options) options.fallback_random_seed id events live
         (compares_reflexively (checks_off before.vm.state.options.non_determinism_checks)) f l s.started fits kinds stands.at;
-    whole = no_arrival_is_held live.unread live.held (input_left events id) (unread_fit live r.journal s.fed.input) l.reads.bytes
+    whole = no_arrival_is_held live.unread live.held (input_left events id) (unread_fit live r.journal s.fed) l.reads.bytes
         (ap item_at (sym s.bytes) ∙ s.whole);
     follows = f;
     kind = s.kind;
@@ -120,12 +99,12 @@ module _ {H : Type 0} (function : H → Handler) (next : Handler) (version : Ver
     by_text = asks_on next live.start.given starts (arrivals_carried live.read) live.calls
         (subst (λ (p : Progress). HasTextKey (next live.start.given.input (answers_of p.steps))) (sym stands.at.stands.going)
         (typed_key (call_of next live stands.at) (subst IsTypedCall (called stands.at) typed))) by_text;
+    covered = covered_call covered;
     recorded = covered_stored options.implicit_cancellation (call_of next live stands.at) (covered_call covered);
     within = covered_within (run_options options) (call_of next live stands.at) (covered_call covered);
     of_options = ap (λ (given : Invocation). given.options) s.of_run.given_is;
     of_version = ap (λ (given : Invocation). given.version) s.of_run.given_is ∙ s.of_run.version_is;
-    same = next_replies_are_same (compares before.vm.state) next live.start.given (requests_carried live.read) (arrivals_carried live.read) live.calls live.machine
-        (compares_reflexively (checks_off before.vm.state.options.non_determinism_checks)) fits kinds stands.at.stands no_cancellation;
+    fed = s.fed;
     as_run = simulates (compares before.vm.state) next live.start.given (requests_carried live.read) (arrivals_carried live.read) live.calls live.machine
         (compares_reflexively (checks_off before.vm.state.options.non_determinism_checks)) fits kinds stands.at.stands;
   }

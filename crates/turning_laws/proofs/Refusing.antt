@@ -1,14 +1,18 @@
 -- A call that is none that is carried out: the machine fails for it, and nothing of the call is done.
-use Rattle.std.proofs.Common.{◌≡◌, ◌∙◌, inr, false, List, ◌++◌, map, refl, sym, ap, subst}
+use Rattle.std.proofs.Common.{◌≡◌, ◌⊎◌, inl, inr, ◌∙◌, arith, false, List, ◌++◌, map, length, Result, Err, refl, sym, ap, subst}
+use Rattle.std.specs.declared.alloc.AllocError.{AllocError}
 use Rattle.std.specs.List.{AllByRecursion}
 use Rattle.turning_laws.specs.Serving.{HasRead, Serves, machine_failed}
-use Rattle.turning_laws.proofs.Notes.{fails_now, TellsNotes, cause_tells, notes_follow, waits_more}
-use Rattle.turning_laws.specs.Attempts.{is_covered, RefusesCall, Attempt, Turn}
-use Rattle.turning_laws.specs.Machine.{MachineState, Written, FailsNow}
+use Rattle.protocol_wire.specs.Spelling as spelling
+use Rattle.vm_start.specs.Failing.{IsCopy, error_message}
+use Rattle.turning_laws.proofs.Notes.{fails_now, TellsNotes, cause_tells, fails_with, notes_follow, waits_more}
+use Rattle.turning_laws.specs.Attempts.{is_covered, RefusesCall, not_carried_out, Attempt, Turn}
+use Rattle.turning_laws.specs.Keeping.{FailsWith}
+use Rattle.turning_laws.specs.Machine.{MachineState, Written, Phase, FailsNow, TellsCause, IsTooLong, out_of_memory, IsReady}
 use Rattle.turning_laws.specs.Reading.{Kind}
 use Rattle.turning_laws.specs.Sending.{sent_stream, AllFit, frame_meant}
-use Rattle.turning_laws.specs.Words.{Version, ImplicitCancellationOption, is_input_closed, Event, Text, Handler, FollowsSo, IsNote, LiveAttempt, VMOptions}
-use Rattle.turning_laws.specs.Turning.{TurnKeeps}
+use Rattle.turning_laws.specs.Words.{Error, Version, ImplicitCancellationOption, is_input_closed, Event, Text, Handler, FollowsSo, IsNote, LiveAttempt, VMOptions}
+use Rattle.turning_laws.specs.Turning.{FailsUncovered, TurnKeeps}
 use Rattle.turning_laws.proofs.Stored.{notes_of_store}
 
 module _ {H : Type 0} (function : H → Handler) (next : Handler) (version : Version) (options : VMOptions) (id : Text) (events : List Event) (live : LiveAttempt) (before : Attempt H)
@@ -26,6 +30,28 @@ module _ {H : Type 0} (function : H → Handler) (next : Handler) (version : Ver
   told : TellsNotes fails.told vm.active.output fails.before
   told = cause_tells vm.version vm.options.journal_mismatch_retry_behavior refuses.told.cause vm.active.output fails.told fails.before r.driven.sees.opened fails.tells
 
+  -- what it fails with has a short frame
+  told_short : (version : Version) → length (error_message version not_carried_out).payload ≡ 32
+  unfolding spelling.tagged spelling.varint_spelling spelling.varint_spelling_within
+  told_short version = refl
+
+  never_long : (old : Written) → IsTooLong not_carried_out old → ⊥
+  never_long old long = omega (arith, long.1, told_short old.version)
+
+  told_as : FailsWith not_carried_out vm.active.output fails.told ⊎ (fails.told ≡ out_of_memory)
+  told_as =
+      fails_with vm.version vm.options.journal_mismatch_retry_behavior not_carried_out vm.active.output fails.told fails.before refl
+      (subst (λ (cause : Result Error AllocError). TellsCause vm.version vm.options.journal_mismatch_retry_behavior cause vm.active.output fails.told fails.before) refuses.told.causes fails.tells)
+
+  answered : FailsUncovered function next version options id events live before refuses.answer
+  answered = copied told_as (subst (λ (p : Phase). IsReady p (Err refuses.answer)) fails.phase_is refuses.has_failed)
+    where
+      copied : FailsWith not_carried_out vm.active.output fails.told ⊎ (fails.told ≡ out_of_memory) → IsCopy fails.told refuses.answer → FailsUncovered function next version options id events live before refuses.answer
+      copied with (inr lacks) = inr lacks
+      copied (inl (inl plain)) (inl same) = inl (same ∙ plain)
+      copied (inl (inr long)) (inl same) = absurd (never_long vm.active.output long.0)
+      copied (inr lacks) (inl same) = inr (same ∙ lacks)
+
   notes : AllByRecursion IsNote (map (frame_meant version) told.coming)
   notes = subst (λ (v : Version). AllByRecursion IsNote (map (frame_meant v) told.coming)) of_output told.notes
 
@@ -41,7 +67,7 @@ module _ {H : Type 0} (function : H → Handler) (next : Handler) (version : Ver
       inr (
         sym (ap (λ (cancellation : ImplicitCancellationOption). is_covered cancellation (function before.handler live.start.given.input before.answers)) s.cancellation
             ∙ ap (λ (handler : Handler). is_covered options.implicit_cancellation (handler live.start.given.input before.answers)) s.handler) ∙ uncovered,
-        refl,
+        answered,
       ),
       machine_failed fails.told fails.phase_is,
     );

@@ -1,25 +1,23 @@
--- What a reply makes of a machine that tracks no child: which requests it writes, and which numbers it takes.
-use Rattle.std.proofs.Common.{◌≡◌, ◌∙◌, ◌+◌, ℕ, arith, Bool, true, false, List, [], ◌∷◌, ◌++◌, append-nil, append_assoc, if◌then◌else◌, option_and_then, Option, Some, None, refl, sym, ap, subst}
+-- What a reply makes of a machine: which requests it writes, which numbers it takes, and what is known of its children.
+use Rattle.std.proofs.Common.{◌≡◌, ◌∙◌, ◌+◌, ℕ, arith, Bool, true, false, List, [], ◌∷◌, ◌++◌, append-nil, append_assoc, map, if◌then◌else◌, option_and_then, Option, Some, None, refl, sym, ap}
 use Rattle.std.specs.List.{AllByRecursion, list_all}
-use Rattle.turning_laws.specs.Words.{Answer, Call, awaited_tree, AwaitTree, completions_of, signals_of, Arrival, Request, Invocation, childless, childless_reply, Refusal, refusal_of, Commands, PutState, put_one, put_all, requests_by}
+use Rattle.turning_laws.specs.Words.{Call, awaited_tree, AwaitTree, completions_of, signals_of, child_of, Arrival, Request, Invocation, Refusal, refusal_of, Commands, PutState, put_one, put_all, requests_by, IsTextId}
 use Rattle.journal_model.specs.declared.notification.NotificationResult.{NotificationResult}
 use Rattle.journal_model.specs.Value.{as_taken}
-use Rattle.attempt_model.specs.Children.{Child, ChildrenOutcome, AllKnown, FirstUnknown, OneIsNoId, children_outcome, cancel_requests_for, may_take}
+use Rattle.attempt_model.specs.Children.{Child, new_child, ChildrenOutcome, AllKnown, FirstUnknown, OneIsNoId, children_outcome, cancel_requests_for, may_take}
 use Rattle.attempt_model.specs.Results.{Ready, slot_of, waiting_for, Resolution, Awake, Asleep, resolution_of, are_keys_text}
-use Rattle.attempt_model.specs.Machine.{Machine, Reply, Answered, AwaitsTree, AwaitsChild, Finished, FailedBy, Fault, Work, ToAwait, ToEnd, ToTake, ToLook, ToMake, work_of, is_cancelled, reply_to_take, reply_where_taken, reply_where_unknown, reply_where_asleep, reply_to_end, reply_to_make, reply_where_cancelled, reply_to_children, reply_where_awake, reply_to_await, reply_to_work, reply_unless_refused, reply_to}
+use Rattle.attempt_model.specs.Machine.{Machine, Reply, Answered, AwaitsTree, AwaitsChild, Work, ToAwait, ToEnd, ToTake, ToLook, ToMake, work_of, is_cancelled, reply_to_take, reply_where_taken, reply_where_unknown, reply_where_asleep, reply_to_end, reply_to_make, reply_where_cancelled, reply_to_children, reply_where_awake, reply_to_await, reply_to_work, reply_unless_refused, reply_to}
 use Rattle.attempt_calls.proofs.CallKinds.{inv-await}
+use Rattle.handle_laws.proofs.Fitting.{all_append}
+use Rattle.turning_laws.proofs.Ids.{IsTextResult, AreText, AreReadyText, AreTaken, ResolvesText, resolved_text, FindsText, found_text, WaitsText, waiting_text, taken_text}
 
 -- ---- requests
 
-abbrev Puts : (P : Request → Type 0) → List Request → List Request → Type 0
+abbrev pub Puts : (P : Request → Type 0) → List Request → List Request → Type 0
 Puts P old new = (more : List Request) × (new ≡ old ++ more) × AllByRecursion P more
 
-the_put : (p q : PutState) → ◌≡◌ {A = Option PutState} (Some p) (Some q) → p ≡ q
+pub the_put : (p q : PutState) → ◌≡◌ {A = Option PutState} (Some p) (Some q) → p ≡ q
 the_put p q e = cc
-
-all_append : (P : Request → Type 0) (xs ys : List Request) → AllByRecursion P xs → AllByRecursion P ys → AllByRecursion P (xs ++ ys)
-all_append P [] ys p q = q
-all_append P (x ∷ xs) ys p q = (p.0, all_append P xs ys p.1 q)
 
 module _ (P : Request → Type 0) (same : Request → Request → Bool) where
   nothing_put : (written : List Request) (p : PutState) → p.written ≡ written → Puts P written p.written
@@ -51,23 +49,26 @@ module _ (P : Request → Type 0) (same : Request → Request → Bool) where
 
 -- ---- a call
 
--- what is behind it: such requests were written, and the numbers of the call taken
+-- what is behind it: such requests were written, the numbers of the call were taken, and ids of children are text
 pub record Grown (P : Request → Type 0) (call : Call) (m after : Machine) : Type 0 where
   pub more : List Request
   pub written : after.written ≡ m.written ++ more
   pub all : AllByRecursion P more
   pub completions : after.completions ≡ m.completions + completions_of call
   pub signals : after.signals ≡ m.signals + signals_of call
+  pub ids : AreTaken after.children
 
 -- where it waits, nothing was
 pub record Stayed (m after : Machine) : Type 0 where
   pub written : after.written ≡ m.written
   pub completions : after.completions ≡ m.completions
   pub signals : after.signals ≡ m.signals
+  pub children : after.children ≡ m.children
 
 abbrev pub Grows : (P : Request → Type 0) → Call → Machine → Reply → Type 0
 Grows P call m (Answered answer after) = Grown P call m after
 Grows P call m (AwaitsTree tree after) = Stayed m after
+Grows P call m (AwaitsChild child after) = Stayed m after
 Grows P call m _ = Unit {0}
 
 -- a call that makes nothing takes no numbers
@@ -85,164 +86,168 @@ module _ (P : Request → Type 0) (same : Request → Request → Bool) (given :
   abbrev After : Reply → Type 0
   After reply = Grows P call m reply
 
-  quiet : (after : Machine) → (completions_of call ≡ 0) × (signals_of call ≡ 0) → after.written ≡ m.written → after.completions ≡ m.completions → after.signals ≡ m.signals → Grown P call m after
-  quiet after none written completions signals = record {
+  quiet : (after : Machine) → (completions_of call ≡ 0) × (signals_of call ≡ 0) → after.written ≡ m.written → after.completions ≡ m.completions → after.signals ≡ m.signals
+      → AreTaken after.children → Grown P call m after
+  quiet after none written completions signals ids = record {
     more = [];
     written = written ∙ sym (append-nil m.written);
     all = tt;
     completions = completions ∙ and_none m.completions (completions_of call) none.0;
     signals = signals ∙ and_none m.signals (signals_of call) none.1;
+    ids = ids;
   }
 
-  made : (requests : List Request) (put : Option PutState) → put_all same requests (record { left = m.left; written = m.written }) ≡ put → AllByRecursion P requests
-      → After (reply_to_make same given m call requests put)
-  made requests None e all = tt
-  made requests (Some p) e all =
-      let puts = all_put P same requests (record { left = m.left; written = m.written }) p all e in
-      record { more = puts.0; written = puts.1; all = puts.2; completions = refl; signals = refl }
+  made_ids : (ns : List ℕ) → AreTaken m.children → AreTaken (m.children ++ map new_child ns)
+  made_ids ns ids = all_append (λ (child : Child). IsTextId child.taken) m.children (map new_child ns) ids (all_new ns)
+    where
+      all_new : (ns : List ℕ) → AreTaken (map new_child ns)
+      all_new [] = tt
+      all_new (n ∷ ns) = (tt, all_new ns)
 
-  module _ (none : (completions_of call ≡ 0) × (signals_of call ≡ 0)) (childless_is : m.children ≡ []) where
+  made : (requests : List Request) (put : Option PutState) → put_all same requests (record { left = m.left; written = m.written }) ≡ put → AllByRecursion P requests
+      → AreTaken m.children → After (reply_to_make same given m call requests put)
+  made requests None e all ids = tt
+  made requests (Some p) e all ids =
+      let puts = all_put P same requests (record { left = m.left; written = m.written }) p all e in
+      record {
+        more = puts.0;
+        written = puts.1;
+        all = puts.2;
+        completions = refl;
+        signals = refl;
+        ids = made_ids (child_of given.options.implicit_cancellation m.completions call) ids;
+      }
+
+  module _ (none : (completions_of call ≡ 0) × (signals_of call ≡ 0)) (ids : AreTaken m.children) where
     cancelled : (queue : List Arrival) (ready : Ready) (requests : List Request) (put : Option PutState) → put_all same requests (record { left = m.left; written = m.written }) ≡ put → AllByRecursion P requests
         → After (reply_where_cancelled same given (record m { queue = queue; ready = ready }) requests put)
     cancelled queue ready requests None e all = tt
     cancelled queue ready requests (Some p) e all =
         let puts = all_put P same requests (record { left = m.left; written = m.written }) p all e in
-        record { more = puts.0; written = puts.1; all = puts.2; completions = and_none m.completions (completions_of call) none.0; signals = and_none m.signals (signals_of call) none.1 }
+        record {
+          more = puts.0;
+          written = puts.1;
+          all = puts.2;
+          completions = and_none m.completions (completions_of call) none.0;
+          signals = and_none m.signals (signals_of call) none.1;
+          ids = tt;
+        }
 
-    unknown : (child : ℕ) (n : Machine) (commands : Commands) → After (reply_where_unknown child n commands)
-    unknown child n [] = tt
-    unknown child n (command ∷ commands) = tt
-
-    children : (queue : List Arrival) (ready : Ready) (outcome : ChildrenOutcome) → After (reply_to_children same given (record m { queue = queue; ready = ready }) outcome)
-    children queue ready (AllKnown line waiting) =
-        cancelled line waiting (cancel_requests_for waiting m.children) (put_all same (cancel_requests_for waiting m.children) (record { left = m.left; written = m.written })) refl
-        (subst (λ (some : List Child). AllByRecursion P (cancel_requests_for waiting some)) (sym childless_is) tt)
-    children queue ready (FirstUnknown child waiting) = unknown child (record m { queue = []; ready = waiting }) m.left
-    children queue ready OneIsNoId = tt
-
-    awake : (queue : List Arrival) (ready : Ready) (ends : Bool) → After (reply_where_awake same given (record m { queue = queue; ready = ready }) ends)
-    awake queue ready false = quiet (record m { queue = queue; ready = ready }) none refl refl refl
-    awake queue ready true = children queue ready (children_outcome given.options.signal_delivery m.children queue ready)
+    unknown : (child : ℕ) (queue : List Arrival) (ready : Ready) (commands : Commands) → After (reply_where_unknown child (record m { queue = queue; ready = ready }) commands)
+    unknown child queue ready [] = record { written = refl; completions = refl; signals = refl; children = refl }
+    unknown child queue ready (command ∷ commands) = tt
 
     asleep : (tree : AwaitTree ℕ) (ready : Ready) (commands : Commands) → After (reply_where_asleep tree (record m { queue = []; ready = ready }) commands)
-    asleep tree ready [] = record { written = refl; completions = refl; signals = refl }
+    asleep tree ready [] = record { written = refl; completions = refl; signals = refl; children = refl }
     asleep tree ready (command ∷ commands) = tt
 
-    awaited : (resolution : Resolution) → After (reply_to_await same given m resolution)
-    awaited (Awake queue ready) = awake queue ready (is_cancelled given (record m { queue = queue; ready = ready }))
-    awaited (Asleep tree ready) = asleep tree ready m.left
+    -- the requests of a cancellation are such, where what is known of the children is text
+    module _ (cancels : (ready : Ready) → AreReadyText ready → AllByRecursion P (cancel_requests_for ready m.children)) where
+      children : (queue : List Arrival) (ready : Ready) (outcome : ChildrenOutcome) → FindsText outcome → After (reply_to_children same given (record m { queue = queue; ready = ready }) outcome)
+      children queue ready (AllKnown line waiting) text =
+          cancelled line waiting (cancel_requests_for waiting m.children) (put_all same (cancel_requests_for waiting m.children) (record { left = m.left; written = m.written })) refl
+          (cancels waiting text)
+      children queue ready (FirstUnknown child waiting) text = unknown child [] waiting m.left
+      children queue ready OneIsNoId text = tt
 
-    taken : (handle : ℕ) (result : NotificationResult) (are_text may : Bool) → After (reply_where_taken m handle result are_text may)
-    taken handle result false may = tt
-    taken handle result true false = tt
-    taken handle result true true = record {
+      awake : (queue : List Arrival) (ready : Ready) (ends : Bool) → ResolvesText (Awake queue ready) → After (reply_where_awake same given (record m { queue = queue; ready = ready }) ends)
+      awake queue ready false text = quiet (record m { queue = queue; ready = ready }) none refl refl refl ids
+      awake queue ready true text =
+          children queue ready (children_outcome given.options.signal_delivery m.children queue ready) (found_text given.options.signal_delivery m.children queue ready text.0 text.1)
+
+      awaited : (resolution : Resolution) → ResolvesText resolution → After (reply_to_await same given m resolution)
+      awaited (Awake queue ready) text = awake queue ready (is_cancelled given (record m { queue = queue; ready = ready })) text
+      awaited (Asleep tree ready) text = asleep tree ready m.left
+
+    taken : (handle : ℕ) (result : NotificationResult) (are_text may : Bool) → IsTextResult result → After (reply_where_taken m handle result are_text may)
+    taken handle result false may text = tt
+    taken handle result true false text = tt
+    taken handle result true true text = record {
       more = [];
       written = sym (append-nil m.written);
       all = tt;
       completions = and_none m.completions (completions_of call) none.0;
       signals = and_none m.signals (signals_of call) none.1;
+      ids = taken_text (slot_of m.slots handle) (as_taken result) m.children text ids;
     }
 
-    asked : (handle : ℕ) (waits : Option NotificationResult) → After (reply_to_take m handle waits)
-    asked handle None = quiet m none refl refl refl
-    asked handle (Some result) = taken handle result (are_keys_text result) (list_all (may_take (slot_of m.slots handle) (as_taken result)) m.children)
+    asked : (handle : ℕ) (waits : Option NotificationResult) → WaitsText waits → After (reply_to_take m handle waits)
+    asked handle None text = quiet m none refl refl refl ids
+    asked handle (Some result) text = taken handle result (are_keys_text result) (list_all (may_take (slot_of m.slots handle) (as_taken result)) m.children) text
 
     ended : (commands : Commands) → After (reply_to_end m commands)
     ended [] = tt
     ended (command ∷ commands) = tt
 
-  by_work : (work : Work) → work_of call ≡ work → m.children ≡ [] → AllByRecursion P (requests_by m.start m.done m.left m.completions call) → After (reply_to_work same given m call work)
-  by_work (ToAwait tree) is childless_is all =
-      awaited (none_taken call (λ e. let wrong : ToAwait tree ≡ ToMake = sym is ∙ e in cc)) childless_is
-      (resolution_of given.options.signal_delivery m.slots (awaited_tree given.options.implicit_cancellation tree) m.queue m.ready)
-  by_work ToEnd is childless_is all = ended (none_taken call (λ e. let wrong : ToEnd ≡ ToMake = sym is ∙ e in cc)) childless_is m.left
-  by_work (ToTake handle) is childless_is all =
-      asked (none_taken call (λ e. let wrong : ToTake handle ≡ ToMake = sym is ∙ e in cc)) childless_is handle (waiting_for m.slots m.ready handle)
-  by_work (ToLook handle) is childless_is all = quiet m (none_taken call (λ e. let wrong : ToLook handle ≡ ToMake = sym is ∙ e in cc)) refl refl refl
-  by_work ToMake is childless_is all =
-      made (requests_by m.start m.done m.left m.completions call)
-      (put_all same (requests_by m.start m.done m.left m.completions call) (record { left = m.left; written = m.written })) refl all
+  -- what has come is text, and so is what was taken of the children; requests of the call and of a cancellation are such
+  pub record Allows : Type 0 where
+    pub queue : AreText m.queue
+    pub ready : AreReadyText m.ready
+    pub ids : AreTaken m.children
+    pub makes : refusal_of given.version call ≡ None → AllByRecursion P (requests_by m.start m.done m.left m.completions call)
+    pub cancels : (ready : Ready) → AreReadyText ready → AllByRecursion P (cancel_requests_for ready m.children)
 
-  unless_refused : (refusal : Option Refusal) → refusal_of given.version call ≡ refusal → m.children ≡ []
-      → (refusal_of given.version call ≡ None → AllByRecursion P (requests_by m.start m.done m.left m.completions call)) → After (reply_unless_refused same given m call refusal)
-  unless_refused (Some refusal) is childless_is all = tt
-  unless_refused None is childless_is all = by_work (work_of call) refl childless_is (all is)
+  module _ (a : Allows) where
+    by_work : (work : Work) → work_of call ≡ work → refusal_of given.version call ≡ None → After (reply_to_work same given m call work)
+    by_work (ToAwait tree) is unrefused =
+        awaited (none_taken call (λ e. let wrong : ToAwait tree ≡ ToMake = sym is ∙ e in cc)) a.ids a.cancels
+        (resolution_of given.options.signal_delivery m.slots (awaited_tree given.options.implicit_cancellation tree) m.queue m.ready)
+        (resolved_text given.options.signal_delivery m.slots (awaited_tree given.options.implicit_cancellation tree) m.queue m.ready a.queue a.ready)
+    by_work ToEnd is unrefused = ended (none_taken call (λ e. let wrong : ToEnd ≡ ToMake = sym is ∙ e in cc)) a.ids m.left
+    by_work (ToTake handle) is unrefused =
+        asked (none_taken call (λ e. let wrong : ToTake handle ≡ ToMake = sym is ∙ e in cc)) a.ids handle (waiting_for m.slots m.ready handle) (waiting_text m.slots m.ready handle a.ready)
+    by_work (ToLook handle) is unrefused = quiet m (none_taken call (λ e. let wrong : ToLook handle ≡ ToMake = sym is ∙ e in cc)) refl refl refl a.ids
+    by_work ToMake is unrefused =
+        made (requests_by m.start m.done m.left m.completions call)
+        (put_all same (requests_by m.start m.done m.left m.completions call) (record { left = m.left; written = m.written })) refl (a.makes unrefused) a.ids
+
+    unless_refused : (refusal : Option Refusal) → refusal_of given.version call ≡ refusal → After (reply_unless_refused same given m call refusal)
+    unless_refused (Some refusal) is = tt
+    unless_refused None is = by_work (work_of call) refl is
 
 -- where its requests are such, so are those that it writes
-pub reply_grows : (P : Request → Type 0) (same_header : Call → Request → Request → Bool) (given : Invocation) (m : Machine) (call : Call) → m.children ≡ []
-    → (refusal_of given.version call ≡ None → AllByRecursion P (requests_by m.start m.done m.left m.completions call)) → Grows P call m (reply_to same_header given m call)
-reply_grows P same_header given m call childless_is all = unless_refused P (same_header call) given m call (refusal_of given.version call) refl childless_is all
+pub reply_grows : (P : Request → Type 0) (same_header : Call → Request → Request → Bool) (given : Invocation) (m : Machine) (call : Call) → Allows P (same_header call) given m call
+    → Grows P call m (reply_to same_header given m call)
+reply_grows P same_header given m call a = unless_refused P (same_header call) given m call a (refusal_of given.version call) refl
 
--- ---- which call waits for a tree
+-- ---- which call waits
 
-module _ (same : Request → Request → Bool) (given : Invocation) (m : Machine) (call : Call) (left : AwaitTree ℕ) (after : Machine) where
-  made_no_tree : (requests : List Request) (put : Option PutState) → reply_to_make same given m call requests put ≡ AwaitsTree left after → ⊥
-  made_no_tree requests None e = cc
-  made_no_tree requests (Some p) e = cc
+abbrev pub IsWait : Reply → Type 0
+IsWait (AwaitsTree tree after) = Unit {0}
+IsWait (AwaitsChild child after) = Unit {0}
+IsWait _ = ⊥
 
-  ended_no_tree : (commands : Commands) → reply_to_end m commands ≡ AwaitsTree left after → ⊥
-  ended_no_tree [] e = cc
-  ended_no_tree (command ∷ commands) e = cc
+module _ (same : Request → Request → Bool) (given : Invocation) (m : Machine) (call : Call) where
+  made_no_wait : (requests : List Request) (put : Option PutState) → IsWait (reply_to_make same given m call requests put) → ⊥
+  made_no_wait requests None waits = waits
+  made_no_wait requests (Some p) waits = waits
 
-  taken_no_tree : (handle : ℕ) (result : NotificationResult) (are_text may : Bool) → reply_where_taken m handle result are_text may ≡ AwaitsTree left after → ⊥
-  taken_no_tree handle result false may e = cc
-  taken_no_tree handle result true false e = cc
-  taken_no_tree handle result true true e = cc
+  ended_no_wait : (commands : Commands) → IsWait (reply_to_end m commands) → ⊥
+  ended_no_wait [] waits = waits
+  ended_no_wait (command ∷ commands) waits = waits
 
-  asked_no_tree : (handle : ℕ) (waits : Option NotificationResult) → reply_to_take m handle waits ≡ AwaitsTree left after → ⊥
-  asked_no_tree handle None e = cc
-  asked_no_tree handle (Some result) e = taken_no_tree handle result (are_keys_text result) (list_all (may_take (slot_of m.slots handle) (as_taken result)) m.children) e
+  taken_no_wait : (handle : ℕ) (result : NotificationResult) (are_text may : Bool) → IsWait (reply_where_taken m handle result are_text may) → ⊥
+  taken_no_wait handle result false may waits = waits
+  taken_no_wait handle result true false waits = waits
+  taken_no_wait handle result true true waits = waits
 
-  tree_of_work : (work : Work) → work_of call ≡ work → reply_to_work same given m call work ≡ AwaitsTree left after → (tree : AwaitTree ℕ) × (call ≡ Call.Await tree)
-  tree_of_work (ToAwait tree) is e = (tree, inv-await call tree is)
-  tree_of_work ToEnd is e = absurd (ended_no_tree m.left e)
-  tree_of_work (ToTake handle) is e = absurd (asked_no_tree handle (waiting_for m.slots m.ready handle) e)
-  tree_of_work (ToLook handle) is e = cc
-  tree_of_work ToMake is e =
-      absurd (made_no_tree (requests_by m.start m.done m.left m.completions call)
-      (put_all same (requests_by m.start m.done m.left m.completions call) (record { left = m.left; written = m.written })) e)
+  asked_no_wait : (handle : ℕ) (waiting : Option NotificationResult) → IsWait (reply_to_take m handle waiting) → ⊥
+  asked_no_wait handle None waits = waits
+  asked_no_wait handle (Some result) waits = taken_no_wait handle result (are_keys_text result) (list_all (may_take (slot_of m.slots handle) (as_taken result)) m.children) waits
 
-  tree_unless_refused : (refusal : Option Refusal) → reply_unless_refused same given m call refusal ≡ AwaitsTree left after → (tree : AwaitTree ℕ) × (call ≡ Call.Await tree)
-  tree_unless_refused (Some refusal) e = cc
-  tree_unless_refused None e = tree_of_work (work_of call) refl e
+  wait_of_work : (work : Work) → work_of call ≡ work → IsWait (reply_to_work same given m call work) → (tree : AwaitTree ℕ) × (call ≡ Call.Await tree)
+  wait_of_work (ToAwait tree) is waits = (tree, inv-await call tree is)
+  wait_of_work ToEnd is waits = absurd (ended_no_wait m.left waits)
+  wait_of_work (ToTake handle) is waits = absurd (asked_no_wait handle (waiting_for m.slots m.ready handle) waits)
+  wait_of_work (ToLook handle) is waits = absurd waits
+  wait_of_work ToMake is waits =
+      absurd (made_no_wait (requests_by m.start m.done m.left m.completions call)
+      (put_all same (requests_by m.start m.done m.left m.completions call) (record { left = m.left; written = m.written })) waits)
+
+  wait_unless_refused : (refusal : Option Refusal) → IsWait (reply_unless_refused same given m call refusal) → (tree : AwaitTree ℕ) × (call ≡ Call.Await tree)
+  wait_unless_refused (Some refusal) waits = absurd waits
+  wait_unless_refused None waits = wait_of_work (work_of call) refl waits
 
 -- one that does is an await
-pub awaits_of : (same_header : Call → Request → Request → Bool) (given : Invocation) (m : Machine) (call : Call) (left : AwaitTree ℕ) (after : Machine) → reply_to same_header given m call ≡ AwaitsTree left after
-    → (tree : AwaitTree ℕ) × (call ≡ Call.Await tree)
-awaits_of same_header given m call left after e = tree_unless_refused (same_header call) given m call left after (refusal_of given.version call) e
-
--- ---- beside a machine that tracks children
-
-pub answered_of : (reply : Reply) (answer : Answer) (after : Machine) → childless_reply reply ≡ Answered answer after → (whole : Machine) × (reply ≡ Answered answer whole) × (childless whole ≡ after)
-answered_of (Answered other whole) answer after e =
-    let same : other ≡ answer = cc in
-    let behind : childless whole ≡ after = cc in
-    (whole, ap (λ (a : Answer). Answered a whole) same, behind)
-answered_of (AwaitsTree tree whole) answer after e = cc
-answered_of (AwaitsChild child whole) answer after e = cc
-answered_of (Finished whole) answer after e = cc
-answered_of (FailedBy fault) answer after e = cc
-
-pub awaiting_of : (reply : Reply) (tree : AwaitTree ℕ) (after : Machine) → childless_reply reply ≡ AwaitsTree tree after → (whole : Machine) × (reply ≡ AwaitsTree tree whole) × (childless whole ≡ after)
-awaiting_of (Answered answer whole) tree after e = cc
-awaiting_of (AwaitsTree other whole) tree after e =
-    let same : other ≡ tree = cc in
-    let behind : childless whole ≡ after = cc in
-    (whole, ap (λ (t : AwaitTree ℕ). AwaitsTree t whole) same, behind)
-awaiting_of (AwaitsChild child whole) tree after e = cc
-awaiting_of (Finished whole) tree after e = cc
-awaiting_of (FailedBy fault) tree after e = cc
-
-pub finished_of : (reply : Reply) (after : Machine) → childless_reply reply ≡ Finished after → (whole : Machine) × (reply ≡ Finished whole) × (childless whole ≡ after)
-finished_of (Answered answer whole) after e = cc
-finished_of (AwaitsTree tree whole) after e = cc
-finished_of (AwaitsChild child whole) after e = cc
-finished_of (Finished whole) after e = let behind : childless whole ≡ after = cc in (whole, refl, behind)
-finished_of (FailedBy fault) after e = cc
-
-pub failed_of : (reply : Reply) (fault : Fault) → childless_reply reply ≡ FailedBy fault → reply ≡ FailedBy fault
-failed_of (Answered answer whole) fault e = cc
-failed_of (AwaitsTree tree whole) fault e = cc
-failed_of (AwaitsChild child whole) fault e = cc
-failed_of (Finished whole) fault e = cc
-failed_of (FailedBy other) fault e = e
+pub awaits_of : (same_header : Call → Request → Request → Bool) (given : Invocation) (m : Machine) (call : Call) → IsWait (reply_to same_header given m call) → (tree : AwaitTree ℕ) × (call ≡ Call.Await tree)
+awaits_of same_header given m call waits = wait_unless_refused (same_header call) given m call (refusal_of given.version call) waits

@@ -1,32 +1,45 @@
 -- What a turn has sent, by the outcome of its call.
-use Rattle.std.proofs.Common.{◌≡◌, ◌⊎◌, inl, inr, ◌∙◌, ◌+◌, ◌≤◌, ◌-◌, ◌^◌, ℕ, arith, Bool, true, false, List, [], ◌∷◌, ◌++◌, map, if◌then◌else◌, None, Ok, refl, sym, ap, subst}
+use Rattle.std.proofs.Common.{◌≡◌, ◌⊎◌, inl, inr, ◌∙◌, ◌+◌, ◌≤◌, ◌-◌, ◌^◌, ℕ, arith, Bool, true, false, List, [], ◌∷◌, ◌++◌, map, Option, Some, None, Ok, refl, sym, ap, subst}
 use Rattle.std.proofs.lemmas.List.{append_cancel_left}
-use Rattle.std.specs.List.{AllByRecursion}
+use Rattle.std.specs.List.{AllByRecursion, list_all}
+use Rattle.std.specs.Str.{is_utf8}
 use Rattle.protocol_types.specs.declared.message_type.MessageType.TheVariants as types
+use Rattle.journal_model.specs.Await.{cancel_request}
+use Rattle.journal_model.specs.AwaitTree.{Pending, is_awake}
+use Rattle.journal_model.specs.Future.{tree_of}
 use Rattle.journal_model.specs.Spelling.{frame_bytes}
 use Rattle.journal_model.specs.Waiting.{only_leaves}
+use Rattle.journal_model.specs.declared.value.Value.{Value}
+use Rattle.attempt_model.specs.Children.{Child as Tracked, child_value, cancel_requests_for}
+use Rattle.attempt_model.specs.Results.{Ready}
 use Rattle.request_laws.specs.Fitting.{RequestFits}
 use Rattle.request_laws.proofs.Making.{calls_make_fit}
-use Rattle.handle_laws.specs.Awaiting.{IsLeft}
 use Rattle.handle_laws.specs.Machines.{Leaves}
-use Rattle.handle_laws.proofs.Handles.{awaited_trees_fit}
+use Rattle.handle_laws.proofs.Children.{awaited_trees_fit}
 use Rattle.handle_laws.proofs.Machines.{machines_fit}
 use Rattle.vm_awaits.specs.Views.{AsyncResults, slots_of}
-use Rattle.vm_waiting.specs.Suspending.{over_ids, tells_awaiting, TellsIf}
-use Rattle.turning_laws.proofs.Reading.{turns_send, frames_are_written}
-use Rattle.turning_laws.specs.Machine.{MachineState, Fits, Active, Written, with_frame, Answers, Waits, Suspends, Ends, IsDriven}
-use Rattle.turning_laws.specs.Reading.{Kind}
-use Rattle.turning_laws.specs.Sending.{Sent, Asks, sent_stream, AllFit, is_recorded, frame_meant, TurnSends}
+use Rattle.vm_waiting.specs.Suspending.{tells_awaiting, TellsIf}
+use Rattle.vm_waiting.specs.WaitsFor.{awaited_ids, waits_for_any, waits_as}
+use Rattle.vm_waiting.specs.declared.waits_for.WaitsFor.{WaitsFor}
+use Rattle.vm_waiting.specs.declared.waits_for.WaitsFor.TheVariants.{Future, Child}
+use Rattle.beginning_laws.proofs.Messages.{all_in_front}
+use Rattle.sending_laws.specs.Turning.{leaves_over}
+use Rattle.turning_laws.proofs.Reading.{turns_send}
+use Rattle.turning_laws.specs.Machine.{MachineState, Fits, Active, Written, with_frame, HasPut, Answers, Waits, Suspends, Ends}
+use Rattle.turning_laws.specs.Reading.{Kind, MessageFits}
+use Rattle.turning_laws.specs.Sending.{Sent, Asks, sent_stream, AllFit, is_recorded, frame_meant, IsOfStore, TurnSends}
 use Rattle.turning_laws.specs.Serving.{AwaitsWithin, HasNumbers}
-use Rattle.turning_laws.specs.Words.{LEVELS, version_number, Version, Answer, Call, is_input_closed, awaited_tree, AwaitTree, Event, Frame, completions_of, signals_of, Text, Request, Handler, Invocation, RunOptions, Machine, Reply, Answered, AwaitsTree, Finished, reply_to, LiveAttempt, untracked, childless, run_options, VMOptions, IsWithin, SlotsFit, TreeFits, refusal_of, Slots, slot_of, requests_by, SendsReply, AnswersNext, RepliesAsRun, requests_carried, arrivals_carried, are_by_text}
+use Rattle.turning_laws.specs.Words.{LEVELS, version_number, Version, Answer, Call, is_input_closed, awaited_tree, AwaitTree, NotificationId, keys_of, Event, completions_of, signals_of, Text, Request, Handler, Invocation, RunOptions, Machine, Reply, Answered, Finished, reply_to, LiveAttempt, run_options, VMOptions, IsWithin, SlotsFit, TreeFits, refusal_of, Slots, slot_of, requests_by, SendsReply, AnswersNext, RepliesAsRun, requests_carried, arrivals_carried, are_by_text}
 use Rattle.turning_laws.proofs.Now.{Now, compares, call_of, reply_at}
 use Rattle.turning_laws.proofs.Texts.{reply_text}
-use Rattle.turning_laws.proofs.Replies.{Grown, Stayed, Grows, reply_grows, awaits_of, answered_of, awaiting_of, finished_of}
+use Rattle.turning_laws.proofs.Ids.{AreText, AreReadyText, AreTaken, messages_text, line_text, ready_text, values_text}
+use Rattle.turning_laws.proofs.Midway.{passed_such}
+use Rattle.turning_laws.proofs.Replies.{Puts, all_put, Grown, Stayed, Grows, reply_grows, IsWait, awaits_of}
 
 -- ---- requests
 
 -- a request that a store records, and that fits where its frame does
-abbrev MayBeSent : Request → Type 0
+abbrev pub MayBeSent : Request → Type 0
 MayBeSent request = (Fits request → RequestFits request) × (is_recorded request ≡ true)
 
 both_hold : (requests : List Request) → AllByRecursion (λ request. Fits request → RequestFits request) requests → AllByRecursion (λ request. is_recorded request ≡ true) requests
@@ -34,14 +47,54 @@ both_hold : (requests : List Request) → AllByRecursion (λ request. Fits reque
 both_hold [] fit recorded = tt
 both_hold (request ∷ requests) fit recorded = ((fit.0, recorded.0), both_hold requests fit.1 recorded.1)
 
-sent_fit : (version : Version) (requests : List Request) → AllByRecursion MayBeSent requests → AllByRecursion Fits requests → AllFit version (map Asks requests)
-sent_fit version [] may short = tt
-sent_fit version (request ∷ requests) may short = let fits = may.0.0 short.0 in (record { told = fits; short = fits.short }, sent_fit version requests may.1 short.1)
+sent_fit : (requests : List Request) → AllByRecursion MayBeSent requests → AllByRecursion Fits requests → AllByRecursion RequestFits requests
+sent_fit [] may short = tt
+sent_fit (request ∷ requests) may short = (may.0.0 short.0, sent_fit requests may.1 short.1)
 
-sent_meant : (version : Version) (requests : List Request) → AllByRecursion MayBeSent requests → map (frame_meant version) (map Asks requests) ≡ map Frame.Command requests
-sent_meant version [] may = refl
-sent_meant version (request ∷ requests) may =
-    λ i. (ap (λ (b : Bool). if b then Frame.Command request else Frame.NotAccepted) may.0.1 i) ∷ sent_meant version requests may.1 i
+sent_recorded : (requests : List Request) → AllByRecursion MayBeSent requests → AllByRecursion (λ request. is_recorded request ≡ true) requests
+sent_recorded [] may = tt
+sent_recorded (request ∷ requests) may = (may.0.1, sent_recorded requests may.1)
+
+-- one by which a cancellation is passed on: its keys are text as well
+abbrev pub MayBePassedOn : Request → Type 0
+MayBePassedOn request = MayBeSent request × (list_all is_utf8 (keys_of request) ≡ true)
+
+passed_sent : (requests : List Request) → AllByRecursion MayBePassedOn requests → AllByRecursion MayBeSent requests
+passed_sent [] may = tt
+passed_sent (request ∷ requests) may = (may.0.0, passed_sent requests may.1)
+
+pub passed_of_store : (requests : List Request) → AllByRecursion MayBePassedOn requests → AllByRecursion IsOfStore (map Asks requests)
+passed_of_store [] may = tt
+passed_of_store (request ∷ requests) may = ((may.0.0.1, may.0.1), passed_of_store requests may.1)
+
+cancels_may : (children : List Tracked) (ready : Ready) → AllByRecursion (λ request. Fits request → RequestFits request) (cancel_requests_for ready children)
+    → AllByRecursion MayBePassedOn (cancel_requests_for ready children)
+cancels_may [] ready fit = tt
+cancels_may (child ∷ children) ready fit = by_value (child_value ready child) fit (cancels_may children ready)
+  where
+    by_value : (known : Option Value) → AllByRecursion (λ request. Fits request → RequestFits request) (cancel_request known ++ cancel_requests_for ready children)
+        → (AllByRecursion (λ request. Fits request → RequestFits request) (cancel_requests_for ready children) → AllByRecursion MayBePassedOn (cancel_requests_for ready children))
+        → AllByRecursion MayBePassedOn (cancel_request known ++ cancel_requests_for ready children)
+    by_value (Some (Value.InvocationId id)) fit later = (((fit.0, refl), refl), later fit.1)
+    by_value _ fit later = later fit
+
+all_before : (P : Request → Type 0) (xs ys : List Request) → AllByRecursion P (xs ++ ys) → AllByRecursion P xs
+all_before P [] ys all = tt
+all_before P (x ∷ xs) ys all = (all.0, all_before P xs ys all.1)
+
+all_units : (requests : List Request) → AllByRecursion (λ request. Unit {0}) requests
+all_units [] = tt
+all_units (request ∷ requests) = (tt, all_units requests)
+
+-- ---- what is waited for
+
+is_wait : (waits : WaitsFor) (after : Machine) → IsWait (waits_as waits after)
+is_wait (Future left) after = tt
+is_wait (Child child) after = tt
+
+stays_so : (P : Request → Type 0) (call : Call) (m : Machine) (waits : WaitsFor) (after : Machine) → Grows P call m (waits_as waits after) → Stayed m after
+stays_so P call m (Future left) after stayed = stayed
+stays_so P call m (Child child) after stayed = stayed
 
 -- ---- numbers
 
@@ -49,9 +102,9 @@ left_in_all : (n k : ℕ) → n ≤ 2 ^ 32 → (k ≡ 0) ⊎ (n + k ≤ 2 ^ 32) 
 left_in_all n k few (inl none) = omega (arith, few, none)
 left_in_all n k few (inr left) = left
 
-tells_results : (told : Bool) (tree : AwaitTree ℕ) (old new : Active) → TellsIf told tree old (Ok tt) new → new.results ≡ old.results
-tells_results true tree old new tells = ap (λ (active : Active). active.results) tells.1
-tells_results false tree old new same = ap (λ (active : Active). active.results) same
+tells_results : (told : Bool) (ids : AwaitTree NotificationId) (old new : Active) → TellsIf told ids old (Ok tt) new → new.results ≡ old.results
+tells_results true ids old new tells = ap (λ (active : Active). active.results) tells.1
+tells_results false ids old new same = ap (λ (active : Active). active.results) same
 
 module _ (next : Handler) (version : Version) (options : VMOptions) (id : Text) (events : List Event) (live : LiveAttempt) (vm : MachineState) (n : Now next version options id events live vm) where
   abbrev call : Call
@@ -88,17 +141,43 @@ module _ (next : Handler) (version : Version) (options : VMOptions) (id : Text) 
         (subst (λ (v : Version). SendsReply (version_number v) is_closed live.machine reply (map (frame_meant v) t.coming)) of_version t.sends);
   }
 
+  -- ---- what is known of what it may write
+
+  come : AreText (arrivals_carried live.read)
+  come = messages_text live.read (all_in_front MessageFits live.read live.unread n.fed.fit)
+
+  queue_is : AreText live.machine.queue
+  queue_is = line_text next given (requests_carried live.read) (arrivals_carried live.read) live.calls live.machine n.at.stands come
+
+  ready_is : AreReadyText live.machine.ready
+  ready_is = ready_text next given (requests_carried live.read) (arrivals_carried live.read) live.calls live.machine n.at.stands come
+
+  cancels : (ready : Ready) → AreReadyText ready → AllByRecursion MayBePassedOn (cancel_requests_for ready live.machine.children)
+  cancels ready text = cancels_may live.machine.children ready (calls_make_fit.machines_cancel ready live.machine.children (values_text ready live.machine.children text n.numbers.ids))
+
+  -- those that were put of a call that stops midway
+  module _ (far : HasPut given live.machine call vm) where
+    puts : Puts MayBePassedOn live.machine.written far.put.written
+    puts =
+        all_put MayBePassedOn (compares vm call) far.front (record { left = live.machine.left; written = live.machine.written }) far.put
+        (all_before MayBePassedOn far.front far.behind (subst (AllByRecursion MayBePassedOn) far.parts (passed_such MayBePassedOn given live.machine queue_is ready_is cancels call))) far.puts
+
+    pub passed_may : AllByRecursion MayBePassedOn far.more
+    passed_may = subst (AllByRecursion MayBePassedOn) (append_cancel_left live.machine.written puts.0 far.more (sym puts.1 ∙ far.written)) puts.2
+
+    pub passed_fit : AllByRecursion RequestFits far.more
+    passed_fit = sent_fit far.more (passed_sent far.more passed_may) far.fit
+
+    pub passed_recorded : AllByRecursion (λ request. is_recorded request ≡ true) far.more
+    passed_recorded = sent_recorded far.more (passed_sent far.more passed_may)
+
   -- ---- it is answered
 
-  pub record AnswersSo (answer : Answer) (new : MachineState) : Type 0 where
-    pub whole : Machine
-    pub replies : reply_at next live vm n.at ≡ Answered answer whole
-    pub driven : IsDriven (untracked live.start.given) (childless whole) new
+  pub record AnswersSo (whole : Machine) (new : MachineState) : Type 0 where
     pub numbers : HasNumbers whole
     pub sends : SendsFor (is_input_closed events id) (reply_at next live vm n.at) new.active.output
-    pub others : new ≡ record vm { active = new.active }
 
-  module _ (answer : Answer) (new : MachineState) (a : Answers (untracked live.start.given) (childless live.machine) (call_of next live n.at) vm answer new) where
+  module _ (answer : Answer) (new : MachineState) (a : Answers given live.machine (call_of next live n.at) vm answer new) where
     completions_left : live.machine.completions + completions_of call ≤ 2 ^ 32
     completions_left = left_in_all live.machine.completions (completions_of call) n.numbers.completions a.numbers.completions
 
@@ -111,146 +190,126 @@ module _ (next : Handler) (version : Version) (options : VMOptions) (id : Text) 
         (calls_make_fit.machines given.version live.machine.start live.machine.done live.machine.left live.machine.completions call (record { typed = n.typed; allowed = unrefused; ids = completions_left }))
         (n.recorded live.machine.start live.machine.done live.machine.left live.machine.completions)
 
-    grown : Grown MayBeSent call (childless live.machine) a.machine
-    grown = subst (Grows MayBeSent call (childless live.machine)) a.replies (reply_grows MayBeSent (compares vm) (untracked given) (childless live.machine) call refl may_be_sent)
-
-    same_more : grown.more ≡ a.more
-    same_more = append_cancel_left live.machine.written grown.more a.more (sym grown.written ∙ a.written)
+    grown : Grown MayBeSent call live.machine a.machine
+    grown =
+        subst (Grows MayBeSent call live.machine) a.replies (reply_grows MayBeSent (compares vm) given live.machine call (record {
+          queue = queue_is;
+          ready = ready_is;
+          ids = n.numbers.ids;
+          makes = may_be_sent;
+          cancels = λ ready text. passed_sent (cancel_requests_for ready live.machine.children) (cancels ready text);
+        }))
 
     may : AllByRecursion MayBeSent a.more
-    may = subst (AllByRecursion MayBeSent) same_more grown.all
+    may = subst (AllByRecursion MayBeSent) (append_cancel_left live.machine.written grown.more a.more (sym grown.written ∙ a.written)) grown.all
 
-    slots_left : SlotsFit a.machine.slots
-    slots_left =
-        subst (Leaves (λ after. SlotsFit after.slots)) a.replies
-        (machines_fit.calls (compares vm) (untracked given) (childless live.machine) call (record { typed = n.typed; completions = completions_left; signals = signals_left }) n.numbers.slots)
+    next_one : AnswersNext next given (requests_carried live.read) (arrivals_carried live.read) live.calls answer a.machine
+    next_one = subst (RepliesAsRun next given (requests_carried live.read) (arrivals_carried live.read) live.calls) a.replies n.as_run
 
-    behind : (whole : Machine) × (reply_at next live vm n.at ≡ Answered answer whole) × (childless whole ≡ a.machine)
-    behind = answered_of (reply_at next live vm n.at) answer a.machine (sym n.same ∙ a.replies)
-
-    next_one : AnswersNext next given (requests_carried live.read) (arrivals_carried live.read) live.calls answer behind.0
-    next_one = subst (RepliesAsRun next given (requests_carried live.read) (arrivals_carried live.read) live.calls) behind.1 n.as_run
-
-    numbers_left : HasNumbers behind.0
-    numbers_left = record {
-      completions = subst (λ (n : ℕ). n ≤ 2 ^ 32) (sym (ap (λ (m : Machine). m.completions) behind.2 ∙ grown.completions)) completions_left;
-      signals = subst (λ (n : ℕ). n ≤ 2 ^ 32) (sym (ap (λ (m : Machine). m.signals) behind.2 ∙ grown.signals)) signals_left;
-      slots = subst (λ (m : Machine). SlotsFit m.slots) (sym behind.2) slots_left;
-      texts = reply_text next given (requests_carried live.read) (arrivals_carried live.read) live.calls n.by_text (Answered answer behind.0) next_one;
-    }
-
-    pub answers_so : AnswersSo answer new
+    pub answers_so : AnswersSo a.machine new
     answers_so = record {
-      whole = behind.0;
-      replies = behind.1;
-      driven = subst (λ (m : Machine). IsDriven (untracked live.start.given) m new) (sym behind.2) a.driven;
-      numbers = numbers_left;
-      sends = record {
-        coming = map Asks a.more;
-        fit = sent_fit version a.more may a.fit;
-        bytes =
-            ap (λ (w : Written). w.bytes) a.frames ∙ (frames_are_written.commands a.more vm.active.output).bytes
-            ∙ ap (λ (v : Version). vm.active.output.bytes ++ sent_stream v (map Asks a.more)) of_output;
-        version_is = ap (λ (w : Written). w.version) a.frames ∙ of_output;
-        sends =
-            subst (λ (some : Reply). SendsReply live.start.given.version (is_input_closed events id) live.machine some (map (frame_meant version) (map Asks a.more))) (sym behind.1)
-            (a.more, ap (λ (m : Machine). m.written) behind.2 ∙ a.written, sent_meant version a.more may);
+      numbers = record {
+        completions = subst (λ (n : ℕ). n ≤ 2 ^ 32) (sym grown.completions) completions_left;
+        signals = subst (λ (n : ℕ). n ≤ 2 ^ 32) (sym grown.signals) signals_left;
+        slots = subst (Leaves (λ after. SlotsFit after.slots)) a.replies
+            (machines_fit.calls (compares vm) given live.machine call (record { typed = n.typed; completions = completions_left; signals = signals_left }) n.numbers.slots);
+        texts = reply_text next given (requests_carried live.read) (arrivals_carried live.read) live.calls n.by_text (Answered answer a.machine) next_one;
+        ids = grown.ids;
       };
-      others = a.others;
+      sends = subst (λ (some : Reply). SendsFor (is_input_closed events id) some new.active.output) (sym a.replies)
+          (sends_for (is_input_closed events id) (Answered answer a.machine) vm.active.output new.active.output of_output refl
+          (turns_send.answers (is_input_closed events id) live.machine a.machine answer a.more vm.active.output new.active.output a.written a.frames (sent_fit a.more may a.fit) (sent_recorded a.more may)));
     }
 
   -- ---- it waits
 
-  module _ (tree : AwaitTree ℕ) (after : Machine) (e : reply_to (compares vm) (untracked live.start.given) (childless live.machine) (call_of next live n.at) ≡ AwaitsTree tree after) where
-    pub waits_behind : (whole : Machine) × (reply_at next live vm n.at ≡ AwaitsTree tree whole) × (childless whole ≡ after)
-    waits_behind = awaiting_of (reply_at next live vm n.at) tree after (sym n.same ∙ e)
+  -- what is waited for can be told, is not awake by itself, and stands for what it stood for
+  pub record IsTold (waits : WaitsFor) (after : Machine) : Type 0 where
+    pub fits : (active : Active) → slots_of active.results ≡ after.slots → TreeFits (awaited_ids active waits)
+    pub asleep : is_awake (leaves_over after.slots waits) (λ leaf. Pending) ≡ false
+    pub numbers : HasNumbers after
 
-    pub asked : (awaited : AwaitTree ℕ) × (call_of next live n.at ≡ Call.Await awaited)
-    asked = awaits_of (compares vm) given live.machine call tree waits_behind.0 waits_behind.1
+  module _ (waits : WaitsFor) (after : Machine) (e : reply_at next live vm n.at ≡ waits_as waits after) where
+    asked : (awaited : AwaitTree ℕ) × (call_of next live n.at ≡ Call.Await awaited)
+    asked = awaits_of (compares vm) given live.machine call (subst IsWait (sym e) (is_wait waits after))
 
-    pub left : IsLeft (awaited_tree live.start.given.options.implicit_cancellation asked.0) live.machine waits_behind.0 tree
-    left =
-        awaited_trees_fit.awaits (compares vm) given live.machine waits_behind.0 asked.0 tree
-        (sym (ap (λ (c : Call). reply_to (compares vm) given live.machine c) asked.1) ∙ waits_behind.1)
+    replies : reply_to (compares vm) given live.machine (Call.Await asked.0) ≡ waits_as waits after
+    replies = sym (ap (λ (c : Call). reply_to (compares vm) given live.machine c) asked.1) ∙ e
 
-    tree_within : IsWithin (LEVELS - 1) tree
-    tree_within =
-        left.levels (LEVELS - 1)
-        (subst (λ (some : RunOptions). IsWithin (LEVELS - 1) (awaited_tree some.implicit_cancellation asked.0)) (sym n.of_options) (subst (AwaitsWithin (run_options options)) asked.1 n.within))
+    awaited_within : IsWithin (LEVELS - 1) (awaited_tree given.options.implicit_cancellation asked.0)
+    awaited_within =
+        subst (λ (some : RunOptions). IsWithin (LEVELS - 1) (awaited_tree some.implicit_cancellation asked.0)) (sym n.of_options) (subst (AwaitsWithin (run_options options)) asked.1 n.within)
 
-    pub slots_are : waits_behind.0.slots ≡ live.machine.slots
-    slots_are = left.slots
+    stayed : Stayed live.machine after
+    stayed =
+        stays_so (λ request. Unit {0}) call live.machine waits after
+        (subst (Grows (λ request. Unit {0}) call live.machine) e
+        (reply_grows (λ request. Unit {0}) (compares vm) given live.machine call (record {
+          queue = queue_is;
+          ready = ready_is;
+          ids = n.numbers.ids;
+          makes = λ unrefused. all_units (requests_by live.machine.start live.machine.done live.machine.left live.machine.completions call);
+          cancels = λ ready text. all_units (cancel_requests_for ready live.machine.children);
+        })))
 
-    -- what is told of it fits
-    pub tree_fits : (active : Active) → slots_of active.results ≡ after.slots → TreeFits (over_ids active tree)
-    tree_fits active same =
-        subst (λ (slots : Slots). TreeFits (only_leaves (slot_of slots) tree)) (sym (same ∙ sym (ap (λ (m : Machine). m.slots) waits_behind.2) ∙ slots_are)) (record {
-          leaves = (awaited_trees_fit.handles (LEVELS - 1) live.machine.slots tree n.numbers.slots tree_within).0;
-          levels = (awaited_trees_fit.handles (LEVELS - 1) live.machine.slots tree n.numbers.slots tree_within).1;
-        })
-
-    stayed : Stayed (childless live.machine) after
-    stayed = subst (Grows (λ request. Unit {0}) call (childless live.machine)) e
-        (reply_grows (λ request. Unit {0}) (compares vm) (untracked given) (childless live.machine) call refl (λ unrefused. all_units (requests_by live.machine.start live.machine.done live.machine.left live.machine.completions call)))
-      where
-        all_units : (requests : List Request) → AllByRecursion (λ request. Unit {0}) requests
-        all_units [] = tt
-        all_units (request ∷ requests) = (tt, all_units requests)
-
-    pub waits_written : waits_behind.0.written ≡ live.machine.written
-    waits_written = ap (λ (m : Machine). m.written) waits_behind.2 ∙ stayed.written
-
-    pub waits_number : HasNumbers waits_behind.0
-    waits_number = record {
-      completions = subst (λ (n : ℕ). n ≤ 2 ^ 32) (sym (ap (λ (m : Machine). m.completions) waits_behind.2 ∙ stayed.completions)) n.numbers.completions;
-      signals = subst (λ (n : ℕ). n ≤ 2 ^ 32) (sym (ap (λ (m : Machine). m.signals) waits_behind.2 ∙ stayed.signals)) n.numbers.signals;
-      slots = subst SlotsFit (sym slots_are) n.numbers.slots;
-      texts = ap are_by_text waits_written ∙ n.numbers.texts;
+    numbers : after.slots ≡ live.machine.slots → HasNumbers after
+    numbers slots = record {
+      completions = subst (λ (n : ℕ). n ≤ 2 ^ 32) (sym stayed.completions) n.numbers.completions;
+      signals = subst (λ (n : ℕ). n ≤ 2 ^ 32) (sym stayed.signals) n.numbers.signals;
+      slots = subst SlotsFit (sym slots) n.numbers.slots;
+      texts = ap are_by_text stayed.written ∙ n.numbers.texts;
+      ids = subst AreTaken (sym stayed.children) n.numbers.ids;
     }
 
-  pub waits_send : (new : MachineState) → (w : Waits (untracked live.start.given) (childless live.machine) (call_of next live n.at) vm new) → SendsFor (is_input_closed events id) (reply_at next live vm n.at) new.active.output
+  pub is_told : (waits : WaitsFor) (after : Machine) → reply_at next live vm n.at ≡ waits_as waits after → IsTold waits after
+  is_told (Future left) after e =
+      let is_left = awaited_trees_fit.awaits (compares vm) given live.machine after (asked (Future left) after e).0 (tree_of left) (replies (Future left) after e) in
+      let fit = awaited_trees_fit.handles (LEVELS - 1) live.machine.slots (tree_of left) n.numbers.slots (is_left.levels (LEVELS - 1) (awaited_within (Future left) after e)) in
+      record {
+        fits = λ active same. subst (λ (slots : Slots). TreeFits (only_leaves (slot_of slots) (tree_of left))) (sym (same ∙ is_left.slots)) (record { leaves = fit.0; levels = fit.1 });
+        asleep = is_left.asleep;
+        numbers = numbers (Future left) after e is_left.slots;
+      }
+  is_told (Child child) after e =
+      let is_left = awaited_trees_fit.children (compares vm) given live.machine after (asked (Child child) after e).0 child n.driven.sees.made (replies (Child child) after e) in
+      record { fits = λ active same. is_left.fits n.numbers.completions; asleep = refl; numbers = numbers (Child child) after e is_left.slots }
+
+  pub waits_send : (new : MachineState) → (w : Waits given live.machine (call_of next live n.at) vm new) → SendsFor (is_input_closed events id) (reply_at next live vm n.at) new.active.output
   waits_send new w =
-      let told = tells_awaiting vm.version vm.options.awaiting_on_policy false w.tree in
-      let whole = waits_behind w.tree w.machine w.replies in
+      let told = tells_awaiting vm.version vm.options.awaiting_on_policy false (waits_for_any w.waits) in
       let slots : slots_of w.resolved.results ≡ w.machine.slots =
-      sym (ap slots_of (tells_results told w.tree w.resolved new.active w.tells)) ∙ ap (λ (r : AsyncResults). r.slots) w.driven.sees.results in
+      sym (ap slots_of (tells_results told (awaited_ids w.resolved w.waits) w.resolved new.active w.tells)) ∙ ap (λ (r : AsyncResults). r.slots) w.driven.sees.results in
       let still_open : is_input_closed events id ≡ false = sym (ap (λ (k : Kind). k.is_input_closed) n.kind) ∙ w.is_open in
       subst (λ (b : Bool). SendsFor b (reply_at next live vm n.at) new.active.output) (sym still_open)
-      (subst (λ (some : Reply). SendsFor false some new.active.output) (sym whole.1)
-      (sends_for false (AwaitsTree w.tree whole.0) w.resolved.output new.active.output (ap (λ (o : Written). o.version) w.unwritten ∙ of_output) (ap (λ (o : Written). o.bytes) w.unwritten)
-      (turns_send.stays told tt live.machine whole.0 w.tree w.resolved new.active (ap (λ (o : Written). o.is_closed) w.unwritten ∙ opened) (tree_fits w.tree w.machine w.replies w.resolved slots) w.tells)))
+      (subst (λ (some : Reply). SendsFor false some new.active.output) (sym w.replies)
+      (sends_for false (waits_as w.waits w.machine) w.resolved.output new.active.output (ap (λ (o : Written). o.version) w.unwritten ∙ of_output) (ap (λ (o : Written). o.bytes) w.unwritten)
+      (turns_send.stays told tt live.machine w.machine w.waits w.resolved new.active (ap (λ (o : Written). o.is_closed) w.unwritten ∙ opened)
+      ((is_told w.waits w.machine w.replies).fits w.resolved slots) w.tells)))
 
   -- ---- it is suspended
 
-  pub suspends_send : (new : MachineState) → (p : Suspends (untracked live.start.given) (childless live.machine) (call_of next live n.at) vm new) → SendsFor (is_input_closed events id) (reply_at next live vm n.at) new.active.output
+  pub suspends_send : (new : MachineState) → (p : Suspends given live.machine (call_of next live n.at) vm new) → SendsFor (is_input_closed events id) (reply_at next live vm n.at) new.active.output
   suspends_send new p =
-      let whole = waits_behind p.tree p.machine p.replies in
+      let is = is_told p.waits p.machine p.replies in
       let slots : slots_of p.resolved.results ≡ p.machine.slots = ap (λ (r : AsyncResults). r.slots) p.sees.results in
       let closed : is_input_closed events id ≡ true = sym (ap (λ (k : Kind). k.is_input_closed) n.kind) ∙ p.is_closed in
       subst (λ (b : Bool). SendsFor b (reply_at next live vm n.at) new.active.output) (sym closed)
-      (subst (λ (some : Reply). SendsFor true some new.active.output) (sym whole.1)
-      (sends_for true (AwaitsTree p.tree whole.0) p.resolved.output new.active.output (ap (λ (o : Written). o.version) p.unwritten ∙ of_output) (ap (λ (o : Written). o.bytes) p.unwritten)
-      (turns_send.suspensions live.machine whole.0 p.tree p.resolved new.active (ap (λ (o : Written). o.is_closed) p.unwritten ∙ opened)
-      (slots ∙ sym (ap (λ (m : Machine). m.slots) whole.2)) (tree_fits p.tree p.machine p.replies p.resolved slots) (left p.tree p.machine p.replies).asleep p.suspended)))
+      (subst (λ (some : Reply). SendsFor true some new.active.output) (sym p.replies)
+      (sends_for true (waits_as p.waits p.machine) p.resolved.output new.active.output (ap (λ (o : Written). o.version) p.unwritten ∙ of_output) (ap (λ (o : Written). o.bytes) p.unwritten)
+      (turns_send.suspensions live.machine p.machine p.waits p.resolved new.active (ap (λ (o : Written). o.is_closed) p.unwritten ∙ opened) slots (is.fits p.resolved slots) is.asleep p.suspended)))
 
   -- ---- it ends
 
-  pub ends_send : (new : MachineState) → (e : Ends (untracked live.start.given) (childless live.machine) (call_of next live n.at) vm new)
-      → (whole : Machine) × (reply_at next live vm n.at ≡ Finished whole) × (whole.written ≡ live.machine.written) × SendsFor (is_input_closed events id) (reply_at next live vm n.at) new.active.output
+  pub ends_send : (new : MachineState) → (e : Ends given live.machine (call_of next live n.at) vm new) → SendsFor (is_input_closed events id) (reply_at next live vm n.at) new.active.output
   ends_send new e =
-      let whole = finished_of (reply_at next live vm n.at) (childless live.machine) (sym n.same ∙ e.replies) in
       let frame = with_frame (frame_bytes types.End []) vm.active.output in
       let sends =
-      sends_for (is_input_closed events id) (Finished whole.0) vm.active.output frame of_output refl
-      (turns_send.ends (is_input_closed events id) tt live.machine whole.0 vm.active.output frame opened (λ o. omega arith, refl)) in (
-        whole.0,
-        whole.1,
-        ap (λ (m : Machine). m.written) whole.2,
-        subst (λ (some : Reply). SendsFor (is_input_closed events id) some new.active.output) (sym whole.1) (record {
-          coming = sends.coming;
-          fit = sends.fit;
-          bytes = ap (λ (o : Written). o.bytes) e.output ∙ sends.bytes;
-          version_is = ap (λ (o : Written). o.version) e.output ∙ sends.version_is;
-          sends = sends.sends;
-        }),
-      )
+      sends_for (is_input_closed events id) (Finished live.machine) vm.active.output frame of_output refl
+      (turns_send.ends (is_input_closed events id) tt live.machine live.machine vm.active.output frame opened (λ o. omega arith, refl)) in
+      subst (λ (some : Reply). SendsFor (is_input_closed events id) some new.active.output) (sym e.replies) (record {
+        coming = sends.coming;
+        fit = sends.fit;
+        bytes = ap (λ (o : Written). o.bytes) e.output ∙ sends.bytes;
+        version_is = ap (λ (o : Written). o.version) e.output ∙ sends.version_is;
+        sends = sends.sends;
+      })

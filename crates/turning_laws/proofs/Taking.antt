@@ -10,7 +10,7 @@ use Rattle.turning_laws.proofs.Over.{moves_of, shown_moves, let_go_moves}
 use Rattle.turning_laws.specs.Attempts.{taken_of, output_of, OnlyMoves, Shows, LetsGo, TakesOutput, Attempt}
 use Rattle.turning_laws.specs.Machine.{Sees, Active, MachineState, CoreVM, IsDriven}
 use Rattle.turning_laws.specs.Reading.{start_told, Kind, kind_of, HasStarted, gathered_all}
-use Rattle.turning_laws.specs.Words.{item_at, Version, Bytes, Handler, Invocation, InputMessage, Machine, machine_at_start, AttemptStart, LiveAttempt, untracked, childless, VMOptions}
+use Rattle.turning_laws.specs.Words.{item_at, Version, Bytes, Handler, Invocation, InputMessage, Machine, machine_at_start, AttemptStart, LiveAttempt, VMOptions}
 
 -- with these bytes written
 abbrev with_written : Bytes → MachineState → MachineState
@@ -18,15 +18,23 @@ with_written bytes vm = record vm { active = record vm.active { output = record 
 
 seen_written : (given : Invocation) (m : Machine) (bytes : Bytes) (active : Active) → Sees given active m → Sees given (record active { output = record active.output { bytes = bytes } }) m
 seen_written given m bytes active s =
-    record { left = s.left; replaying = s.replaying; results = s.results; state = s.state; completions = s.completions; signals = s.signals; opened = s.opened; children = s.children }
+    record { left = s.left; replaying = s.replaying; results = s.results; state = s.state; completions = s.completions; signals = s.signals; opened = s.opened; children = s.children; made = s.made }
 
 driven_written : (given : Invocation) (m : Machine) (bytes : Bytes) (vm : MachineState) → IsDriven given m vm → IsDriven given m (with_written bytes vm)
 driven_written given m bytes vm d =
-    record { sees = seen_written given m bytes vm.active d.sees; phase = d.phase; version = d.version; written = d.written; id = d.id; cancellation = d.cancellation; reads = d.reads }
+    record {
+      sees = seen_written given m bytes vm.active d.sees;
+      phase = d.phase;
+      version = record { version = d.version.version; cancellation = d.version.cancellation };
+      written = d.written;
+      commands = d.commands;
+      id = d.id;
+      reads = d.reads;
+    }
 
 gathers_written : (given : Invocation) (m : Machine) (bytes : Bytes) (active : Active) → GathersAll given active m → GathersAll given (record active { output = record active.output { bytes = bytes } }) m
 gathers_written given m bytes active g =
-    record { left = g.left; replaying = g.replaying; results = g.results; state = g.state; completions = g.completions; signals = g.signals; opened = g.opened; children = g.children }
+    record { left = g.left; replaying = g.replaying; results = g.results; state = g.state; completions = g.completions; signals = g.signals; opened = g.opened; children = g.children; made = g.made }
 
 started_written : (start : AttemptStart) (told : StartMessage) (kind : Kind) (read : List InputMessage) (bytes : Bytes) (vm : MachineState) → bytes ≡ [] → HasStarted start told kind read vm
     → HasStarted start told kind read (with_written bytes vm)
@@ -62,8 +70,8 @@ module _ {H : Type 0} (function : H → Handler) (next : Handler) (version : Ver
       journal = r.journal;
       input = ap (λ (a : Attempt H). a.input) moves.others ∙ r.input;
       answers = ap (λ (a : Attempt H). a.answers) moves.others ∙ r.answers;
-      driven = subst (λ (vm : MachineState). IsDriven (untracked live.start.given) (childless live.machine) vm) (sym (ap (λ (vm : CoreVM). vm.state) moves.machine))
-          (driven_written (untracked live.start.given) (childless live.machine) after.vm.state.active.output.bytes before.vm.state r.driven);
+      driven = subst (λ (vm : MachineState). IsDriven live.start.given live.machine vm) (sym (ap (λ (vm : CoreVM). vm.state) moves.machine))
+          (driven_written live.start.given live.machine after.vm.state.active.output.bytes before.vm.state r.driven);
       numbers = r.numbers;
     }
 

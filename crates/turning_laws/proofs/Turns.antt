@@ -2,8 +2,9 @@
 use Rattle.std.proofs.Common.{◌≡◌, ◌⊎◌, inl, inr, ◌∙◌, ℕ, suc, Bool, true, false, List, [], ◌++◌, append-nil, Option, Some, None, Result, Ok, refl, sym, ap, subst}
 use Rattle.turning_laws.specs.Serving.{HasNumbers, kind_where, HasNotRead, HasRead, Serves, finished, machine_failed}
 use Rattle.turning_laws.specs.Keeping.{IsLiveAt}
-use Rattle.turning_laws.proofs.Driven.{begins_driven, numbers_begin}
+use Rattle.turning_laws.proofs.Driven.{begins_driven, messages_written, numbers_begin}
 use Rattle.turning_laws.proofs.Messages.{read_input}
+use Rattle.turning_laws.proofs.Midway.{none_put}
 use Rattle.turning_laws.proofs.Over.{waits_same}
 use Rattle.turning_laws.proofs.Phases.{stage}
 use Rattle.turning_laws.specs.Attempts.finishes
@@ -12,9 +13,9 @@ use Rattle.turning_laws.specs.Machine.phases
 use Rattle.turning_laws.specs.Machine.outcomes
 use Rattle.turning_laws.specs.Machine.{MachineState, Written, out_of_memory, Phase, Comes, NoMemory, IsDriven, CallOutcome, IsReady}
 use Rattle.turning_laws.specs.Reading.{AnswersInput, RefusesInput, InputsAreAnswered}
-use Rattle.turning_laws.specs.Words.{item_at, Error, Version, Call, Input, is_input_closed, Event, Frame, answers_of, Text, Handler, run, arrivals_carried, FollowsSo, Machine, machine_at_start, with_messages, LiveAttempt, HasReadJournal, after_turn, untracked, childless, VMOptions, Queued, JournalsStand, MachinesKeepOn}
+use Rattle.turning_laws.specs.Words.{item_at, Error, Version, Call, Input, is_input_closed, Event, Frame, answers_of, Text, Handler, run, arrivals_carried, FollowsSo, Machine, machine_at_start, with_messages, LiveAttempt, HasReadJournal, after_turn, VMOptions, Queued, JournalsStand, MachinesKeepOn}
 use Rattle.turning_laws.specs.Turning.{turns_answered, GoesOnWith, FailsFor, TurnsBehind, TurnKeeps, TurnServes}
-use Rattle.turning_laws.proofs.Now.{Now, call_of, tracks_none, now, called}
+use Rattle.turning_laws.proofs.Now.{Now, call_of, now, called}
 use Rattle.turning_laws.proofs.Refusing.{refused}
 use Rattle.turning_laws.proofs.Turning.{answered, waiting, suspended, ended as has_ended, failed}
 
@@ -42,7 +43,8 @@ module _ {H : Type 0} (function : H → Handler) (next : Handler) (version : Ver
   Keeps some = TurnKeeps function next version options id events live before some after
 
   lacks_memory : FailsFor function next version options id events live before out_of_memory [] after
-  lacks_memory = record { cause = NoMemory; own = tt; when = tt; told = refl }
+  lacks_memory =
+      record { far = none_put live.start.given live.machine (next live.start.given.input before.answers) before.vm.state; cause = NoMemory; own = tt; when = tt; told = refl }
 
   silent : output_of after ≡ output_of before → (some : Turn) → TurnsBehind function next version options id events live before [] some after → Keeps some
   silent same some behind = record {
@@ -88,11 +90,11 @@ module _ {H : Type 0} (function : H → Handler) (next : Handler) (version : Ver
             ap (λ (some : Attempt H). turns_answered some.input live.calls) gives.1
             ∙ sym (ap (λ (input : Option Input). suc (turns_answered input live.calls)) n.input)
 
-        driven : IsDriven (untracked live.start.given) (childless live.machine) after.vm.state
+        driven : IsDriven live.start.given live.machine after.vm.state
         driven =
-            subst (λ (m : Machine). IsDriven (untracked live.start.given) (childless m) after.vm.state) (sym n.machine)
+            subst (λ (m : Machine). IsDriven live.start.given m after.vm.state) (sym n.machine)
             (begins_driven live.start n.shows version options (is_input_closed events id) (with_messages (machine_at_start live.start.shown [] []) live.read) live.read before.vm.state reads.read after.vm.state
-            s.of_run n.started a)
+            s.of_run n.started a (messages_written (machine_at_start live.start.shown [] []) live.read))
 
         serves : Serves function next version options live (is_input_closed events id) after
         serves = record {
@@ -124,7 +126,7 @@ module _ {H : Type 0} (function : H → Handler) (next : Handler) (version : Ver
 
     input_read : InputsAreAnswered → Keeps turn
     input_read answers =
-        go (answers live.start n.shows (kind_where version options (is_input_closed events id)) live.read before.vm.state reads.read after.vm.state s.of_run (read_input live journal s.fed.input) n.started reads.reads)
+        go (answers live.start n.shows (kind_where version options (is_input_closed events id)) live.read before.vm.state reads.read after.vm.state s.of_run (read_input live journal s.fed) n.started reads.reads)
       where
         go : AnswersInput live.start (kind_where version options (is_input_closed events id)) (with_messages (machine_at_start live.start.shown [] []) live.read) before.vm.state reads.read after.vm.state
             ⊎ RefusesInput version reads.read after.vm.state → Keeps turn
@@ -132,7 +134,7 @@ module _ {H : Type 0} (function : H → Handler) (next : Handler) (version : Ver
         go (inr refused) = read_refused refused
 
   not_read : InputsAreAnswered → (n : HasNotRead function next version options live (is_input_closed events id) before) → TurnsOn function before turn after → Keeps turn
-  not_read answers n turns = go (stage live before.vm.state.phase s.fed.input n.started.phase)
+  not_read answers n turns = go (stage live before.vm.state.phase s.fed n.started.phase)
     where
       go : (HasReadJournal live × (before.vm.state.phase ≡ phases.Active)) ⊎ ((HasReadJournal live → ⊥) × ((left : ℕ) × (before.vm.state.phase ≡ phases.WaitingReplayEntries left))) → Keeps turn
       go (inl read) =
@@ -151,7 +153,7 @@ module _ {H : Type 0} (function : H → Handler) (next : Handler) (version : Ver
     asked = function before.handler live.start.given.input before.answers
 
     by_outcome : (here : Now next version options id events live before.vm.state) (outcome : CallOutcome)
-        → Comes (untracked live.start.given) (childless live.machine) (call_of next live here.at) before.vm.state outcome after.vm.state
+        → Comes live.start.given live.machine (call_of next live here.at) before.vm.state outcome after.vm.state
         → TakesOutcome outcome (record before { vm = after.vm }) turn after → Keeps turn
     by_outcome here (outcomes.Answered answer) comes to = answered function next version options id events live before l s r here after.vm turn after answer comes to
     by_outcome here outcomes.Waiting comes to = waiting function next version options id events live before l s r here after.vm turn after comes to.0 to.1
@@ -162,9 +164,9 @@ module _ {H : Type 0} (function : H → Handler) (next : Handler) (version : Ver
     carried : (here : Now next version options id events live before.vm.state) → CarriesCall asked before turn after → Keeps turn
     carried here c =
         by_outcome here c.outcome
-        (subst (λ (call : Call). Comes (untracked live.start.given) (childless live.machine) call before.vm.state c.outcome after.vm.state)
+        (subst (λ (call : Call). Comes live.start.given live.machine call before.vm.state c.outcome after.vm.state)
         (called function next version options stand keep_on id events live before queued f l s r here.at)
-        (c.carries (untracked live.start.given) (childless live.machine) (tracks_none live.start.given (childless live.machine) asked) r.driven)) c.comes
+        (c.carries live.start.given live.machine r.driven)) c.comes
 
     by_covered : (covered : Bool) → is_covered before.cancellation asked ≡ covered → CarriesWhere covered asked before turn after → Keeps turn
     by_covered true is c = carried (now function next version options stand keep_on id events live before queued f l s r c.typed is) c

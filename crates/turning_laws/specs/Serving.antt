@@ -1,6 +1,6 @@
 -- How an attempt over a machine stands to the live attempt of which the definitions speak.
-use Rattle.std.specs.Prelude.{◌≡◌, ◌⊎◌, ◌≤◌, ◌-◌, ◌^◌, ℕ, Bool, true, false, List, [], ◌++◌, Some, None}
-use Rattle.std.specs.List.{AllByRecursion, list_any}
+use Rattle.std.specs.Prelude.{◌≡◌, ◌⊎◌, ◌≤◌, ◌-◌, ◌^◌, ℕ, Bool, true, List, [], ◌++◌, Some, None}
+use Rattle.std.specs.List.{AllByRecursion}
 use Rattle.attempt_model.specs.Requests.{Commands, requests_by}
 use Rattle.vm_ephemeral.specs.Reads.{no_reads}
 use Rattle.turning_laws.specs.Attempts.{output_of, Attempt, Finish}
@@ -8,7 +8,7 @@ use Rattle.turning_laws.specs.Machine.phases
 use Rattle.turning_laws.specs.Machine.{IsDriven}
 use Rattle.turning_laws.specs.Reading.{IsInputOf, IsRunOf, Kind, kind_of, start_told, HasStarted}
 use Rattle.turning_laws.specs.Sending.{is_recorded}
-use Rattle.turning_laws.specs.Words.{LEVELS, item_at, Version, Error, Call, RunOptions, awaited_tree, answers_of, Request, StartState, Handler, run, arrivals_carried, are_by_text, Machine, machine_at_start, ShowsStart, with_messages, LiveAttempt, HasReadJournal, untracked, childless, is_cancellation, VMOptions, IsWithin, SlotsFit}
+use Rattle.turning_laws.specs.Words.{LEVELS, item_at, Version, Error, Call, RunOptions, awaited_tree, answers_of, Request, StartState, Handler, run, arrivals_carried, are_by_text, Machine, machine_at_start, ShowsStart, with_messages, LiveAttempt, HasReadJournal, VMOptions, IsWithin, SlotsFit, IsTextId}
 
 -- ---- its handler
 
@@ -24,10 +24,9 @@ AwaitsWithin options call = Unit {0}
 
 -- ---- its input
 
--- its messages are the input, the journal and later arrivals, as the protocol can carry them, and no cancellation is among them
-pub record IsFedBy (live : LiveAttempt) : Type 0 where
-  pub input : IsInputOf live.start (live.read ++ live.unread)
-  pub uncancelled : list_any is_cancellation (arrivals_carried (live.read ++ live.unread)) ≡ false
+-- its messages are the input, the journal and later arrivals, as the protocol can carry them
+abbrev pub IsFedBy : LiveAttempt → Type 0
+IsFedBy live = IsInputOf live.start (live.read ++ live.unread)
 
 -- ---- its machine
 
@@ -35,12 +34,14 @@ pub record IsFedBy (live : LiveAttempt) : Type 0 where
 abbrev pub kind_where : Version → VMOptions → (is_closed : Bool) → Kind
 kind_where version options is_closed = record { version = version; options = options; is_input_closed = is_closed; reads = no_reads }
 
--- the numbers that were taken, and those that handles stand for, can be told, and so can the keys that it has written: they are text
+-- the numbers that were taken, and those that handles stand for, can be told, and so can the keys that it has written, and the ids of children
+-- that were taken: they are text
 pub record HasNumbers (m : Machine) : Type 0 where
   pub completions : m.completions ≤ 2 ^ 32
   pub signals : m.signals ≤ 2 ^ 32
   pub slots : SlotsFit m.slots
   pub texts : are_by_text m.written ≡ true
+  pub ids : AllByRecursion (λ child. IsTextId child.taken) m.children
 
 module _ {H : Type 0} (function : H → Handler) (next : Handler) (version : Version) (options : VMOptions) where
   -- its input was not read, so its handler was asked nothing: its machine keeps the messages that have come
@@ -53,13 +54,12 @@ module _ {H : Type 0} (function : H → Handler) (next : Handler) (version : Ver
     pub started : HasStarted live.start (start_told live.start shows) (kind_where version options is_closed) live.read a.vm.state
     pub unwritten : output_of a ≡ []
 
-  -- its input was read: calls see its machine, which tracks no child, and what its handler was answered is what the run over the
-  -- arrivals read has answered
+  -- its input was read: calls see its machine, and what its handler was answered is what the run over the arrivals read has answered
   pub record HasRead (live : LiveAttempt) (a : Attempt H) : Type 0 where
     pub journal : HasReadJournal live
     pub input : a.input ≡ Some live.start.given.input
     pub answers : a.answers ≡ answers_of (run next live.start.given (arrivals_carried live.read) live.calls).steps
-    pub driven : IsDriven (untracked live.start.given) (childless live.machine) a.vm.state
+    pub driven : IsDriven live.start.given live.machine a.vm.state
     pub numbers : HasNumbers live.machine
 
   -- the attempt is the live one, and not over: the run is that of its handler, it holds these bytes, and no whole message among them

@@ -9,9 +9,9 @@ use Rattle.vm_outcomes.specs.Causes.{CauseTells}
 use Rattle.turning_laws.specs.Attempts.{output_of, Turns, Attempt, Turn, is_covered, not_carried_out}
 use Rattle.turning_laws.specs.Serving.{Serves, IsOver}
 use Rattle.turning_laws.specs.Keeping.{FailsWith, IsLiveAt}
-use Rattle.turning_laws.specs.Machine.{MachineState, out_of_memory, told_error, Cause, ByFault, NoReplay, NoRuns, NoMemory, FailsWhen}
-use Rattle.turning_laws.specs.Sending.{Sent, Fails, sent_stream, AllFit, frame_meant, IsOfStore}
-use Rattle.turning_laws.specs.Words.{internal, unsupported_feature, Error, Version, Call, Input, NotificationId, AwaitTree, Text, Arrival, Request, Event, is_input_closed, arrivals_carried, requests_carried, FollowsSo, Machine, Refused, LiveAttempt, HasReadJournal, after_turn, untracked, childless, VMOptions, Queued}
+use Rattle.turning_laws.specs.Machine.{MachineState, out_of_memory, told_error, Cause, ByFault, NoReplay, NoRuns, NoMemory, HasPut, FailsWhen}
+use Rattle.turning_laws.specs.Sending.{Sent, Asks, Fails, sent_stream, AllFit, frame_meant, IsOfStore}
+use Rattle.turning_laws.specs.Words.{internal, unsupported_feature, Error, Version, Call, Input, NotificationId, AwaitTree, Text, Arrival, Request, Event, is_input_closed, arrivals_carried, requests_carried, FollowsSo, Machine, Refused, LiveAttempt, HasReadJournal, after_turn, VMOptions, Queued}
 
 -- the run over these arrivals comes to this with one more call, with exactly these requests
 pub record RunComesTo (next : Handler) (given : Invocation) (arrivals : List Arrival) (calls : ℕ) (requests : List Request) (ending : Ending) : Type 0 where
@@ -27,20 +27,22 @@ IsOwnCause next given arrivals calls NoReplay = ⊥
 IsOwnCause next given arrivals calls NoRuns = ⊥
 IsOwnCause next given arrivals calls cause = Unit {0}
 
--- what the machine fails with for this cause in a call, where it was the one before and is the other behind: want of memory is told as that, and
--- each other cause by its error, of which the frame is sent
-abbrev pub IsToldAs : Version → LiveAttempt → Call → (old new : MachineState) → Cause → Error → List Sent → Type 0
-IsToldAs version live call old new NoMemory error sent = error ≡ out_of_memory
-IsToldAs version live call old new cause error sent =
+-- what the machine fails with for this cause in a call, where it was the one before and is the other behind, and has written these requests of
+-- the call by then: want of memory is told as that, and each other cause by its error, of which the frame is sent behind theirs
+abbrev pub IsToldAs : Version → LiveAttempt → Call → (old new : MachineState) → (more : List Request) → Cause → Error → List Sent → Type 0
+IsToldAs version live call old new more NoMemory error sent = error ≡ out_of_memory
+IsToldAs version live call old new more cause error sent =
     (told : Error) × CauseTells version live.start.given.input.invocation_id live.machine.left new.active.journal (slots_of new.active.results) call cause told
-    × FailsWith told old.active.output error × (sent ≡ Fails (told_error error) ∷ [])
+    × FailsWith told old.active.output error × (sent ≡ map Asks more ++ Fails (told_error error) ∷ [])
 
 -- there is a cause for which the machine does not carry out this call, and this error tells it
 pub record FailsBy (next : Handler) (version : Version) (live : LiveAttempt) (call : Call) (old new : MachineState) (error : Error) (sent : List Sent) : Type 0 where
+  -- how far it has come with its requests
+  pub far : HasPut live.start.given live.machine call old
   pub cause : Cause
   pub own : IsOwnCause next live.start.given (arrivals_carried live.read) live.calls cause
-  pub when : FailsWhen (untracked live.start.given) (childless live.machine) call old cause
-  pub told : IsToldAs version live call old new cause error sent
+  pub when : FailsWhen live.start.given live.machine call old far cause
+  pub told : IsToldAs version live call old new far.more cause error sent
 
 -- one frame is sent: a suspension, which tells what the run over the arrivals read still waits for
 pub record SuspendsWith (next : Handler) (live : LiveAttempt) (frames : List Frame) : Type 0 where
@@ -67,9 +69,13 @@ module _ {H : Type 0} (function : H → Handler) (next : Handler) (version : Ver
     abbrev pub FailsFor : Error → List Sent → (after : Attempt H) → Type 0
     FailsFor error sent after = FailsBy next version live (next live.start.given.input before.answers) before.vm.state after.vm.state error sent
 
-    -- that call is none that is carried out: it asks for what no store records so far, or awaits what no frame can tell
+    -- that call is none that is carried out: it asks for a run, or awaits what no frame can tell
     abbrev pub IsUncovered : Type 0
     IsUncovered = is_covered options.implicit_cancellation (next live.start.given.input before.answers) ≡ false
+
+    -- then it fails with that, or for want of memory
+    abbrev pub FailsUncovered : Error → Type 0
+    FailsUncovered error = (error ≡ not_carried_out) ⊎ (error ≡ out_of_memory)
 
     -- it waits while its journal was not read, or while the run waits and more of its input can come
     abbrev pub MayWait : Type 0
@@ -86,7 +92,7 @@ module _ {H : Type 0} (function : H → Handler) (next : Handler) (version : Ver
     TurnsBehind sent Turn.Suspended after =
         (is_input_closed events id ≡ true) × ((tree : AwaitTree (Option NotificationId)) × RunComes (Waits tree)) × IsOver after × SuspendsWith next live (map (frame_meant version) sent)
     TurnsBehind sent Turn.Ended after = RunComes Ended × IsOver after × (map (frame_meant version) sent ≡ Frame.End ∷ [])
-    TurnsBehind sent (Turn.Failed error) after = (FailsFor error sent after ⊎ (IsUncovered × (error ≡ not_carried_out))) × IsOver after
+    TurnsBehind sent (Turn.Failed error) after = (FailsFor error sent after ⊎ (IsUncovered × FailsUncovered error)) × IsOver after
 
     -- what a turn has written are frames of the run, which the store reads as what they are meant as
     pub record TurnKeeps (turn : Turn) (after : Attempt H) : Type 0 where

@@ -4,11 +4,10 @@ pub use Rattle.attempt_model.specs.Machine.{Machine, machine_at_start, with_arri
 pub use Rattle.attempt_model.specs.Requests.{Commands, PutState, put_one, put_all, requests_by}
 pub use Rattle.attempt_model.specs.Results.{Slots, slot_of}
 pub use Rattle.attempt_model.specs.Standing.{RequestsStand, RepliesAsRun, AreOfKind, Fits, next_call, AnswersNext}
-pub use Rattle.children_laws.specs.Childless.{untracked, childless, without_children, is_cancellation, childless_reply}
 pub use Rattle.handle_laws.specs.Trees.{IsWithin, AreWithin, SlotsFit, TreeFits}
 pub use Rattle.input_laws.specs.Message.{InputMessage, CarriesInput, piece_of, arrivals_carried, CarriesRequest, CarriesArrival, CarriesOutcome, requests_carried}
 pub use Rattle.journal_model.specs.Attempt.{input_bytes, input_left, is_input_closed, arrivals_within}
-pub use Rattle.journal_model.specs.Await.{ends_awaits, awaited_tree, child_of}
+pub use Rattle.journal_model.specs.Await.{awaited_tree, child_of}
 pub use Rattle.journal_model.specs.AwaitTree.{AwaitTree}
 pub use Rattle.journal_model.specs.Cause.{IsAccepted, keys_of}
 pub use Rattle.journal_model.specs.Event.{Event, Frame}
@@ -24,7 +23,6 @@ pub use Rattle.journal_model.specs.declared.call.Call.{Call}
 pub use Rattle.journal_model.specs.declared.handler.Input.{Input}
 pub use Rattle.journal_model.specs.declared.notification.NotificationId.{NotificationId}
 pub use Rattle.journal_model.specs.declared.options.ImplicitCancellationOption.{ImplicitCancellationOption}
-pub use Rattle.journal_model.specs.declared.options.ImplicitCancellationOption.TheVariants.{Disabled, Enabled}
 pub use Rattle.journal_model.specs.declared.options.RunOptions.{RunOptions}
 pub use Rattle.journal_model.specs.declared.options.SignalDelivery.TheVariants.{Queued}
 pub use Rattle.machine_laws.specs.Asking.{are_by_text, AsksByText}
@@ -41,6 +39,7 @@ pub use Rattle.protocol_types.specs.Version.{version_content_type, version_numbe
 pub use Rattle.protocol_types.specs.declared.version.Version.{Version}
 pub use Rattle.protocol_wire.specs.declared.record.TheConstants.{LEVELS}
 pub use Rattle.request_laws.specs.Calls.{IsTypedCall}
+pub use Rattle.request_laws.specs.Making.{IsTextId}
 pub use Rattle.state_laws.specs.Keys.{HasTextKeys}
 pub use Rattle.turn_laws.specs.Sending.{requests_sent, FollowsSo}
 pub use Rattle.turn_laws.specs.Turning.{IsNote, notes}

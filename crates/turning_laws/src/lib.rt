@@ -2,9 +2,8 @@
 //! what it has written is taken, and behind its end; and what each of its turns comes to: the run goes on, waits, has ended, or the
 //! attempt has failed for a cause. Each function does nothing: its contract is the law.
 //!
-//! That signals wait in line, that the live attempt was handed no cancellation, and that its messages are such as the protocol can carry, are
-//! premises. That a call which is carried out is of its type is none: the turn tells it. A schedule keeps what is said here of messages, and
-//! takes what is said of options as a premise of its own.
+//! That signals wait in line, and that its messages are such as the protocol can carry, are premises. That a call which is carried out is of its
+//! type is none: the turn tells it. A schedule keeps what is said here of messages, and takes what is said of options as a premise of its own.
 #![tactic(auto)]
 
 ghost use Rattle.turning_laws.specs.Keeping.{BeginsServing, ClosesServing, FeedsServing, NotesFollow, OversStay, StaysServing, TakesServing};
@@ -59,7 +58,7 @@ pub fn notes_follow()
 
 /// Answered continues the run by one answer, or reads the input; Waiting comes only where the journal was not read, or the run waits and
 /// more can come; Suspended and Ended come where the run waits or has ended with exactly its requests, and are written; Failed has a cause,
-/// and tells it. What was written are frames of the run.
+/// and tells it, behind the requests by which a cancellation was passed on by then. What was written are frames of the run.
 pub fn turns_keep<H: Handler>()
     ensures { OfEach (TurnServes H.next_call) }
 {

@@ -1,5 +1,6 @@
 pub mod Advancing
 pub mod Carried
 mod Lists
+mod Stopped
 pub mod Nested
 pub mod Pieces

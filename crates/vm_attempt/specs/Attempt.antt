@@ -1,5 +1,5 @@
 -- How an attempt is begun, and what becomes of its input.
-use Rattle.std.specs.Prelude.{◌≡◌, [], Option, Some, None, Result, Ok, Err, IfOk}
+use Rattle.std.specs.Prelude.{◌≡◌, Bool, true, false, [], Option, Some, None, Result, Ok, Err, IfOk}
 use Rattle.std.specs.declared.convert.Infallible.{Infallible}
 use Rattle.journal_model.specs.Notification.{Bytes}
 use Rattle.protocol_errors.specs.declared.error.Error.{Error}
@@ -8,11 +8,19 @@ use Rattle.protocol_types.specs.declared.version.Version.{Version}
 use Rattle.vm_feeding.specs.Beginning.{Begins}
 use Rattle.vm_core.specs.Closed.{state_made}
 use Rattle.vm_core.specs.declared.core_vm.CoreVM.{CoreVM}
+use Rattle.vm_start.specs.declared.phase.Phase.{Phase}
+use Rattle.vm_start.specs.declared.phase.Phase.TheVariants as phases
 use Rattle.vm_feeding.specs.Closing as closing
 use Rattle.vm_feeding.specs.Feeding.{IsFed}
 use Rattle.vm_types.specs.declared.options.VMOptions.{VMOptions}
 use Rattle.vm_attempt.specs.declared.attempt.Attempt.{Attempt}
 use Rattle.vm_attempt.specs.declared.turn.Finish.{Finish}
+
+-- whether a machine in this phase has failed, or was closed
+abbrev pub has_stopped : Phase → Bool
+has_stopped (phases.Failed error) = true
+has_stopped phases.Closed = true
+has_stopped _ = false
 
 module _ {H : Type 0} where
   -- ---- its begin

@@ -9,7 +9,7 @@ use Rattle.journal_model.specs.declared.options.ImplicitCancellationOption.TheVa
 
 -- ---- what it asks for
 
--- what a store records so far, or nothing: runs are to come
+-- all but runs, which are to come
 abbrev pub asks_of_store : Call → Bool
 asks_of_store (Call.Run name) = false
 asks_of_store _ = true

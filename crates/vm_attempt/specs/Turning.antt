@@ -57,10 +57,12 @@ module _ {H : Type 0} where
     pub carries : CarriesOut call before.vm.state outcome after.vm.state
     pub comes : TakesOutcome outcome (record before { vm = after.vm }) turn after
 
-  -- the machine is told that the call is not carried out, and fails with that; nothing of the call is done
+  -- the machine is told that the call is not carried out, and fails; what it has failed with is answered, and nothing of the call is done
   pub record RefusesCall (before : Attempt H) (turn : Turn) (after : Attempt H) : Type 0 where
     pub told : IsTold not_carried_out None before.vm.state after.vm.state
-    pub turn_is : turn ≡ Turn.Failed not_carried_out
+    pub answer : Error
+    pub has_failed : IsReady after.vm.state.phase (Err answer)
+    pub turn_is : turn ≡ Turn.Failed answer
     pub others : after ≡ record before { vm = after.vm }
 
   abbrev pub CarriesWhere : (covered : Bool) → Call → (before : Attempt H) → Turn → (after : Attempt H) → Type 0

@@ -1,6 +1,6 @@
 // An attempt.
-ghost use Rattle.std.specs.Prelude.{OnOk};
-ghost use Rattle.vm_attempt.specs.Attempt.{IsBegun, Feeds, ClosesInput};
+ghost use Rattle.std.specs.Prelude.{◌≡◌, OnOk};
+ghost use Rattle.vm_attempt.specs.Attempt.{IsBegun, has_stopped, Feeds, ClosesInput};
 ghost use Rattle.vm_attempt.specs.Output.{Gathers, HasFront, Shows, LetsGo, TakesOutput};
 ghost use Rattle.vm_attempt.specs.Turning.{FinishesBy, TakesAnswer, TakesOutcome, CarriesCall, RefusesCall, AnswersCall, ReadsInput, ReadsOrAsks, TurnsOn, Turns};
 
@@ -91,6 +91,21 @@ impl<H: Handler> Attempt<H> {
         }
     }
 
+    /// Whether its machine has failed, or was closed: no call is made of it any more.
+    ///
+    /// A machine that was refused memory for what has come has failed.
+    pub fn has_stopped(&self) -> bool
+        ensures { result ≡ has_stopped self.now.vm.state.phase }
+    {
+        match self.vm.is_ready_to_execute() {
+            Ok(_) => false,
+            Err(error) => {
+                drop(error);
+                true
+            }
+        }
+    }
+
     // The attempt is over.
     fn finish(&mut self, finish: Finish) -> Turn
         ensures { FinishesBy finish self.old result self.new }
@@ -131,12 +146,16 @@ impl<H: Handler> Attempt<H> {
         self.come_to(outcome)
     }
 
-    // The attempt fails, since a call is made that is not carried out.
+    // The attempt fails, since a call is made that is not carried out. What it has failed with is what all later turns answer, also where
+    // memory is refused for the frame that tells it.
     fn refuse(&mut self) -> Turn
         ensures { RefusesCall self.old result self.new }
     {
         self.vm.notify_error(not_carried_out(), None);
-        Turn::Failed(not_carried_out())
+        match self.vm.is_ready_to_execute() {
+            Ok(_) => unreachable!(),
+            Err(error) => Turn::Failed(error),
+        }
     }
 
     // The handler's call is carried out, if it is one that is.

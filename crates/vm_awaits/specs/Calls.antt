@@ -1,5 +1,5 @@
 -- What each call leaves.
-use Rattle.std.specs.Prelude.{ℕ, [], ◌∷◌, ◌++◌, Option, Some}
+use Rattle.std.specs.Prelude.{ℕ, Bool, true, false, List, [], ◌∷◌, ◌++◌, Option, Some}
 use Rattle.journal_model.specs.declared.notification.NotificationId.{NotificationId}
 use Rattle.journal_model.specs.declared.notification.NotificationResult.{NotificationResult}
 use Rattle.journal_model.specs.declared.options.SignalDelivery.{SignalDelivery}
@@ -20,6 +20,19 @@ with_queued arrival results = record results { queue = results.queue ++ arrival 
 -- one more is looked at
 abbrev pub with_ready : Arrival → AsyncResults → AsyncResults
 with_ready arrival results = record results { ready = ready_after results.delivery results.ready arrival }
+
+-- whether one more stands in line
+abbrev pub has_next : List Arrival → Bool
+has_next [] = false
+has_next (arrival ∷ queue) = true
+
+-- the first of these that stand in line is looked at; where none does all stays
+abbrev pub looked_at : List Arrival → AsyncResults → AsyncResults
+looked_at [] results = results
+looked_at (arrival ∷ queue) results = record results { queue = queue; ready = ready_after results.delivery results.ready arrival }
+
+abbrev pub after_look : AsyncResults → AsyncResults
+after_look results = looked_at results.queue results
 
 -- one more handle
 abbrev pub with_handle : NotificationId → AsyncResults → AsyncResults

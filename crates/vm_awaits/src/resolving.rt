@@ -42,8 +42,8 @@ fn result_state(brought: &NotificationResult) -> AwaitState
     }
 }
 
-// A notification that stood first in line is looked at. Where there is no memory for it, it stands there again.
-fn look_at(
+/// A notification that stood first in line is looked at. Where there is no memory for it, it stands there again.
+pub(crate) fn look_at(
     line: &mut VecDeque<Notification>,
     ready: &mut ReadyNotifications,
     delivery: SignalDelivery,

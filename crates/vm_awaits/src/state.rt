@@ -3,22 +3,26 @@ ghost use Rattle.std.specs.Prelude.{◌≡◌, ◌+◌, ◌^◌, ◌≤◌, ◌�
 ghost use Rattle.journal_model.specs.Future.{tree_of};
 ghost use Rattle.journal_model.specs.Waiting.{only_leaves};
 ghost use Rattle.protocol_stream.specs.Records.{future_record};
-ghost use Rattle.attempt_model.specs.Results.{waiting_for, slot_of, resolution_of};
+ghost use Rattle.journal_model.specs.declared.notification.NotificationId.TheVariants.{CompletionId};
+ghost use Rattle.std.specs.Option.{option_copied};
+ghost use Rattle.attempt_model.specs.Results.{first_of, waiting_for, slot_of, resolution_of};
+ghost use Rattle.vm_results.specs.Children.{completion_in};
 ghost use Rattle.vm_awaits.specs.Views.{results_of, delivery_of, queue_of, ready_of, slots_of};
-ghost use Rattle.vm_awaits.specs.Calls.{no_results, with_queued, with_ready, with_handle, after_take};
+ghost use Rattle.vm_awaits.specs.Calls.{no_results, with_queued, with_ready, with_handle, has_next, after_look, after_take};
 ghost use Rattle.vm_awaits.specs.Resolving.{resolution_as, line_left, StopsMidway};
 ghost use Rattle.vm_awaits.specs.declared.state.CreateHandleError.TheVariants.{HandlesExhausted, OutOfMemory};
 
 use crate::records::record_of;
-use crate::resolving::{ResolveFutureResult, resolve};
+use crate::resolving::{ResolveFutureResult, look_at, resolve};
 use journal_model::{
     Notification, NotificationHandle, NotificationId, NotificationResult, SignalDelivery,
     UnresolvedFuture,
 };
 use protocol_records::Future;
+use protocol_trees::NotificationIdRef;
 use std::alloc::{AllocError, AllocFailed, Global};
 use std::collections::VecDeque;
-use vm_results::{ReadyNotifications, Slots, first_for, next_handle, take_for};
+use vm_results::{ReadyNotifications, Slots, first_for, id_for, next_handle, take_for};
 
 /// What has come of an invocation's notifications, and what its handles stand for.
 ///
@@ -115,6 +119,17 @@ impl AsyncResultsState {
         first_for(self.slots.as_slice(), &self.ready, handle).is_some()
     }
 
+    /// The completion that a handle stands for, if it stands for one.
+    pub fn completion_of(&self, handle: NotificationHandle) -> Option<u32>
+        ensures { result ≡ completion_in (slot_of (slots_of self.now) handle) }
+    {
+        match id_for(self.slots.as_slice(), handle) {
+            Some(NotificationIdRef::CompletionId(number)) => Some(number),
+            Some(NotificationIdRef::SignalId(_)) | Some(NotificationIdRef::SignalName(_)) | None =>
+                { None }
+        }
+    }
+
     /// Takes the first notification that waits for the handle, which then stands for nothing. The handle of cancellations
     /// stands for them always.
     pub fn take_handle(&mut self, handle: NotificationHandle) -> Option<NotificationResult>
@@ -135,6 +150,31 @@ impl AsyncResultsState {
             Some(result) => Ok(Some(result.clone()?)),
             None => Ok(None),
         }
+    }
+
+    /// The first notification that waits of this completion.
+    pub fn value_of_child(&self, completion: u32) -> Option<&NotificationResult>
+        ensures { option_copied result ≡ first_of (ready_of self.now (CompletionId completion)) }
+    {
+        self.ready.first(&NotificationId::CompletionId(completion))
+    }
+
+    /// Looks at the notification that stands first in line, if one does. Where there is no memory for it, it stands there still.
+    pub fn look_at_one(&mut self) -> Result<bool, AllocError>
+        ensures next { IfOk result (λ looked. looked ≡ has_next (queue_of self.old)) }
+        ensures ok { OnOk result (results_of self.new ≡ after_look (results_of self.old)) }
+        ensures err { OnErr result (results_of self.new ≡ results_of self.old) }
+    {
+        let Some(notification) = self.line.pop_front() else {
+            return Ok(false);
+        };
+        look_at(
+            &mut self.line,
+            &mut self.ready,
+            self.signal_delivery,
+            notification,
+        )?;
+        Ok(true)
     }
 
     /// Looks at what stands in line, one notification a step, until the future is awake. Where it stays asleep, this is what it

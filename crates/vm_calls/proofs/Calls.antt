@@ -39,7 +39,7 @@ brings_none call n none both calls sends neither (Enabled false false) = neither
 pub sleep_completes : (given : Invocation) (m : Machine) (name : Text) (wake_up : Moment) (now : Option Moment) (copy : Text) (time id : ℕ)
     → refusal_of given.version (Call.Sleep name wake_up now) ≡ None → copy ≡ name → milliseconds wake_up ≡ time → id ≡ m.completions
     → CompletesOne given m (Call.Sleep name wake_up now) (Request.Sleep time id copy)
-sleep_completes given m name wake_up now copy time id refused copied millis taken = record { asks = record { refused = refused; work = refl; requests = λ i. Request.Sleep (millis i) (sym taken i) (sym copied i) ∷ []; children = brings_none (Call.Sleep name wake_up now) m.completions refl refl refl refl refl given.options.implicit_cancellation }; completions = refl; signals = refl; ids = refl; known = refl; keeps = refl; answer = λ text handle signal. refl }
+sleep_completes given m name wake_up now copy time id refused copied millis taken = record { asks = record { refused = refused; work = refl; requests = λ i. Request.Sleep (millis i) (sym taken i) (sym copied i) ∷ [] }; children = brings_none (Call.Sleep name wake_up now) m.completions refl refl refl refl refl given.options.implicit_cancellation; completions = refl; signals = refl; ids = refl; known = refl; keeps = refl; answer = λ text handle signal. refl }
 
 -- ---- numbers that are left
 

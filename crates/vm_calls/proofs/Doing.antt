@@ -6,6 +6,7 @@ use Rattle.journal_model.specs.declared.call.Call.{Call}
 use Rattle.journal_model.specs.declared.call.Answer.{Answer}
 use Rattle.journal_model.specs.Request.{Request}
 use Rattle.journal_model.specs.History.{completions_of, signals_of}
+use Rattle.journal_model.specs.Await.{child_of}
 use Rattle.journal_model.specs.Run.{Invocation}
 use Rattle.attempt_model.specs.Results.{ready_after_all}
 use Rattle.attempt_model.specs.Machine.{Machine, next_slot}
@@ -21,6 +22,7 @@ use Rattle.vm_calls.specs.declared.call_error.CallError.TheVariants.{Put}
 use Rattle.vm_calls.specs.Active.{Sees, IsSettled, left_of, asking, HasCompletions, PutsOne, PutsIn}
 use Rattle.vm_calls.specs.Making.{Replies, FailsAs, IsReady}
 use Rattle.vm_calls.specs.Doing.{DoesOne, HasAsked}
+use Rattle.vm_calls.proofs.Tracking.{none_more, none_made}
 use Rattle.vm_calls.proofs.Making.{no_more, put_answers, put_fails_as}
 
 module _ (given : Invocation) (m : Machine) (call : Call) (request : Request) (one : DoesOne given m call request) (old asked : Active) (has : HasAsked given m request old asked) where
@@ -38,7 +40,8 @@ module _ (given : Invocation) (m : Machine) (call : Call) (request : Request) (o
     completions = ap (λ (a : Active). a.journal.completions) has.others ∙ has.sees.completions ∙ no_more m.completions (completions_of call) one.completions;
     signals = ap (λ (a : Active). a.journal.signals) has.others ∙ has.sees.signals ∙ no_more m.signals (signals_of call) one.signals;
     opened = ap (λ (a : Active). a.output.is_closed) has.others ∙ has.sees.opened;
-    children = has.sees.children;
+    children = none_more m.children asked.children (child_of given.options.implicit_cancellation m.completions call) one.children (ap (λ (a : Active). a.children) has.others ∙ has.sees.children);
+    made = none_made m.completions (completions_of call) m.children (child_of given.options.implicit_cancellation m.completions call) one.children has.sees.made;
     output = ap (λ (a : Active). a.output) has.others;
     has = subst (λ (n : ℕ). HasCompletions n old) (sym one.completions) (λ lacks. lacks);
   }

@@ -22,31 +22,31 @@ use Rattle.vm_calls.proofs.Calls.{brings_none}
 
 module _ (given : Invocation) (m : Machine) where
   pub clear_all_does : (name : Option Text) (copy : Text) → copy ≡ name_or_empty name → DoesOne given m (Call.StateClearAll name) (Request.ClearAllState copy)
-  clear_all_does name copy copied = record { asks = record { refused = refl; work = refl; requests = λ i. Request.ClearAllState (sym copied i) ∷ []; children = brings_none (Call.StateClearAll name) m.completions refl refl refl refl refl given.options.implicit_cancellation }; completions = refl; signals = refl; ids = refl; known = refl; answer = λ id handle signal. refl }
+  clear_all_does name copy copied = record { asks = record { refused = refl; work = refl; requests = λ i. Request.ClearAllState (sym copied i) ∷ [] }; children = brings_none (Call.StateClearAll name) m.completions refl refl refl refl refl given.options.implicit_cancellation; completions = refl; signals = refl; ids = refl; known = refl; answer = λ id handle signal. refl }
 
   pub clear_does : (key : Bytes) (name : Option Text) (bytes : Bytes) (copy : Text) → bytes ≡ key → copy ≡ name_or_empty name
       → DoesOne given m (Call.StateClear key name) (Request.ClearState bytes copy)
-  clear_does key name bytes copy same copied = record { asks = record { refused = refl; work = refl; requests = λ i. Request.ClearState (sym same i) (sym copied i) ∷ []; children = brings_none (Call.StateClear key name) m.completions refl refl refl refl refl given.options.implicit_cancellation }; completions = refl; signals = refl; ids = refl; known = refl; answer = λ id handle signal. refl }
+  clear_does key name bytes copy same copied = record { asks = record { refused = refl; work = refl; requests = λ i. Request.ClearState (sym same i) (sym copied i) ∷ [] }; children = brings_none (Call.StateClear key name) m.completions refl refl refl refl refl given.options.implicit_cancellation; completions = refl; signals = refl; ids = refl; known = refl; answer = λ id handle signal. refl }
 
   pub set_does : (key value : Bytes) (name : Option Text) (options : PayloadOptions) (bytes : Bytes) (copy : Text) → bytes ≡ key → copy ≡ name_or_empty name
       → DoesOne given m (Call.StateSet key value name options) (Request.SetState bytes value copy)
-  set_does key value name options bytes copy same copied = record { asks = record { refused = refl; work = refl; requests = λ i. Request.SetState (sym same i) value (sym copied i) ∷ []; children = brings_none (Call.StateSet key value name options) m.completions refl refl refl refl refl given.options.implicit_cancellation }; completions = refl; signals = refl; ids = refl; known = refl; answer = λ id handle signal. refl }
+  set_does key value name options bytes copy same copied = record { asks = record { refused = refl; work = refl; requests = λ i. Request.SetState (sym same i) value (sym copied i) ∷ [] }; children = brings_none (Call.StateSet key value name options) m.completions refl refl refl refl refl given.options.implicit_cancellation; completions = refl; signals = refl; ids = refl; known = refl; answer = λ id handle signal. refl }
 
   pub cancel_does : (target copy : Text) → copy ≡ [] → DoesOne given m (Call.Cancel target) (Request.SendSignal target (SignalKey.ByIndex 1) SignalValue.Empty copy)
-  cancel_does target copy copied = record { asks = record { refused = refl; work = refl; requests = λ i. Request.SendSignal target (SignalKey.ByIndex 1) SignalValue.Empty (sym copied i) ∷ []; children = brings_none (Call.Cancel target) m.completions refl refl refl refl refl given.options.implicit_cancellation }; completions = refl; signals = refl; ids = refl; known = refl; answer = λ id handle signal. refl }
+  cancel_does target copy copied = record { asks = record { refused = refl; work = refl; requests = λ i. Request.SendSignal target (SignalKey.ByIndex 1) SignalValue.Empty (sym copied i) ∷ [] }; children = brings_none (Call.Cancel target) m.completions refl refl refl refl refl given.options.implicit_cancellation; completions = refl; signals = refl; ids = refl; known = refl; answer = λ id handle signal. refl }
 
   pub signal_does : (target name : Text) (value : NonEmptyValue) (copy : Text) → refusal_of given.version (Call.CompleteSignal target name value) ≡ None → copy ≡ []
       → DoesOne given m (Call.CompleteSignal target name value) (Request.SendSignal target (SignalKey.ByName name) (SignalValue.Carries value) copy)
-  signal_does target name value copy refused copied = record { asks = record { refused = refused; work = refl; requests = λ i. Request.SendSignal target (SignalKey.ByName name) (SignalValue.Carries value) (sym copied i) ∷ []; children = brings_none (Call.CompleteSignal target name value) m.completions refl refl refl refl refl given.options.implicit_cancellation }; completions = refl; signals = refl; ids = refl; known = refl; answer = λ id handle signal. refl }
+  signal_does target name value copy refused copied = record { asks = record { refused = refused; work = refl; requests = λ i. Request.SendSignal target (SignalKey.ByName name) (SignalValue.Carries value) (sym copied i) ∷ [] }; children = brings_none (Call.CompleteSignal target name value) m.completions refl refl refl refl refl given.options.implicit_cancellation; completions = refl; signals = refl; ids = refl; known = refl; answer = λ id handle signal. refl }
 
   pub output_does : (value : NonEmptyValue) (options : PayloadOptions) (copy : Text) → refusal_of given.version (Call.Output value options) ≡ None → copy ≡ []
       → DoesOne given m (Call.Output value options) (Request.Output value copy)
-  output_does value options copy refused copied = record { asks = record { refused = refused; work = refl; requests = λ i. Request.Output value (sym copied i) ∷ []; children = brings_none (Call.Output value options) m.completions refl refl refl refl refl given.options.implicit_cancellation }; completions = refl; signals = refl; ids = refl; known = refl; answer = λ id handle signal. refl }
+  output_does value options copy refused copied = record { asks = record { refused = refused; work = refl; requests = λ i. Request.Output value (sym copied i) ∷ [] }; children = brings_none (Call.Output value options) m.completions refl refl refl refl refl given.options.implicit_cancellation; completions = refl; signals = refl; ids = refl; known = refl; answer = λ id handle signal. refl }
 
   pub awakeable_does : (awakeable : Text) (value : NonEmptyValue) (options : PayloadOptions) (copy : Text)
       → refusal_of given.version (Call.CompleteAwakeable awakeable value options) ≡ None → copy ≡ []
       → DoesOne given m (Call.CompleteAwakeable awakeable value options) (Request.CompleteAwakeable awakeable value copy)
-  awakeable_does awakeable value options copy refused copied = record { asks = record { refused = refused; work = refl; requests = λ i. Request.CompleteAwakeable awakeable value (sym copied i) ∷ []; children = brings_none (Call.CompleteAwakeable awakeable value options) m.completions refl refl refl refl refl given.options.implicit_cancellation }; completions = refl; signals = refl; ids = refl; known = refl; answer = λ id handle signal. refl }
+  awakeable_does awakeable value options copy refused copied = record { asks = record { refused = refused; work = refl; requests = λ i. Request.CompleteAwakeable awakeable value (sym copied i) ∷ [] }; children = brings_none (Call.CompleteAwakeable awakeable value options) m.completions refl refl refl refl refl given.options.implicit_cancellation; completions = refl; signals = refl; ids = refl; known = refl; answer = λ id handle signal. refl }
 
 -- ---- what is handed out is in the request
 

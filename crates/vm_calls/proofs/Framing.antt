@@ -1,5 +1,5 @@
 -- What is written of a command is the frame of its request.
-use Rattle.std.proofs.Common.{◌≡◌, ◌≤◌, ◌<◌, ◌^◌, ◌↔◌, ℕ, Bool, true, false, ltb, not, inl, inr, List, ◌++◌, length, Option, Some, None, Result, Ok, Err, OnOk, refl, sym, ap, ◌∙◌, subst}
+use Rattle.std.proofs.Common.{◌≡◌, ◌≤◌, ◌<◌, ◌^◌, ◌↔◌, ℕ, Bool, true, false, ltb, inl, inr, List, ◌++◌, length, Option, Some, None, Result, Ok, Err, OnOk, refl, sym, ap, ◌∙◌, subst}
 use Rattle.std.proofs.lemmas.Bool.{ltb-true, cases_Bool, cases_lt}
 use Rattle.protocol_table.specs.declared.table.RecordType.{RecordType}
 use Rattle.protocol_wire.specs.Parts.{Part, payload_of}
@@ -19,7 +19,7 @@ use Rattle.protocol_stream.specs.Header.{header_of}
 use Rattle.protocol_stream.specs.Frame.{spelled, message_of}
 use Rattle.protocol_stream.proofs.Spellings.{spelled-frame_bytes}
 use Rattle.vm_commands.specs.Passed.{type_of_record, payload_message, record_message, type_or_end, plain_message}
-use Rattle.vm_context.specs.Output.{Written, with_frame}
+use Rattle.vm_context.specs.Output.{Written, with_command}
 
 -- no command requests an acknowledgement
 never_acked : (request : Request) → allows_ack (request_type request) ≡ false
@@ -43,10 +43,10 @@ command_message t version parts request typed spells =
     ∙ ap (λ (payload : List ℕ). payload_message (request_type request) version payload) spells
     ∙ asked_by (request_type request) (has_feature (version_number version) Acknowledgement) (request_payload request) (never_acked request)
 
-behind_end : (one other : List ℕ) (old : Written) → old.is_closed ≡ true → with_frame one old ≡ with_frame other old
+behind_end : (one other : List ℕ) (old : Written) → old.is_closed ≡ true → with_command one old ≡ with_command other old
 behind_end one other old closed =
-    ap (λ (b : Bool). if b then old else record old { bytes = old.bytes ++ one }) closed
-    ∙ sym (ap (λ (b : Bool). if b then old else record old { bytes = old.bytes ++ other }) closed)
+    ap (λ (b : Bool). if b then old else record old { bytes = old.bytes ++ one; has_commands = true }) closed
+    ∙ sym (ap (λ (b : Bool). if b then old else record old { bytes = old.bytes ++ other; has_commands = true }) closed)
 
 frame_is : (message : RawMessage) (request : Request) → message ≡ message_of (request_type request) (request_payload request) → length (request_payload request) < 2 ^ 32
     → spelled message ≡ request_frame request
@@ -55,9 +55,9 @@ frame_is message request is fits = ap spelled is ∙ spelled-frame_bytes (reques
 -- where it fits, its bytes are the request's frame; behind the end nothing is written of any
 pub writes_request : (result : Result (Unit {0}) EncodingError) (old new : Written) (message : RawMessage) (request : Request)
     → message ≡ message_of (request_type request) (request_payload request)
-    → OnOk result (new ≡ with_frame (spelled message) old)
+    → OnOk result (new ≡ with_command (spelled message) old)
     → ((result ≡ Err PayloadTooLong) ↔ ((old.is_closed ≡ false) × (2 ^ 32 ≤ length message.payload)))
-    → OnOk result (new ≡ with_frame (request_frame request) old)
+    → OnOk result (new ≡ with_command (request_frame request) old)
 writes_request (Ok u) old new message request is sent long =
     elim (cases_Bool old.is_closed) [
       | inl closed ↦ sent ∙ behind_end (spelled message) (request_frame request) old closed
@@ -66,6 +66,6 @@ writes_request (Ok u) old new message request is sent long =
             | inl lt ↦ lt
             | inr ge ↦ let wrong = long.1 (before, ge) in cc wrong
           ] in
-          sent ∙ ap (λ (frame : List ℕ). with_frame frame old) (frame_is message request is (subst (λ (one : RawMessage). length one.payload < 2 ^ 32) is fits))
+          sent ∙ ap (λ (frame : List ℕ). with_command frame old) (frame_is message request is (subst (λ (one : RawMessage). length one.payload < 2 ^ 32) is fits))
     ]
 writes_request (Err error) old new message request is sent long = tt

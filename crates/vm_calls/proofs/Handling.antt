@@ -10,7 +10,7 @@ use Rattle.journal_model.specs.Request.{Request}
 use Rattle.journal_model.specs.History.{completions_of, signals_of, ids_of}
 use Rattle.journal_model.specs.Await.{child_of}
 use Rattle.journal_model.specs.Run.{Invocation}
-use Rattle.attempt_model.specs.Children.{Child, new_child}
+use Rattle.attempt_model.specs.Children.{new_child}
 use Rattle.attempt_model.specs.Requests.{put_all, answer_by}
 use Rattle.attempt_model.specs.Machine.{Machine, Answered, Work, next_slot, reply_to, reply_to_make, reply_to_work, reply_unless_refused}
 use Rattle.vm_awaits.specs.Views.{AsyncResults, results_of, slots_of}
@@ -23,6 +23,7 @@ use Rattle.vm_calls.specs.Active.{Sees, HasCompletions, left_of}
 use Rattle.vm_calls.specs.Making.{Replies}
 use Rattle.vm_calls.specs.Handles.{HandlesOne}
 use Rattle.vm_calls.proofs.Calls.{brings_none}
+use Rattle.vm_calls.proofs.Tracking.{none_more, none_made}
 
 pub as_many : (n more : ℕ) → more ≡ 0 → n ≡ n + more
 as_many n more none = omega (arith, none)
@@ -66,7 +67,8 @@ module _ (checks_off : Bool) (given : Invocation) (m : Machine) (call : Call) (i
     completions = completions ∙ sees.completions ∙ as_many m.completions (completions_of call) one.completions;
     signals = signals ∙ ap (λ (n : ℕ). n + taken) sees.signals ∙ ap (λ (n : ℕ). m.signals + n) (sym one.signals);
     opened = ap (λ (a : Active). a.output.is_closed) others ∙ sees.opened;
-    children = ap (λ (cs : List Child). cs ++ map new_child (child_of given.options.implicit_cancellation m.completions call)) sees.children ∙ ap (λ (ids : List ℕ). map new_child ids) one.children;
+    children = none_more m.children new.children (child_of given.options.implicit_cancellation m.completions call) one.children (ap (λ (a : Active). a.children) others ∙ sees.children);
+    made = none_made m.completions (completions_of call) m.children (child_of given.options.implicit_cancellation m.completions call) one.children sees.made;
   }
 
   pub same_output : new.output ≡ old.output

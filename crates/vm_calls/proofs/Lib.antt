@@ -7,4 +7,5 @@ pub mod Doing
 pub mod DoneCalls
 pub mod PromiseCalls
 pub mod Spending
+pub mod Tracking
 pub mod Finding

@@ -11,7 +11,7 @@ use Rattle.journal_model.specs.History.{completions_of, signals_of, ids_of}
 use Rattle.journal_model.specs.Delivery.{known_result}
 use Rattle.journal_model.specs.Await.{child_of}
 use Rattle.journal_model.specs.Run.{Invocation}
-use Rattle.attempt_model.specs.Children.{Child, new_child}
+use Rattle.attempt_model.specs.Children.{new_child}
 use Rattle.attempt_model.specs.Requests.{Commands, PutState, put_one, put_all, requests_by, answer_by}
 use Rattle.attempt_model.specs.Results.{ready_after_all}
 use Rattle.attempt_model.specs.Machine.{Machine, Answered, FailedBy, Mismatch, Work, ToMake, work_of, next_slot, reply_to, reply_to_make, reply_to_work, reply_unless_refused}
@@ -19,6 +19,7 @@ use Rattle.protocol_types.specs.declared.message_type.MessageType.{MessageType}
 use Rattle.protocol_stream.specs.declared.encoder.EncodingError.TheVariants as unsent
 use Rattle.vm_awaits.specs.Views.{AsyncResults, results_of}
 use Rattle.vm_awaits.specs.Calls.{with_handle}
+use Rattle.vm_results.specs.Children.{AreMade}
 use Rattle.vm_context.specs.Eager.{KnownState}
 use Rattle.vm_context.specs.Journal.{after_command, after_completions}
 use Rattle.vm_context.specs.Following.{KnowsState, changes_state}
@@ -32,6 +33,7 @@ use Rattle.vm_calls.specs.declared.put_error.PutError.TheVariants.{Replay, Encod
 use Rattle.vm_calls.specs.declared.call_error.CallError.TheVariants.{Put}
 use Rattle.vm_calls.specs.Active.{Sees, IsSettled, left_of, has_left, writes_frames, HasCompletions, PutsOne, PutsIn}
 use Rattle.vm_commands.specs.Popping.{IsNextUnread}
+use Rattle.vm_calls.proofs.Tracking.{none_more, none_made}
 use Rattle.vm_calls.specs.Making.{Replies, FailsAs, PutFailsAs, AsksOne, IsReady, CompletesOne, HasBegun}
 
 -- ---- the abstract machine, where one request is put
@@ -102,7 +104,8 @@ module _ (checks_off ignoring : Bool) (given : Invocation) (m : Machine) (call :
       completions = ap (λ (a : Active). a.journal.completions) puts.others ∙ ready.completions;
       signals = ap (λ (a : Active). a.journal.signals) puts.others ∙ ready.signals;
       opened = puts.settled.opened;
-      children = ap (λ (cs : List Child). cs ++ map new_child (child_of given.options.implicit_cancellation m.completions call)) ready.children ∙ ap (λ (ids : List ℕ). map new_child ids) asks.children;
+      children = ap (λ (a : Active). a.children) puts.others ∙ ready.children;
+      made = ready.made;
     }
 
     pub put_answers : (IsSettled mid → PutsOne ignoring request m.written mid new) → Replies checks_off given m call answer old new
@@ -128,10 +131,12 @@ no_more n more none = omega (arith, none)
 -- where so many completions were taken, and handles that stand for these ids, nothing is left but to put the request
 pub is_ready : (given : Invocation) (m : Machine) (call : Call) (request : Request) (old : Active) → Sees given old m → (ty : MessageType) (name : Text) (taken : ℕ) (ids : List NotificationId)
     → changes_state request ≡ false → known_result m.completions (request ∷ []) ≡ [] → ids_of m.completions m.signals call ≡ ids → completions_of call ≡ taken → signals_of call ≡ 0 → HasCompletions taken old
-    → (mid : Active) → mid ≡ record old { journal = after_completions taken (after_command ty name old.journal); results = mid.results }
+    → (mid : Active) → mid ≡ record old { journal = after_completions taken (after_command ty name old.journal); results = mid.results; children = mid.children }
     → results_of mid.results ≡ record { delivery = given.options.signal_delivery; queue = m.queue; ready = m.ready; slots = m.slots ++ map Some ids }
+    → mid.children ≡ m.children ++ map new_child (child_of given.options.implicit_cancellation m.completions call)
+    → AreMade (m.completions + completions_of call) (m.children ++ map new_child (child_of given.options.implicit_cancellation m.completions call))
     → IsReady given m call request old mid
-is_ready given m call request old sees ty name taken ids keeps known named counts none has mid others results = record {
+is_ready given m call request old sees ty name taken ids keeps known named counts none has mid others results children made = record {
   left = ap (λ (a : Active). left_of a) others ∙ sees.left;
   replaying = ap (λ (a : Active). a.is_replaying) others ∙ sees.replaying;
   results = results ∙ (λ i. record {
@@ -144,7 +149,8 @@ is_ready given m call request old sees ty name taken ids keeps known named count
   completions = ap (λ (a : Active). a.journal.completions) others ∙ ap (λ (n : ℕ). n + taken) sees.completions ∙ ap (λ (n : ℕ). m.completions + n) (sym counts);
   signals = ap (λ (a : Active). a.journal.signals) others ∙ sees.signals ∙ no_more m.signals (signals_of call) none;
   opened = ap (λ (a : Active). a.output.is_closed) others ∙ sees.opened;
-  children = sees.children;
+  children = children;
+  made = made;
   output = ap (λ (a : Active). a.output) others;
   has = subst (λ (n : ℕ). HasCompletions n old) (sym counts) has;
 }
@@ -160,7 +166,13 @@ module _ (given : Invocation) (m : Machine) (call : Call) (request : Request) (o
       ∙ ap (λ (n : ℕ). with_handle (CompletionId n) (results_of old.results)) begun.sees.completions ∙ ap (λ (r : AsyncResults). with_handle (CompletionId m.completions) r) begun.sees.results
 
   pub one_is_ready : IsReady given m call request old mid
-  one_is_ready = is_ready given m call request old begun.sees begun.ty begun.name 1 (CompletionId m.completions ∷ []) one.keeps one.known one.ids one.completions one.signals begun.takes.has mid begun.takes.others results_are
+  one_is_ready = is_ready given m call request old begun.sees begun.ty begun.name 1 (CompletionId m.completions ∷ []) one.keeps one.known one.ids one.completions one.signals begun.takes.has mid
+      (begun.takes.others ∙ λ i. record old { journal = after_completions 1 (after_command begun.ty begun.name old.journal); results = mid.results; children = sym children_stay i }) results_are
+      (none_more m.children mid.children (child_of given.options.implicit_cancellation m.completions call) one.children (children_stay ∙ begun.sees.children))
+      (none_made m.completions (completions_of call) m.children (child_of given.options.implicit_cancellation m.completions call) one.children begun.sees.made)
+    where
+      children_stay : mid.children ≡ old.children
+      children_stay = ap (λ (a : Active). a.children) begun.takes.others
 
   module _ (checks_off ignoring : Bool) (ignores : ignoring ≡ (checks_off || is_unstable call)) (new : Active) where
     pub fails : {M : Type 0} (error : PutError M) → (IsSettled mid → PutsIn ignoring request m.written mid (Err error) new) → FailsAs checks_off given m call old (Put error) × (new.output ≡ old.output)

@@ -18,16 +18,16 @@ use Rattle.vm_calls.specs.Making.{CompletesOne}
 
 pub get_completes : (given : Invocation) (m : Machine) (key : Text) (copy : Text) (id : ℕ) → copy ≡ [] → id ≡ m.completions
     → CompletesOne given m (Call.GetPromise key) (Request.GetPromise key id copy)
-get_completes given m key copy id copied taken = record { asks = record { refused = refl; work = refl; requests = λ i. Request.GetPromise key (sym taken i) (sym copied i) ∷ []; children = brings_none (Call.GetPromise key) m.completions refl refl refl refl refl given.options.implicit_cancellation }; completions = refl; signals = refl; ids = refl; known = refl; keeps = refl; answer = λ text handle signal. refl }
+get_completes given m key copy id copied taken = record { asks = record { refused = refl; work = refl; requests = λ i. Request.GetPromise key (sym taken i) (sym copied i) ∷ [] }; children = brings_none (Call.GetPromise key) m.completions refl refl refl refl refl given.options.implicit_cancellation; completions = refl; signals = refl; ids = refl; known = refl; keeps = refl; answer = λ text handle signal. refl }
 
 pub peek_completes : (given : Invocation) (m : Machine) (key : Text) (copy : Text) (id : ℕ) → copy ≡ [] → id ≡ m.completions
     → CompletesOne given m (Call.PeekPromise key) (Request.PeekPromise key id copy)
-peek_completes given m key copy id copied taken = record { asks = record { refused = refl; work = refl; requests = λ i. Request.PeekPromise key (sym taken i) (sym copied i) ∷ []; children = brings_none (Call.PeekPromise key) m.completions refl refl refl refl refl given.options.implicit_cancellation }; completions = refl; signals = refl; ids = refl; known = refl; keeps = refl; answer = λ text handle signal. refl }
+peek_completes given m key copy id copied taken = record { asks = record { refused = refl; work = refl; requests = λ i. Request.PeekPromise key (sym taken i) (sym copied i) ∷ [] }; children = brings_none (Call.PeekPromise key) m.completions refl refl refl refl refl given.options.implicit_cancellation; completions = refl; signals = refl; ids = refl; known = refl; keeps = refl; answer = λ text handle signal. refl }
 
 pub promise_completes : (given : Invocation) (m : Machine) (key : Text) (value : NonEmptyValue) (options : PayloadOptions) (copy : Text) (id : ℕ)
     → refusal_of given.version (Call.CompletePromise key value options) ≡ None → copy ≡ [] → id ≡ m.completions
     → CompletesOne given m (Call.CompletePromise key value options) (Request.CompletePromise key value id copy)
-promise_completes given m key value options copy id refused copied taken = record { asks = record { refused = refused; work = refl; requests = λ i. Request.CompletePromise key value (sym taken i) (sym copied i) ∷ []; children = brings_none (Call.CompletePromise key value options) m.completions refl refl refl refl refl given.options.implicit_cancellation }; completions = refl; signals = refl; ids = refl; known = refl; keeps = refl; answer = λ text handle signal. refl }
+promise_completes given m key value options copy id refused copied taken = record { asks = record { refused = refused; work = refl; requests = λ i. Request.CompletePromise key value (sym taken i) (sym copied i) ∷ [] }; children = brings_none (Call.CompletePromise key value options) m.completions refl refl refl refl refl given.options.implicit_cancellation; completions = refl; signals = refl; ids = refl; known = refl; keeps = refl; answer = λ text handle signal. refl }
 
 completion_is : (value : NonEmptyValue) → completion_record value ≡ promise_completion value
 completion_is (NonEmptyValue.Success bytes) = refl

@@ -1,12 +1,14 @@
 -- A command that was put leaves an attempt settled.
-use Rattle.std.proofs.Common.{◌≡◌, ◌≤◌, ◌<◌, ◌^◌, Bool, true, false, ℕ, if◌then◌else◌, inl, inr, List, [], ◌∷◌, ◌++◌, length, append-nil, Result, Ok, Err, refl, sym, ap, ◌∙◌, subst}
+use Rattle.std.proofs.Common.{◌≡◌, ◌^◌, Bool, true, false, ◌||◌, ℕ, if◌then◌else◌, inl, inr, List, [], ◌∷◌, ◌++◌, length, append-nil, append_assoc, Result, Ok, Err, refl, sym, ap, ◌∙◌, subst}
 use Rattle.std.proofs.lemmas.Bool.{cases_Bool, cases_lt}
+use Rattle.std.proofs.lemmas.List.Concat.{flat_map-append}
+use Rattle.std.specs.List.{flat_map}
 use Rattle.journal_model.specs.Request.{Request}
 use Rattle.journal_model.specs.Spelling.{request_frame, request_payload}
 use Rattle.attempt_model.specs.Requests.{Commands, put_one}
 use Rattle.protocol_stream.specs.declared.decoder.RawMessage.{RawMessage}
 use Rattle.protocol_stream.specs.declared.encoder.EncodingError.TheVariants as unsent
-use Rattle.vm_context.specs.Output.{Written, with_frame}
+use Rattle.vm_context.specs.Output.{Written, with_command}
 use Rattle.vm_commands.specs.declared.replay_error.ReplayError.TheVariants as unmatched
 use Rattle.vm_commands.specs.HeaderEquality.{header_equal}
 use Rattle.vm_commands.specs.Recorded.{commands_of}
@@ -14,7 +16,7 @@ use Rattle.vm_calls.specs.declared.active.Active.{Active}
 use Rattle.vm_calls.specs.declared.put_error.PutError.{PutError}
 use Rattle.vm_calls.specs.declared.put_error.PutError.TheVariants.{Replay, Encoding}
 use Rattle.vm_calls.specs.Putting.{Puts, RefusesLong}
-use Rattle.vm_calls.specs.Active.{Fits, has_left, left_of, still_replays, IsSettled, PutsOne, PutFails}
+use Rattle.vm_calls.specs.Active.{Fits, has_left, left_of, are_any, writes_frames, still_replays, IsSettled, PutsOne, PutFails}
 
 while_left : (messages : List RawMessage) → still_replays true messages ≡ has_left (commands_of messages)
 while_left [] = refl
@@ -28,8 +30,8 @@ none_left : (left : Commands) → has_left left ≡ false → left ≡ []
 none_left [] h = refl
 none_left (command ∷ left) h = cc
 
-opened_frame : (frame : List ℕ) (old : Written) → old.is_closed ≡ false → with_frame frame old ≡ record old { bytes = old.bytes ++ frame }
-opened_frame frame old opened = ap (λ (b : Bool). if b then old else record old { bytes = old.bytes ++ frame }) opened
+opened_frame : (frame : List ℕ) (old : Written) → old.is_closed ≡ false → with_command frame old ≡ record old { bytes = old.bytes ++ frame; has_commands = true }
+opened_frame frame old opened = ap (λ (b : Bool). if b then old else record old { bytes = old.bytes ++ frame; has_commands = true }) opened
 
 nothing_recorded : (old : Active) → IsSettled old → old.is_replaying ≡ false → left_of old ≡ []
 nothing_recorded old settled f = none_left (left_of old) (sym settled.replaying ∙ f)
@@ -69,7 +71,7 @@ module _ {M : Type 0} (ignoring : Bool) (request : Request) (written : List Requ
   sent new stands f refuses replays puts others =
       let none : left_of old ≡ [] = nothing_recorded old settled f in
       let left : left_of new ≡ [] = ap commands_of puts.1 ∙ none in
-      let frame : new.output ≡ record old.output { bytes = old.output.bytes ++ request_frame request } = puts.0 ∙ opened_frame (request_frame request) old.output settled.opened in
+      let frame : new.output ≡ record old.output { bytes = old.output.bytes ++ request_frame request; has_commands = true } = puts.0 ∙ opened_frame (request_frame request) old.output settled.opened in
       record {
         put = record { left = []; written = written ++ request ∷ [] };
         puts = ap (λ (l : Commands). put_one (header_equal ignoring) request l written) none;
@@ -81,7 +83,7 @@ module _ {M : Type 0} (ignoring : Bool) (request : Request) (written : List Requ
         more = request ∷ [];
         requests = refl;
         fit = (not_long (Ok stands) (λ wrong. cc wrong) refuses, tt);
-        frames = frame ∙ ap (λ (bytes : List ℕ). record old.output { bytes = old.output.bytes ++ bytes }) (sym (append-nil (request_frame request)));
+        frames = frame ∙ ap (λ (bytes : List ℕ). record old.output { bytes = old.output.bytes ++ bytes; has_commands = true }) (sym (append-nil (request_frame request)));
         others = others;
       }
 
@@ -118,3 +120,17 @@ module _ {M : Type 0} (ignoring : Bool) (request : Request) (written : List Requ
         | inl t ↦ replay_fails error queue output t (subst (λ (b : Bool). Puts ignoring b request written old.commands.items old.output (Err error) queue output) t puts)
         | inr f ↦ write_fails error queue output f (subst (λ (b : Bool). RefusesLong b request old.output (Err error)) f refuses) (subst (λ (b : Bool). Puts ignoring b request written old.commands.items old.output (Err error) queue output) f puts)
       ]
+
+-- ---- frames of several requests
+
+any_joined : (some more : List Request) (has : Bool) → (are_any (some ++ more) || has) ≡ (are_any more || (are_any some || has))
+any_joined [] more has = refl
+any_joined (request ∷ some) [] has = refl
+any_joined (request ∷ some) (other ∷ more) has = refl
+
+-- frames behind frames are the frames of both
+pub frames_joined : (some more : List Request) (written : Written) → writes_frames (some ++ more) written ≡ writes_frames more (writes_frames some written)
+frames_joined some more written = λ i. record written {
+  bytes = (ap (λ (frames : List ℕ). written.bytes ++ frames) (flat_map-append request_frame some more) ∙ sym (append_assoc written.bytes (flat_map request_frame some) (flat_map request_frame more))) i;
+  has_commands = any_joined some more written.has_commands i;
+}

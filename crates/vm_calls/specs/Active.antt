@@ -1,5 +1,5 @@
 -- When what an attempt keeps is what the abstract machine keeps, and what each step of a call does to it.
-use Rattle.std.specs.Prelude.{◌≡◌, ◌≤◌, ◌<◌, ◌+◌, ◌^◌, ◌⊎◌, ℕ, zero, suc, Bool, true, false, List, [], ◌∷◌, ◌++◌, length, Some, None, Result, Ok, Err}
+use Rattle.std.specs.Prelude.{◌≡◌, ◌≤◌, ◌<◌, ◌+◌, ◌^◌, ◌⊎◌, ℕ, zero, suc, Bool, true, false, ◌||◌, List, [], ◌∷◌, ◌++◌, length, Some, None, Result, Ok, Err}
 use Rattle.std.specs.List.{flat_map, AllByRecursion}
 use Rattle.journal_model.specs.declared.notification.NotificationId.TheVariants.{CompletionId}
 use Rattle.journal_model.specs.Notification.{Text}
@@ -13,6 +13,7 @@ use Rattle.protocol_stream.specs.declared.decoder.RawMessage.{RawMessage}
 use Rattle.protocol_stream.specs.declared.encoder.EncodingError.TheVariants as unsent
 use Rattle.vm_awaits.specs.Views.{results_of, slots_of}
 use Rattle.vm_awaits.specs.Calls.{with_handle}
+use Rattle.vm_results.specs.Children.{AreMade}
 use Rattle.vm_context.specs.Journal.{JournalCounts, after_command, after_completions}
 use Rattle.vm_context.specs.Following.{KnowsState}
 use Rattle.vm_context.specs.Output.{Written}
@@ -45,12 +46,17 @@ pub record Sees (given : Invocation) (active : Active) (m : Machine) : Type 0 wh
   pub completions : active.journal.completions ≡ m.completions
   pub signals : active.journal.signals ≡ m.signals
   pub opened : active.output.is_closed ≡ false
-  -- no child is tracked before the request that tracks them
-  pub children : m.children ≡ []
+  -- the children are kept, each by a completion that was made
+  pub children : active.children ≡ m.children
+  pub made : AreMade m.completions m.children
 
--- the frames of these requests are written, one behind the other, and no other
+abbrev pub are_any : List Request → Bool
+are_any [] = false
+are_any (request ∷ requests) = true
+
+-- the frames of these requests are written, one behind the other, and no other; that a command was written is said by these alone
 abbrev pub writes_frames : List Request → Written → Written
-writes_frames requests written = record written { bytes = written.bytes ++ flat_map request_frame requests }
+writes_frames requests written = record written { bytes = written.bytes ++ flat_map request_frame requests; has_commands = are_any requests || written.has_commands }
 
 -- 32 bits tell how long its frame's payload is
 abbrev pub Fits : Request → Type 0

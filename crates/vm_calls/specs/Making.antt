@@ -13,11 +13,13 @@ use Rattle.journal_model.specs.Delivery.{known_result}
 use Rattle.journal_model.specs.Await.{child_of}
 use Rattle.journal_model.specs.Run.{Invocation}
 use Rattle.attempt_model.specs.Requests.{requests_by, answer_by}
+use Rattle.attempt_model.specs.Children.{new_child}
 use Rattle.attempt_model.specs.Results.{ready_after_all}
 use Rattle.attempt_model.specs.Machine.{Machine, Answered, FailedBy, Mismatch, work_of, ToMake, reply_to}
 use Rattle.protocol_types.specs.declared.message_type.MessageType.{MessageType}
 use Rattle.protocol_stream.specs.declared.encoder.EncodingError.TheVariants as unsent
 use Rattle.vm_awaits.specs.Views.{results_of}
+use Rattle.vm_results.specs.Children.{AreMade}
 use Rattle.vm_context.specs.Following.{KnowsState, changes_state}
 use Rattle.vm_commands.specs.HeaderEquality.{same_header}
 use Rattle.vm_commands.specs.Popping.{IsNextUnread}
@@ -77,12 +79,11 @@ module _ (checks_off : Bool) (given : Invocation) (m : Machine) (call : Call) wh
   Makes answer old (Ok taken) new = Replies (answer taken) old new
   Makes answer old (Err error) new = FailsAs old error × (new.output ≡ old.output)
 
--- a call that puts this one request, and brings no child
+-- a call that puts this one request
 pub record AsksOne (given : Invocation) (m : Machine) (call : Call) (request : Request) : Type 0 where
   pub refused : refusal_of given.version call ≡ None
   pub work : work_of call ≡ ToMake
   pub requests : requests_by m.start m.done m.left m.completions call ≡ request ∷ []
-  pub children : child_of given.options.implicit_cancellation m.completions call ≡ []
 
 -- all of such a call is done but that its request is put
 pub record IsReady (given : Invocation) (m : Machine) (call : Call) (request : Request) (old ready : Active) : Type 0 where
@@ -98,11 +99,13 @@ pub record IsReady (given : Invocation) (m : Machine) (call : Call) (request : R
   pub completions : ready.journal.completions ≡ m.completions + completions_of call
   pub signals : ready.journal.signals ≡ m.signals + signals_of call
   pub opened : ready.output.is_closed ≡ false
-  pub children : m.children ≡ []
+  -- the child that the call brings is kept
+  pub children : ready.children ≡ m.children ++ map new_child (child_of given.options.implicit_cancellation m.completions call)
+  pub made : AreMade (m.completions + completions_of call) (m.children ++ map new_child (child_of given.options.implicit_cancellation m.completions call))
   pub output : ready.output ≡ old.output
   pub has : HasCompletions (completions_of call) old
 
--- a call that takes one completion id and a handle for it, and puts one request, which changes nothing of the state
+-- a call that takes one completion id and a handle for it, brings no child, and puts one request, which changes nothing of the state
 pub record CompletesOne (given : Invocation) (m : Machine) (call : Call) (request : Request) : Type 0 where
   pub asks : AsksOne given m call request
   pub completions : completions_of call ≡ 1
@@ -110,6 +113,7 @@ pub record CompletesOne (given : Invocation) (m : Machine) (call : Call) (reques
   pub ids : ids_of m.completions m.signals call ≡ CompletionId m.completions ∷ []
   pub known : known_result m.completions (request ∷ []) ≡ []
   pub keeps : changes_state request ≡ false
+  pub children : child_of given.options.implicit_cancellation m.completions call ≡ []
   pub answer : (id : Text) (handle signal : ℕ) → answer_by id handle signal call ≡ Answer.Handle handle
 
 -- the machine's call has begun: its completion was taken, and this handle stands for it

@@ -9,7 +9,7 @@ use Rattle.protocol_stream.specs.ErrorText.{encoding_text}
 use Rattle.protocol_stream.specs.declared.decoder.RawMessage.{RawMessage}
 use Rattle.protocol_stream.specs.declared.encoder.EncodingError.TheVariants as unsent
 use Rattle.protocol_errors.specs.Code.{internal}
-use Rattle.vm_context.specs.Output.{Written, with_frame}
+use Rattle.vm_context.specs.Output.{Written, with_command}
 use Rattle.vm_commands.specs.declared.replay_error.ReplayError.TheVariants as unmatched
 use Rattle.vm_commands.specs.HeaderEquality.{header_equal}
 use Rattle.vm_commands.specs.Popping.{next_of, TakesAs, IsNextUnread, replay_code, replay_text}
@@ -47,7 +47,7 @@ Replays ignoring request written old (Err (Encoding error)) new = ⊥
 
 -- Behind the journal: exactly the request's frame is written, or nothing.
 abbrev pub Writes : {M : Type 0} → Request → Written → Result M (PutError M) → Written → Type 0
-Writes request old (Ok stands) new = new ≡ with_frame (request_frame request) old
+Writes request old (Ok stands) new = new ≡ with_command (request_frame request) old
 Writes request old (Err (Replay error)) new = ⊥
 Writes request old (Err (Encoding unsent.PayloadTooLong)) new = (new ≡ old) × IsTooLong request old
 Writes request old (Err (Encoding unsent.OutOfMemory)) new = new ≡ old

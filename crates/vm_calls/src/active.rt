@@ -22,6 +22,7 @@ use std::collections::VecDeque;
 use vm_awaits::{AsyncResultsState, CreateHandleError};
 use vm_commands::Command;
 use vm_context::{EagerState, Journal, Output};
+use vm_results::Children;
 
 /// What an attempt keeps while calls are made of it, from the last of the entries that its start has announced on.
 #[derive(Debug, Drop)]
@@ -34,6 +35,8 @@ pub struct Active {
     pub state: EagerState,
     pub journal: Journal,
     pub output: Output,
+    /// The children that a cancellation is passed on to.
+    pub children: Children,
 }
 
 fn number_error(error: CreateHandleError) -> NumberError

@@ -22,4 +22,6 @@ pub use call_error::{CallError, NumberError};
 pub use options::{ignores, or_empty};
 pub use put_error::PutError;
 pub use putting::put;
+pub use telling::cancel_command;
 pub use vm_commands::{Command, ReplayError};
+pub use vm_results::Children;

@@ -3,7 +3,7 @@ ghost use Rattle.std.specs.Prelude.{List, ◌≡◌, ◌≤◌, ◌^◌, ◌↔�
 ghost use Rattle.journal_model.specs.Request.{Request};
 ghost use Rattle.journal_model.specs.Spelling.{request_frame};
 ghost use Rattle.protocol_stream.specs.declared.encoder.EncodingError.TheVariants.{PayloadTooLong};
-ghost use Rattle.vm_context.specs.Output.{with_frame};
+ghost use Rattle.vm_context.specs.Output.{with_command};
 ghost use Rattle.vm_calls.specs.Putting.{PutsAs, Puts, IsTooLong, RefusesLong};
 
 use crate::PutError;
@@ -19,11 +19,11 @@ fn write_command<M: Command>(
     output: &mut Output,
     command: &M,
 ) -> Result<(), EncodingError>
-    ensures ok { (request : Request) → M.request_of command.now ≡ Some request → OnOk result (output.new ≡ with_frame (request_frame request) output.old) }
+    ensures ok { (request : Request) → M.request_of command.now ≡ Some request → OnOk result (output.new ≡ with_command (request_frame request) output.old) }
     ensures err { OnErr result (output.new ≡ output.old) }
     ensures too_long { (request : Request) → M.request_of command.now ≡ Some request → IsErrOf result PayloadTooLong ↔ IsTooLong request output.old }
 {
-    output.send(alloc, command)
+    output.send_command(alloc, command)
 }
 
 /// Matches a call's command with the next recorded one, or writes it.

@@ -1,5 +1,7 @@
 // The calls that tell something to the outside or to another invocation, and are answered at once.
-ghost use Rattle.std.specs.Prelude.{◌≡◌, [], None};
+ghost use Rattle.std.specs.Prelude.{◌≡◌, [], Some, None};
+ghost use Rattle.journal_model.specs.Request.{Request, SignalKey, SignalValue};
+ghost use Rattle.protocol_spellings.specs.Requests.{request_of_send_signal};
 ghost use Rattle.vm_calls.specs.Words.{Call, Answer, Invocation, Machine};
 ghost use Rattle.journal_model.specs.Refusal.{refusal_of};
 ghost use Rattle.protocol_types.specs.declared.message_type.MessageType.TheVariants.{OutputCommand, SendSignalCommand, CompleteAwakeableCommand};
@@ -24,6 +26,18 @@ use vm_commands::{to_awakeable_result, to_signal_result};
 /// The signal that cancels an invocation.
 const CANCEL_SIGNAL: u32 = 1;
 
+/// The command that cancels an invocation.
+pub fn cancel_command(target_id: ByteStr, entry_name: ByteStr) -> SendSignalCommandMessage
+    ensures { request_of_send_signal result ≡ Some (Request.SendSignal target_id (SignalKey.ByIndex 1) SignalValue.Empty entry_name) }
+{
+    SendSignalCommandMessage {
+        target_invocation_id: target_id,
+        signal_id: Some(SendSignalCommandSignalId::Idx(CANCEL_SIGNAL)),
+        result: Some(SendSignalCommandResult::Void(Void {})),
+        entry_name,
+    }
+}
+
 impl Active {
     /// Cancels another invocation.
     pub fn cancel(
@@ -39,13 +53,7 @@ impl Active {
         ensures told { IsAtCommand SendSignalCommand [] self.old.journal self.new.journal }
     {
         let entry_name = self.ask(MessageType::SendSignalCommand, ByteStr::new())?;
-        let command = SendSignalCommandMessage {
-            target_invocation_id: target_id,
-            signal_id: Some(SendSignalCommandSignalId::Idx(CANCEL_SIGNAL)),
-            result: Some(SendSignalCommandResult::Void(Void {})),
-            entry_name,
-        };
-        self.put_done(alloc, command, checks_off)
+        self.put_done(alloc, cancel_command(target_id, entry_name), checks_off)
     }
 
     /// Sends a signal of a name to another invocation.

@@ -1,30 +1,31 @@
 -- What waits to be taken, frame by frame, and why a message was not written.
-use Rattle.std.proofs.Common.{◌≡◌, refl, sym, ap, ◌∙◌, ℕ, ◌+◌, ◌^◌, ◌≤◌, ◌↔◌, Bool, true, false, List, [], ◌∷◌, ◌++◌, length, append-nil, length-append, Result, Ok, Err, OnOk, OnErr, arith}
+use Rattle.std.proofs.Common.{◌≡◌, refl, sym, ap, ◌∙◌, ℕ, ◌+◌, ◌^◌, ◌≤◌, ◌↔◌, Bool, true, false, ◌||◌, List, [], ◌∷◌, ◌++◌, length, append-nil, length-append, Result, Ok, Err, OnOk, OnErr, arith}
 use Rattle.std.proofs.lemmas.Result.{on_ok_weaker, on_err_weaker}
 use Rattle.protocol_types.specs.declared.version.Version.{Version}
 use Rattle.protocol_stream.specs.declared.encoder.EncodingError.{EncodingError}
-use Rattle.vm_context.specs.Output.{Written, joined, with_frame, all_taken}
+use Rattle.vm_context.specs.Output.{Written, joined, with_frame_of, all_taken}
 
-abbrev pub written_of : Version → List ℕ → Bool → Written
-written_of version bytes is_closed = record { version = version; bytes = bytes; is_closed = is_closed }
+abbrev pub written_of : Version → List ℕ → Bool → Bool → Written
+written_of version bytes is_closed has_commands = record { version = version; bytes = bytes; is_closed = is_closed; has_commands = has_commands }
 
-pub closed_stays : (version : Version) (bytes frame : List ℕ) (is_closed : Bool) → is_closed ≡ true → written_of version bytes is_closed ≡ with_frame frame (written_of version bytes is_closed)
-closed_stays version bytes frame true closed = refl
-closed_stays version bytes frame false closed = absurd cc
+pub closed_stays : (is_command : Bool) (version : Version) (bytes frame : List ℕ) (is_closed has_commands : Bool) → is_closed ≡ true
+    → written_of version bytes is_closed has_commands ≡ with_frame_of is_command frame (written_of version bytes is_closed has_commands)
+closed_stays is_command version bytes frame true has_commands closed = refl
+closed_stays is_command version bytes frame false has_commands closed = absurd cc
 
-pub open_grows : (version : Version) (old new frame : List ℕ) (is_closed : Bool) → is_closed ≡ false → new ≡ old ++ frame
-    → written_of version new is_closed ≡ with_frame frame (written_of version old is_closed)
-open_grows version old new frame true opened more = absurd cc
-open_grows version old new frame false opened more = ap (λ (bytes : List ℕ). written_of version bytes false) more
+pub open_grows : (is_command : Bool) (version : Version) (old new frame : List ℕ) (is_closed has_commands has : Bool) → is_closed ≡ false → new ≡ old ++ frame → has ≡ (is_command || has_commands)
+    → written_of version new is_closed has ≡ with_frame_of is_command frame (written_of version old is_closed has_commands)
+open_grows is_command version old new frame true has_commands has opened more told = absurd cc
+open_grows is_command version old new frame false has_commands has opened more told = λ i. written_of version (more i) false (told i)
 
 -- the same of a call whose answer is handed on
-pub rest_taken : {T E : Type 0} (r : Result T E) (version : Version) (old new : List ℕ) (is_closed : Bool) → OnOk r (new ≡ [])
-    → OnOk r (written_of version new is_closed ≡ all_taken (written_of version old is_closed))
-rest_taken r version old new is_closed = on_ok_weaker r (λ (none : new ≡ []). ap (λ (bytes : List ℕ). written_of version bytes is_closed) none)
+pub rest_taken : {T E : Type 0} (r : Result T E) (version : Version) (old new : List ℕ) (is_closed has_commands : Bool) → OnOk r (new ≡ [])
+    → OnOk r (written_of version new is_closed has_commands ≡ all_taken (written_of version old is_closed has_commands))
+rest_taken r version old new is_closed has_commands = on_ok_weaker r (λ (none : new ≡ []). ap (λ (bytes : List ℕ). written_of version bytes is_closed has_commands) none)
 
-pub bytes_kept : {T E : Type 0} (r : Result T E) (version : Version) (old new : List ℕ) (is_closed : Bool) → OnErr r (new ≡ old)
-    → OnErr r (written_of version new is_closed ≡ written_of version old is_closed)
-bytes_kept r version old new is_closed = on_err_weaker r (λ (same : new ≡ old). ap (λ (bytes : List ℕ). written_of version bytes is_closed) same)
+pub bytes_kept : {T E : Type 0} (r : Result T E) (version : Version) (old new : List ℕ) (is_closed has_commands : Bool) → OnErr r (new ≡ old)
+    → OnErr r (written_of version new is_closed has_commands ≡ written_of version old is_closed has_commands)
+bytes_kept r version old new is_closed has_commands = on_err_weaker r (λ (same : new ≡ old). ap (λ (bytes : List ℕ). written_of version bytes is_closed has_commands) same)
 
 -- ---- why a message was not written
 

@@ -1,8 +1,8 @@
 // What an attempt has written.
-ghost use Rattle.std.specs.Prelude.{◌≡◌, ◌≤◌, ◌^◌, ◌↔◌, ◌++◌, [], true, false, length, IsOk, IfOk, OnOk, OnErr, IsErrOf};
+ghost use Rattle.std.specs.Prelude.{◌≡◌, ◌≤◌, ◌^◌, ◌↔◌, ◌++◌, ◌||◌, [], true, false, length, IsOk, IfOk, OnOk, OnErr, IsErrOf};
 ghost use Rattle.protocol_stream.specs.declared.encoder.EncodingError.TheVariants.{PayloadTooLong};
 ghost use Rattle.protocol_stream.specs.Frame.{spelled};
-ghost use Rattle.vm_context.specs.Output.{joined, with_frame, all_taken};
+ghost use Rattle.vm_context.specs.Output.{joined, with_frame_of, with_command, with_frame, all_taken};
 
 use bytes::{Bytes, BytesMut};
 use protocol_messages::{Encoder, RestateEncodableMessage};
@@ -10,12 +10,14 @@ use protocol_stream::{EncodingError, Version};
 use std::alloc::{AllocError, Global};
 use std::marker::Model;
 
-/// The frames that an attempt wrote and that were not taken, and whether it writes no more. Contracts see their bytes.
+/// The frames that an attempt wrote and that were not taken, whether it writes no more, and whether it has written a command.
+/// Contracts see the frames' bytes.
 #[derive(Debug, Drop)]
 pub struct Output {
     version: Version,
     frames: Vec<Bytes>,
     is_closed: bool,
+    has_commands: bool,
 }
 
 impl Model for Output {
@@ -23,7 +25,7 @@ impl Model for Output {
 
     ghost Value = { Written };
 
-    ghost view = { λ output. record { version = output.version; bytes = joined output.frames.items; is_closed = output.is_closed } };
+    ghost view = { λ output. record { version = output.version; bytes = joined output.frames.items; is_closed = output.is_closed; has_commands = output.has_commands } };
 }
 
 // How many bytes the frames have, or the greatest number.
@@ -78,15 +80,22 @@ fn take_all(alloc: Global, frames: &mut Vec<Bytes>) -> Result<Bytes, AllocError>
     }
 }
 
+fn either(one: bool, other: bool) -> bool
+    ensures { result ≡ (one || other) }
+{
+    one || other
+}
+
 impl Output {
     /// Nothing was written yet. Frames are to be of this version.
     pub fn new(alloc: Global, version: Version) -> Output
-        ensures { result ≡ record { version = version; bytes = []; is_closed = false } }
+        ensures { result ≡ record { version = version; bytes = []; is_closed = false; has_commands = false } }
     {
         Output {
             version,
             frames: Vec::new(alloc),
             is_closed: false,
+            has_commands: false,
         }
     }
 
@@ -97,7 +106,29 @@ impl Output {
         self.is_closed
     }
 
-    /// Writes a message, whole or not at all; behind the end nothing.
+    /// Whether a command was written.
+    pub fn has_commands(&self) -> bool
+        ensures { result ≡ self.now.has_commands }
+    {
+        self.has_commands
+    }
+
+    /// Writes a command, whole or not at all; behind the end nothing.
+    pub fn send_command<M: RestateEncodableMessage>(
+        &mut self,
+        alloc: Global,
+        command: &M,
+    ) -> Result<(), EncodingError>
+        ensures ok { OnOk result (self.new ≡ with_command (spelled (M.message_at self.old.version command.now)) self.old) }
+        ensures err { OnErr result (self.new ≡ self.old) }
+        ensures too_long { IsErrOf result PayloadTooLong
+            ↔ ((self.old.is_closed ≡ false) × (2 ^ 32 ≤ length (M.message_at self.old.version command.now).payload)) }
+        ensures closed { self.old.is_closed ≡ true → IsOk result }
+    {
+        self.send_as(alloc, command, true)
+    }
+
+    /// Writes a message that is no command, whole or not at all; behind the end nothing.
     pub fn send<M: RestateEncodableMessage>(
         &mut self,
         alloc: Global,
@@ -109,11 +140,28 @@ impl Output {
             ↔ ((self.old.is_closed ≡ false) × (2 ^ 32 ≤ length (M.message_at self.old.version message.now).payload)) }
         ensures closed { self.old.is_closed ≡ true → IsOk result }
     {
+        self.send_as(alloc, message, false)
+    }
+
+    fn send_as<M: RestateEncodableMessage>(
+        &mut self,
+        alloc: Global,
+        message: &M,
+        is_command: bool,
+    ) -> Result<(), EncodingError>
+        ensures ok { OnOk result (self.new ≡ with_frame_of is_command (spelled (M.message_at self.old.version message.now)) self.old) }
+        ensures err { OnErr result (self.new ≡ self.old) }
+        ensures too_long { IsErrOf result PayloadTooLong
+            ↔ ((self.old.is_closed ≡ false) × (2 ^ 32 ≤ length (M.message_at self.old.version message.now).payload)) }
+        ensures closed { self.old.is_closed ≡ true → IsOk result }
+    {
         if self.is_closed {
             return Ok(());
         }
         let frame = Encoder::new(self.version).encode(alloc, message)?;
         push_frame(&mut self.frames, frame)?;
+        let told = either(is_command, self.has_commands);
+        self.has_commands = told;
         Ok(())
     }
 

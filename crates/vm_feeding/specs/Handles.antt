@@ -8,12 +8,10 @@ use Rattle.journal_model.specs.declared.call.Answer.{Answer}
 use Rattle.journal_model.specs.declared.call.Call.{Call}
 use Rattle.journal_model.specs.declared.value.Value.{Value}
 use Rattle.attempt_model.specs.Machine.{Machine, Answered, reply_to}
-use Rattle.attempt_model.specs.Results.{waiting_for}
+use Rattle.attempt_model.specs.Results.{slot_of, waiting_for}
 use Rattle.protocol_errors.specs.Code.{internal, unsupported_feature}
 use Rattle.protocol_errors.specs.Error.{plain_error}
 use Rattle.protocol_errors.specs.declared.error.Error.{Error}
-use Rattle.protocol_messages.specs.declared.taken.TakeError.{TakeError}
-use Rattle.protocol_messages.specs.declared.taken.TakeError.TheVariants.{KeyNotText, OutOfMemory}
 use Rattle.vm_types.specs.declared.handles.AwakeableHandle.{AwakeableHandle}
 use Rattle.vm_types.specs.declared.options.JournalReplay.{JournalReplay}
 use Rattle.vm_types.specs.declared.options.JournalReplay.TheVariants.{Enabled, Disabled}
@@ -26,9 +24,12 @@ use Rattle.vm_calls.specs.declared.active.Active.{Active}
 use Rattle.vm_calls.specs.declared.call_error.NumberError.{NumberError}
 use Rattle.vm_start.specs.declared.phase.Phase.{Phase}
 use Rattle.vm_start.specs.declared.phase.Phase.TheVariants as phases
-use Rattle.vm_waiting.specs.Waiting.{IsTaken, Takes}
+use Rattle.vm_waiting.specs.Tracking.{child_of_id}
+use Rattle.vm_waiting.specs.Waiting.{IsTaken, KeepsTaken, Takes}
+use Rattle.vm_waiting.specs.declared.taking.TakeError.{TakeError}
+use Rattle.vm_waiting.specs.declared.taking.TakeError.TheVariants.{KeyNotText, ChildNotId, OutOfMemory}
 use Rattle.vm_machine.specs.Failing.{MachineFails}
-use Rattle.vm_machine.specs.PassedMachine.{NumberCauses}
+use Rattle.vm_machine.specs.PassedMachine.{NumberCauses, child_not_id_error}
 use Rattle.vm_machine.specs.Steps.{IsMissed}
 use Rattle.vm_machine.specs.declared.machine_state.MachineState.{MachineState}
 use Rattle.vm_feeding.specs.Calling.{IsCalled}
@@ -86,12 +87,15 @@ IsNoAwakeable old answer new = IsNoAwakeableWhere old.options.journal_replay old
 -- where it is not handed out.
 pub record TakesFirst (handle : ℕ) (old : Active) (made : Result (Option Value) TakeError) (new : Active) : Type 0 where
   pub taken : (given : Invocation) (m : Machine) (checks_off : Bool) → Sees given old m → Takes checks_off given m handle made new
-  pub value : IsTaken (waiting_for (slots_of old.results) (ready_of old.results) handle) made
+  pub value : IsTaken (is_some (child_of_id (slot_of (slots_of old.results) handle) old.children)) (waiting_for (slots_of old.results) (ready_of old.results) handle) made
   pub rest : results_of new.results ≡ after_take handle (waiting_for (slots_of old.results) (ready_of old.results) handle) (results_of old.results)
-  pub others : new ≡ record old { results = new.results }
+  -- the invocation id of a child is remembered
+  pub children : KeepsTaken (child_of_id (slot_of (slots_of old.results) handle) old.children) old.children made new.children
+  pub others : new ≡ record old { results = new.results; children = new.children }
 
 abbrev pub TakeCauses : TakeError → Result Error AllocError → Type 0
 TakeCauses KeyNotText cause = cause ≡ Ok (plain_error internal (codes "Cannot convert an eager state key into UTF-8 String"))
+TakeCauses ChildNotId cause = cause ≡ Ok child_not_id_error
 TakeCauses OutOfMemory (Ok error) = ⊥
 TakeCauses OutOfMemory (Err refused) = Unit {0}
 

@@ -7,10 +7,9 @@ ghost use Rattle.vm_feeding.specs.Handles.{TakesFirst, TakeCauses};
 use bytes::ByteStr;
 use journal_model::{NotificationHandle, Value};
 use protocol_errors::{Error, codes};
-use protocol_messages::TakeError;
 use std::alloc::AllocError;
-use vm_machine::{Admission, MachineState};
-use vm_waiting::take;
+use vm_machine::{Admission, MachineState, child_not_id};
+use vm_waiting::{TakeError, take};
 
 // What a machine fails with that cannot hand out what it has taken.
 fn take_cause(error: TakeError) -> Result<Error, AllocError>
@@ -21,6 +20,7 @@ fn take_cause(error: TakeError) -> Result<Error, AllocError>
             codes::INTERNAL,
             ByteStr::from_static("Cannot convert an eager state key into UTF-8 String"),
         )),
+        TakeError::ChildNotId => Ok(child_not_id()),
         TakeError::OutOfMemory => Err(AllocError),
     }
 }

@@ -1,7 +1,6 @@
 -- How a call goes on that was admitted, and one that was not.
-use Rattle.std.proofs.Common.{◌≡◌, ℕ, Bool, List, [], Option, Some, None, option_map, Result, Err, refl, sym, ap, subst, ◌∙◌}
+use Rattle.std.proofs.Common.{◌≡◌, ℕ, Bool, List, Option, Some, None, option_map, Result, Err, refl, sym, ap, subst, ◌∙◌}
 use Rattle.journal_model.specs.Notification.{Text}
-use Rattle.journal_model.specs.Await.{child_of}
 use Rattle.journal_model.specs.History.{completions_of}
 use Rattle.journal_model.specs.Refusal.{refusal_of}
 use Rattle.journal_model.specs.Run.{Invocation}
@@ -47,7 +46,7 @@ pub unrefused_of : (given : Invocation) (call : Call) (event : List ℕ) (refusa
     → Admits refusal old Admitted new → IsOf given new → refusal_of given.version call ≡ None
 unrefused_of given call event refusal old new refuses admits is_of =
     let free = admitted_free (kept_error old.phase) refusal old new admits in
-    let same : given.version ≡ version_number old.version = is_of ∙ ap (λ (vm : MachineState). version_number vm.version) free.1 in
+    let same : given.version ≡ version_number old.version = is_of.version ∙ ap (λ (vm : MachineState). version_number vm.version) free.1 in
     ap (λ (n : ℕ). refusal_of n call) same ∙ unrefused old.version call event refusal refuses free.0
 
 -- ---- the steps of any call
@@ -68,14 +67,14 @@ module _ {Taken : Type 0} (IsDone : MachineState → Result Taken Error → Mach
 -- the call is made by its function of an attempt
 pub made_by : {M Taken : Type 0} (difference : M → M → List ℕ) (call : Call) (answer : Taken → Answer) (ty : MessageType) (name : Text) (off : Bool) (old : MachineState)
     (made : Result Taken (CallError M)) (active : Active) (result : Result Taken Error) (new : MachineState) → off ≡ checks_off old.options.non_determinism_checks
-    → ((given : Invocation) (m : Machine) → IsOf given old → child_of given.options.implicit_cancellation m.completions call ≡ [] → Sees given old.active m → Makes off given m call answer old.active made active)
+    → ((given : Invocation) (m : Machine) → IsOf given old → Sees given old.active m → Makes off given m call answer old.active made active)
     → IsAtCommand ty name old.active.journal active.journal → (IsSpent old.active → FailsSpent (completions_of call) old.active made active) → FindsAs ty old.active made active
     → Settles difference made (record old { active = active }) result new → IsMade difference call answer ty name old result new
 made_by {M = M} {Taken = Taken} difference call answer ty name off old made active result new is makes told spent found settles = record {
   made = made;
   between = record old { active = active };
   others = refl;
-  makes = λ given m is_of childless sees. subst (λ (off : Bool). Makes off given m call answer old.active made active) is (makes given m is_of childless sees);
+  makes = λ given m is_of sees. subst (λ (off : Bool). Makes off given m call answer old.active made active) is (makes given m is_of sees);
   spent = spent;
   found = found;
   told = told;

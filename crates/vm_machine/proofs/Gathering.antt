@@ -22,7 +22,8 @@ begins_gathering version given start fresh active is_fresh is knows = record {
   completions = ap (λ (a : Active). a.journal.completions) is ∙ ap (λ (j : JournalCounts). j.completions) is_fresh.journal;
   signals = ap (λ (a : Active). a.journal.signals) is ∙ ap (λ (j : JournalCounts). j.signals) is_fresh.journal;
   opened = ap (λ (a : Active). a.output.is_closed) is ∙ ap (λ (w : Written). w.is_closed) is_fresh.output;
-  children = refl;
+  children = ap (λ (a : Active). a.children) is ∙ is_fresh.children;
+  made = tt;
 }
 
 -- ---- entries
@@ -42,7 +43,8 @@ gathers_commands given m message old new pushes g =
       completions = ap (λ (a : Active). a.journal.completions) is ∙ g.completions;
       signals = ap (λ (a : Active). a.journal.signals) is ∙ g.signals;
       opened = ap (λ (a : Active). a.output.is_closed) is ∙ g.opened;
-      children = g.children;
+      children = ap (λ (a : Active). a.children) is ∙ g.children;
+      made = g.made;
     }
 
 gathers_notification : (given : Invocation) (m : Machine) (arrival : Arrival) (old new : Active) → results_of new.results ≡ with_queued arrival (results_of old.results)
@@ -55,7 +57,8 @@ gathers_notification given m arrival old new queued is g = record {
   completions = ap (λ (a : Active). a.journal.completions) is ∙ g.completions;
   signals = ap (λ (a : Active). a.journal.signals) is ∙ g.signals;
   opened = ap (λ (a : Active). a.output.is_closed) is ∙ g.opened;
-  children = g.children;
+  children = ap (λ (a : Active). a.children) is ∙ g.children;
+  made = g.made;
 }
 
 sees_notification : (given : Invocation) (m : Machine) (arrival : Arrival) (old new : Active) → results_of new.results ≡ with_queued arrival (results_of old.results)
@@ -68,7 +71,8 @@ sees_notification given m arrival old new queued is s = record {
   completions = ap (λ (a : Active). a.journal.completions) is ∙ s.completions;
   signals = ap (λ (a : Active). a.journal.signals) is ∙ s.signals;
   opened = ap (λ (a : Active). a.output.is_closed) is ∙ s.opened;
-  children = s.children;
+  children = ap (λ (a : Active). a.children) is ∙ s.children;
+  made = s.made;
 }
 
 pub gathers_notifications : GathersNotifications
@@ -99,5 +103,6 @@ sees_behind_input given m left old new leaves first g =
       completions = ap (λ (j : JournalCounts). j.completions) leaves.journal ∙ g.completions;
       signals = ap (λ (j : JournalCounts). j.signals) leaves.journal ∙ g.signals;
       opened = ap (λ (a : Active). a.output.is_closed) is ∙ g.opened;
-      children = g.children;
+      children = ap (λ (a : Active). a.children) is ∙ g.children;
+      made = g.made;
     }

@@ -1,6 +1,5 @@
 -- What a call does that puts one command, in every state of the machine.
-use Rattle.std.specs.Prelude.{◌≡◌, ℕ, Bool, true, false, List, [], Option, Some, None, Result}
-use Rattle.journal_model.specs.Await.{child_of}
+use Rattle.std.specs.Prelude.{◌≡◌, ℕ, Bool, true, false, List, Option, Some, None, Result}
 use Rattle.journal_model.specs.History.{completions_of}
 use Rattle.journal_model.specs.Notification.{Text}
 use Rattle.journal_model.specs.Refusal.{milliseconds, first_refusal, moment_tests, refusal_of}
@@ -28,9 +27,10 @@ abbrev pub checks_off : NonDeterministicChecksOption → Bool
 checks_off PayloadChecksDisabled = true
 checks_off Enabled = false
 
--- the machine is one of this invocation: it speaks its version
-abbrev pub IsOf : Invocation → MachineState → Type 0
-IsOf given vm = given.version ≡ version_number vm.version
+-- the machine is one of this invocation: it speaks its version, and cancellations do there what they do here
+pub record IsOf (given : Invocation) (vm : MachineState) : Type 0 where
+  pub version : given.version ≡ version_number vm.version
+  pub cancellation : given.options.implicit_cancellation ≡ vm.options.implicit_cancellation
 
 -- why the call is refused in this version, if it is, and what its moment is called where that is out of bounds
 abbrev pub IsRefusalOf : Version → Call → (event : List ℕ) → Option RefusalError → Type 0
@@ -45,8 +45,7 @@ module _ {M Taken : Type 0} (difference : M → M → List ℕ) (call : Call) (a
     pub made : Result Taken (CallError M)
     pub between : MachineState
     pub others : between ≡ record old { active = between.active }
-    -- no child is tracked yet that a cancellation is passed on to
-    pub makes : (given : Invocation) (m : Machine) → IsOf given old → child_of given.options.implicit_cancellation m.completions call ≡ [] → Sees given old.active m
+    pub makes : (given : Invocation) (m : Machine) → IsOf given old → Sees given old.active m
         → Makes (checks_off old.options.non_determinism_checks) given m call answer old.active made between.active
     pub spent : IsSpent old.active → FailsSpent (completions_of call) old.active made between.active
     pub found : FindsAs ty old.active made between.active

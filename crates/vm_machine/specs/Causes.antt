@@ -57,6 +57,10 @@ CallCauses difference journal (calls.Number numbers.OutOfMemory) result = Unless
 CallCauses difference journal (calls.Put error) result = PutCauses difference journal error result
 CallCauses difference journal calls.OutOfMemory result = Unless true (Tells internal None) result
 
+-- what came for the invocation id of a child is none
+abbrev pub child_not_id_error : Error
+child_not_id_error = plain_error internal (codes "What came for the invocation id of a child is none")
+
 abbrev pub NumberCauses : NumberError → Result Error AllocError → Type 0
 NumberCauses numbers.IdsExhausted result = Unless false (Tells internal (Some no_id_text)) result
 NumberCauses numbers.OutOfMemory result = Unless true (Tells internal None) result

@@ -11,7 +11,7 @@ use Rattle.vm_awaits.specs.Calls.{with_queued}
 use Rattle.vm_awaits.specs.Views.{results_of}
 use Rattle.vm_calls.specs.declared.active.Active.{Active}
 use Rattle.vm_calls.specs.Active.{Sees, left_of}
-use Rattle.vm_calls.specs.Passed.{command_of}
+use Rattle.vm_calls.specs.Passed.{command_of, AreMade}
 use Rattle.vm_start.specs.Passed.{KnowsState}
 use Rattle.vm_types.specs.declared.options.JournalReplay.TheVariants.{Enabled}
 use Rattle.vm_machine.specs.Entries.{Pushes}
@@ -27,7 +27,8 @@ pub record Gathers (given : Invocation) (active : Active) (m : Machine) : Type 0
   pub completions : active.journal.completions ≡ m.completions
   pub signals : active.journal.signals ≡ m.signals
   pub opened : active.output.is_closed ≡ false
-  pub children : m.children ≡ []
+  pub children : active.children ≡ m.children
+  pub made : AreMade m.completions m.children
 
 -- a command is left to match behind those that are
 abbrev pub with_command : Machine → Option Request → Machine

@@ -30,7 +30,8 @@ pub record IsFresh (version : Version) (delivery : SignalDelivery) (active : Act
   -- nothing is known of the object's state
   pub state : active.state ≡ known_from true []
   pub journal : active.journal ≡ no_commands
-  pub output : active.output ≡ record { version = version; bytes = []; is_closed = false }
+  pub output : active.output ≡ record { version = version; bytes = []; is_closed = false; has_commands = false }
+  pub children : active.children ≡ []
 
 -- the message is a start, with which an attempt begins
 pub record ReadsStart (message : RawMessage) (started : Started) : Type 0 where

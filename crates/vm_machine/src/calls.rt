@@ -1,11 +1,12 @@
 // What a call fails with.
 ghost use Rattle.std.specs.Prelude.{◌≡◌};
-ghost use Rattle.vm_machine.specs.Causes.{put_lacks_memory, PutCauses, CallCauses, NumberCauses, InputCauses};
+ghost use Rattle.vm_machine.specs.Causes.{put_lacks_memory, PutCauses, CallCauses, NumberCauses, InputCauses, child_not_id_error};
 
 use crate::about::{about_last, about_nothing};
 use crate::{CallError, IdsExhausted, InputError, Journal, NumberError, PutError, ReplayError};
+use bytes::ByteStr;
 use protocol_differences::CommandMessageHeaderDiff;
-use protocol_errors::Error;
+use protocol_errors::{Error, codes};
 use protocol_stream::EncodingError;
 use std::alloc::{AllocError, Global};
 
@@ -60,6 +61,16 @@ pub fn number_cause(alloc: Global, error: NumberError) -> Result<Error, AllocErr
         NumberError::IdsExhausted => about_nothing(alloc, &IdsExhausted),
         NumberError::OutOfMemory => Err(AllocError),
     }
+}
+
+/// What a machine fails with where what came for the invocation id of a child is none: it is about no command.
+pub fn child_not_id() -> Error
+    ensures { result ≡ child_not_id_error }
+{
+    Error::new(
+        codes::INTERNAL,
+        ByteStr::from_static("What came for the invocation id of a child is none"),
+    )
 }
 
 /// What a machine fails with whose input cannot be read: it is about the input's command.

@@ -25,7 +25,7 @@ mod starting;
 pub use about::{about_last, about_nothing};
 pub use admitting::{Admission, missed_cause, refusal_error};
 pub use answers::{receive_ephemeral_answer, receive_run_acknowledgement};
-pub use calls::{call_cause, input_cause, number_cause};
+pub use calls::{call_cause, child_not_id, input_cause, number_cause};
 pub use causing::entry_cause;
 pub use entries::{receive_command, receive_notification};
 pub use entry_error::EntryError;

@@ -14,7 +14,7 @@ use std::alloc::{AllocError, Global};
 use std::collections::VecDeque;
 use std::mem::replace;
 use vm_awaits::AsyncResultsState;
-use vm_calls::Active;
+use vm_calls::{Active, Children};
 use vm_start::{EagerState, Journal, Output, Phase, Started, read_start};
 
 /// What is kept before anything has come.
@@ -32,6 +32,7 @@ pub fn fresh_active(
         state: EagerState::new(alloc, true, Vec::new(alloc))?,
         journal: Journal::new(),
         output: Output::new(alloc, version),
+        children: Children::new(alloc),
     })
 }
 

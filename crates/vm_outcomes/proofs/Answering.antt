@@ -1,12 +1,13 @@
 -- The machine stands to the abstract machine after a call as it did before.
-use Rattle.std.proofs.Common.{◌≡◌, ◌⊎◌, inl, inr, ◌+◌, ◌≤◌, ◌<◌, ◌^◌, ℕ, zero, suc, true, false, leb, List, [], length, append-nil, refl, sym, ap, subst, ◌∙◌}
+use Rattle.std.proofs.Common.{◌≡◌, ◌⊎◌, inl, inr, ◌+◌, ◌≤◌, ◌<◌, ◌^◌, ℕ, zero, suc, Bool, true, false, ◌||◌, leb, List, [], ◌∷◌, ◌++◌, length, append-nil, refl, sym, ap, subst, ◌∙◌}
 use Rattle.std.proofs.lemmas.Bool.Decides.{leb_tells}
 use Rattle.journal_model.specs.History.{completions_of, signals_of, ids_of}
+use Rattle.journal_model.specs.Request.{Request}
 use Rattle.journal_model.specs.Run.{Invocation}
 use Rattle.journal_model.specs.declared.call.Answer.{Answer}
 use Rattle.journal_model.specs.declared.call.Call.{Call}
 use Rattle.attempt_model.specs.Machine.{Machine, Answered}
-use Rattle.vm_calls.specs.Active.{Sees, HasCompletions, writes_frames}
+use Rattle.vm_calls.specs.Active.{Sees, HasCompletions, are_any, writes_frames}
 use Rattle.vm_calls.specs.Making.{Replies}
 use Rattle.vm_calls.specs.declared.active.Active.{Active}
 use Rattle.vm_context.specs.Output.{Written}
@@ -18,19 +19,36 @@ use Rattle.vm_outcomes.specs.Driven.{IsDriven, reply_of}
 
 -- what a call has changed is what it keeps for calls alone
 pub driven_on : (given : Invocation) (m machine : Machine) (old : MachineState) (active : Active) → IsDriven given m old → Sees given active machine
-    → active.output.version ≡ old.active.output.version → IsDriven given machine (record old { active = active })
-driven_on given m machine old active driven sees same = record {
+    → active.output.version ≡ old.active.output.version → active.output.has_commands ≡ are_any machine.written → IsDriven given machine (record old { active = active })
+driven_on given m machine old active driven sees same commands = record {
   sees = sees;
   phase = driven.phase;
-  version = driven.version;
+  version = record { version = driven.version.version; cancellation = driven.version.cancellation };
   written = same ∙ driven.written;
+  commands = commands;
   id = driven.id;
-  cancellation = driven.cancellation;
   reads = driven.reads;
 }
 
 pub nothing_written : (written : Written) → written ≡ writes_frames [] written
-nothing_written written = ap (λ (bytes : List ℕ). record written { bytes = bytes }) (sym (append-nil written.bytes))
+nothing_written written = ap (λ (bytes : List ℕ). record written { bytes = bytes; has_commands = written.has_commands }) (sym (append-nil written.bytes))
+
+-- a command was written if one was before, or is among these
+any_behind : (written more : List Request) → are_any more || are_any written ≡ are_any (written ++ more)
+any_behind [] [] = refl
+any_behind [] (request ∷ more) = refl
+any_behind (request ∷ written) [] = refl
+any_behind (request ∷ written) (next ∷ more) = refl
+
+commands_on : (more : List Request) (m machine : Machine) (old new : Written) → machine.written ≡ m.written ++ more → new ≡ writes_frames more old → old.has_commands ≡ are_any m.written
+    → new.has_commands ≡ are_any machine.written
+commands_on more m machine old new written frames before =
+    ap (λ (w : Written). w.has_commands) frames ∙ ap (λ (b : Bool). are_any more || b) before ∙ any_behind m.written more ∙ ap are_any (sym written)
+
+-- none was written
+pub commands_stay : (m machine : Machine) (old new : Written) → machine.written ≡ m.written → new.has_commands ≡ old.has_commands → old.has_commands ≡ are_any m.written
+    → new.has_commands ≡ are_any machine.written
+commands_stay m machine old new written same before = same ∙ before ∙ ap are_any (sym written)
 
 -- ---- numbers
 
@@ -59,7 +77,8 @@ module _ (given : Invocation) (m : Machine) (call : Call) (old : MachineState) (
   answered signals answer active replies = record {
     machine = replies.machine;
     replies = replies.replies;
-    driven = driven_on given m replies.machine old active driven replies.sees (ap (λ (w : Written). w.version) replies.frames);
+    driven = driven_on given m replies.machine old active driven replies.sees (ap (λ (w : Written). w.version) replies.frames)
+        (commands_on replies.more m replies.machine old.active.output active.output replies.written replies.frames driven.commands);
     more = replies.more;
     written = replies.written;
     frames = replies.frames;
@@ -74,7 +93,8 @@ module _ (given : Invocation) (m : Machine) (call : Call) (old : MachineState) (
   answered_quietly numbers answer active becomes unwritten = record {
     machine = becomes.machine;
     replies = becomes.replies;
-    driven = driven_on given m becomes.machine old active driven becomes.sees (ap (λ (w : Written). w.version) unwritten);
+    driven = driven_on given m becomes.machine old active driven becomes.sees (ap (λ (w : Written). w.version) unwritten)
+        (commands_stay m becomes.machine old.active.output active.output becomes.written (ap (λ (w : Written). w.has_commands) unwritten) driven.commands);
     more = [];
     written = becomes.written ∙ sym (append-nil m.written);
     frames = unwritten ∙ nothing_written old.active.output;

@@ -1,27 +1,40 @@
 -- An await is carried out.
-use Rattle.std.proofs.Common.{◌≡◌, ◌≤◌, ◌<◌, ◌^◌, ◌==◌, inr, ℕ, Bool, true, false, length, codes, Option, Some, None, Result, Ok, Err, IfOk, refl, sym, ap, subst, ◌∙◌, arith}
+use Rattle.std.proofs.Common.{◌≡◌, ◌≤◌, ◌<◌, ◌^◌, ◌==◌, inl, inr, ℕ, Bool, true, false, List, [], length, codes, Option, Some, None, Result, Ok, Err, IfOk, refl, sym, ap, subst, ◌∙◌, arith}
 use Rattle.std.specs.declared.alloc.AllocError.{AllocError}
 use Rattle.journal_model.specs.AwaitTree.{AwaitTree}
-use Rattle.journal_model.specs.Future.{tree_of}
 use Rattle.journal_model.specs.Notification.{Bytes}
+use Rattle.journal_model.specs.Request.{Request}
 use Rattle.journal_model.specs.Run.{Invocation}
 use Rattle.journal_model.specs.Spelling.{awaiting_on_payload}
 use Rattle.journal_model.specs.declared.call.Answer.{Answer}
 use Rattle.journal_model.specs.declared.call.Call.{Call}
 use Rattle.journal_model.specs.declared.notification.NotificationId.{NotificationId}
-use Rattle.attempt_model.specs.Machine.{Machine, AwaitsTree, UncompletedInReplay}
-use Rattle.protocol_errors.specs.Code.{internal, journal_mismatch, suspended}
+use Rattle.journal_model.specs.declared.options.ImplicitCancellationOption.{ImplicitCancellationOption}
+use Rattle.attempt_model.specs.Machine.{Machine, FailedBy, UncompletedInReplay, ChildNotId}
+use Rattle.attempt_model.specs.Requests.{put_one}
+use Rattle.protocol_errors.specs.Code.{internal, suspended}
+use Rattle.protocol_errors.specs.Error.{decoding_code}
 use Rattle.protocol_errors.specs.declared.error.Error.{Error}
 use Rattle.protocol_stream.specs.ErrorText.{too_long_text}
+use Rattle.protocol_stream.specs.declared.decoder.DecodingError.{DecodingError}
 use Rattle.protocol_stream.specs.declared.encoder.EncodingError.{EncodingError}
 use Rattle.protocol_stream.specs.declared.encoder.EncodingError.TheVariants as unsent
+use Rattle.protocol_types.specs.declared.message_type.MessageType.TheVariants.{SendSignalCommand}
 use Rattle.protocol_types.specs.declared.version.Version.{Version}
+use Rattle.vm_calls.specs.Active.{writes_frames}
 use Rattle.vm_calls.specs.declared.active.Active.{Active}
+use Rattle.vm_calls.specs.declared.call_error.CallError.TheVariants as calls
+use Rattle.vm_calls.specs.declared.put_error.PutError.{PutError}
+use Rattle.vm_calls.specs.declared.put_error.PutError.TheVariants.{Replay, Encoding}
+use Rattle.vm_commands.specs.HeaderEquality.{same_header}
+use Rattle.vm_commands.specs.declared.replay_error.ReplayError.TheVariants as unmatched
+use Rattle.vm_context.specs.Journal.{JournalCounts, after_command}
 use Rattle.vm_context.specs.Output.{Written}
 use Rattle.vm_ephemeral.specs.Reads.{EphemeralReads, no_reads}
 use Rattle.vm_start.specs.declared.phase.Phase.{Phase}
 use Rattle.vm_start.specs.declared.phase.Phase.TheVariants as phases
-use Rattle.vm_feeding.specs.Passed.{checks_off, MachineFails, IsUnexpected, MachineState}
+use Rattle.vm_machine.specs.PassedMachine.{child_not_id_error}
+use Rattle.vm_feeding.specs.Passed.{checks_off, CallCauses, MachineFails, IsUnexpected, MachineState, Settles, TellsLast, Unless}
 use Rattle.vm_progress.specs.Asleep.{LacksMemory, FailsUnwritten, SettlesStay, ClosesAs, SleepIs, SleepsAs}
 use Rattle.vm_progress.specs.Awaiting.{ready_read, GoesOnAs, IsAwaited, DoesAwaitWhere, DoesAwait}
 use Rattle.vm_progress.specs.Uncompleted.{started_id, TellsUncompleted}
@@ -29,160 +42,288 @@ use Rattle.vm_progress.specs.declared.asleep.Sleep.{Sleep}
 use Rattle.vm_progress.specs.declared.asleep.Sleep.TheVariants as sleeps
 use Rattle.vm_types.specs.declared.answers.AwaitResponse.{AwaitResponse}
 use Rattle.vm_types.specs.declared.handles.EphemeralCompletionId.{EphemeralCompletionId}
-use Rattle.vm_waiting.specs.Suspending.{over_ids, suspension_payload_in, Suspends, tells_awaiting, TellsIf}
-use Rattle.vm_waiting.specs.Waiting.{Becomes, Awaits}
+use Rattle.vm_waiting.specs.Awaiting.{LooksAlone, ComesTo, FailsCancelling, Awaits}
+use Rattle.vm_waiting.specs.Cancelling.{after_cancels}
+use Rattle.vm_waiting.specs.Suspending.{suspension_payload_in, Suspends, tells_awaiting, TellsIf}
+use Rattle.vm_waiting.specs.Waiting.{Becomes}
+use Rattle.vm_waiting.specs.WaitsFor.{awaited_ids, waits_for_any, waits_as}
 use Rattle.vm_waiting.specs.declared.awaiting.Awaited.{Awaited}
 use Rattle.vm_waiting.specs.declared.awaiting.Awaited.TheVariants.{AnyCompleted, Cancelled, Asleep}
 use Rattle.vm_waiting.specs.declared.awaiting.AwaitError.{AwaitError}
 use Rattle.vm_waiting.specs.declared.awaiting.AwaitError.TheVariants as unawaited
+use Rattle.vm_waiting.specs.declared.waits_for.WaitsFor.{WaitsFor}
 use Rattle.vm_outcomes.specs.Carrying.{Answers, Waits, Suspends as IsSuspended, Comes, CarriesOut}
-use Rattle.vm_outcomes.specs.Causes.{ByFault, TooLong, IsLookedAt, waiting_payload, HasCause}
+use Rattle.vm_outcomes.specs.Causes.{ByFault, TooLong, Unread, Differs, IsAsked, IsLookedAt, waiting_payload, HasCause}
 use Rattle.vm_outcomes.specs.Driven.{IsDriven, reply_of}
 use Rattle.vm_outcomes.specs.Outcomes.{awaited_as}
+use Rattle.vm_outcomes.specs.Stopping.{HasPut, IsUnmatchedNext}
 use Rattle.vm_outcomes.specs.declared.outcome.CallOutcome.{CallOutcome}
-use Rattle.vm_outcomes.proofs.Answering.{driven_on, answered_quietly, none_taken, only_active}
-use Rattle.vm_outcomes.proofs.Failing.{plain_code, told_plain, looked_at, looked_asked, memory_cause, fails_of, failed}
-use Rattle.vm_outcomes.proofs.Optioned.{ending_as, sees_ending, awaits_for}
+use Rattle.vm_outcomes.proofs.Answering.{driven_on, commands_stay, answered, answered_quietly, none_taken, nothing_written}
+use Rattle.vm_outcomes.proofs.Failing.{code_apart, plain_code, told_plain, told_last, looked_at, looked_asked, none_put, memory_lacks, mismatches_at, unless_ok, fails_of, failed_behind}
 use Rattle.vm_outcomes.proofs.Steps.{steps_of}
-use Rattle.vm_outcomes.proofs.Telling.{tells_seen, untold, failed_as}
+use Rattle.vm_outcomes.proofs.Stopping.{StopsBehind, StopsFor, PutWhy, Keeps, await_keeps}
+use Rattle.vm_outcomes.proofs.Telling.{tells_seen, untold, failed_unsuspended}
 
-uncompleted_code : (invocation : Bytes) (ids : AwaitTree NotificationId) (told : Result Error AllocError) → IfOk told (TellsUncompleted invocation ids) → IfOk told (λ error. error.code.0 ≡ journal_mismatch)
-uncompleted_code invocation ids (Ok error) uncompleted = ap (λ (e : Error). e.code.0) uncompleted.tells.plain
-uncompleted_code invocation ids (Err refused) uncompleted = tt
+-- ---- what is told is no suspension
 
--- the ids are those that the handles of what is left stand for
-uncompleted_told : (invocation : Bytes) (resolved : Active) (left : AwaitTree ℕ) (told : Result Error AllocError) → IfOk told (TellsUncompleted invocation (over_ids resolved left))
-    → IfOk told (λ error. (tree : AwaitTree ℕ) × TellsUncompleted invocation (over_ids resolved tree) error)
-uncompleted_told invocation resolved left (Ok error) uncompleted = (left, uncompleted)
-uncompleted_told invocation resolved left (Err refused) uncompleted = tt
+abbrev Apart : Result Error AllocError → Type 0
+Apart told = IfOk told (λ error. (error.code.0 == suspended) ≡ false)
 
-memory_code : (told : Result Error AllocError) → IfOk told (λ error. ⊥) → IfOk told (λ error. error.code.0 ≡ internal)
-memory_code (Ok error) none = absurd none
-memory_code (Err refused) none = tt
+memory_apart : (told : Result Error AllocError) → IfOk told (λ error. ⊥) → Apart told
+memory_apart (Ok error) none = absurd none
+memory_apart (Err refused) none = tt
+
+child_apart : (told : Result Error AllocError) → told ≡ Ok child_not_id_error → Apart told
+child_apart told is = subst Apart (sym is) refl
+
+uncompleted_apart : (invocation : Bytes) (ids : AwaitTree NotificationId) (told : Result Error AllocError) → IfOk told (TellsUncompleted invocation ids) → Apart told
+uncompleted_apart invocation ids (Ok error) uncompleted = ap (λ (e : Error). e.code.0 == suspended) uncompleted.tells.plain
+uncompleted_apart invocation ids (Err refused) uncompleted = tt
+
+decoding_apart : (error : DecodingError) → (decoding_code error == suspended) ≡ false
+decoding_apart (DecodingError.UnknownMessageType ty) = refl
+decoding_apart (DecodingError.DecodeMessage ty fault) = refl
+decoding_apart (DecodingError.UnexpectedMessageType expected actual index) = refl
+decoding_apart (DecodingError.MissingField field) = refl
+decoding_apart DecodingError.OutOfMemory = refl
+
+last_apart : (journal : JournalCounts) (code : ℕ) (text : Option (List ℕ)) (told : Result Error AllocError) → (code == suspended) ≡ false → Unless false (TellsLast journal code text) told → Apart told
+last_apart journal code text (Ok error) other tells = ap (λ (e : Error). e.code.0 == suspended) tells.about ∙ other
+last_apart journal code text (Err refused) other tells = tt
+
+put_apart : {M : Type 0} (difference : M → M → List ℕ) (journal : JournalCounts) (error : PutError M) (told : Result Error AllocError) → CallCauses difference journal (calls.Put error) told → Apart told
+put_apart difference journal (Replay (unmatched.Unavailable error)) told causes = last_apart journal _ _ told refl causes
+put_apart difference journal (Replay (unmatched.Decoding error)) told causes = last_apart journal _ _ told (decoding_apart error) causes
+put_apart difference journal (Replay (unmatched.Mismatch error)) told causes = last_apart journal _ _ told refl causes
+put_apart difference journal (Replay unmatched.OutOfMemory) (Ok error) causes = absurd causes
+put_apart difference journal (Replay unmatched.OutOfMemory) (Err refused) causes = tt
+put_apart difference journal (Encoding unsent.PayloadTooLong) told causes = last_apart journal _ _ told refl causes
+put_apart difference journal (Encoding unsent.OutOfMemory) (Ok error) causes = absurd causes
+put_apart difference journal (Encoding unsent.OutOfMemory) (Err refused) causes = tt
+
+-- the ids are those that are waited for
+uncompleted_told : (invocation : Bytes) (resolved : Active) (waits : WaitsFor) (told : Result Error AllocError) → IfOk told (TellsUncompleted invocation (awaited_ids resolved waits))
+    → IfOk told (λ error. (some : WaitsFor) × TellsUncompleted invocation (awaited_ids resolved some) error)
+uncompleted_told invocation resolved waits (Ok error) uncompleted = (waits, uncompleted)
+uncompleted_told invocation resolved waits (Err refused) uncompleted = tt
+
+asked_behind : (front : List Request) (old new : JournalCounts) → new ≡ after_command SendSignalCommand [] (after_cancels front old) → IsAsked front old new
+asked_behind front old new is = inr (
+  SendSignalCommand,
+  ([], record { commands = ap (λ (j : JournalCounts). j.commands) is; last_type = ap (λ (j : JournalCounts). j.last_type) is; last_name = ap (λ (j : JournalCounts). j.last_name) is }),
+)
 
 module _ (given : Invocation) (m : Machine) (tree : AwaitTree ℕ) (old : MachineState) (driven : IsDriven given m old) where
-  -- the machine fails
-  fails_awaiting : (n : ℕ) (told : Result Error AllocError) (active : Active) (answer : Error) (new : MachineState) → (n == suspended) ≡ false → IfOk told (λ error. error.code.0 ≡ n)
-      → HasCause given m (Call.Await tree) old active told → active.output ≡ old.active.output → MachineFails told (record old { active = active }) answer new
+  -- the machine fails behind the requests that were put
+  fails_behind : (told : Result Error AllocError) (far : HasPut given m (Call.Await tree) old) (active : Active) (answer : Error) (new : MachineState) → Apart told
+      → HasCause given m (Call.Await tree) old far active told → active.output ≡ writes_frames far.more old.active.output → MachineFails told (record old { active = active }) answer new
       → Comes given m (Call.Await tree) old (awaited_as (Err answer)) new
-  fails_awaiting n told active answer new other is has_cause unwritten fails =
+  fails_behind told far active answer new apart has_cause written fails =
       subst (λ (o : CallOutcome). Comes given m (Call.Await tree) old o new)
-      (sym (failed_as old.version old.options.journal_mismatch_retry_behavior told active.output answer new.phase new.active.output n other is (fails_of told (record old { active = active }) answer new driven.phase fails)))
-      (failed given m (Call.Await tree) old driven.phase told active answer new has_cause unwritten fails)
+      (sym (failed_unsuspended old.version old.options.journal_mismatch_retry_behavior told active.output answer new.phase new.active.output apart (fails_of told (record old { active = active }) answer new driven.phase fails)))
+      (failed_behind given m (Call.Await tree) old driven.phase told far active answer new has_cause written fails)
 
-  lacks_memory : (active : Active) (answer : Error) (new : MachineState) → IsLookedAt old.active active → active.output ≡ old.active.output → LacksMemory (record old { active = active }) answer new
-      → Comes given m (Call.Await tree) old (awaited_as (Err answer)) new
-  lacks_memory active answer new looked unwritten lacks =
-      fails_awaiting internal lacks.cause active answer new refl (memory_code lacks.cause lacks.causes) (memory_cause given m (Call.Await tree) old active (looked_asked old.active active looked) lacks.cause lacks.causes) unwritten lacks.fails
+  abbrev none : HasPut given m (Call.Await tree) old
+  none = none_put given m (Call.Await tree) old
 
-  module _ (resolved : Active) (looked : IsLookedAt old.active resolved) (unwritten : resolved.output ≡ old.active.output) (left : AwaitTree ℕ) (becomes : Becomes given m (reply_of old given m (Call.Await tree)) (AwaitsTree left) resolved) where
-    -- a frame that tells it could not be written
-    fails_unwritten : (error : EncodingError) (answer : Error) (new : MachineState) → (error ≡ unsent.PayloadTooLong → 2 ^ 32 ≤ length (waiting_payload old.is_input_closed old.version (over_ids resolved left)))
-        → FailsUnwritten error (record old { active = resolved }) answer new → Comes given m (Call.Await tree) old (awaited_as (Err answer)) new
-    fails_unwritten unsent.PayloadTooLong answer new long fails =
-        fails_awaiting internal fails.cause resolved answer new refl (plain_code internal (Some too_long_text) fails.cause fails.causes) (record {
-          cause = TooLong;
-          when = (refl, inr (record { tree = left; machine = becomes.machine; replies = becomes.replies; resolved = resolved; sees = becomes.sees; long = long refl }));
-          tells = told_plain resolved.journal internal (Some too_long_text) fails.cause fails.causes;
-          leaves = looked_asked old.active resolved looked;
-        }) unwritten fails.fails
-    fails_unwritten unsent.OutOfMemory answer new long fails = lacks_memory resolved answer new looked unwritten fails
+  -- it fails before any
+  fails_awaiting : (told : Result Error AllocError) (active : Active) (answer : Error) (new : MachineState) → Apart told → HasCause given m (Call.Await tree) old none active told
+      → active.output ≡ old.active.output → MachineFails told (record old { active = active }) answer new → Comes given m (Call.Await tree) old (awaited_as (Err answer)) new
+  fails_awaiting told active answer new apart has_cause unwritten fails =
+      fails_behind told none active answer new apart has_cause (unwritten ∙ nothing_written old.active.output) fails
 
-    long_told : (error : EncodingError) (told : Bool) (active : Active) → TellsIf told left resolved (Err error) active → error ≡ unsent.PayloadTooLong
-        → 2 ^ 32 ≤ length (awaiting_on_payload (over_ids resolved left) false)
-    long_told unsent.PayloadTooLong true active tells is = tells.0.0
-    long_told unsent.OutOfMemory true active tells is = cc
-    long_told error false active tells is = absurd tells
+  lacks_memory_behind : (far : HasPut given m (Call.Await tree) old) (active : Active) (answer : Error) (new : MachineState) → IsAsked far.front old.active.journal active.journal
+      → active.output ≡ writes_frames far.more old.active.output → LacksMemory (record old { active = active }) answer new → Comes given m (Call.Await tree) old (awaited_as (Err answer)) new
+  lacks_memory_behind far active answer new asked written lacks =
+      fails_behind lacks.cause far active answer new (memory_apart lacks.cause lacks.causes) (memory_lacks given m (Call.Await tree) old far active asked lacks.cause lacks.causes) written lacks.fails
 
-    -- it stays for more input
-    stays : (is_open : old.is_input_closed ≡ false) (told : Result (Unit {0}) EncodingError) (active : Active) (result : Result AwaitResponse Error) (new : MachineState)
-        → TellsIf (tells_awaiting old.version old.options.awaiting_on_policy false left) left resolved told active → SettlesStay told (record old { active = active }) result new
-        → Comes given m (Call.Await tree) old (awaited_as result) new
-    stays is_open (Ok done) active (Ok response) new tells settles =
-        let seen = tells_seen given becomes.machine (tells_awaiting old.version old.options.awaiting_on_policy false left) left resolved active tells becomes.sees in
-        subst (λ (r : AwaitResponse). Comes given m (Call.Await tree) old (awaited_as (Ok r)) new) (sym settles.0)
-        (subst (λ (vm : MachineState). Waits given m (Call.Await tree) old vm) (sym settles.1) (record {
-          is_open = is_open;
-          tree = left;
-          machine = becomes.machine;
-          replies = becomes.replies;
-          driven = driven_on given m becomes.machine old active driven seen.0 (seen.1 ∙ ap (λ (w : Written). w.version) unwritten);
-          written = becomes.written;
-          resolved = resolved;
-          unwritten = unwritten;
-          tells = tells;
-          others = refl;
-        }))
-    stays is_open (Ok done) active (Err answer) new tells settles = absurd settles
-    stays is_open (Err error) active (Ok response) new tells settles = absurd settles
-    stays is_open (Err error) active (Err answer) new tells settles =
-        fails_unwritten error answer new
-        (λ is. subst (λ (b : Bool). 2 ^ 32 ≤ length (waiting_payload b old.version (over_ids resolved left))) (sym is_open)
-        (long_told error (tells_awaiting old.version old.options.awaiting_on_policy false left) active tells is))
-        (subst (λ (a : Active). FailsUnwritten error (record old { active = a }) answer new) (untold (tells_awaiting old.version old.options.awaiting_on_policy false left) left resolved active error tells) settles)
+  -- ---- nothing but what has come was looked at
 
-    -- it is suspended
-    suspends : (is_closed : old.is_input_closed ≡ true) (written : Result (Unit {0}) EncodingError) (active : Active) (answer : Error) (new : MachineState) → Suspends left resolved written active
-        → ClosesAs written (record old { active = active }) answer new → Comes given m (Call.Await tree) old (awaited_as (Err answer)) new
-    suspends is_closed (Ok done) active answer new suspended closes =
-        subst (λ (e : Error). Comes given m (Call.Await tree) old (awaited_as (Err e)) new) (sym closes.0)
-        (subst (λ (vm : MachineState). IsSuspended given m (Call.Await tree) old vm) (sym closes.1) (record {
-          is_closed = is_closed;
-          tree = left;
-          machine = becomes.machine;
-          replies = becomes.replies;
-          written = becomes.written;
-          resolved = resolved;
-          sees = becomes.sees;
-          unwritten = unwritten;
-          suspended = suspended;
-          others = refl;
-        }))
-    suspends is_closed (Err unsent.PayloadTooLong) active answer new suspended closes =
-        fails_unwritten unsent.PayloadTooLong answer new
-        (λ is. subst (λ (b : Bool). 2 ^ 32 ≤ length (waiting_payload b old.version (over_ids resolved left))) (sym is_closed)
-        (subst (λ (v : Version). 2 ^ 32 ≤ length (suspension_payload_in v (over_ids resolved left))) (ap (λ (w : Written). w.version) unwritten ∙ driven.written) suspended.0))
-        (subst (λ (a : Active). FailsUnwritten unsent.PayloadTooLong (record old { active = a }) answer new) suspended.1 closes)
-    suspends is_closed (Err unsent.OutOfMemory) active answer new suspended closes =
-        lacks_memory resolved answer new looked unwritten (subst (λ (a : Active). LacksMemory (record old { active = a }) answer new) suspended closes)
+  module _ (resolved : Active) (looks : LooksAlone old.active resolved) where
+    looked : IsLookedAt old.active resolved
+    looked = looked_at old.active resolved looks
 
-    sleeps_as : (sleep : Sleep) (result : Result AwaitResponse Error) (new : MachineState) → SleepIs sleep (record old { active = resolved }) → SleepsAs sleep left (record old { active = resolved }) result new
-        → Comes given m (Call.Await tree) old (awaited_as result) new
-    sleeps_as sleeps.Stays result new is goes_on = stays is goes_on.told goes_on.active result new goes_on.tells goes_on.settles
-    sleeps_as sleeps.Unanswered result new is goes_on =
-        let flying : 0 < length no_reads.in_flight = subst (λ (reads : EphemeralReads). 0 < length reads.in_flight) driven.reads is.1 in
-        absurd (omega (arith, flying))
-    sleeps_as sleeps.Suspends (Ok response) new is goes_on = absurd goes_on
-    sleeps_as sleeps.Suspends (Err answer) new is goes_on = suspends is.0 goes_on.written goes_on.active answer new goes_on.suspends goes_on.closes
+    unwritten : resolved.output ≡ old.active.output
+    unwritten = ap (λ (a : Active). a.output) looks
 
-  -- it goes on from what it has come to
-  goes_on_as : (awaited : Result Awaited AwaitError) (resolved : Active) (result : Result AwaitResponse Error) (new : MachineState) → IsLookedAt old.active resolved → resolved.output ≡ old.active.output
-      → Awaits (checks_off old.options.non_determinism_checks) given m tree awaited resolved → GoesOnAs awaited (record old { active = resolved }) result new
+    lacks_memory : (answer : Error) (new : MachineState) → LacksMemory (record old { active = resolved }) answer new → Comes given m (Call.Await tree) old (awaited_as (Err answer)) new
+    lacks_memory answer new lacks =
+        lacks_memory_behind none resolved answer new (looked_asked old.active resolved looked) (unwritten ∙ nothing_written old.active.output) lacks
+
+    child_fails : (told : Result Error AllocError) (answer : Error) (new : MachineState) → told ≡ Ok child_not_id_error → reply_of old given m (Call.Await tree) ≡ FailedBy ChildNotId
+        → MachineFails told (record old { active = resolved }) answer new → Comes given m (Call.Await tree) old (awaited_as (Err answer)) new
+    child_fails told answer new is replies fails =
+        fails_awaiting told resolved answer new (child_apart told is) (record {
+          cause = ByFault ChildNotId;
+          when = replies;
+          at = tt;
+          tells = subst (λ (r : Result Error AllocError). IfOk r (λ error. error ≡ child_not_id_error)) (sym is) refl;
+          leaves = looked;
+        }) unwritten fails
+
+    uncompleted_fails : (waits : WaitsFor) (told : Result Error AllocError) (answer : Error) (new : MachineState) → IfOk told (TellsUncompleted (started_id old.start) (awaited_ids resolved waits))
+        → reply_of old given m (Call.Await tree) ≡ FailedBy UncompletedInReplay → MachineFails told (record old { active = resolved }) answer new → Comes given m (Call.Await tree) old (awaited_as (Err answer)) new
+    uncompleted_fails waits told answer new causes replies fails =
+        fails_awaiting told resolved answer new (uncompleted_apart (started_id old.start) (awaited_ids resolved waits) told causes)
+        (record { cause = ByFault UncompletedInReplay; when = replies; at = tt; tells = uncompleted_told (started_id old.start) resolved waits told causes; leaves = looked }) unwritten fails
+
+    module _ (waits : WaitsFor) (becomes : Becomes given m (reply_of old given m (Call.Await tree)) (waits_as waits) resolved) where
+      abbrev ids : AwaitTree NotificationId
+      ids = awaited_ids resolved waits
+
+      abbrev is_told : Bool
+      is_told = tells_awaiting old.version old.options.awaiting_on_policy false (waits_for_any waits)
+
+      -- a frame that tells it could not be written
+      fails_unwritten : (error : EncodingError) (answer : Error) (new : MachineState) → (error ≡ unsent.PayloadTooLong → 2 ^ 32 ≤ length (waiting_payload old.is_input_closed old.version ids))
+          → FailsUnwritten error (record old { active = resolved }) answer new → Comes given m (Call.Await tree) old (awaited_as (Err answer)) new
+      fails_unwritten unsent.PayloadTooLong answer new long fails =
+          fails_awaiting fails.cause resolved answer new (code_apart internal fails.cause refl (plain_code internal (Some too_long_text) fails.cause fails.causes)) (record {
+            cause = TooLong;
+            when = (refl, inr (inl (record { waits = waits; machine = becomes.machine; replies = becomes.replies; resolved = resolved; sees = becomes.sees; long = long refl })));
+            at = tt;
+            tells = told_plain resolved.journal internal (Some too_long_text) fails.cause fails.causes;
+            leaves = looked_asked old.active resolved looked;
+          }) unwritten fails.fails
+      fails_unwritten unsent.OutOfMemory answer new long fails = lacks_memory answer new fails
+
+      long_told : (error : EncodingError) (told : Bool) (active : Active) → TellsIf told ids resolved (Err error) active → error ≡ unsent.PayloadTooLong
+          → 2 ^ 32 ≤ length (awaiting_on_payload ids false)
+      long_told unsent.PayloadTooLong true active tells is = tells.0.0
+      long_told unsent.OutOfMemory true active tells is = cc
+      long_told error false active tells is = absurd tells
+
+      -- it stays for more input
+      stays : (is_open : old.is_input_closed ≡ false) (told : Result (Unit {0}) EncodingError) (active : Active) (result : Result AwaitResponse Error) (new : MachineState)
+          → TellsIf is_told ids resolved told active → SettlesStay told (record old { active = active }) result new → Comes given m (Call.Await tree) old (awaited_as result) new
+      stays is_open (Ok done) active (Ok response) new tells settles =
+          let seen = tells_seen given becomes.machine is_told ids resolved active tells becomes.sees in
+          subst (λ (r : AwaitResponse). Comes given m (Call.Await tree) old (awaited_as (Ok r)) new) (sym settles.0)
+          (subst (λ (vm : MachineState). Waits given m (Call.Await tree) old vm) (sym settles.1) (record {
+            is_open = is_open;
+            waits = waits;
+            machine = becomes.machine;
+            replies = becomes.replies;
+            driven = driven_on given m becomes.machine old active driven seen.sees (seen.version ∙ ap (λ (w : Written). w.version) unwritten)
+                (commands_stay m becomes.machine old.active.output active.output becomes.written (seen.commands ∙ ap (λ (w : Written). w.has_commands) unwritten) driven.commands);
+            written = becomes.written;
+            resolved = resolved;
+            unwritten = unwritten;
+            tells = tells;
+            others = refl;
+          }))
+      stays is_open (Ok done) active (Err answer) new tells settles = absurd settles
+      stays is_open (Err error) active (Ok response) new tells settles = absurd settles
+      stays is_open (Err error) active (Err answer) new tells settles =
+          fails_unwritten error answer new
+          (λ is. subst (λ (b : Bool). 2 ^ 32 ≤ length (waiting_payload b old.version ids)) (sym is_open) (long_told error is_told active tells is))
+          (subst (λ (a : Active). FailsUnwritten error (record old { active = a }) answer new) (untold is_told ids resolved active error tells) settles)
+
+      -- it is suspended
+      suspends : (is_closed : old.is_input_closed ≡ true) (written : Result (Unit {0}) EncodingError) (active : Active) (answer : Error) (new : MachineState) → Suspends ids resolved written active
+          → ClosesAs written (record old { active = active }) answer new → Comes given m (Call.Await tree) old (awaited_as (Err answer)) new
+      suspends is_closed (Ok done) active answer new suspended closes =
+          subst (λ (e : Error). Comes given m (Call.Await tree) old (awaited_as (Err e)) new) (sym closes.0)
+          (subst (λ (vm : MachineState). IsSuspended given m (Call.Await tree) old vm) (sym closes.1) (record {
+            is_closed = is_closed;
+            waits = waits;
+            machine = becomes.machine;
+            replies = becomes.replies;
+            written = becomes.written;
+            resolved = resolved;
+            sees = becomes.sees;
+            unwritten = unwritten;
+            suspended = suspended;
+            others = refl;
+          }))
+      suspends is_closed (Err unsent.PayloadTooLong) active answer new suspended closes =
+          fails_unwritten unsent.PayloadTooLong answer new
+          (λ is. subst (λ (b : Bool). 2 ^ 32 ≤ length (waiting_payload b old.version ids)) (sym is_closed)
+          (subst (λ (v : Version). 2 ^ 32 ≤ length (suspension_payload_in v ids)) (ap (λ (w : Written). w.version) unwritten ∙ driven.written) suspended.0))
+          (subst (λ (a : Active). FailsUnwritten unsent.PayloadTooLong (record old { active = a }) answer new) suspended.1 closes)
+      suspends is_closed (Err unsent.OutOfMemory) active answer new suspended closes =
+          lacks_memory answer new (subst (λ (a : Active). LacksMemory (record old { active = a }) answer new) suspended closes)
+
+      sleeps_as : (sleep : Sleep) (result : Result AwaitResponse Error) (new : MachineState) → SleepIs sleep (record old { active = resolved }) → SleepsAs sleep waits (record old { active = resolved }) result new
+          → Comes given m (Call.Await tree) old (awaited_as result) new
+      sleeps_as sleeps.Stays result new is goes_on = stays is goes_on.told goes_on.active result new goes_on.tells goes_on.settles
+      sleeps_as sleeps.Unanswered result new is goes_on =
+          let flying : 0 < length no_reads.in_flight = subst (λ (reads : EphemeralReads). 0 < length reads.in_flight) driven.reads is.1 in
+          absurd (omega (arith, flying))
+      sleeps_as sleeps.Suspends (Ok response) new is goes_on = absurd goes_on
+      sleeps_as sleeps.Suspends (Err answer) new is goes_on = suspends is.0 goes_on.written goes_on.active answer new goes_on.suspends goes_on.closes
+
+  -- ---- a cancellation stops among its requests
+
+  module _ (active : Active) (stops : StopsBehind given m tree old active) where
+    command_asked : IsAsked stops.far.front old.active.journal active.journal
+    command_asked = asked_behind stops.far.front old.active.journal active.journal stops.journal
+
+    unmatched_next : put_one (same_header (checks_off old.options.non_determinism_checks) (Call.Await tree)) stops.next stops.far.put.left stops.far.put.written ≡ None → IsUnmatchedNext given m (Call.Await tree) old stops.far.behind stops.far.put
+    unmatched_next is = subst (λ (behind : List Request). IsUnmatchedNext given m (Call.Await tree) old behind stops.far.put) (sym stops.behind) is
+
+    -- why the next request is not put is why the machine fails
+    cancel_cause : {M : Type 0} (difference : M → M → List ℕ) (error : PutError M) → PutWhy given m tree old error stops.far.put stops.next
+        → FailsCancelling (checks_off old.options.non_determinism_checks) given m tree error old.active active → (told : Result Error AllocError)
+        → CallCauses difference active.journal (calls.Put error) told → HasCause given m (Call.Await tree) old stops.far active told
+    cancel_cause difference (Replay (unmatched.Unavailable error)) why awaits told causes = absurd why
+    cancel_cause difference (Replay (unmatched.Decoding error)) why awaits told causes =
+        mismatches_at given m (Call.Await tree) old stops.far active command_asked (Unread error) told awaits.1.0 (unmatched_next why.0) why.1 causes
+    cancel_cause difference (Replay (unmatched.Mismatch error)) why awaits told causes =
+        mismatches_at given m (Call.Await tree) old stops.far active command_asked (Differs error.command_index (difference error.actual error.expected)) told awaits.1 (unmatched_next why) tt causes
+    cancel_cause difference (Replay unmatched.OutOfMemory) why awaits told causes = memory_lacks given m (Call.Await tree) old stops.far active command_asked told (unless_ok told causes)
+    cancel_cause difference (Encoding unsent.PayloadTooLong) why awaits told causes = record {
+      cause = TooLong;
+      when = (refl, inr (inr (record { next = stops.next; rest = stops.rest; behind = stops.behind; left = why.0; long = why.1 })));
+      at = tt;
+      tells = told_last active.journal internal (Some too_long_text) told causes;
+      leaves = command_asked;
+    }
+    cancel_cause difference (Encoding unsent.OutOfMemory) why awaits told causes = memory_lacks given m (Call.Await tree) old stops.far active command_asked told (unless_ok told causes)
+
+  cancel_fails : {M : Type 0} (difference : M → M → List ℕ) (error : PutError M) (active : Active) (result : Result AwaitResponse Error) (new : MachineState) → StopsFor given m tree old error active
+      → FailsCancelling (checks_off old.options.non_determinism_checks) given m tree error old.active active → Settles difference (Err (calls.Put error)) (record old { active = active }) result new
       → Comes given m (Call.Await tree) old (awaited_as result) new
-  goes_on_as (Ok AnyCompleted) resolved (Ok response) new looked unwritten awaits goes_on =
+  cancel_fails difference error active (Ok response) new stops awaits fails = absurd fails
+  cancel_fails difference error active (Err answer) new stops awaits fails =
+      fails_behind fails.cause stops.stops.far active answer new (put_apart difference active.journal error fails.cause fails.causes)
+      (cancel_cause active stops.stops difference error stops.why awaits fails.cause fails.causes) stops.stops.output fails.fails
+
+  -- ---- what it has come to
+
+  -- it goes on from there
+  goes_on_as : (awaited : Result Awaited AwaitError) (resolved : Active) (result : Result AwaitResponse Error) (new : MachineState) → Keeps given m tree old awaited resolved
+      → Awaits (checks_off old.options.non_determinism_checks) given m tree old.active awaited resolved → GoesOnAs awaited (record old { active = resolved }) result new
+      → Comes given m (Call.Await tree) old (awaited_as result) new
+  goes_on_as (Ok AnyCompleted) resolved (Ok response) new looks awaits goes_on =
       subst (λ (r : AwaitResponse). Comes given m (Call.Await tree) old (awaited_as (Ok r)) new) (sym goes_on.0)
       (subst (λ (vm : MachineState). Answers given m (Call.Await tree) old Answer.Woken vm) (sym goes_on.1)
-      (answered_quietly given m (Call.Await tree) old driven (none_taken m (Call.Await tree) refl refl) Answer.Woken resolved awaits unwritten))
-  goes_on_as (Ok AnyCompleted) resolved (Err answer) new looked unwritten awaits goes_on = absurd goes_on
-  goes_on_as (Ok Cancelled) resolved (Ok response) new looked unwritten awaits goes_on =
+      (answered_quietly given m (Call.Await tree) old driven (none_taken m (Call.Await tree) refl refl) Answer.Woken resolved awaits (unwritten resolved looks)))
+  goes_on_as (Ok AnyCompleted) resolved (Err answer) new looks awaits goes_on = absurd goes_on
+  goes_on_as (Ok Cancelled) resolved (Ok response) new keeps awaits goes_on =
       subst (λ (r : AwaitResponse). Comes given m (Call.Await tree) old (awaited_as (Ok r)) new) (sym goes_on.0)
       (subst (λ (vm : MachineState). Answers given m (Call.Await tree) old Answer.Cancelled vm) (sym goes_on.1)
-      (answered_quietly given m (Call.Await tree) old driven (none_taken m (Call.Await tree) refl refl) Answer.Cancelled resolved awaits unwritten))
-  goes_on_as (Ok Cancelled) resolved (Err answer) new looked unwritten awaits goes_on = absurd goes_on
-  goes_on_as (Ok (Asleep left)) resolved result new looked unwritten awaits goes_on = sleeps_as resolved looked unwritten (tree_of left) awaits goes_on.sleep result new goes_on.is goes_on.goes_on
-  goes_on_as (Err error) resolved (Ok response) new looked unwritten awaits goes_on = absurd goes_on
-  goes_on_as (Err (unawaited.UncompletedInReplay left)) resolved (Err answer) new looked unwritten awaits goes_on =
-      let code = uncompleted_code (started_id old.start) (over_ids resolved (tree_of left)) goes_on.cause goes_on.causes in
-      fails_awaiting journal_mismatch goes_on.cause resolved answer new refl code (record { cause = ByFault UncompletedInReplay; when = awaits; tells = uncompleted_told (started_id old.start) resolved (tree_of left) goes_on.cause goes_on.causes; leaves = looked }) unwritten goes_on.fails
-  goes_on_as (Err unawaited.OutOfMemory) resolved (Err answer) new looked unwritten awaits goes_on = lacks_memory resolved answer new looked unwritten goes_on
+      (answered given m (Call.Await tree) old driven (inl refl) Answer.Cancelled resolved awaits))
+  goes_on_as (Ok Cancelled) resolved (Err answer) new keeps awaits goes_on = absurd goes_on
+  goes_on_as (Ok (Asleep waits)) resolved result new looks awaits goes_on = sleeps_as resolved looks waits awaits goes_on.sleep result new goes_on.is goes_on.goes_on
+  goes_on_as (Err (unawaited.UncompletedInReplay waits)) resolved (Ok response) new looks awaits goes_on = absurd goes_on
+  goes_on_as (Err (unawaited.UncompletedInReplay waits)) resolved (Err answer) new looks awaits goes_on =
+      uncompleted_fails resolved looks waits goes_on.cause answer new goes_on.causes awaits goes_on.fails
+  goes_on_as (Err unawaited.ChildNotId) resolved (Ok response) new looks awaits goes_on = absurd goes_on
+  goes_on_as (Err unawaited.ChildNotId) resolved (Err answer) new looks awaits goes_on = child_fails resolved looks (Ok child_not_id_error) answer new refl awaits goes_on
+  goes_on_as (Err (unawaited.Put error)) resolved result new stops awaits goes_on = cancel_fails _ error resolved result new stops awaits goes_on
+  goes_on_as (Err unawaited.OutOfMemory) resolved (Ok response) new keeps awaits goes_on = absurd goes_on
+  goes_on_as (Err unawaited.OutOfMemory) resolved (Err answer) new (inl looks) awaits goes_on = lacks_memory resolved looks answer new goes_on
+  goes_on_as (Err unawaited.OutOfMemory) resolved (Err answer) new (inr stops) awaits goes_on =
+      lacks_memory_behind stops.far resolved answer new (command_asked resolved stops) stops.output goes_on
 
   await_made : (result : Result AwaitResponse Error) (new : MachineState) → IsAwaited tree old result new → Comes given m (Call.Await tree) old (awaited_as result) new
   await_made result new made =
-      let others = only_active old made.between (record old.active { results = made.between.active.results }) made.others in
-      goes_on_as made.awaited made.between.active result new (looked_at old.active made.between.active (ap (λ (vm : MachineState). vm.active) made.others)) (ap (λ (vm : MachineState). vm.active.output) made.others)
-      (awaits_for (checks_off old.options.non_determinism_checks) given old.options.implicit_cancellation m tree made.awaited made.between.active driven.cancellation
-      (made.awaits (ending_as old.options.implicit_cancellation given) m (checks_off old.options.non_determinism_checks) refl (sees_ending old.options.implicit_cancellation given old.active m driven.sees)))
-      (subst (λ (vm : MachineState). GoesOnAs made.awaited vm result new) others made.goes_on)
+      goes_on_as made.awaited made.between.active result new
+      (await_keeps given m tree old driven.sees made.awaited made.between.active
+      (subst (λ (c : ImplicitCancellationOption). ComesTo c (checks_off old.options.non_determinism_checks) tree old.active made.awaited made.between.active) (sym driven.version.cancellation) made.held))
+      (made.awaits given m driven.version.cancellation driven.sees)
+      (subst (λ (vm : MachineState). GoesOnAs made.awaited vm result new) made.others made.goes_on)
 
   no_read_ready : (is_replaying : Bool) → ready_read phases.Active is_replaying no_reads ≡ None
   no_read_ready true = refl
@@ -202,6 +343,6 @@ module _ (given : Invocation) (m : Machine) (tree : AwaitTree ℕ) (old : Machin
 -- an await is carried out
 pub await_carried : (tree : AwaitTree ℕ) (asked : AwaitTree ℕ) (old : MachineState) (result : Result AwaitResponse Error) (new : MachineState) (outcome : CallOutcome) → asked ≡ tree
     → outcome ≡ awaited_as result → DoesAwait asked old result new → CarriesOut (Call.Await tree) old outcome new
-await_carried tree asked old result new outcome same is does = λ given m none driven.
+await_carried tree asked old result new outcome same is does = λ given m driven.
     subst (λ (o : CallOutcome). Comes given m (Call.Await tree) old o new) (sym is)
     (await_comes given m tree old driven result new (subst (λ (t : AwaitTree ℕ). DoesAwait t old result new) same does))

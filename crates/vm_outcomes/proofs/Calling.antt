@@ -1,5 +1,5 @@
 -- Calls that put one command.
-use Rattle.std.proofs.Common.{◌≡◌, ◌<◌, ◌+◌, ◌^◌, ◌⊎◌, inl, inr, ℕ, zero, suc, List, length, Option, Some, None, Result, Ok, Err, refl, sym, ap, subst, ◌∙◌}
+use Rattle.std.proofs.Common.{◌≡◌, ◌<◌, ◌+◌, ◌^◌, ◌⊎◌, inl, inr, ℕ, zero, suc, List, [], length, Option, Some, None, Result, Ok, Err, sym, ap, subst, ◌∙◌}
 use Rattle.std.specs.declared.alloc.AllocError.{AllocError}
 use Rattle.journal_model.specs.History.{completions_of, ids_of}
 use Rattle.journal_model.specs.Notification.{Text}
@@ -28,11 +28,12 @@ use Rattle.vm_refusals.specs.declared.refusal_error.RefusalError.{RefusalError}
 use Rattle.vm_feeding.specs.Passed.{IsElsewhere, IsRefused, checks_off, IsOf, IsRefusalOf, IsMade, Calls, Settles, MachineState, CallCauses}
 use Rattle.vm_outcomes.specs.Carrying.{Answers, Fails, Comes, CarriesOut}
 use Rattle.vm_outcomes.specs.Causes.{Unread, Differs, NoNumber, TooLong, LacksNumber, IsAsked, moment_event, HasCause}
-use Rattle.vm_outcomes.specs.Driven.{IsDriven, TracksNone}
+use Rattle.vm_outcomes.specs.Driven.{IsDriven}
+use Rattle.vm_outcomes.specs.Stopping.{requests_passed_on}
 use Rattle.vm_outcomes.specs.Outcomes.{answered_as}
 use Rattle.vm_outcomes.specs.declared.outcome.CallOutcome.{CallOutcome}
 use Rattle.vm_outcomes.proofs.Answering.{no_signal, answered}
-use Rattle.vm_outcomes.proofs.Failing.{no_memory, told_last, mismatches, failed, refused_call}
+use Rattle.vm_outcomes.proofs.Failing.{none_put, no_memory, told_last, mismatches, failed, refused_call}
 use Rattle.vm_outcomes.proofs.Steps.{steps_of}
 
 -- so many completions lack in what is kept exactly where they lack in the abstract machine
@@ -55,7 +56,7 @@ lacks_completions given m call active sees same lacks = lacks_number m call same
 -- what is refused of this version is no call of this invocation
 refusal_none : (given : Invocation) (call : Call) (event : List ℕ) (refusal : Option RefusalError) (old : MachineState) → IsOf given old → IsRefusalOf old.version call event refusal → refusal ≡ None
     → refusal_of given.version call ≡ None
-refusal_none given call event None old is_of refuses none = ap (λ (n : ℕ). refusal_of n call) is_of ∙ refuses
+refusal_none given call event None old is_of refuses none = ap (λ (n : ℕ). refusal_of n call) is_of.version ∙ refuses
 refusal_none given call event (Some error) old is_of refuses none = cc
 
 refusal_some : (call : Call) (event : List ℕ) (refusal : Option RefusalError) (error : RefusalError) (old : MachineState) → IsRefusalOf old.version call event refusal → refusal ≡ Some error
@@ -63,32 +64,34 @@ refusal_some : (call : Call) (event : List ℕ) (refusal : Option RefusalError) 
 refusal_some call event refusal error old refuses some = subst (λ (r : Option RefusalError). IsRefusalOf old.version call event r) some refuses
 
 module _ (given : Invocation) (m : Machine) (call : Call) (old : MachineState) (driven : IsDriven given m old) where
-  module _ (unrefused : refusal_of given.version call ≡ None) (same : length (ids_of m.completions m.signals call) ≡ completions_of call) where
-    call_cause : {M : Type 0} (difference : M → M → List ℕ) (active : Active) (asked : IsAsked old.active.journal active.journal) (error : CallError M) (told : Result Error AllocError)
-        → FailsAs (checks_off old.options.non_determinism_checks) given m call old.active error → CallCauses difference active.journal error told → HasCause given m call old active told
+  module _ (unrefused : refusal_of given.version call ≡ None) (same : length (ids_of m.completions m.signals call) ≡ completions_of call) (alone : requests_passed_on given m call ≡ []) where
+    call_cause : {M : Type 0} (difference : M → M → List ℕ) (active : Active) (asked : IsAsked [] old.active.journal active.journal) (error : CallError M) (told : Result Error AllocError)
+        → FailsAs (checks_off old.options.non_determinism_checks) given m call old.active error → CallCauses difference active.journal error told → HasCause given m call old (none_put given m call old) active told
     call_cause difference active asked (Number numbers.IdsExhausted) told fails causes = record {
       cause = NoNumber;
       when = (unrefused, lacks_completions given m call old.active driven.sees same fails);
+      at = tt;
       tells = told_last active.journal internal (Some no_id_text) told causes;
       leaves = asked;
     }
     call_cause difference active asked (Number numbers.OutOfMemory) told fails causes = no_memory given m call old active asked told causes
     call_cause difference active asked (Put (Replay (unmatched.Unavailable error))) told fails causes = absurd fails.0
     call_cause difference active asked (Put (Replay (unmatched.Decoding error))) told fails causes =
-        mismatches given m call old active asked (Unread error) told fails.0.0 fails.0.1 causes
+        mismatches given m call old active asked alone (Unread error) told fails.0.0 fails.0.1 causes
     call_cause difference active asked (Put (Replay (unmatched.Mismatch error))) told fails causes =
-        mismatches given m call old active asked (Differs error.command_index (difference error.actual error.expected)) told fails.0 tt causes
+        mismatches given m call old active asked alone (Differs error.command_index (difference error.actual error.expected)) told fails.0 tt causes
     call_cause difference active asked (Put (Replay unmatched.OutOfMemory)) told fails causes = no_memory given m call old active asked told causes
     call_cause difference active asked (Put (Encoding unsent.PayloadTooLong)) told fails causes = record {
       cause = TooLong;
       when = (unrefused, inl fails.0);
+      at = tt;
       tells = told_last active.journal internal (Some too_long_text) told causes;
       leaves = asked;
     }
     call_cause difference active asked (Put (Encoding unsent.OutOfMemory)) told fails causes = no_memory given m call old active asked told causes
     call_cause difference active asked OutOfMemory told fails causes = no_memory given m call old active asked told causes
 
-    call_settles : {M Taken : Type 0} (difference : M → M → List ℕ) (answer : Taken → Answer) (made : Result Taken (CallError M)) (active : Active) (asked : IsAsked old.active.journal active.journal) (result : Result Taken Error) (new : MachineState)
+    call_settles : {M Taken : Type 0} (difference : M → M → List ℕ) (answer : Taken → Answer) (made : Result Taken (CallError M)) (active : Active) (asked : IsAsked [] old.active.journal active.journal) (result : Result Taken Error) (new : MachineState)
         → Makes (checks_off old.options.non_determinism_checks) given m call answer old.active made active → Settles difference made (record old { active = active }) result new
         → Comes given m call old (answered_as answer result) new
     call_settles {Taken = Taken} difference answer (Ok taken) active asked (Ok got) new makes settles =
@@ -100,41 +103,41 @@ module _ (given : Invocation) (m : Machine) (call : Call) (old : MachineState) (
         failed given m call old driven.phase settles.cause active told new (call_cause difference active asked error settles.cause makes.0 settles.causes) makes.1 settles.fails
 
     call_made : {M Taken : Type 0} (difference : M → M → List ℕ) (answer : Taken → Answer) (ty : MessageType) (name : Text) (result : Result Taken Error) (new : MachineState)
-        → TracksNone given m call → IsMade difference call answer ty name old result new → Comes given m call old (answered_as answer result) new
-    call_made difference answer ty name result new none made =
-        call_settles difference answer made.made made.between.active (inr (ty, (name, made.told))) result new (made.makes given m driven.version none driven.sees)
+        → IsMade difference call answer ty name old result new → Comes given m call old (answered_as answer result) new
+    call_made difference answer ty name result new made =
+        call_settles difference answer made.made made.between.active (inr (ty, (name, made.told))) result new (made.makes given m driven.version driven.sees)
         (subst (λ (vm : MachineState). Settles difference made.made vm result new) made.others made.settles)
 
   call_refused : (event : List ℕ) (error : RefusalError) (answer : Error) (new : MachineState) → event ≡ moment_event call → IsRefusalOf old.version call event (Some error) → IsRefused error old answer new
       → Fails given m call old answer new
   call_refused event error answer new names refuses refused =
-      refused_call given m call old driven.phase error answer new (ap (λ (n : ℕ). refusal_of n call) driven.version ∙ refuses.0) refuses.1 (refuses.2 ∙ names) refused
+      refused_call given m call old driven.phase error answer new (ap (λ (n : ℕ). refusal_of n call) driven.version.version ∙ refuses.0) refuses.1 (refuses.2 ∙ names) refused
 
   call_comes : {M Taken : Type 0} (difference : M → M → List ℕ) (answer : Taken → Answer) (event : List ℕ) (ty : MessageType) (name : Text) (result : Result Taken Error) (new : MachineState)
-      → event ≡ moment_event call → length (ids_of m.completions m.signals call) ≡ completions_of call → TracksNone given m call → Calls difference call answer event ty name old result new
+      → event ≡ moment_event call → length (ids_of m.completions m.signals call) ≡ completions_of call → requests_passed_on given m call ≡ [] → Calls difference call answer event ty name old result new
       → Comes given m call old (answered_as answer result) new
-  call_comes {Taken = Taken} difference answer event ty name result new names same none calls =
+  call_comes {Taken = Taken} difference answer event ty name result new names same alone calls =
       steps_of (IsMade difference call answer ty name) (IsElsewhere (completions_of call) ty name) calls.refusal old driven.phase (λ (r : Result Taken Error) (vm : MachineState). Comes given m call old (answered_as answer r) vm)
-      (λ r vm free made. call_made (refusal_none given call event calls.refusal old driven.version calls.refuses free) same difference answer ty name r vm none made)
+      (λ r vm free made. call_made (refusal_none given call event calls.refusal old driven.version calls.refuses free) same alone difference answer ty name r vm made)
       (λ error told vm some refused. call_refused event error told vm names (refusal_some call event calls.refusal error old calls.refuses some) refused)
       result new calls.steps
 
 -- a call of one command is carried out
 pub carried : {M Taken : Type 0} {difference : M → M → List ℕ} {event : List ℕ} {ty : MessageType} {name : Text} (call : Call) (answer : Taken → Answer) (old : MachineState) (result : Result Taken Error)
-    (new : MachineState) (outcome : CallOutcome) → outcome ≡ answered_as answer result → ((n signal : ℕ) → length (ids_of n signal call) ≡ completions_of call) → event ≡ moment_event call
+    (new : MachineState) (outcome : CallOutcome) → outcome ≡ answered_as answer result → ((n signal : ℕ) → length (ids_of n signal call) ≡ completions_of call) → ((given : Invocation) (m : Machine) → requests_passed_on given m call ≡ []) → event ≡ moment_event call
     → Calls difference call answer event ty name old result new → CarriesOut call old outcome new
-carried {difference = difference} {event = event} {ty = ty} {name = name} call answer old result new outcome is same names calls = λ given m none driven.
+carried {difference = difference} {event = event} {ty = ty} {name = name} call answer old result new outcome is same alone names calls = λ given m driven.
     subst (λ (o : CallOutcome). Comes given m call old o new) (sym is)
-    (call_comes given m call old driven difference answer event ty name result new names (same m.completions m.signals) none calls)
+    (call_comes given m call old driven difference answer event ty name result new names (same m.completions m.signals) (alone given m) calls)
 
 -- one that is answered without a value
 pub done_carried : {M : Type 0} {difference : M → M → List ℕ} {event : List ℕ} {ty : MessageType} {name : Text} (call : Call) (old : MachineState) (result : Result (Unit {0}) Error) (new : MachineState)
-    (outcome : CallOutcome) → outcome ≡ answered_as (λ done. Answer.Done) result → ((n signal : ℕ) → length (ids_of n signal call) ≡ completions_of call) → event ≡ moment_event call
+    (outcome : CallOutcome) → outcome ≡ answered_as (λ done. Answer.Done) result → ((n signal : ℕ) → length (ids_of n signal call) ≡ completions_of call) → ((given : Invocation) (m : Machine) → requests_passed_on given m call ≡ []) → event ≡ moment_event call
     → Calls difference call (λ done. Answer.Done) event ty name old result new → CarriesOut call old outcome new
-done_carried call old result new outcome is same names calls = carried call (λ done. Answer.Done) old result new outcome is same names calls
+done_carried call old result new outcome is same alone names calls = carried call (λ done. Answer.Done) old result new outcome is same alone names calls
 
 -- one that is answered by a handle
 pub handle_carried : {M : Type 0} {difference : M → M → List ℕ} {event : List ℕ} {ty : MessageType} {name : Text} (call : Call) (old : MachineState) (result : Result ℕ Error) (new : MachineState)
-    (outcome : CallOutcome) → outcome ≡ answered_as (λ handle. Answer.Handle handle) result → ((n signal : ℕ) → length (ids_of n signal call) ≡ completions_of call) → event ≡ moment_event call
+    (outcome : CallOutcome) → outcome ≡ answered_as (λ handle. Answer.Handle handle) result → ((n signal : ℕ) → length (ids_of n signal call) ≡ completions_of call) → ((given : Invocation) (m : Machine) → requests_passed_on given m call ≡ []) → event ≡ moment_event call
     → Calls difference call (λ handle. Answer.Handle handle) event ty name old result new → CarriesOut call old outcome new
-handle_carried call old result new outcome is same names calls = carried call (λ handle. Answer.Handle handle) old result new outcome is same names calls
+handle_carried call old result new outcome is same alone names calls = carried call (λ handle. Answer.Handle handle) old result new outcome is same alone names calls

@@ -60,6 +60,7 @@ module _ (given : Invocation) (m : Machine) (old : MachineState) (driven : IsDri
   fails_before answer new replays unexpected = failed given m Call.End old driven.phase unexpected.cause old.active answer new (record {
     cause = ByFault EndInReplay;
     when = ends_before m m.left (sym driven.sees.replaying ∙ replays);
+    at = tt;
     tells = subst (λ (e : Error). IfOk unexpected.cause (λ told. told ≡ e)) (unexpected_at old.phase old.active.is_replaying (codes "end invocation") driven.phase replays) unexpected.causes;
     leaves = refl;
   }) refl unexpected.fails
@@ -82,5 +83,5 @@ module _ (given : Invocation) (m : Machine) (old : MachineState) (driven : IsDri
 -- the end is carried out
 pub end_carried : (old : MachineState) (result : Result (Unit {0}) Error) (new : MachineState) (outcome : CallOutcome) → outcome ≡ ended_as result → EndsAs (kept_error old.phase) old result new
     → CarriesOut Call.End old outcome new
-end_carried old result new outcome is ends_as = λ given m none driven.
+end_carried old result new outcome is ends_as = λ given m driven.
     subst (λ (o : CallOutcome). Comes given m Call.End old o new) (sym is) (end_comes given m old driven result new ends_as)

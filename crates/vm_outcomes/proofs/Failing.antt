@@ -1,16 +1,19 @@
 -- A call that is not carried out has a cause, and the machine fails with it.
-use Rattle.std.proofs.Common.{◌≡◌, inl, inr, ℕ, true, false, List, Option, Some, Result, Ok, Err, IfOk, refl, sym, ap, subst, ◌∙◌}
+use Rattle.std.proofs.Common.{◌≡◌, ◌==◌, inl, inr, ℕ, true, false, List, [], append-nil, Option, Some, Result, Ok, Err, IfOk, refl, sym, ap, subst, ◌∙◌}
 use Rattle.std.specs.declared.alloc.AllocError.{AllocError}
 use Rattle.journal_model.specs.Notification.{Bytes}
 use Rattle.journal_model.specs.Refusal.{Refusal, refusal_of}
+use Rattle.journal_model.specs.Request.{Request}
 use Rattle.journal_model.specs.Run.{Invocation}
 use Rattle.journal_model.specs.declared.call.Call.{Call}
 use Rattle.attempt_model.specs.Machine.{Machine, FailedBy, Mismatch, UncompletedInReplay, EndInReplay, KeysNotText, ChildNotId, Refused, reply_unless_refused}
 use Rattle.attempt_model.specs.Requests.{Commands}
 use Rattle.attempt_model.specs.Results.{Slots}
+use Rattle.protocol_errors.specs.Code.{suspended}
 use Rattle.protocol_errors.specs.declared.error.Error.{Error}
 use Rattle.protocol_types.specs.declared.version.Version.{Version}
 use Rattle.vm_awaits.specs.Views.{slots_of}
+use Rattle.vm_calls.specs.Active.{writes_frames}
 use Rattle.vm_calls.specs.declared.active.Active.{Active}
 use Rattle.vm_commands.specs.HeaderEquality.{same_header}
 use Rattle.vm_context.specs.Journal.{JournalCounts}
@@ -23,8 +26,10 @@ use Rattle.vm_refusals.specs.Refusals.{refusal_meant, refusal_code, refusal_text
 use Rattle.vm_refusals.specs.declared.refusal_error.RefusalError.{RefusalError}
 use Rattle.vm_feeding.specs.Passed.{IsRefused, checks_off, MachineFails, MachineState, Tells, TellsLast, Unless}
 use Rattle.vm_outcomes.specs.Carrying.{Fails}
-use Rattle.vm_outcomes.specs.Causes.{Cause, ByFault, NoNumber, TooLong, NoReplay, NoRuns, NoMemory, IsAsked, IsAsBefore, IsLookedAt, Leaves, Unmatched, IsUnmatched, unmatched_code, unmatched_text, TellsEither, FaultTells, CauseTells, moment_event, HasCause}
+use Rattle.vm_outcomes.specs.Causes.{Cause, ByFault, NoNumber, TooLong, NoReplay, NoRuns, NoMemory, FailsAt, IsAsked, IsAsBefore, IsLookedAt, Leaves, Unmatched, IsUnmatched, unmatched_code, unmatched_text, TellsEither, FaultTells, CauseTells, moment_event, HasCause}
 use Rattle.vm_outcomes.specs.Driven.{reply_of}
+use Rattle.vm_outcomes.specs.Stopping.{HasPut, requests_passed_on, IsUnmatchedNext}
+use Rattle.vm_outcomes.proofs.Answering.{nothing_written}
 
 -- ---- what is told
 
@@ -39,6 +44,11 @@ told_plain journal code text (Err refused) tells = tt
 pub plain_code : (code : ℕ) (text : Option (List ℕ)) (told : Result Error AllocError) → IfOk told (Tells code text) → IfOk told (λ error. error.code.0 ≡ code)
 plain_code code text (Ok error) tells = ap (λ (e : Error). e.code.0) tells.plain
 plain_code code text (Err refused) tells = tt
+
+-- of another code than a suspension's
+pub code_apart : (code : ℕ) (told : Result Error AllocError) → (code == suspended) ≡ false → IfOk told (λ error. error.code.0 ≡ code) → IfOk told (λ error. (error.code.0 == suspended) ≡ false)
+code_apart code (Ok error) other is = ap (λ (n : ℕ). n == suspended) is ∙ other
+code_apart code (Err refused) other is = tt
 
 pub unless_plain : (journal : JournalCounts) (code : ℕ) (text : Option (List ℕ)) (told : Result Error AllocError) → Unless false (Tells code text) told → IfOk told (λ error. TellsEither journal code text error)
 unless_plain journal code text (Ok error) tells = inl tells
@@ -57,7 +67,7 @@ pub looked_at : (old new : Active) → new ≡ record old { results = new.result
 looked_at old new others = others ∙ sym (ap (λ (a : Active). record old { results = new.results; output = a.output }) others)
 
 -- then no command was asked for
-pub looked_asked : (old new : Active) → IsLookedAt old new → IsAsked old.journal new.journal
+pub looked_asked : (old new : Active) → IsLookedAt old new → IsAsked [] old.journal new.journal
 looked_asked old new looked = inl (record {
   commands = ap (λ (a : Active). a.journal.commands) looked;
   last_type = ap (λ (a : Active). a.journal.last_type) looked;
@@ -72,41 +82,70 @@ looked_on : (old between new : Active) → new ≡ record between { output = new
 looked_on old between new others looked =
     others ∙ ap (λ (a : Active). record a { output = new.output }) looked ∙ sym (ap (λ (a : Active). record old { results = a.results; output = new.output }) others)
 
-asked_on : (old between new : Active) → new ≡ record between { output = new.output } → IsAsked old.journal between.journal → IsAsked old.journal new.journal
-asked_on old between new others asked = subst (λ (journal : JournalCounts). IsAsked old.journal journal) (sym (ap (λ (a : Active). a.journal) others)) asked
+asked_on : (front : List Request) (old between new : Active) → new ≡ record between { output = new.output } → IsAsked front old.journal between.journal → IsAsked front old.journal new.journal
+asked_on front old between new others asked = subst (λ (journal : JournalCounts). IsAsked front old.journal journal) (sym (ap (λ (a : Active). a.journal) others)) asked
 
-leaves_on : (cause : Cause) (old between new : Active) → new ≡ record between { output = new.output } → Leaves cause old between → Leaves cause old new
-leaves_on (ByFault Mismatch) old between new others leaves = asked_on old between new others leaves
-leaves_on (ByFault UncompletedInReplay) old between new others leaves = looked_on old between new others leaves
-leaves_on (ByFault EndInReplay) old between new others leaves = before_on old between new others leaves
-leaves_on (ByFault KeysNotText) old between new others leaves = looked_on old between new others leaves
-leaves_on (ByFault ChildNotId) old between new others leaves = absurd leaves
-leaves_on (ByFault (Refused refusal)) old between new others leaves = before_on old between new others leaves
-leaves_on NoNumber old between new others leaves = asked_on old between new others leaves
-leaves_on TooLong old between new others leaves = asked_on old between new others leaves
-leaves_on NoReplay old between new others leaves = before_on old between new others leaves
-leaves_on NoRuns old between new others leaves = before_on old between new others leaves
-leaves_on NoMemory old between new others leaves = asked_on old between new others leaves
+leaves_on : (cause : Cause) (front : List Request) (old between new : Active) → new ≡ record between { output = new.output } → Leaves cause front old between → Leaves cause front old new
+leaves_on (ByFault Mismatch) front old between new others leaves = asked_on front old between new others leaves
+leaves_on (ByFault UncompletedInReplay) front old between new others leaves = looked_on old between new others leaves
+leaves_on (ByFault EndInReplay) front old between new others leaves = before_on old between new others leaves
+leaves_on (ByFault KeysNotText) front old between new others leaves = looked_on old between new others leaves
+leaves_on (ByFault ChildNotId) front old between new others leaves = looked_on old between new others leaves
+leaves_on (ByFault (Refused refusal)) front old between new others leaves = before_on old between new others leaves
+leaves_on NoNumber front old between new others leaves = asked_on front old between new others leaves
+leaves_on TooLong front old between new others leaves = asked_on front old between new others leaves
+leaves_on NoReplay front old between new others leaves = before_on old between new others leaves
+leaves_on NoRuns front old between new others leaves = before_on old between new others leaves
+leaves_on NoMemory front old between new others leaves = asked_on front old between new others leaves
 
 -- ---- causes
 
-module _ (given : Invocation) (m : Machine) (call : Call) (vm : MachineState) (after : Active) (asked : IsAsked vm.active.journal after.journal) where
-  pub no_memory : (told : Result Error AllocError) → Unless true (λ error. ⊥) told → HasCause given m call vm after told
-  no_memory (Ok error) none = absurd none
-  no_memory (Err refused) none = record { cause = NoMemory; when = tt; tells = tt; leaves = asked }
-
-  pub memory_cause : (told : Result Error AllocError) → IfOk told (λ error. ⊥) → HasCause given m call vm after told
-  memory_cause (Ok error) none = absurd none
-  memory_cause (Err refused) none = record { cause = NoMemory; when = tt; tells = tt; leaves = asked }
-
-  pub mismatches : (why : Unmatched) (told : Result Error AllocError) → reply_of vm given m call ≡ FailedBy Mismatch → IsUnmatched m.left why
-      → Unless false (TellsLast after.journal (unmatched_code why) (Some (unmatched_text why))) told → HasCause given m call vm after told
-  mismatches why told replies is tells = record {
-    cause = ByFault Mismatch;
-    when = replies;
-    tells = mismatch_told vm.version (started_id vm.start) m.left after.journal (slots_of after.results) call why told is tells;
-    leaves = asked;
+module _ (given : Invocation) (m : Machine) (call : Call) (vm : MachineState) where
+  -- none of its requests was put
+  abbrev pub none_put : HasPut given m call vm
+  none_put = record {
+    front = [];
+    behind = requests_passed_on given m call;
+    parts = refl;
+    put = record { left = m.left; written = m.written };
+    puts = refl;
+    more = [];
+    written = sym (append-nil m.written);
+    fit = tt;
   }
+
+  module _ (far : HasPut given m call vm) (after : Active) (asked : IsAsked far.front vm.active.journal after.journal) where
+    pub memory_lacks : (told : Result Error AllocError) → IfOk told (λ error. ⊥) → HasCause given m call vm far after told
+    memory_lacks (Ok error) none = absurd none
+    memory_lacks (Err refused) none = record { cause = NoMemory; when = tt; at = tt; tells = tt; leaves = asked }
+
+    pub mismatches_at : (why : Unmatched) (told : Result Error AllocError) → reply_of vm given m call ≡ FailedBy Mismatch → FailsAt given m call vm far (ByFault Mismatch) → IsUnmatched far.put.left why
+        → Unless false (TellsLast after.journal (unmatched_code why) (Some (unmatched_text why))) told → HasCause given m call vm far after told
+    mismatches_at why told replies at is tells = record {
+      cause = ByFault Mismatch;
+      when = replies;
+      at = at;
+      tells = mismatch_told vm.version (started_id vm.start) far.put.left after.journal (slots_of after.results) call why told is tells;
+      leaves = asked;
+    }
+
+pub unless_ok : (told : Result Error AllocError) → Unless true (λ error. ⊥) told → IfOk told (λ error. ⊥)
+unless_ok (Ok error) none = none
+unless_ok (Err refused) none = tt
+
+module _ (given : Invocation) (m : Machine) (call : Call) (vm : MachineState) (after : Active) (asked : IsAsked [] vm.active.journal after.journal) where
+  pub no_memory : (told : Result Error AllocError) → Unless true (λ error. ⊥) told → HasCause given m call vm (none_put given m call vm) after told
+  no_memory told none = memory_lacks given m call vm (none_put given m call vm) after asked told (unless_ok told none)
+
+  pub memory_cause : (told : Result Error AllocError) → IfOk told (λ error. ⊥) → HasCause given m call vm (none_put given m call vm) after told
+  memory_cause told none = memory_lacks given m call vm (none_put given m call vm) after asked told none
+
+  -- of a call that passes no cancellation on
+  pub mismatches : requests_passed_on given m call ≡ [] → (why : Unmatched) (told : Result Error AllocError) → reply_of vm given m call ≡ FailedBy Mismatch → IsUnmatched m.left why
+      → Unless false (TellsLast after.journal (unmatched_code why) (Some (unmatched_text why))) told → HasCause given m call vm (none_put given m call vm) after told
+  mismatches none why told replies is tells =
+      mismatches_at given m call vm (none_put given m call vm) after asked why told replies
+      (subst (λ (behind : List Request). IsUnmatchedNext given m call vm behind (record { left = m.left; written = m.written })) (sym none) tt) is tells
 
 -- ---- the machine fails
 
@@ -129,22 +168,32 @@ refusal_tells version invocation left journal slots call error (Err refused) spe
 
 module _ (given : Invocation) (m : Machine) (call : Call) (old : MachineState) (is : old.phase ≡ phases.Active) where
   -- what is written changes no cause
-  written_on : (told : Result Error AllocError) (active new : Active) → new ≡ record active { output = new.output } → HasCause given m call old active told → HasCause given m call old new told
-  written_on told active new others has = record {
+  written_on : (told : Result Error AllocError) (far : HasPut given m call old) (active new : Active) → new ≡ record active { output = new.output } → HasCause given m call old far active told
+      → HasCause given m call old far new told
+  written_on told far active new others has = record {
     cause = has.cause;
     when = has.when;
-    tells = subst (λ (a : Active). IfOk told (λ error. CauseTells old.version (started_id old.start) m.left a.journal (slots_of a.results) call has.cause error)) (sym others) has.tells;
-    leaves = leaves_on has.cause old.active active new others has.leaves;
+    at = has.at;
+    tells = subst (λ (a : Active). IfOk told (λ error. CauseTells old.version (started_id old.start) far.put.left a.journal (slots_of a.results) call has.cause error)) (sym others) has.tells;
+    leaves = leaves_on has.cause far.front old.active active new others has.leaves;
   }
 
-  pub failed : (told : Result Error AllocError) (active : Active) (answer : Error) (new : MachineState) → HasCause given m call old active told → active.output ≡ old.active.output
-      → MachineFails told (record old { active = active }) answer new → Fails given m call old answer new
-  failed told active answer new has_cause unwritten fails = record {
+  -- where some of its requests were put
+  pub failed_behind : (told : Result Error AllocError) (far : HasPut given m call old) (active : Active) (answer : Error) (new : MachineState) → HasCause given m call old far active told
+      → active.output ≡ writes_frames far.more old.active.output → MachineFails told (record old { active = active }) answer new → Fails given m call old answer new
+  failed_behind told far active answer new has_cause written fails = record {
     told = told;
-    has_cause = written_on told active new.active (ap (λ (vm : MachineState). vm.active) fails.others) has_cause;
-    fails = subst (λ (w : Written). FailsNow old.version old.options.journal_mismatch_retry_behavior told w answer new.phase new.active.output) unwritten (fails_of told (record old { active = active }) answer new is fails);
+    far = far;
+    has_cause = written_on told far active new.active (ap (λ (vm : MachineState). vm.active) fails.others) has_cause;
+    fails = subst (λ (w : Written). FailsNow old.version old.options.journal_mismatch_retry_behavior told w answer new.phase new.active.output) written (fails_of told (record old { active = active }) answer new is fails);
     others = fails.others ∙ sym (ap (λ (vm : MachineState). record old { phase = new.phase; active = vm.active }) fails.others);
   }
+
+  -- where none was
+  pub failed : (told : Result Error AllocError) (active : Active) (answer : Error) (new : MachineState) → HasCause given m call old (none_put given m call old) active told
+      → active.output ≡ old.active.output → MachineFails told (record old { active = active }) answer new → Fails given m call old answer new
+  failed told active answer new has_cause unwritten fails =
+      failed_behind told (none_put given m call old) active answer new has_cause (unwritten ∙ nothing_written old.active.output) fails
 
   -- a call that is refused
   pub refused_call : (error : RefusalError) (answer : Error) (new : MachineState) → refusal_of given.version call ≡ Some (refusal_meant error.refusal) → error.version ≡ old.version
@@ -152,6 +201,7 @@ module _ (given : Invocation) (m : Machine) (call : Call) (old : MachineState) (
   refused_call error answer new refuses speaks names is_refused = failed is_refused.cause old.active answer new (record {
     cause = ByFault (Refused (refusal_meant error.refusal));
     when = ap (λ (r : Option Refusal). reply_unless_refused (same_header (checks_off old.options.non_determinism_checks) call) given m call r) refuses;
+    at = tt;
     tells = refusal_tells old.version (started_id old.start) m.left old.active.journal (slots_of old.active.results) call error is_refused.cause speaks names is_refused.causes;
     leaves = refl;
   }) refl is_refused.fails

@@ -1,5 +1,5 @@
 -- Calls that make handles, take what they stand for, and look at it.
-use Rattle.std.proofs.Common.{◌≡◌, ◌⊎◌, ◌≤◌, ◌<◌, ◌+◌, ◌^◌, inl, inr, ℕ, Bool, true, false, leb, [], length, codes, Option, Some, None, Result, Ok, Err, IfOk, refl, sym, ap, subst, arith, append-nil}
+use Rattle.std.proofs.Common.{◌≡◌, ◌⊎◌, ◌≤◌, ◌<◌, ◌+◌, ◌^◌, inl, inr, ℕ, Bool, true, false, leb, List, [], length, codes, Option, Some, None, Result, Ok, Err, IfOk, refl, sym, ap, subst, ◌∙◌, arith, append-nil}
 use Rattle.std.specs.declared.alloc.AllocError.{AllocError}
 use Rattle.std.proofs.lemmas.Bool.Decides.{leb_tells}
 use Rattle.journal_model.specs.History.{signals_of}
@@ -9,13 +9,12 @@ use Rattle.journal_model.specs.Run.{Invocation}
 use Rattle.journal_model.specs.declared.call.Answer.{Answer}
 use Rattle.journal_model.specs.declared.call.Call.{Call}
 use Rattle.journal_model.specs.declared.value.Value.{Value}
-use Rattle.attempt_model.specs.Machine.{Machine, KeysNotText}
+use Rattle.attempt_model.specs.Children.{Child}
+use Rattle.attempt_model.specs.Machine.{Machine, KeysNotText, ChildNotId}
 use Rattle.attempt_model.specs.Results.{Slots}
 use Rattle.protocol_errors.specs.Code.{internal}
 use Rattle.protocol_errors.specs.Error.{plain_error}
 use Rattle.protocol_errors.specs.declared.error.Error.{Error}
-use Rattle.protocol_messages.specs.declared.taken.TakeError.{TakeError}
-use Rattle.protocol_messages.specs.declared.taken.TakeError.TheVariants as untaken
 use Rattle.vm_awaits.specs.Views.{AsyncResults}
 use Rattle.vm_calls.specs.Active.{Sees}
 use Rattle.vm_calls.specs.Handles.{LacksHandle, LacksSignal, MakesHandle}
@@ -30,6 +29,8 @@ use Rattle.vm_types.specs.declared.handles.AwakeableHandle.{AwakeableHandle}
 use Rattle.vm_types.specs.declared.options.JournalReplay.{JournalReplay}
 use Rattle.vm_types.specs.declared.options.JournalReplay.TheVariants.{Enabled, Disabled}
 use Rattle.vm_feeding.specs.Passed.{checks_off, IsUnexpected, Steps, MachineState, NumberCauses}
+use Rattle.vm_waiting.specs.declared.taking.TakeError.{TakeError}
+use Rattle.vm_waiting.specs.declared.taking.TakeError.TheVariants as untaken
 use Rattle.vm_outcomes.specs.Carrying.{Answers, Comes, CarriesOut}
 use Rattle.vm_outcomes.specs.Causes.{ByFault, NoNumber, NoReplay, NoMemory, LacksNumber, IsAsked, IsLookedAt, HasCause}
 use Rattle.vm_outcomes.specs.Driven.{IsDriven}
@@ -37,7 +38,8 @@ use Rattle.vm_outcomes.specs.Outcomes.{answered_as}
 use Rattle.vm_outcomes.specs.declared.outcome.CallOutcome.{CallOutcome}
 use Rattle.vm_outcomes.specs.declared.outcome.CallOutcome.TheVariants.{Answered}
 use Rattle.vm_outcomes.proofs.Answering.{answered, answered_quietly, none_taken, nothing_written}
-use Rattle.vm_outcomes.proofs.Failing.{no_memory, unless_plain, looked_at, looked_asked, failed}
+use Rattle.vm_machine.specs.PassedMachine.{child_not_id_error}
+use Rattle.vm_outcomes.proofs.Failing.{none_put, no_memory, unless_plain, looked_at, looked_asked, failed}
 use Rattle.vm_outcomes.proofs.Steps.{steps_of}
 
 -- ---- numbers
@@ -65,7 +67,7 @@ signal_left given m active sees has = by_test (leb_tells (m.signals + 1) (2 ^ 32
 
 module _ (given : Invocation) (m : Machine) (call : Call) (old : MachineState) (driven : IsDriven given m old) (unrefused : refusal_of given.version call ≡ None) where
   handle_settles : {Taken : Type 0} (answer : Taken → Answer) (Lacks : Active → Type 0) (lacks : Lacks old.active → LacksNumber m call)
-      (left : (Lacks old.active → ⊥) → (signals_of call ≡ 0) ⊎ (m.signals + signals_of call ≤ 2 ^ 32)) (made : Result Taken NumberError) (active : Active) (asked : IsAsked old.active.journal active.journal)
+      (left : (Lacks old.active → ⊥) → (signals_of call ≡ 0) ⊎ (m.signals + signals_of call ≤ 2 ^ 32)) (made : Result Taken NumberError) (active : Active) (asked : IsAsked [] old.active.journal active.journal)
       (result : Result Taken Error) (new : MachineState) → MakesHandle (checks_off old.options.non_determinism_checks) given m call answer Lacks old.active made active
       → AnswersBy NumberCauses made (record old { active = active }) result new → Comes given m call old (answered_as answer result) new
   handle_settles {Taken = Taken} answer Lacks lacks left (Ok taken) active asked (Ok got) new makes answers =
@@ -75,7 +77,7 @@ module _ (given : Invocation) (m : Machine) (call : Call) (old : MachineState) (
   handle_settles answer Lacks lacks left (Err lack) active asked (Ok got) new makes answers = absurd answers
   handle_settles answer Lacks lacks left (Err numbers.IdsExhausted) active asked (Err told) new makes answers =
       failed given m call old driven.phase answers.cause active told new
-      (record { cause = NoNumber; when = (unrefused, lacks makes.0); tells = unless_plain active.journal internal (Some no_id_text) answers.cause answers.causes; leaves = asked }) makes.1 answers.fails
+      (record { cause = NoNumber; when = (unrefused, lacks makes.0); at = tt; tells = unless_plain active.journal internal (Some no_id_text) answers.cause answers.causes; leaves = asked }) makes.1 answers.fails
   handle_settles answer Lacks lacks left (Err numbers.OutOfMemory) active asked (Err told) new makes answers =
       failed given m call old driven.phase answers.cause active told new (no_memory given m call old active asked answers.cause answers.causes) makes answers.fails
 
@@ -92,7 +94,7 @@ signal_comes given m name old driven result new steps =
 -- a signal's handle is made
 pub signal_carried : (name : Text) (old : MachineState) (result : Result ℕ Error) (new : MachineState) (outcome : CallOutcome) → outcome ≡ answered_as (λ handle. Answer.Handle handle) result
     → Steps (IsCalled (MakesSignal name) NumberCauses) IsNoSignal None old result new → CarriesOut (Call.Signal name) old outcome new
-signal_carried name old result new outcome is steps = λ given m none driven.
+signal_carried name old result new outcome is steps = λ given m driven.
     subst (λ (o : CallOutcome). Comes given m (Call.Signal name) old o new) (sym is) (signal_comes given m name old driven result new steps)
 
 -- ---- awakeables
@@ -107,7 +109,7 @@ awakeable_made given m old driven Enabled result new is called =
     called.made called.active (inl called.does.1) result new (called.does.0 (checks_off old.options.non_determinism_checks) given m driven.id driven.sees) called.answers
 awakeable_made given m old driven Disabled (Ok made) new is fails = absurd fails
 awakeable_made given m old driven Disabled (Err answer) new is fails =
-    failed given m Call.Awakeable old driven.phase _ old.active answer new (record { cause = NoReplay; when = (refl, is); tells = refl; leaves = refl }) refl fails
+    failed given m Call.Awakeable old driven.phase _ old.active answer new (record { cause = NoReplay; when = (refl, is); at = tt; tells = refl; leaves = refl }) refl fails
 
 awakeable_comes : (given : Invocation) (m : Machine) (old : MachineState) (driven : IsDriven given m old) (result : Result AwakeableHandle Error) (new : MachineState)
     → Steps IsAwakeable IsNoAwakeable None old result new → Comes given m Call.Awakeable old (answered_as awakeable_answer result) new
@@ -119,14 +121,18 @@ awakeable_comes given m old driven result new steps =
 -- an awakeable is made
 pub awakeable_carried : (old : MachineState) (result : Result AwakeableHandle Error) (new : MachineState) → Steps IsAwakeable IsNoAwakeable None old result new
     → CarriesOut Call.Awakeable old (answered_as (λ made. Answer.Awakeable made.id made.handle) result) new
-awakeable_carried old result new steps = λ given m none driven. awakeable_comes given m old driven result new steps
+awakeable_carried old result new steps = λ given m driven. awakeable_comes given m old driven result new steps
 
 -- ---- takes
 
 module _ (given : Invocation) (m : Machine) (handle : ℕ) (old : MachineState) (driven : IsDriven given m old) where
-  no_take : (active : Active) (looked : IsLookedAt old.active active) (told : Result Error AllocError) → TakeCauses untaken.OutOfMemory told → HasCause given m (Call.Take handle) old active told
+  no_take : (active : Active) (looked : IsLookedAt old.active active) (told : Result Error AllocError) → TakeCauses untaken.OutOfMemory told → HasCause given m (Call.Take handle) old (none_put given m (Call.Take handle) old) active told
   no_take active looked (Ok error) causes = absurd causes
-  no_take active looked (Err refused) causes = record { cause = NoMemory; when = tt; tells = tt; leaves = looked_asked old.active active looked }
+  no_take active looked (Err refused) causes = record { cause = NoMemory; when = tt; at = tt; tells = tt; leaves = looked_asked old.active active looked }
+
+  -- of a take that fails no child is told anything
+  taken_alone : (active : Active) → active ≡ record old.active { results = active.results; children = active.children } → active.children ≡ old.active.children → IsLookedAt old.active active
+  taken_alone active others same = looked_at old.active active (others ∙ ap (λ (children : List Child). record old.active { results = active.results; children = children }) same)
 
   take_settles : (made : Result (Option Value) TakeError) (active : Active) (result : Result (Option Value) Error) (new : MachineState) → TakesFirst handle old.active made active
       → AnswersBy TakeCauses made (record old { active = active }) result new → Comes given m (Call.Take handle) old (answered_as (λ taken. Answer.Taken taken) result) new
@@ -140,11 +146,20 @@ module _ (given : Invocation) (m : Machine) (handle : ℕ) (old : MachineState) 
       failed given m (Call.Take handle) old driven.phase answers.cause active told new (record {
         cause = ByFault KeysNotText;
         when = does.taken given m (checks_off old.options.non_determinism_checks) driven.sees;
+        at = tt;
         tells = subst (λ (r : Result Error AllocError). IfOk r (λ error. error ≡ plain_error internal (codes "Cannot convert an eager state key into UTF-8 String"))) (sym answers.causes) refl;
-        leaves = looked_at old.active active does.others;
+        leaves = taken_alone active does.others does.children;
+      }) (ap (λ (a : Active). a.output) does.others) answers.fails
+  take_settles (Err untaken.ChildNotId) active (Err told) new does answers =
+      failed given m (Call.Take handle) old driven.phase answers.cause active told new (record {
+        cause = ByFault ChildNotId;
+        when = does.taken given m (checks_off old.options.non_determinism_checks) driven.sees;
+        at = tt;
+        tells = subst (λ (r : Result Error AllocError). IfOk r (λ error. error ≡ child_not_id_error)) (sym answers.causes) refl;
+        leaves = taken_alone active does.others does.children;
       }) (ap (λ (a : Active). a.output) does.others) answers.fails
   take_settles (Err untaken.OutOfMemory) active (Err told) new does answers =
-      failed given m (Call.Take handle) old driven.phase answers.cause active told new (no_take active (looked_at old.active active does.others) answers.cause answers.causes) (ap (λ (a : Active). a.output) does.others) answers.fails
+      failed given m (Call.Take handle) old driven.phase answers.cause active told new (no_take active (taken_alone active does.others does.children) answers.cause answers.causes) (ap (λ (a : Active). a.output) does.others) answers.fails
 
   take_comes : (result : Result (Option Value) Error) (new : MachineState) → Steps (IsCalled (TakesFirst handle) TakeCauses) (IsUnexpected (codes "TakeNotification")) None old result new
       → Comes given m (Call.Take handle) old (answered_as (λ taken. Answer.Taken taken) result) new
@@ -157,13 +172,13 @@ module _ (given : Invocation) (m : Machine) (handle : ℕ) (old : MachineState) 
 pub take_carried : (handle : ℕ) (old : MachineState) (result : Result (Option Value) Error) (new : MachineState)
     → Steps (IsCalled (TakesFirst handle) TakeCauses) (IsUnexpected (codes "TakeNotification")) None old result new
     → CarriesOut (Call.Take handle) old (answered_as (λ taken. Answer.Taken taken) result) new
-take_carried handle old result new steps = λ given m none driven. take_comes given m handle old driven result new steps
+take_carried handle old result new steps = λ given m driven. take_comes given m handle old driven result new steps
 
 -- ---- looks
 
 -- it is looked at
 pub look_carried : (handle : ℕ) (completed : Bool) (old : MachineState) → Looks old.phase old.active handle completed → CarriesOut (Call.IsCompleted handle) old (Answered (Answer.Completed completed)) old
-look_carried handle completed old looks = λ given m none driven. record {
+look_carried handle completed old looks = λ given m driven. record {
   machine = m;
   replies = (subst (λ (p : Phase). Looks p old.active handle completed) driven.phase looks).made given m (checks_off old.options.non_determinism_checks) driven.sees;
   driven = driven;

@@ -5,7 +5,8 @@ pub mod Calling
 pub mod Reading
 pub mod Handling
 pub mod Telling
-pub mod Optioned
+pub mod Stopping
+pub mod Midway
 pub mod Awaiting
 pub mod Ending
 pub mod Running

@@ -1,5 +1,5 @@
 -- Reads of the object's state.
-use Rattle.std.proofs.Common.{◌≡◌, ℕ, Bool, true, false, inl, inr, List, [], length, Some, None, Result, Ok, Err, refl, sym, subst}
+use Rattle.std.proofs.Common.{◌≡◌, ℕ, Bool, true, false, inl, inr, List, [], length, Some, None, Result, Ok, Err, sym, subst}
 use Rattle.std.specs.declared.alloc.AllocError.{AllocError}
 use Rattle.journal_model.specs.History.{completions_of, ids_of}
 use Rattle.journal_model.specs.Notification.{Text}
@@ -30,49 +30,51 @@ use Rattle.vm_feeding.specs.Passed.{checks_off, MachineState}
 use Rattle.vm_outcomes.specs.Carrying.{Answers, Comes, CarriesOut}
 use Rattle.vm_outcomes.specs.Causes.{Unread, NoRead, Differs, Unanswered, NoNumber, TooLong, IsAsked, HasCause}
 use Rattle.vm_outcomes.specs.Driven.{IsDriven}
+use Rattle.vm_outcomes.specs.Stopping.{requests_passed_on}
 use Rattle.vm_outcomes.specs.Outcomes.{answered_as}
 use Rattle.vm_outcomes.specs.declared.outcome.CallOutcome.{CallOutcome}
 use Rattle.vm_outcomes.proofs.Answering.{no_signal, answered}
 use Rattle.vm_outcomes.proofs.Calling.{lacks_completions}
-use Rattle.vm_outcomes.proofs.Failing.{no_memory, told_last, mismatches, failed}
+use Rattle.vm_outcomes.proofs.Failing.{none_put, no_memory, told_last, mismatches, failed}
 use Rattle.vm_outcomes.proofs.Steps.{steps_of}
 
 -- a read is a command that was asked for
-at_read : (eager lazy : MessageType) (replaying known : Bool) (name : Text) (old new : Active) → IsAtRead eager lazy replaying known name old new → IsAsked old.journal new.journal
+at_read : (eager lazy : MessageType) (replaying known : Bool) (name : Text) (old new : Active) → IsAtRead eager lazy replaying known name old new → IsAsked [] old.journal new.journal
 at_read eager lazy true known name old new told = inr (type_in_replay eager lazy old.commands.items, ([], told))
 at_read eager lazy false known name old new told = inr (type_behind eager lazy known, (name, told))
 
 module _ (given : Invocation) (m : Machine) (call : Call) (old : MachineState) (driven : IsDriven given m old) (unrefused : refusal_of given.version call ≡ None)
-    (same : length (ids_of m.completions m.signals call) ≡ completions_of call) where
+    (same : length (ids_of m.completions m.signals call) ≡ completions_of call) (alone : requests_passed_on given m call ≡ []) where
   module _ {L E : Type 0} (lazy_difference : L → L → List ℕ) (eager_difference : E → E → List ℕ) (empty : FixedError) (violates : fixed_code empty ≡ protocol_violation) where
-    read_cause : (active : Active) (asked : IsAsked old.active.journal active.journal) (error : ReadError L E) (told : Result Error AllocError) → ReadFailsAs (checks_off old.options.non_determinism_checks) given m call old.active error
-        → ReadCauses lazy_difference eager_difference empty active.journal error told → HasCause given m call old active told
+    read_cause : (active : Active) (asked : IsAsked [] old.active.journal active.journal) (error : ReadError L E) (told : Result Error AllocError) → ReadFailsAs (checks_off old.options.non_determinism_checks) given m call old.active error
+        → ReadCauses lazy_difference eager_difference empty active.journal error told → HasCause given m call old (none_put given m call old) active told
     read_cause active asked (Number numbers.IdsExhausted) told fails causes = record {
       cause = NoNumber;
       when = (unrefused, lacks_completions given m call old.active driven.sees same fails);
+      at = tt;
       tells = told_last active.journal internal (Some no_id_text) told causes;
       leaves = asked;
     }
     read_cause active asked (Number numbers.OutOfMemory) told fails causes = no_memory given m call old active asked told causes
-    read_cause active asked (Replay (errors.OtherType error)) told fails causes = mismatches given m call old active asked (NoRead error) told fails.0 tt causes
-    read_cause active asked (Replay errors.Empty) told fails causes = mismatches given m call old active asked (Unanswered empty) told fails.0.0 (violates, fails.0.1) causes
+    read_cause active asked (Replay (errors.OtherType error)) told fails causes = mismatches given m call old active asked alone (NoRead error) told fails.0 tt causes
+    read_cause active asked (Replay errors.Empty) told fails causes = mismatches given m call old active asked alone (Unanswered empty) told fails.0.0 (violates, fails.0.1) causes
     read_cause active asked (Replay (errors.Lazy (unmatched.Unavailable error))) told fails causes = absurd fails.0
     read_cause active asked (Replay (errors.Lazy (unmatched.Decoding error))) told fails causes =
-        mismatches given m call old active asked (Unread error) told fails.0.0 fails.0.1 causes
+        mismatches given m call old active asked alone (Unread error) told fails.0.0 fails.0.1 causes
     read_cause active asked (Replay (errors.Lazy (unmatched.Mismatch error))) told fails causes =
-        mismatches given m call old active asked (Differs error.command_index (lazy_difference error.actual error.expected)) told fails.0 tt causes
+        mismatches given m call old active asked alone (Differs error.command_index (lazy_difference error.actual error.expected)) told fails.0 tt causes
     read_cause active asked (Replay (errors.Lazy unmatched.OutOfMemory)) told fails causes = no_memory given m call old active asked told causes
     read_cause active asked (Replay (errors.Eager (unmatched.Unavailable error))) told fails causes = absurd fails.0
     read_cause active asked (Replay (errors.Eager (unmatched.Decoding error))) told fails causes =
-        mismatches given m call old active asked (Unread error) told fails.0.0 fails.0.1 causes
+        mismatches given m call old active asked alone (Unread error) told fails.0.0 fails.0.1 causes
     read_cause active asked (Replay (errors.Eager (unmatched.Mismatch error))) told fails causes =
-        mismatches given m call old active asked (Differs error.command_index (eager_difference error.actual error.expected)) told fails.0 tt causes
+        mismatches given m call old active asked alone (Differs error.command_index (eager_difference error.actual error.expected)) told fails.0 tt causes
     read_cause active asked (Replay (errors.Eager unmatched.OutOfMemory)) told fails causes = no_memory given m call old active asked told causes
-    read_cause active asked (Encoding unsent.PayloadTooLong) told fails causes = record { cause = TooLong; when = (unrefused, inl fails.0); tells = told_last active.journal internal (Some too_long_text) told causes; leaves = asked }
+    read_cause active asked (Encoding unsent.PayloadTooLong) told fails causes = record { cause = TooLong; when = (unrefused, inl fails.0); at = tt; tells = told_last active.journal internal (Some too_long_text) told causes; leaves = asked }
     read_cause active asked (Encoding unsent.OutOfMemory) told fails causes = no_memory given m call old active asked told causes
     read_cause active asked OutOfMemory told fails causes = no_memory given m call old active asked told causes
 
-    pub read_settles : (made : Result ℕ (ReadError L E)) (active : Active) (asked : IsAsked old.active.journal active.journal) (result : Result ℕ Error) (new : MachineState)
+    pub read_settles : (made : Result ℕ (ReadError L E)) (active : Active) (asked : IsAsked [] old.active.journal active.journal) (result : Result ℕ Error) (new : MachineState)
         → Reads (checks_off old.options.non_determinism_checks) given m call old.active made active → SettlesRead lazy_difference eager_difference empty made (record old { active = active }) result new
         → Comes given m call old (answered_as (λ handle. Answer.Handle handle) result) new
     read_settles (Ok handle) active asked (Ok got) new reads settles =
@@ -98,7 +100,7 @@ module _ (given : Invocation) (m : Machine) (call : Call) (old : MachineState) (
 -- a read is carried out
 pub read_carried : {L E : Type 0} (kind : ReadKind L E) (call : Call) (known : Active → Bool) (name : Text) (old : MachineState) (result : Result ℕ Error) (new : MachineState) (outcome : CallOutcome)
     → outcome ≡ answered_as (λ handle. Answer.Handle handle) result → fixed_code kind.empty ≡ protocol_violation → ((version : ℕ) → refusal_of version call ≡ None)
-    → ((n signal : ℕ) → length (ids_of n signal call) ≡ completions_of call) → StepsOfRead kind call known name old result new → CarriesOut call old outcome new
-read_carried kind call known name old result new outcome is violates unrefused same steps = λ given m none driven.
+    → ((n signal : ℕ) → length (ids_of n signal call) ≡ completions_of call) → ((given : Invocation) (m : Machine) → requests_passed_on given m call ≡ []) → StepsOfRead kind call known name old result new → CarriesOut call old outcome new
+read_carried kind call known name old result new outcome is violates unrefused same alone steps = λ given m driven.
     subst (λ (o : CallOutcome). Comes given m call old o new) (sym is)
-    (read_comes given m call old driven (unrefused given.version) (same m.completions m.signals) kind known name violates result new steps)
+    (read_comes given m call old driven (unrefused given.version) (same m.completions m.signals) (alone given m) kind known name violates result new steps)

@@ -37,9 +37,10 @@ run_comes : (given : Invocation) (m : Machine) (name : Text) (old : MachineState
 run_comes given m name old driven error new answer is told ready =
     let comes : Fails given m (Call.Run name) old told.fails.answer new =
     failed given m (Call.Run name) old driven.phase told.cause old.active told.fails.answer new
-    (record { cause = NoRuns; when = (name, refl); tells = host_cause old.version old.active.journal error told.cause is told.causes; leaves = refl }) refl told.fails.fails in
+    (record { cause = NoRuns; when = (name, refl); at = tt; tells = host_cause old.version old.active.journal error told.cause is told.causes; leaves = refl }) refl told.fails.fails in
     record {
       told = comes.told;
+      far = comes.far;
       has_cause = comes.has_cause;
       fails = record {
         told = comes.fails.told;
@@ -55,7 +56,7 @@ run_comes given m name old driven error new answer is told ready =
 -- a run is not carried out
 pub run_carried : (name : Text) (old : MachineState) (error : Error) (new : MachineState) (answer : Error) → error ≡ no_runs_error → IsTold error None old new
     → IsReady new.phase (Err answer) → CarriesOut (Call.Run name) old (Failed answer) new
-run_carried name old error new answer is told ready = λ given m none driven. run_comes given m name old driven error new answer is told ready
+run_carried name old error new answer is told ready = λ given m driven. run_comes given m name old driven error new answer is told ready
 
 fails_ready : (version : Version) (asked : JournalMismatchRetryBehavior) (cause : Result Error AllocError) (old : Phase) (before : Written) (answer : Error) (new : Phase) (after : Written) (ready : Bool)
     → FailsBy version asked cause old before answer new after → IsReady new (Ok ready) → ⊥
@@ -109,4 +110,4 @@ active_ready answer wrong = cc
 
 -- calls are made of a machine that is driven
 pub unready_carried : (call : Call) (answer : Error) (old : MachineState) → IsReady old.phase (Err answer) → CarriesOut call old (Failed answer) old
-unready_carried call answer old is = λ given m none driven. active_ready answer (subst (λ (p : Phase). IsReady p (Err answer)) driven.phase is)
+unready_carried call answer old is = λ given m driven. active_ready answer (subst (λ (p : Phase). IsReady p (Err answer)) driven.phase is)

@@ -2,6 +2,7 @@
 use Rattle.std.proofs.Common.{◌≡◌, ◌⊎◌, ◌==◌, inl, inr, ℕ, Bool, true, false, if◌then◌else◌, List, ◌++◌, Result, Ok, Err, IfOk, refl, sym, ap, subst, ◌∙◌}
 use Rattle.std.specs.declared.alloc.AllocError.{AllocError}
 use Rattle.journal_model.specs.AwaitTree.{AwaitTree}
+use Rattle.journal_model.specs.declared.notification.NotificationId.{NotificationId}
 use Rattle.journal_model.specs.Run.{Invocation}
 use Rattle.journal_model.specs.Spelling.{awaiting_on_payload, frame_bytes}
 use Rattle.attempt_model.specs.Machine.{Machine}
@@ -19,19 +20,25 @@ use Rattle.vm_start.specs.Failing.{FailsNow, IsCopy, Tells, TellsCause}
 use Rattle.vm_start.specs.Failure.{failed_with, asked_behavior}
 use Rattle.vm_start.specs.declared.phase.Phase.{Phase}
 use Rattle.vm_types.specs.declared.options.JournalMismatchRetryBehavior.{JournalMismatchRetryBehavior}
-use Rattle.vm_waiting.specs.Suspending.{over_ids, TellsIf}
+use Rattle.vm_waiting.specs.Suspending.{TellsIf}
 use Rattle.vm_outcomes.specs.Outcomes.{awaited_as}
 use Rattle.vm_outcomes.specs.declared.outcome.CallOutcome.TheVariants.{Suspended, Failed}
 
 -- ---- frames
 
-frame_closes : (frame : List ℕ) (written : Written) (closed : Bool) → (if closed then written else record written { bytes = written.bytes ++ frame }).is_closed ≡ written.is_closed
-frame_closes frame written true = refl
-frame_closes frame written false = refl
+-- a frame that tells something is no command, and ends nothing
+record IsTold (old new : Written) : Type 0 where
+  pub closed : new.is_closed ≡ old.is_closed
+  pub version : new.version ≡ old.version
+  pub commands : new.has_commands ≡ old.has_commands
 
-frame_version : (frame : List ℕ) (written : Written) (closed : Bool) → (if closed then written else record written { bytes = written.bytes ++ frame }).version ≡ written.version
-frame_version frame written true = refl
-frame_version frame written false = refl
+told_where : (frame : List ℕ) (written : Written) (closed : Bool) → IsTold written (if closed then written else record written { bytes = written.bytes ++ frame; has_commands = written.has_commands })
+told_where frame written true = record { closed = refl; version = refl; commands = refl }
+told_where frame written false = record { closed = refl; version = refl; commands = refl }
+
+told_by : (told : Bool) (ids : AwaitTree NotificationId) (old new : Active) → TellsIf told ids old (Ok tt) new → IsTold old.output new.output
+told_by true ids old new tells = subst (λ (w : Written). IsTold old.output w) (sym tells.0.1) (told_where (frame_bytes messages.AwaitingOn (awaiting_on_payload ids false)) old.output old.output.is_closed)
+told_by false ids old new tells = subst (λ (a : Active). IsTold old.output a.output) (sym tells) (record { closed = refl; version = refl; commands = refl })
 
 -- what is told changes nothing of what is seen
 told_sees : (given : Invocation) (m : Machine) (old : Active) (output : Written) → Sees given old m → output.is_closed ≡ old.output.is_closed → Sees given (record old { output = output }) m
@@ -44,22 +51,32 @@ told_sees given m old output sees same = record {
   signals = sees.signals;
   opened = same ∙ sees.opened;
   children = sees.children;
+  made = sees.made;
 }
 
-pub tells_seen : (given : Invocation) (m : Machine) (told : Bool) (tree : AwaitTree ℕ) (old new : Active) → TellsIf told tree old (Ok tt) new → Sees given old m
-    → Sees given new m × (new.output.version ≡ old.output.version)
-tells_seen given m true tree old new tells sees =
-    let output = tells.0.1 in (
-      subst (λ (a : Active). Sees given a m) (sym tells.1) (told_sees given m old new.output sees (ap (λ (w : Written). w.is_closed) output ∙ frame_closes (frame_bytes messages.AwaitingOn (awaiting_on_payload (over_ids old tree) false)) old.output old.output.is_closed)),
-      ap (λ (w : Written). w.version) output ∙ frame_version (frame_bytes messages.AwaitingOn (awaiting_on_payload (over_ids old tree) false)) old.output old.output.is_closed,
-    )
-tells_seen given m false tree old new tells sees = (subst (λ (a : Active). Sees given a m) (sym tells) sees, ap (λ (a : Active). a.output.version) tells)
+told_alone : (told : Bool) (ids : AwaitTree NotificationId) (old new : Active) → TellsIf told ids old (Ok tt) new → new ≡ record old { output = new.output }
+told_alone true ids old new tells = tells.1
+told_alone false ids old new tells = tells ∙ ap (λ (a : Active). record old { output = a.output }) (sym tells)
+
+pub record IsSeenAs (given : Invocation) (m : Machine) (old new : Active) : Type 0 where
+  pub sees : Sees given new m
+  pub version : new.output.version ≡ old.output.version
+  pub commands : new.output.has_commands ≡ old.output.has_commands
+
+pub tells_seen : (given : Invocation) (m : Machine) (told : Bool) (ids : AwaitTree NotificationId) (old new : Active) → TellsIf told ids old (Ok tt) new → Sees given old m → IsSeenAs given m old new
+tells_seen given m told ids old new tells sees =
+    let is = told_by told ids old new tells in
+    record {
+      sees = subst (λ (a : Active). Sees given a m) (sym (told_alone told ids old new tells)) (told_sees given m old new.output sees is.closed);
+      version = is.version;
+      commands = is.commands;
+    }
 
 -- what could not be told is not written
-pub untold : (told : Bool) (tree : AwaitTree ℕ) (old new : Active) (error : EncodingError) → TellsIf told tree old (Err error) new → new ≡ old
-untold true tree old new PayloadTooLong tells = tells.1 ∙ ap (λ (w : Written). record old { output = w }) tells.0.1
-untold true tree old new OutOfMemory tells = tells.1 ∙ ap (λ (w : Written). record old { output = w }) tells.0
-untold false tree old new error tells = absurd tells
+pub untold : (told : Bool) (ids : AwaitTree NotificationId) (old new : Active) (error : EncodingError) → TellsIf told ids old (Err error) new → new ≡ old
+untold true ids old new PayloadTooLong tells = tells.1 ∙ ap (λ (w : Written). record old { output = w }) tells.0.1
+untold true ids old new OutOfMemory tells = tells.1 ∙ ap (λ (w : Written). record old { output = w }) tells.0
+untold false ids old new error tells = absurd tells
 
 -- ---- errors
 
@@ -89,7 +106,13 @@ unsuspended answer n other (inl is) = ap (λ (b : Bool). if b then Suspended els
 unsuspended answer n other (inr is) = ap (λ (b : Bool). if b then Suspended else Failed answer) (ap (λ (k : ℕ). k == suspended) is)
 
 -- a machine that fails with an error of another code was not suspended
-pub failed_as : (version : Version) (asked : JournalMismatchRetryBehavior) (cause : Result Error AllocError) (old : Written) (answer : Error) (phase : Phase) (new : Written) (n : ℕ) → (n == suspended) ≡ false
+failed_as : (version : Version) (asked : JournalMismatchRetryBehavior) (cause : Result Error AllocError) (old : Written) (answer : Error) (phase : Phase) (new : Written) (n : ℕ) → (n == suspended) ≡ false
     → IfOk cause (λ error. error.code.0 ≡ n) → FailsNow version asked cause old answer phase new → awaited_as (Err answer) ≡ Failed answer
 failed_as version asked cause old answer phase new n other is fails =
     unsuspended answer n other (copy_one fails.told answer n (cause_one version asked cause old fails.told fails.before n is fails.tells) fails.answers)
+
+-- nor was one that fails with an error of any such code
+pub failed_unsuspended : (version : Version) (asked : JournalMismatchRetryBehavior) (cause : Result Error AllocError) (old : Written) (answer : Error) (phase : Phase) (new : Written)
+    → IfOk cause (λ error. (error.code.0 == suspended) ≡ false) → FailsNow version asked cause old answer phase new → awaited_as (Err answer) ≡ Failed answer
+failed_unsuspended version asked (Ok error) old answer phase new other fails = failed_as version asked (Ok error) old answer phase new error.code.0 other refl fails
+failed_unsuspended version asked (Err refused) old answer phase new other fails = failed_as version asked (Err refused) old answer phase new internal refl tt fails

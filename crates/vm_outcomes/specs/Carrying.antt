@@ -1,14 +1,13 @@
 -- What a handler's call comes to, in the words of the abstract machine of its invocation.
-use Rattle.std.specs.Prelude.{◌≡◌, ℕ, true, false, List, [], ◌++◌, codes, Option, Some, None, Result, Ok}
+use Rattle.std.specs.Prelude.{◌≡◌, true, false, List, [], ◌++◌, codes, Option, Some, None, Result, Ok}
 use Rattle.std.specs.List.{AllByRecursion}
 use Rattle.std.specs.declared.alloc.AllocError.{AllocError}
-use Rattle.journal_model.specs.AwaitTree.{AwaitTree}
 use Rattle.journal_model.specs.Request.{Request}
 use Rattle.journal_model.specs.Run.{Invocation}
 use Rattle.journal_model.specs.Spelling.{frame_bytes}
 use Rattle.journal_model.specs.declared.call.Answer.{Answer}
 use Rattle.journal_model.specs.declared.call.Call.{Call}
-use Rattle.attempt_model.specs.Machine.{Machine, Answered, AwaitsTree, Finished}
+use Rattle.attempt_model.specs.Machine.{Machine, Answered, Finished}
 use Rattle.protocol_errors.specs.declared.error.Error.{Error}
 use Rattle.protocol_types.specs.declared.message_type.MessageType.TheVariants as messages
 use Rattle.vm_calls.specs.Active.{Sees, Fits, writes_frames}
@@ -19,9 +18,12 @@ use Rattle.vm_start.specs.Phases.{closed_error}
 use Rattle.vm_start.specs.declared.phase.Phase.{Phase}
 use Rattle.vm_start.specs.declared.phase.Phase.TheVariants as phases
 use Rattle.vm_waiting.specs.Suspending.{tells_awaiting, TellsIf, IsSuspended}
+use Rattle.vm_waiting.specs.WaitsFor.{awaited_ids, waits_for_any, waits_as}
+use Rattle.vm_waiting.specs.declared.waits_for.WaitsFor.{WaitsFor}
 use Rattle.vm_feeding.specs.Passed.{MachineState}
 use Rattle.vm_outcomes.specs.Causes.{NumbersLeft, HasCause}
-use Rattle.vm_outcomes.specs.Driven.{IsDriven, TracksNone, reply_of}
+use Rattle.vm_outcomes.specs.Driven.{IsDriven, reply_of}
+use Rattle.vm_outcomes.specs.Stopping.{HasPut}
 use Rattle.vm_outcomes.specs.declared.outcome.CallOutcome.{CallOutcome}
 use Rattle.vm_outcomes.specs.declared.outcome.CallOutcome.TheVariants as outcomes
 
@@ -40,33 +42,33 @@ module _ (given : Invocation) (m : Machine) (call : Call) (old : MachineState) w
     pub numbers : NumbersLeft m call
     pub others : new ≡ record old { active = new.active }
 
-  -- It is an await for which nothing is left to look at, and more input can come: what is left of its tree is told, where that is to
-  -- be told, and no request is written.
+  -- It is an await for which nothing is left to look at, and more input can come: what it waits for is told, where that is to be told, and
+  -- no request is written. It waits for what is left of its tree, or, where a cancellation waits, for a child's invocation id.
   pub record Waits (new : MachineState) : Type 0 where
     pub is_open : old.is_input_closed ≡ false
-    pub tree : AwaitTree ℕ
+    pub waits : WaitsFor
     pub machine : Machine
-    pub replies : reply_of old given m call ≡ AwaitsTree tree machine
+    pub replies : reply_of old given m call ≡ waits_as waits machine
     pub driven : IsDriven given machine new
     pub written : machine.written ≡ m.written
     -- before it is told
     pub resolved : Active
     pub unwritten : resolved.output ≡ old.active.output
-    pub tells : TellsIf (tells_awaiting old.version old.options.awaiting_on_policy false tree) tree resolved (Ok tt) new.active
+    pub tells : TellsIf (tells_awaiting old.version old.options.awaiting_on_policy false (waits_for_any waits)) (awaited_ids resolved waits) resolved (Ok tt) new.active
     pub others : new ≡ record old { active = new.active }
 
-  -- It is such an await, and no more input can come: what is left of its tree is written as the suspension, behind which nothing is.
+  -- It is such an await, and no more input can come: what it waits for is written as the suspension, behind which nothing is.
   pub record Suspends (new : MachineState) : Type 0 where
     pub is_closed : old.is_input_closed ≡ true
-    pub tree : AwaitTree ℕ
+    pub waits : WaitsFor
     pub machine : Machine
-    pub replies : reply_of old given m call ≡ AwaitsTree tree machine
+    pub replies : reply_of old given m call ≡ waits_as waits machine
     pub written : machine.written ≡ m.written
     -- before it is written
     pub resolved : Active
     pub sees : Sees given resolved machine
     pub unwritten : resolved.output ≡ old.active.output
-    pub suspended : IsSuspended tree resolved new.active
+    pub suspended : IsSuspended (awaited_ids resolved waits) resolved new.active
     pub others : new ≡ record old { phase = phases.Closed; active = new.active }
 
   -- It is the end, behind all that was recorded: its frame is written, behind which nothing is.
@@ -75,11 +77,13 @@ module _ (given : Invocation) (m : Machine) (call : Call) (old : MachineState) w
     pub output : new.active.output ≡ record (with_frame (frame_bytes messages.End []) old.active.output) { is_closed = true }
     pub others : new ≡ record old { phase = phases.Closed; active = record old.active { output = new.active.output } }
 
-  -- The machine fails, by a cause that there is: the one frame of an error is written, or none, and nothing behind it.
+  -- The machine fails, by a cause that there is. Of the requests by which an await passes a cancellation on the first may have been put:
+  -- exactly the frames of those are written by which it has written more. Behind them is the one frame of an error, or none, and nothing more.
   pub record Fails (answer : Error) (new : MachineState) : Type 0 where
     pub told : Result Error AllocError
-    pub has_cause : HasCause given m call old new.active told
-    pub fails : FailsNow old.version old.options.journal_mismatch_retry_behavior told old.active.output answer new.phase new.active.output
+    pub far : HasPut given m call old
+    pub has_cause : HasCause given m call old far new.active told
+    pub fails : FailsNow old.version old.options.journal_mismatch_retry_behavior told (writes_frames far.more old.active.output) answer new.phase new.active.output
     pub others : new ≡ record old { phase = new.phase; active = new.active }
 
   abbrev pub Comes : CallOutcome → (new : MachineState) → Type 0
@@ -91,7 +95,7 @@ module _ (given : Invocation) (m : Machine) (call : Call) (old : MachineState) w
 
 -- What a call comes to of a machine that stands to an abstract machine, whichever that is.
 abbrev pub CarriesOut : Call → (old : MachineState) → CallOutcome → (new : MachineState) → Type 0
-CarriesOut call old outcome new = (given : Invocation) (m : Machine) → TracksNone given m call → IsDriven given m old → Comes given m call old outcome new
+CarriesOut call old outcome new = (given : Invocation) (m : Machine) → IsDriven given m old → Comes given m call old outcome new
 
 -- A machine that has failed answers what it has failed with, and stays as it is.
 abbrev pub StaysFailed : (kept : Option Error) → (old : MachineState) → CallOutcome → (new : MachineState) → Type 0

@@ -1,18 +1,18 @@
 -- Why a handler's call is not carried out, and what the machine fails with then.
-use Rattle.std.specs.Prelude.{◌≡◌, ◌≤◌, ◌<◌, ◌+◌, ◌^◌, ◌⊎◌, ℕ, ℤ, Bool, true, false, List, [], ◌++◌, length, codes, Option, Some, None, Result, IfOk}
+use Rattle.std.specs.Prelude.{◌≡◌, ◌≤◌, ◌<◌, ◌+◌, ◌^◌, ◌⊎◌, ℕ, ℤ, Bool, true, false, List, [], ◌∷◌, ◌++◌, length, codes, Option, Some, None, Result, IfOk}
 use Rattle.std.specs.declared.alloc.AllocError.{AllocError}
 use Rattle.journal_model.specs.AwaitTree.{AwaitTree}
 use Rattle.journal_model.specs.History.{completions_of, signals_of, ids_of}
 use Rattle.journal_model.specs.Notification.{Bytes, Text}
 use Rattle.journal_model.specs.Refusal.{refusal_of}
+use Rattle.journal_model.specs.Request.{Request}
 use Rattle.journal_model.specs.Run.{Invocation}
-use Rattle.journal_model.specs.Spelling.{awaiting_on_payload}
-use Rattle.journal_model.specs.Waiting.{only_leaves}
+use Rattle.journal_model.specs.Spelling.{awaiting_on_payload, request_payload}
 use Rattle.journal_model.specs.declared.call.Call.{Call}
 use Rattle.journal_model.specs.declared.notification.NotificationId.{NotificationId}
-use Rattle.attempt_model.specs.Machine.{Machine, AwaitsTree, FailedBy, Fault, Mismatch, UncompletedInReplay, EndInReplay, KeysNotText, ChildNotId, Refused, next_slot}
+use Rattle.attempt_model.specs.Machine.{Machine, FailedBy, Fault, Mismatch, UncompletedInReplay, EndInReplay, KeysNotText, ChildNotId, Refused, next_slot}
 use Rattle.attempt_model.specs.Requests.{Commands}
-use Rattle.attempt_model.specs.Results.{Slots, slot_of}
+use Rattle.attempt_model.specs.Results.{Slots}
 use Rattle.protocol_errors.specs.Code.{internal, journal_mismatch, protocol_violation, unsupported_feature}
 use Rattle.protocol_errors.specs.Error.{plain_error, decoding_code}
 use Rattle.protocol_errors.specs.Fixed.{fixed_code, fixed_text}
@@ -35,10 +35,15 @@ use Rattle.vm_start.specs.declared.phase.Phase.TheVariants as phases
 use Rattle.vm_progress.specs.Uncompleted.{started_id, TellsUncompleted}
 use Rattle.vm_refusals.specs.Refusals.{refusal_meant, refusal_code, text_of_refusal}
 use Rattle.vm_refusals.specs.declared.refusal.CallRefusal.{CallRefusal}
+use Rattle.vm_machine.specs.PassedMachine.{child_not_id_error}
 use Rattle.vm_types.specs.declared.options.JournalReplay.TheVariants.{Disabled}
-use Rattle.vm_waiting.specs.Suspending.{over_ids, suspension_payload_in}
+use Rattle.vm_waiting.specs.Cancelling.{after_cancels}
+use Rattle.vm_waiting.specs.Suspending.{suspension_payload_in}
+use Rattle.vm_waiting.specs.WaitsFor.{ids_over, awaited_ids, waits_as}
+use Rattle.vm_waiting.specs.declared.waits_for.WaitsFor.{WaitsFor}
 use Rattle.vm_feeding.specs.Passed.{place_text, checks_off, MachineState, Tells, TellsLast}
 use Rattle.vm_outcomes.specs.Driven.{reply_of}
+use Rattle.vm_outcomes.specs.Stopping.{HasPut, IsUnmatchedNext}
 
 -- why a call is not carried out
 pub data Cause : Type 0 where
@@ -72,21 +77,35 @@ waiting_payload false version ids = awaiting_on_payload ids false
 module _ (given : Invocation) (m : Machine) (call : Call) (vm : MachineState) where
   -- the await waits, and what it would write of that is too long
   pub record IsLongWait : Type 0 where
-    pub tree : AwaitTree ℕ
+    pub waits : WaitsFor
     pub machine : Machine
-    pub replies : reply_of vm given m call ≡ AwaitsTree tree machine
+    pub replies : reply_of vm given m call ≡ waits_as waits machine
     pub resolved : Active
     pub sees : Sees given resolved machine
-    pub long : 2 ^ 32 ≤ length (waiting_payload vm.is_input_closed vm.version (over_ids resolved tree))
+    pub long : 2 ^ 32 ≤ length (waiting_payload vm.is_input_closed vm.version (awaited_ids resolved waits))
 
-  -- when it fails so
-  abbrev pub FailsWhen : Cause → Type 0
-  FailsWhen (ByFault fault) = reply_of vm given m call ≡ FailedBy fault
-  FailsWhen NoNumber = (refusal_of given.version call ≡ None) × LacksNumber m call
-  FailsWhen TooLong = (refusal_of given.version call ≡ None) × (((m.left ≡ []) × IsLong (checks_off vm.options.non_determinism_checks) given m call) ⊎ IsLongWait)
-  FailsWhen NoReplay = (call ≡ Call.Awakeable) × (vm.options.journal_replay ≡ Disabled)
-  FailsWhen NoRuns = (name : Text) × (call ≡ Call.Run name)
-  FailsWhen NoMemory = Unit {0}
+  -- it passes a cancellation on, and the next request of that would be written, and is too long
+  pub record IsLongCancel (far : HasPut given m call vm) : Type 0 where
+    pub next : Request
+    pub rest : List Request
+    pub behind : far.behind ≡ next ∷ rest
+    pub left : far.put.left ≡ []
+    pub long : 2 ^ 32 ≤ length (request_payload next)
+
+  -- when it fails so, where it has come so far with its requests
+  abbrev pub FailsWhen : HasPut given m call vm → Cause → Type 0
+  FailsWhen far (ByFault fault) = reply_of vm given m call ≡ FailedBy fault
+  FailsWhen far NoNumber = (refusal_of given.version call ≡ None) × LacksNumber m call
+  FailsWhen far TooLong =
+      (refusal_of given.version call ≡ None) × (((m.left ≡ []) × IsLong (checks_off vm.options.non_determinism_checks) given m call) ⊎ (IsLongWait ⊎ IsLongCancel far))
+  FailsWhen far NoReplay = (call ≡ Call.Awakeable) × (vm.options.journal_replay ≡ Disabled)
+  FailsWhen far NoRuns = (name : Text) × (call ≡ Call.Run name)
+  FailsWhen far NoMemory = Unit {0}
+
+  -- the request is the next one that is not what is recorded next
+  abbrev pub FailsAt : HasPut given m call vm → Cause → Type 0
+  FailsAt far (ByFault Mismatch) = IsUnmatchedNext given m call vm far.behind far.put
+  FailsAt far _ = Unit {0}
 
 -- ---- errors
 
@@ -139,12 +158,11 @@ unmatched_text (Unanswered empty) = fixed_text empty
 module _ (version : Version) (invocation : Bytes) (left : Commands) (journal : JournalCounts) (slots : Slots) (call : Call) where
   abbrev pub FaultTells : Fault → Error → Type 0
   FaultTells Mismatch told = (why : Unmatched) × (IsUnmatched left why × TellsLast journal (unmatched_code why) (Some (unmatched_text why)) told)
-  -- the ids that are waited for are those of handles of a tree
-  FaultTells UncompletedInReplay told = (tree : AwaitTree ℕ) × TellsUncompleted invocation (only_leaves (slot_of slots) tree) told
+  -- the ids that are waited for are those of handles of a tree, or the one that brings a child's invocation id
+  FaultTells UncompletedInReplay told = (waits : WaitsFor) × TellsUncompleted invocation (ids_over slots waits) told
   FaultTells EndInReplay told = told ≡ unexpected_error phases.Active true (codes "end invocation")
   FaultTells KeysNotText told = told ≡ plain_error internal (codes "Cannot convert an eager state key into UTF-8 String")
-  -- no child is tracked
-  FaultTells ChildNotId told = ⊥
+  FaultTells ChildNotId told = told ≡ child_not_id_error
   FaultTells (Refused refusal) told =
       (refused : CallRefusal) × ((refusal_meant refused ≡ refusal) × Tells (refusal_code refused) (Some (text_of_refusal refused version (moment_event call))) told)
 
@@ -159,9 +177,9 @@ module _ (version : Version) (invocation : Bytes) (left : Commands) (journal : J
 
 -- ---- what is left
 
--- a command was asked for, or none was
-abbrev pub IsAsked : (old new : JournalCounts) → Type 0
-IsAsked old new = TellsSame old new ⊎ ((ty : MessageType) × ((name : Text) × IsAtCommand ty name old new))
+-- these requests were put, and a command was asked for behind them, or none was
+abbrev pub IsAsked : (front : List Request) → (old new : JournalCounts) → Type 0
+IsAsked front old new = TellsSame (after_cancels front old) new ⊎ ((ty : MessageType) × ((name : Text) × IsAtCommand ty name (after_cancels front old) new))
 
 -- but for what is written nothing has changed
 abbrev pub IsAsBefore : (old new : Active) → Type 0
@@ -171,27 +189,29 @@ IsAsBefore old new = new ≡ record old { output = new.output }
 abbrev pub IsLookedAt : (old new : Active) → Type 0
 IsLookedAt old new = new ≡ record old { results = new.results; output = new.output }
 
-abbrev pub LeavesFault : Fault → (old new : Active) → Type 0
-LeavesFault Mismatch old new = IsAsked old.journal new.journal
-LeavesFault UncompletedInReplay old new = IsLookedAt old new
-LeavesFault EndInReplay old new = IsAsBefore old new
-LeavesFault KeysNotText old new = IsLookedAt old new
--- no child is tracked
-LeavesFault ChildNotId old new = ⊥
-LeavesFault (Refused refusal) old new = IsAsBefore old new
+abbrev pub LeavesFault : Fault → (front : List Request) → (old new : Active) → Type 0
+LeavesFault Mismatch front old new = IsAsked front old.journal new.journal
+LeavesFault UncompletedInReplay front old new = IsLookedAt old new
+LeavesFault EndInReplay front old new = IsAsBefore old new
+LeavesFault KeysNotText front old new = IsLookedAt old new
+LeavesFault ChildNotId front old new = IsLookedAt old new
+LeavesFault (Refused refusal) front old new = IsAsBefore old new
 
--- What is left of what is kept for calls. Where a number was taken, a record was matched or a frame was made the commands alone are told.
-abbrev pub Leaves : Cause → (old new : Active) → Type 0
-Leaves (ByFault fault) old new = LeavesFault fault old new
-Leaves NoNumber old new = IsAsked old.journal new.journal
-Leaves TooLong old new = IsAsked old.journal new.journal
-Leaves NoReplay old new = IsAsBefore old new
-Leaves NoRuns old new = IsAsBefore old new
-Leaves NoMemory old new = IsAsked old.journal new.journal
+-- What is left of what is kept for calls, where these requests were put. Where a number was taken, a record was matched or a frame was
+-- made the commands alone are told.
+abbrev pub Leaves : Cause → (front : List Request) → (old new : Active) → Type 0
+Leaves (ByFault fault) front old new = LeavesFault fault front old new
+Leaves NoNumber front old new = IsAsked front old.journal new.journal
+Leaves TooLong front old new = IsAsked front old.journal new.journal
+Leaves NoReplay front old new = IsAsBefore old new
+Leaves NoRuns front old new = IsAsBefore old new
+Leaves NoMemory front old new = IsAsked front old.journal new.journal
 
--- a cause that there is, with the error that it is told by, or that memory was refused for one; `after` is kept for calls then
-pub record HasCause (given : Invocation) (m : Machine) (call : Call) (vm : MachineState) (after : Active) (told : Result Error AllocError) : Type 0 where
+-- A cause that there is where the call has come so far with its requests, with the error that it is told by, or that memory was refused for
+-- one; `after` is kept for calls then.
+pub record HasCause (given : Invocation) (m : Machine) (call : Call) (vm : MachineState) (far : HasPut given m call vm) (after : Active) (told : Result Error AllocError) : Type 0 where
   pub cause : Cause
-  pub when : FailsWhen given m call vm cause
-  pub tells : IfOk told (λ error. CauseTells vm.version (started_id vm.start) m.left after.journal (slots_of after.results) call cause error)
-  pub leaves : Leaves cause vm.active after
+  pub when : FailsWhen given m call vm far cause
+  pub at : FailsAt given m call vm far cause
+  pub tells : IfOk told (λ error. CauseTells vm.version (started_id vm.start) far.put.left after.journal (slots_of after.results) call cause error)
+  pub leaves : Leaves cause far.front vm.active after

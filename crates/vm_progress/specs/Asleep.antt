@@ -1,6 +1,5 @@
 -- How an await goes on that waits behind the journal: it fails, it is suspended, or it stays for more input.
-use Rattle.std.specs.Prelude.{◌≡◌, ◌<◌, ℕ, true, false, length, [], Some, Result, Ok, Err}
-use Rattle.journal_model.specs.AwaitTree.{AwaitTree}
+use Rattle.std.specs.Prelude.{◌≡◌, ◌<◌, true, false, length, [], Some, Result, Ok, Err}
 use Rattle.protocol_errors.specs.Code.{internal}
 use Rattle.protocol_errors.specs.Error.{plain_error}
 use Rattle.protocol_errors.specs.Fixed.{fixed_code, fixed_text}
@@ -19,6 +18,8 @@ use Rattle.vm_machine.specs.declared.machine_state.MachineState.{MachineState}
 use Rattle.vm_types.specs.declared.answers.AwaitResponse.{AwaitResponse}
 use Rattle.vm_types.specs.declared.answers.AwaitResponse.TheVariants.{WaitingExternalProgress}
 use Rattle.vm_waiting.specs.Suspending.{Suspends, tells_awaiting, TellsIf}
+use Rattle.vm_waiting.specs.WaitsFor.{awaited_ids, waits_for_any}
+use Rattle.vm_waiting.specs.declared.waits_for.WaitsFor.{WaitsFor}
 use Rattle.vm_progress.specs.declared.asleep.Sleep.{Sleep}
 use Rattle.vm_progress.specs.declared.asleep.Sleep.TheVariants as sleeps
 
@@ -56,10 +57,10 @@ SettlesStay (Err error) old (Ok response) new = ⊥
 SettlesStay (Err error) old (Err answer) new = FailsUnwritten error old answer new
 
 -- it is told what is waited for, where that is to be told; no run is executed
-pub record Stays (left : AwaitTree ℕ) (old : MachineState) (result : Result AwaitResponse Error) (new : MachineState) : Type 0 where
+pub record Stays (waits : WaitsFor) (old : MachineState) (result : Result AwaitResponse Error) (new : MachineState) : Type 0 where
   pub told : Result (Unit {0}) EncodingError
   pub active : Active
-  pub tells : TellsIf (tells_awaiting old.version old.options.awaiting_on_policy false left) left old.active told active
+  pub tells : TellsIf (tells_awaiting old.version old.options.awaiting_on_policy false (waits_for_any waits)) (awaited_ids old.active waits) old.active told active
   pub settles : SettlesStay told (record old { active = active }) result new
 
 -- ---- it is suspended
@@ -69,23 +70,23 @@ abbrev pub ClosesAs : (written : Result (Unit {0}) EncodingError) → (old : Mac
 ClosesAs (Ok done) old answer new = (answer ≡ fixed_error Suspended) × (new ≡ record old { phase = Closed })
 ClosesAs (Err error) old answer new = FailsUnwritten error old answer new
 
-pub record SuspendsWith (left : AwaitTree ℕ) (old : MachineState) (answer : Error) (new : MachineState) : Type 0 where
+pub record SuspendsWith (waits : WaitsFor) (old : MachineState) (answer : Error) (new : MachineState) : Type 0 where
   pub written : Result (Unit {0}) EncodingError
   pub active : Active
-  pub suspends : Suspends left old.active written active
+  pub suspends : Suspends (awaited_ids old.active waits) old.active written active
   pub closes : ClosesAs written (record old { active = active }) answer new
 
 -- ---- all three
 
-abbrev pub SleepsAs : Sleep → (left : AwaitTree ℕ) → (old : MachineState) → Result AwaitResponse Error → (new : MachineState) → Type 0
-SleepsAs sleeps.Stays left old result new = Stays left old result new
-SleepsAs sleeps.Unanswered left old (Ok response) new = ⊥
-SleepsAs sleeps.Unanswered left old (Err answer) new = FailsUnanswered old answer new
-SleepsAs sleeps.Suspends left old (Ok response) new = ⊥
-SleepsAs sleeps.Suspends left old (Err answer) new = SuspendsWith left old answer new
+abbrev pub SleepsAs : Sleep → WaitsFor → (old : MachineState) → Result AwaitResponse Error → (new : MachineState) → Type 0
+SleepsAs sleeps.Stays waits old result new = Stays waits old result new
+SleepsAs sleeps.Unanswered waits old (Ok response) new = ⊥
+SleepsAs sleeps.Unanswered waits old (Err answer) new = FailsUnanswered old answer new
+SleepsAs sleeps.Suspends waits old (Ok response) new = ⊥
+SleepsAs sleeps.Suspends waits old (Err answer) new = SuspendsWith waits old answer new
 
 -- it goes on as it is said, in the one case that is there
-pub record Sleeps (left : AwaitTree ℕ) (old : MachineState) (result : Result AwaitResponse Error) (new : MachineState) : Type 0 where
+pub record Sleeps (waits : WaitsFor) (old : MachineState) (result : Result AwaitResponse Error) (new : MachineState) : Type 0 where
   pub sleep : Sleep
   pub is : SleepIs sleep old
-  pub goes_on : SleepsAs sleep left old result new
+  pub goes_on : SleepsAs sleep waits old result new

@@ -20,7 +20,8 @@ use Rattle.protocol_stream.specs.Records.{future_record}
 use Rattle.vm_machine.specs.PassedMachine.{Tells}
 use Rattle.vm_machine.specs.Steps.{FailsBy}
 use Rattle.vm_machine.specs.declared.machine_state.MachineState.{MachineState}
-use Rattle.vm_waiting.specs.Suspending.{over_ids}
+use Rattle.vm_waiting.specs.WaitsFor.{awaited_ids}
+use Rattle.vm_waiting.specs.declared.waits_for.WaitsFor.{WaitsFor}
 pub use Rattle.vm_start.specs.Starts.{started_id}
 
 -- ---- ids
@@ -55,6 +56,6 @@ pub record TellsUncompleted (invocation : Bytes) (tree : AwaitTree NotificationI
   pub names : NamesIn invocation (lists_over tree) error
   pub tells : Tells journal_mismatch (Some (uncompleted_text error)) told
 
--- the machine fails with the ids that this tree waits for; a handle that stands for nothing is left out
-abbrev pub IsUncompleted : AwaitTree ℕ → (old : MachineState) → Error → (new : MachineState) → Type 0
-IsUncompleted left old answer new = FailsBy (TellsUncompleted (started_id old.start) (over_ids old.active left)) old answer new
+-- the machine fails with the ids that are waited for; a handle that stands for nothing is left out
+abbrev pub IsUncompleted : WaitsFor → (old : MachineState) → Error → (new : MachineState) → Type 0
+IsUncompleted waits old answer new = FailsBy (TellsUncompleted (started_id old.start) (awaited_ids old.active waits)) old answer new

@@ -1,9 +1,7 @@
 // An await that waits behind the journal.
 ghost use Rattle.std.specs.Prelude.{◌≡◌};
-ghost use Rattle.journal_model.specs.Future.{tree_of};
 ghost use Rattle.vm_progress.specs.Asleep.{SleepIs, LacksMemory, FailsUnwritten, FailsUnanswered, SettlesStay, Stays, ClosesAs, SuspendsWith, SleepsAs, Sleeps};
 
-use journal_model::UnresolvedFuture;
 use protocol_errors::{Error, INPUT_CLOSED_WHILE_WAITING_EPHEMERAL_NOTIFICATIONS, SUSPENDED};
 use protocol_stream::EncodingError;
 use std::alloc::AllocError;
@@ -11,7 +9,7 @@ use std::mem::replace;
 use vm_machine::{MachineState, about_nothing};
 use vm_start::Phase;
 use vm_types::AwaitResponse;
-use vm_waiting::{suspend, tell_awaiting_on};
+use vm_waiting::{WaitsFor, suspend, tell_awaiting_on};
 
 /// How an await goes on that waits.
 #[derive(Clone, Copy, Debug, PartialEq, Eq)]
@@ -80,8 +78,8 @@ fn settle_stay(
 }
 
 // Waits for more input. No run is executed.
-fn stay_with(vm: &mut MachineState, left: UnresolvedFuture) -> Result<AwaitResponse, Error>
-    ensures { Stays (tree_of left) vm.old result vm.new }
+fn stay_with(vm: &mut MachineState, waits: WaitsFor) -> Result<AwaitResponse, Error>
+    ensures { Stays waits vm.old result vm.new }
 {
     let told = tell_awaiting_on(
         &mut vm.active,
@@ -89,7 +87,7 @@ fn stay_with(vm: &mut MachineState, left: UnresolvedFuture) -> Result<AwaitRespo
         vm.version,
         vm.options.awaiting_on_policy,
         false,
-        left,
+        waits,
     );
     settle_stay(vm, told)
 }
@@ -108,26 +106,23 @@ fn close_as(vm: &mut MachineState, written: Result<(), EncodingError>) -> Error
 }
 
 // Suspends the attempt.
-fn suspend_with(vm: &mut MachineState, left: UnresolvedFuture) -> Error
-    ensures { SuspendsWith (tree_of left) vm.old result vm.new }
+fn suspend_with(vm: &mut MachineState, waits: WaitsFor) -> Error
+    ensures { SuspendsWith waits vm.old result vm.new }
 {
-    let written = suspend(&mut vm.active, vm.alloc, left);
+    let written = suspend(&mut vm.active, vm.alloc, waits);
     close_as(vm, written)
 }
 
 /// Goes on with an await that waits for this.
-pub(crate) fn sleep_with(
-    vm: &mut MachineState,
-    left: UnresolvedFuture,
-) -> Result<AwaitResponse, Error>
-    ensures { Sleeps (tree_of left) vm.old result vm.new }
+pub(crate) fn sleep_with(vm: &mut MachineState, waits: WaitsFor) -> Result<AwaitResponse, Error>
+    ensures { Sleeps waits vm.old result vm.new }
 {
     match sleep_of(vm) {
-        Sleep::Stays => stay_with(vm, left),
+        Sleep::Stays => stay_with(vm, waits),
         Sleep::Unanswered => {
-            drop(left);
+            drop(waits);
             Err(fail_unanswered(vm))
         }
-        Sleep::Suspends => Err(suspend_with(vm, left)),
+        Sleep::Suspends => Err(suspend_with(vm, waits)),
     }
 }

@@ -8,7 +8,7 @@ use crate::asleep::{fail_for_memory, sleep_with};
 use crate::uncompleted::fail_uncompleted;
 use journal_model::UnresolvedFuture;
 use protocol_errors::Error;
-use vm_machine::{Admission, MachineState};
+use vm_machine::{Admission, CallError, MachineState, checks_off, child_not_id};
 use vm_start::Phase;
 use vm_types::{AwaitResponse, EphemeralCompletionId};
 use vm_waiting::{AwaitError, Awaited, await_future};
@@ -41,8 +41,10 @@ fn go_on(
     match awaited {
         Ok(Awaited::AnyCompleted) => Ok(AwaitResponse::AnyCompleted),
         Ok(Awaited::Cancelled) => Ok(AwaitResponse::CancelSignalReceived),
-        Ok(Awaited::Asleep(left)) => sleep_with(vm, left),
-        Err(AwaitError::UncompletedInReplay(left)) => Err(fail_uncompleted(vm, left)),
+        Ok(Awaited::Asleep(waits)) => sleep_with(vm, waits),
+        Err(AwaitError::UncompletedInReplay(waits)) => Err(fail_uncompleted(vm, waits)),
+        Err(AwaitError::ChildNotId) => Err(vm.fail(Ok(child_not_id()))),
+        Err(AwaitError::Put(error)) => vm.settle(Err(CallError::Put(error))),
         Err(AwaitError::OutOfMemory) => Err(fail_for_memory(vm)),
     }
 }
@@ -51,10 +53,12 @@ fn go_on(
 fn await_admitted(vm: &mut MachineState, future: UnresolvedFuture) -> Result<AwaitResponse, Error>
     ensures { IsAwaited (tree_of future) vm.old result vm.new }
 {
+    let ignoring = checks_off(vm.options.non_determinism_checks);
     let awaited = await_future(
         &mut vm.active,
         vm.alloc,
         vm.options.implicit_cancellation,
+        ignoring,
         future,
     );
     go_on(vm, awaited)
@@ -81,6 +85,10 @@ fn await_unread(vm: &mut MachineState, future: UnresolvedFuture) -> Result<Await
 ///
 /// Where the answer of an ephemeral read can be taken that is told first, and nothing is looked at. An attempt that is suspended
 /// answers `SUSPENDED`, and is closed: it has not failed.
+///
+/// Where a cancellation ends it, each invocation that was called, and is tracked, is cancelled by a command before that is answered. The
+/// first of which the invocation id is unknown is waited for alone, in the same way. Where one of the commands is not what is recorded,
+/// or cannot be written, the machine fails, and those before it stay.
 pub fn do_await(vm: &mut MachineState, future: UnresolvedFuture) -> Result<AwaitResponse, Error>
     ensures { DoesAwait (tree_of future) vm.old result vm.new }
 {

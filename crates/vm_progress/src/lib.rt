@@ -1,8 +1,8 @@
 //! The reads of the object's state, an await, and the end, of a machine in any phase.
 //!
 //! A read is made of the attempt and answered, or the machine fails. An await is answered by what has come, fails where the journal
-//! goes on behind it, or waits: then it suspends the attempt, or tells what it waits for, by whether more input can come. An end is
-//! written once, and nothing behind it.
+//! goes on behind it, or waits: then it suspends the attempt, or tells what it waits for, by whether more input can come. A
+//! cancellation ends it once it is passed on to the invocations that were called. An end is written once, and nothing behind it.
 #![tactic(auto)]
 
 mod asleep;

@@ -1,21 +1,19 @@
-// The ids that what is left of an await waits for, and what is known of them.
+// The ids that an await waits for, and what is known of them.
 ghost use Rattle.std.specs.Prelude.{◌≡◌, ◌++◌, map, IfOk, OnOk};
 ghost use Rattle.std.specs.List.{flat_map};
 ghost use Rattle.journal_model.specs.Awakeable.{awakeable_id};
-ghost use Rattle.journal_model.specs.Future.{tree_of};
-ghost use Rattle.journal_model.specs.Waiting.{only_leaves};
-ghost use Rattle.attempt_model.specs.Results.{slot_of};
 ghost use Rattle.vm_awaits.specs.Views.{slots_of};
+ghost use Rattle.vm_waiting.specs.WaitsFor.{ids_over};
 ghost use Rattle.vm_progress.specs.Uncompleted.{lists_over, started_id, known_of, ids_in};
 
 use bytes::{ByteStr, Bytes};
-use journal_model::UnresolvedFuture;
 use protocol_errors::{AwaitedId, NotificationMetadata};
 use protocol_messages::to_suspension_v6;
 use protocol_records::{StartMessage, SuspensionMessage, SuspensionMessageV6};
 use std::alloc::{AllocError, Global};
 use vm_awaits::AsyncResultsState;
 use vm_awakeables::awakeable_id;
+use vm_waiting::WaitsFor;
 
 // The signal of the cancellation, and the last of those that have a meaning of their own.
 const CANCEL_SIGNAL: u32 = 1;
@@ -25,16 +23,16 @@ const LAST_RESERVED_SIGNAL: u32 = 16;
 // Ids with what is known of them.
 type KnownIds = Vec<(AwaitedId, NotificationMetadata)>;
 
-/// The ids that a future waits for, in a list for each kind; a handle that stands for nothing is left out.
+/// The ids that are waited for, in a list for each kind; a handle that stands for nothing is left out.
 pub(crate) fn lists_of(
     alloc: Global,
     results: &AsyncResultsState,
-    left: &UnresolvedFuture,
+    waits: &WaitsFor,
 ) -> Result<SuspensionMessageV6, AllocError>
-    ensures { IfOk result (λ lists. lists ≡ lists_over (only_leaves (slot_of (slots_of results.now)) (tree_of left.now))) }
+    ensures { IfOk result (λ lists. lists ≡ lists_over (ids_over (slots_of results.now) waits.now)) }
 {
     let message = SuspensionMessage {
-        awaiting_on: Some(results.resolve_unresolved_future(left)?),
+        awaiting_on: Some(waits.to_record(alloc, results)?),
     };
     let lists = to_suspension_v6(alloc, &message);
     drop(message);

@@ -1,18 +1,16 @@
 // An await that stays asleep although the journal goes on behind it.
 ghost use Rattle.std.specs.Prelude.{◌≡◌, IfOk};
-ghost use Rattle.journal_model.specs.Future.{tree_of};
-ghost use Rattle.journal_model.specs.Waiting.{only_leaves};
-ghost use Rattle.attempt_model.specs.Results.{slot_of};
 ghost use Rattle.vm_awaits.specs.Views.{slots_of};
+ghost use Rattle.vm_waiting.specs.WaitsFor.{ids_over};
 ghost use Rattle.vm_progress.specs.Uncompleted.{started_id, lists_over, NamesIn, TellsUncompleted, IsUncompleted};
 
 use crate::lists::{ids_in, known_signals, lists_of};
-use journal_model::UnresolvedFuture;
 use protocol_errors::{Error, UncompletedDoProgressDuringReplay};
 use protocol_records::{StartMessage, SuspensionMessageV6};
 use std::alloc::{AllocError, Global};
 use vm_awaits::AsyncResultsState;
 use vm_machine::{MachineState, about_nothing};
+use vm_waiting::WaitsFor;
 
 // The error over the ids in three lists.
 fn naming(
@@ -27,16 +25,16 @@ fn naming(
     Ok(UncompletedDoProgressDuringReplay::new(ids, known))
 }
 
-// The error over the ids that a future waits for.
-fn naming_left(
+// The error over the ids that are waited for.
+fn naming_waits(
     alloc: Global,
     start: &Option<StartMessage>,
     results: &AsyncResultsState,
-    left: &UnresolvedFuture,
+    waits: &WaitsFor,
 ) -> Result<UncompletedDoProgressDuringReplay, AllocError>
-    ensures { IfOk result (NamesIn (started_id start.now) (lists_over (only_leaves (slot_of (slots_of results.now)) (tree_of left.now)))) }
+    ensures { IfOk result (NamesIn (started_id start.now) (lists_over (ids_over (slots_of results.now) waits.now))) }
 {
-    let lists = lists_of(alloc, results, left)?;
+    let lists = lists_of(alloc, results, waits)?;
     let error = naming(alloc, start, &lists);
     drop(lists);
     error
@@ -47,21 +45,21 @@ fn uncompleted_cause(
     alloc: Global,
     start: &Option<StartMessage>,
     results: &AsyncResultsState,
-    left: &UnresolvedFuture,
+    waits: &WaitsFor,
 ) -> Result<Error, AllocError>
-    ensures { IfOk result (TellsUncompleted (started_id start.now) (only_leaves (slot_of (slots_of results.now)) (tree_of left.now))) }
+    ensures { IfOk result (TellsUncompleted (started_id start.now) (ids_over (slots_of results.now) waits.now)) }
 {
-    let error = naming_left(alloc, start, results, left)?;
+    let error = naming_waits(alloc, start, results, waits)?;
     let told = about_nothing(alloc, &error);
     drop(error);
     told
 }
 
 /// Fails with the ids that an await waits for which were not recorded before the commands behind it.
-pub(crate) fn fail_uncompleted(vm: &mut MachineState, left: UnresolvedFuture) -> Error
-    ensures { IsUncompleted (tree_of left) vm.old result vm.new }
+pub(crate) fn fail_uncompleted(vm: &mut MachineState, waits: WaitsFor) -> Error
+    ensures { IsUncompleted waits vm.old result vm.new }
 {
-    let cause = uncompleted_cause(vm.alloc, &vm.start, &vm.active.results, &left);
-    drop(left);
+    let cause = uncompleted_cause(vm.alloc, &vm.start, &vm.active.results, &waits);
+    drop(waits);
     vm.fail(cause)
 }

@@ -6,7 +6,8 @@ use Rattle.journal_model.specs.declared.notification.NotificationId.TheVariants.
 use Rattle.journal_model.specs.declared.call.Call.{Call}
 use Rattle.journal_model.specs.declared.call.Answer.{Answer}
 use Rattle.journal_model.specs.Request.{Request}
-use Rattle.journal_model.specs.History.{signals_of}
+use Rattle.journal_model.specs.Await.{child_of}
+use Rattle.journal_model.specs.History.{completions_of, signals_of}
 use Rattle.journal_model.specs.Delivery.{known_result}
 use Rattle.journal_model.specs.Run.{Invocation}
 use Rattle.attempt_model.specs.Requests.{answer_by}
@@ -31,6 +32,7 @@ use Rattle.vm_calls.specs.declared.call_error.NumberError.{NumberError}
 use Rattle.vm_calls.specs.declared.call_error.NumberError.TheVariants as numbers
 use Rattle.vm_calls.specs.Active.{Sees, asking, TakesCompletion, has_left, left_of, LacksCompletions, HasCompletions, IsSettled, PutsOne, PutsIn}
 use Rattle.vm_calls.specs.Making.{Replies, FailsAs, IsReady, HasBegun}
+use Rattle.vm_calls.proofs.Tracking.{none_more, none_made}
 use Rattle.vm_calls.proofs.Making.{no_more, put_answers, put_fails_as}
 use Rattle.vm_state_reads.specs.declared.read_error.ReadError.{ReadError}
 use Rattle.vm_state_reads.specs.declared.read_error.ReadError.TheVariants as errors
@@ -78,7 +80,8 @@ module _ (given : Invocation) (m : Machine) (call : Call) (request : Request) (o
         completions = ap (λ (a : Active). a.journal.completions) others ∙ ap (λ (n : ℕ). n + 1) begins.sees.completions ∙ ap (λ (n : ℕ). m.completions + n) (sym one.completions);
         signals = ap (λ (a : Active). a.journal.signals) others ∙ begins.sees.signals ∙ no_more m.signals (signals_of call) one.signals;
         opened = ap (λ (a : Active). a.output.is_closed) others ∙ begins.sees.opened;
-        children = begins.sees.children;
+        children = none_more m.children read.children (child_of given.options.implicit_cancellation m.completions call) one.children (ap (λ (a : Active). a.children) others ∙ begins.sees.children);
+        made = none_made m.completions (completions_of call) m.children (child_of given.options.implicit_cancellation m.completions call) one.children begins.sees.made;
         output = ap (λ (a : Active). a.output) others;
         has = subst (λ (n : ℕ). HasCompletions n old) (sym one.completions) begins.takes.has;
       }

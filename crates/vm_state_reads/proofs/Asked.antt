@@ -44,7 +44,7 @@ either_keeps false eager lazy e l = l
 module _ (given : Invocation) (m : Machine) (key : Bytes) (name : Option Text) (options : PayloadOptions) where
   reads_value : (request : Request) → requests_by m.start m.done m.left m.completions (Call.StateGet key name options) ≡ request ∷ [] → changes_state request ≡ false
       → ReadsOne given m (Call.StateGet key name options) request
-  reads_value request requests keeps = record { asks = record { refused = refl; work = refl; requests = requests; children = brings_none (Call.StateGet key name options) m.completions refl refl refl refl refl given.options.implicit_cancellation }; completions = refl; signals = refl; ids = refl; keeps = keeps; answer = λ id handle signal. refl }
+  reads_value request requests keeps = record { asks = record { refused = refl; work = refl; requests = requests }; children = brings_none (Call.StateGet key name options) m.completions refl refl refl refl refl given.options.implicit_cancellation; completions = refl; signals = refl; ids = refl; keeps = keeps; answer = λ id handle signal. refl }
 
   value_recorded : (left : Commands) → has_left left ≡ true → (fresh : Request) (n : ℕ) (copy : Text) → copy ≡ name_or_empty name
       → read_value left fresh n key (name_or_empty name) ≡ as_recorded left (Request.GetLazyState key n copy)
@@ -72,7 +72,7 @@ module _ (given : Invocation) (m : Machine) (key : Bytes) (name : Option Text) (
 module _ (given : Invocation) (m : Machine) (name : Option Text) where
   reads_keys : (request : Request) → requests_by m.start m.done m.left m.completions (Call.StateGetKeys name) ≡ request ∷ [] → changes_state request ≡ false
       → ReadsOne given m (Call.StateGetKeys name) request
-  reads_keys request requests keeps = record { asks = record { refused = refl; work = refl; requests = requests; children = brings_none (Call.StateGetKeys name) m.completions refl refl refl refl refl given.options.implicit_cancellation }; completions = refl; signals = refl; ids = refl; keeps = keeps; answer = λ id handle signal. refl }
+  reads_keys request requests keeps = record { asks = record { refused = refl; work = refl; requests = requests }; children = brings_none (Call.StateGetKeys name) m.completions refl refl refl refl refl given.options.implicit_cancellation; completions = refl; signals = refl; ids = refl; keeps = keeps; answer = λ id handle signal. refl }
 
   keys_recorded : (left : Commands) → has_left left ≡ true → (fresh : Request) (n : ℕ) (copy : Text) → copy ≡ name_or_empty name
       → read_keys left fresh n (name_or_empty name) ≡ as_recorded left (Request.GetLazyStateKeys n copy)

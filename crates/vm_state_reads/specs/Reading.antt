@@ -8,6 +8,7 @@ use Rattle.journal_model.specs.declared.call.Answer.{Answer}
 use Rattle.journal_model.specs.Request.{Request}
 use Rattle.journal_model.specs.History.{completions_of, signals_of, ids_of}
 use Rattle.journal_model.specs.Delivery.{known_result}
+use Rattle.journal_model.specs.Await.{child_of}
 use Rattle.journal_model.specs.Run.{Invocation}
 use Rattle.attempt_model.specs.Requests.{answer_by}
 use Rattle.attempt_model.specs.Results.{ready_after_all}
@@ -54,13 +55,14 @@ module _ (checks_off : Bool) (given : Invocation) (m : Machine) (call : Call) wh
   PutsRead old (Ok handle) new = Replies checks_off given m call (Answer.Handle handle) old new
   PutsRead old (Err error) new = FailsAs checks_off given m call old (Put error) × (new.output ≡ old.output)
 
--- a call that takes one completion id and a handle for it, and puts this request, whose result may be known at once
+-- a call that takes one completion id and a handle for it, brings no child, and puts this request, whose result may be known at once
 pub record ReadsOne (given : Invocation) (m : Machine) (call : Call) (request : Request) : Type 0 where
   pub asks : AsksOne given m call request
   pub completions : completions_of call ≡ 1
   pub signals : signals_of call ≡ 0
   pub ids : ids_of m.completions m.signals call ≡ CompletionId m.completions ∷ []
   pub keeps : changes_state request ≡ false
+  pub children : child_of given.options.implicit_cancellation m.completions call ≡ []
   pub answer : (id : Text) (handle signal : ℕ) → answer_by id handle signal call ≡ Answer.Handle handle
 
 -- what the read of this call does, for every machine that the attempt is seen as

@@ -36,6 +36,7 @@ pub fn sys_call(
             let made = call(
                 &mut vm.active,
                 vm.alloc,
+                vm.options.implicit_cancellation,
                 ignoring,
                 target,
                 parameter,

@@ -63,6 +63,7 @@ pub fn sys_send(
             let put = send(
                 &mut vm.active,
                 vm.alloc,
+                vm.options.implicit_cancellation,
                 ignoring,
                 target,
                 parameter,

@@ -17,7 +17,7 @@ use Rattle.vm_calls.proofs.Calls.{brings_none}
 
 pub attach_completes : (given : Invocation) (m : Machine) (target : AttachInvocationTarget) (copy : Text) (id : ℕ)
     → refusal_of given.version (Call.Attach target) ≡ None → copy ≡ [] → id ≡ m.completions → CompletesOne given m (Call.Attach target) (Request.AttachInvocation target id copy)
-attach_completes given m target copy id refused copied taken = record { asks = record { refused = refused; work = refl; requests = λ i. Request.AttachInvocation target (sym taken i) (sym copied i) ∷ []; children = brings_none (Call.Attach target) m.completions refl refl refl refl refl given.options.implicit_cancellation }; completions = refl; signals = refl; ids = refl; known = refl; keeps = refl; answer = λ text handle signal. refl }
+attach_completes given m target copy id refused copied taken = record { asks = record { refused = refused; work = refl; requests = λ i. Request.AttachInvocation target (sym taken i) (sym copied i) ∷ [] }; children = brings_none (Call.Attach target) m.completions refl refl refl refl refl given.options.implicit_cancellation; completions = refl; signals = refl; ids = refl; known = refl; keeps = refl; answer = λ text handle signal. refl }
 
 -- the command that holds its target's record is its request's
 pub attach_told : (target : AttachInvocationTarget) (held : InvocationTarget) (id : ℕ) (name : Text) → held ≡ target_record target
@@ -35,4 +35,4 @@ get_output_told target held id name is =
 
 pub get_output_completes : (given : Invocation) (m : Machine) (target : AttachInvocationTarget) (copy : Text) (id : ℕ)
     → refusal_of given.version (Call.GetOutput target) ≡ None → copy ≡ [] → id ≡ m.completions → CompletesOne given m (Call.GetOutput target) (Request.GetInvocationOutput target id copy)
-get_output_completes given m target copy id refused copied taken = record { asks = record { refused = refused; work = refl; requests = λ i. Request.GetInvocationOutput target (sym taken i) (sym copied i) ∷ []; children = brings_none (Call.GetOutput target) m.completions refl refl refl refl refl given.options.implicit_cancellation }; completions = refl; signals = refl; ids = refl; known = refl; keeps = refl; answer = λ text handle signal. refl }
+get_output_completes given m target copy id refused copied taken = record { asks = record { refused = refused; work = refl; requests = λ i. Request.GetInvocationOutput target (sym taken i) (sym copied i) ∷ [] }; children = brings_none (Call.GetOutput target) m.completions refl refl refl refl refl given.options.implicit_cancellation; completions = refl; signals = refl; ids = refl; known = refl; keeps = refl; answer = λ text handle signal. refl }

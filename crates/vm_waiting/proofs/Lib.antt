@@ -1,8 +1,12 @@
 pub mod Seeing
+pub mod TrackLemmas
 pub mod TakeLemmas
 pub mod AwaitLemmas
 pub mod ResolveLemmas
-pub mod MachineAwaits
+pub mod KnownChildren
+pub mod PuttingAll
+pub mod CancelReplies
+pub mod CancelSteps
 pub mod AwaitReplies
 pub mod Listing
 pub mod WaitingFrames

@@ -65,18 +65,18 @@ Writes ty payload old (Ok done) new = (old.is_closed ≡ false → length payloa
 Writes ty payload old (Err PayloadTooLong) new = (2 ^ 32 ≤ length payload) × (new ≡ old)
 Writes ty payload old (Err OutOfMemory) new = new ≡ old
 
--- a suspension is written, and the output ends with it
-pub record IsSuspended (tree : AwaitTree ℕ) (old new : Active) : Type 0 where
-  pub fits : old.output.is_closed ≡ false → length (suspension_payload_in old.output.version (over_ids old tree)) < 2 ^ 32
+-- a suspension over these ids is written, and the output ends with it
+pub record IsSuspended (ids : AwaitTree NotificationId) (old new : Active) : Type 0 where
+  pub fits : old.output.is_closed ≡ false → length (suspension_payload_in old.output.version ids) < 2 ^ 32
   pub suspended : new ≡ record old {
-    output = record (with_frame (frame_bytes messages.Suspension (suspension_payload_in old.output.version (over_ids old tree))) old.output) { is_closed = true };
+    output = record (with_frame (frame_bytes messages.Suspension (suspension_payload_in old.output.version ids)) old.output) { is_closed = true };
   }
 
 -- or nothing is written
-abbrev pub Suspends : AwaitTree ℕ → (old : Active) → Result (Unit {0}) EncodingError → (new : Active) → Type 0
-Suspends tree old (Ok done) new = IsSuspended tree old new
-Suspends tree old (Err PayloadTooLong) new = (2 ^ 32 ≤ length (suspension_payload_in old.output.version (over_ids old tree))) × (new ≡ old)
-Suspends tree old (Err OutOfMemory) new = new ≡ old
+abbrev pub Suspends : AwaitTree NotificationId → (old : Active) → Result (Unit {0}) EncodingError → (new : Active) → Type 0
+Suspends ids old (Ok done) new = IsSuspended ids old new
+Suspends ids old (Err PayloadTooLong) new = (2 ^ 32 ≤ length (suspension_payload_in old.output.version ids)) × (new ≡ old)
+Suspends ids old (Err OutOfMemory) new = new ≡ old
 
 -- ---- while it stays
 
@@ -86,12 +86,12 @@ allows_telling SendAlways executes_run = true
 allows_telling DontSendWhenExecutingRun executes_run = not executes_run
 allows_telling DontSend executes_run = false
 
--- from version 7 on it is told, of a tree with a handle in it, where the policy lets it
-abbrev pub tells_awaiting : Version → AwaitingOnPolicy → (executes_run : Bool) → AwaitTree ℕ → Bool
-tells_awaiting version policy executes_run tree = has_feature (version_number version) features.AwaitTree && (allows_telling policy executes_run && has_leaf tree)
+-- from version 7 on it is told, where anything is waited for that can be told, and where the policy lets it
+abbrev pub tells_awaiting : Version → AwaitingOnPolicy → (executes_run waits_for_any : Bool) → Bool
+tells_awaiting version policy executes_run waits_for_any = has_feature (version_number version) features.AwaitTree && (allows_telling policy executes_run && waits_for_any)
 
--- Exactly where it is to be told a frame is written; else nothing is done, which cannot fail.
-abbrev pub TellsIf : (told : Bool) → AwaitTree ℕ → (old : Active) → Result (Unit {0}) EncodingError → (new : Active) → Type 0
-TellsIf true tree old result new = Writes messages.AwaitingOn (awaiting_on_payload (over_ids old tree) false) old.output result new.output × (new ≡ record old { output = new.output })
-TellsIf false tree old (Ok done) new = new ≡ old
-TellsIf false tree old (Err error) new = ⊥
+-- Exactly where these ids are to be told a frame is written; else nothing is done, which cannot fail.
+abbrev pub TellsIf : (told : Bool) → AwaitTree NotificationId → (old : Active) → Result (Unit {0}) EncodingError → (new : Active) → Type 0
+TellsIf true ids old result new = Writes messages.AwaitingOn (awaiting_on_payload ids false) old.output result new.output × (new ≡ record old { output = new.output })
+TellsIf false ids old (Ok done) new = new ≡ old
+TellsIf false ids old (Err error) new = ⊥

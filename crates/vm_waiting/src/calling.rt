@@ -1,21 +1,24 @@
 // A call of another handler, which takes two completions.
-ghost use Rattle.std.specs.Prelude.{◌≡◌, ◌||◌, ℕ, Bool, Some, None, [], IfOk, IfErr};
+ghost use Rattle.std.specs.Prelude.{◌≡◌, ◌||◌, ℕ, Bool, Some, None, IfOk, IfErr};
+ghost use Rattle.attempt_model.specs.Machine.{next_slot};
+ghost use Rattle.attempt_model.specs.Requests.{answer_by};
 ghost use Rattle.journal_model.specs.Run.{call_record, name_or_empty};
 ghost use Rattle.journal_model.specs.Refusal.{refusal_of};
-ghost use Rattle.journal_model.specs.Await.{child_of};
 ghost use Rattle.protocol_spellings.specs.Requests.{request_of_call};
 ghost use Rattle.vm_commands.specs.HeaderEquality.{is_unstable};
 ghost use Rattle.vm_commands.specs.Passed.{type_of_record};
 ghost use Rattle.vm_calls.specs.Words.{Call, Answer, Request, Invocation, Machine};
 ghost use Rattle.vm_calls.specs.Active.{Sees, asking, IsAtCommand, TellsSame, LacksCompletions, HasCompletions};
-ghost use Rattle.vm_calls.specs.Making.{Makes};
+ghost use Rattle.vm_calls.specs.Making.{Makes, AsksOne, IsReady};
 ghost use Rattle.vm_calls.specs.Spent.{IsSpent, FailsSpent, KeepsRest};
 ghost use Rattle.vm_calls.specs.Finding.{FindsAs};
 ghost use Rattle.vm_calls.specs.declared.call_error.NumberError.TheVariants.{IdsExhausted};
-ghost use Rattle.vm_waiting.specs.Pairing.{TakesTwo, CompletesTwo, HasBegunTwo};
+ghost use Rattle.vm_waiting.specs.Pairing.{TakesTwo};
+ghost use Rattle.vm_waiting.specs.Tracking.{Tracks};
 
+use crate::tracking::{keep_child, tracks_calls};
 use bytes::{ByteStr, Bytes};
-use journal_model::{NotificationId, PayloadOptions, Target};
+use journal_model::{ImplicitCancellationOption, NotificationId, PayloadOptions, Target};
 use protocol_calls::CallCommandMessage;
 use protocol_stream::to_header_records;
 use protocol_types::MessageType;
@@ -110,19 +113,42 @@ fn begin_two(
     }
 }
 
-// Puts the command of a call that has begun, and answers the handles of its completions.
-fn put_call<M: Command>(
+// Begins one whose first completion gives the invocation id of what is called.
+fn begin_two_tracked(
     active: &mut Active,
-    handles: CallHandle,
+    tracked: bool,
+    ty: MessageType,
+    name: ByteStr,
+) -> Result<(ByteStr, u32, u32, CallHandle), NumberError>
+    ensures told { IsAtCommand ty name active.old.journal active.new.journal }
+    ensures name { IfOk result (λ taken. taken.0 ≡ name) }
+    ensures taken { IfOk result (λ taken. Tracks tracked taken.1
+        (TakesTwo taken.1 taken.2 (taken.3.invocation_id_notification_handle, taken.3.call_notification_handle) (asking ty name active.old)) active.new) }
+    ensures err { IfErr result (λ error. error ≡ IdsExhausted → LacksCompletions 2 active.old) }
+    ensures output { active.new.output ≡ active.old.output }
+{
+    let (name, first, second, handles) = begin_two(active, ty, name)?;
+    match keep_child(&mut active.children, tracked, first) {
+        Ok(()) => Ok((name, first, second, handles)),
+        Err(_) => {
+            drop(name);
+            Err(NumberError::OutOfMemory)
+        }
+    }
+}
+
+/// Puts the command of a call that has begun, and answers the handles of its completions.
+pub(crate) fn put_call<M: Command, T: Copy>(
+    active: &mut Active,
+    handles: T,
     alloc: Global,
     command: M,
     ignore: bool,
-) -> Result<CallHandle, CallError<M>>
+) -> Result<T, CallError<M>>
     ensures journal { active.new.journal ≡ active.old.journal }
     ensures makes { (checks_off : Bool) (given : Invocation) (m : Machine) (call : Call) (request : Request) (old : Active) → M.request_of command ≡ Some request
-        → CompletesTwo given m call request → ignore ≡ (checks_off || is_unstable call)
-        → HasBegunTwo given m (handles.invocation_id_notification_handle, handles.call_notification_handle) old active.old
-        → Makes checks_off given m call (λ made. Answer.Handles made.invocation_id_notification_handle made.call_notification_handle) old result active.new }
+        → (answer : T → Answer) → AsksOne given m call request → ignore ≡ (checks_off || is_unstable call) → IsReady given m call request old active.old
+        → answer_by given.input.invocation_id (next_slot m) m.signals call ≡ answer handles → Makes checks_off given m call answer old result active.new }
     ensures spent { (request : Request) (taken : ℕ) (old : Active) → M.request_of command ≡ Some request → KeepsRest old active.old → HasCompletions taken old
         → IsSpent old → FailsSpent taken old result active.new }
     ensures found { (ty : MessageType) (old : Active) → type_of_record M.record_type ≡ Some ty → KeepsRest old active.old → FindsAs ty old result active.new }
@@ -138,10 +164,11 @@ fn put_call<M: Command>(
 
 /// Calls another handler: of the two notifications the first tells the invocation's id, the second brings its answer.
 ///
-/// Whether the target is refused is to be asked before, by `vm_refusals::refuse_target`. No cancellation is passed on to it.
+/// Whether the target is refused is to be asked before, by `vm_refusals::refuse_target`.
 pub fn call(
     active: &mut Active,
     alloc: Global,
+    cancellation: ImplicitCancellationOption,
     checks_off: bool,
     target: Target,
     parameter: Bytes,
@@ -149,15 +176,16 @@ pub fn call(
     options: PayloadOptions,
 ) -> Result<CallHandle, CallError<CallCommandMessage>>
     ensures made { (given : Invocation) (m : Machine) → refusal_of given.version (Call.Call target parameter name options) ≡ None
-        → child_of given.options.implicit_cancellation m.completions (Call.Call target parameter name options) ≡ [] → Sees given active.old m
+        → given.options.implicit_cancellation ≡ cancellation → Sees given active.old m
         → Makes checks_off given m (Call.Call target parameter name options)
         (λ made. Answer.Handles made.invocation_id_notification_handle made.call_notification_handle) active.old result active.new }
     ensures spent { IsSpent active.old → FailsSpent 2 active.old result active.new }
     ensures found { FindsAs MessageType.CallCommand active.old result active.new }
     ensures told { IsAtCommand MessageType.CallCommand (name_or_empty name) active.old.journal active.new.journal }
 {
-    let (name, first, second, handles) = begin_two(
+    let (name, first, second, handles) = begin_two_tracked(
         active,
+        tracks_calls(cancellation),
         MessageType::CallCommand,
         or_empty(name),
     )?;

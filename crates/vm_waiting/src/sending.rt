@@ -1,7 +1,6 @@
 // A call of another handler whose answer is not waited for.
-ghost use Rattle.std.specs.Prelude.{◌≡◌, [], Option, None, IfOk};
+ghost use Rattle.std.specs.Prelude.{◌≡◌, Option, None, IfOk};
 ghost use Rattle.journal_model.specs.declared.call.Moment.{Moment};
-ghost use Rattle.journal_model.specs.Await.{child_of};
 ghost use Rattle.journal_model.specs.Refusal.{refusal_of};
 ghost use Rattle.journal_model.specs.Run.{call_record, invoke_time, name_or_empty};
 ghost use Rattle.protocol_types.specs.declared.message_type.MessageType.TheVariants.{OneWayCallCommand};
@@ -12,8 +11,10 @@ ghost use Rattle.vm_calls.specs.Making.{Makes};
 ghost use Rattle.vm_calls.specs.Spent.{IsSpent, FailsSpent};
 ghost use Rattle.vm_calls.specs.Finding.{FindsAs};
 
+use crate::calling::put_call;
+use crate::tracking::{begin_tracked, tracks_sends};
 use bytes::{ByteStr, Bytes};
-use journal_model::{NotificationHandle, PayloadOptions, Target};
+use journal_model::{ImplicitCancellationOption, NotificationHandle, PayloadOptions, Target};
 use protocol_calls::OneWayCallCommandMessage;
 use protocol_stream::to_header_records;
 use protocol_types::MessageType;
@@ -62,10 +63,11 @@ fn to_send_command(
 /// Calls a handler without waiting for its answer, at a moment in milliseconds, or at once where that is 0: the handle's
 /// notification tells the invocation's id.
 ///
-/// Whether target and moment are refused is to be asked before, by `vm_refusals`. No cancellation is passed on to it.
+/// Whether target and moment are refused is to be asked before, by `vm_refusals`.
 pub fn send(
     active: &mut Active,
     alloc: Global,
+    cancellation: ImplicitCancellationOption,
     checks_off: bool,
     target: Target,
     parameter: Bytes,
@@ -75,14 +77,19 @@ pub fn send(
 ) -> Result<NotificationHandle, CallError<OneWayCallCommandMessage>>
     ensures made { (given : Invocation) (m : Machine) (moment : Option Moment) → invoke_time moment ≡ execution_time
         → refusal_of given.version (Call.Send target parameter moment name options) ≡ None
-        → child_of given.options.implicit_cancellation m.completions (Call.Send target parameter moment name options) ≡ [] → Sees given active.old m
+        → given.options.implicit_cancellation ≡ cancellation → Sees given active.old m
         → Makes checks_off given m (Call.Send target parameter moment name options) (λ handle. Answer.Handle handle) active.old result active.new }
     ensures spent { IsSpent active.old → FailsSpent 1 active.old result active.new }
     ensures found { FindsAs OneWayCallCommand active.old result active.new }
     ensures told { IsAtCommand OneWayCallCommand (name_or_empty name) active.old.journal active.new.journal }
 {
-    let (name, id, handle) = active.begin(MessageType::OneWayCallCommand, or_empty(name))?;
+    let (name, id, handle) = begin_tracked(
+        active,
+        tracks_sends(cancellation),
+        MessageType::OneWayCallCommand,
+        or_empty(name),
+    )?;
     let command = to_send_command(alloc, target, parameter, execution_time, id, name)?;
     let ignore = ignores(checks_off, options);
-    active.put_completable(alloc, command, ignore, handle)
+    put_call(active, handle, alloc, command, ignore)
 }

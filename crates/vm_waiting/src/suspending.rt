@@ -2,18 +2,15 @@
 ghost use Rattle.std.specs.Prelude.{◌≡◌, true, false, IfOk, IfErr};
 ghost use Rattle.journal_model.specs.declared.notification.NotificationId.{NotificationId};
 ghost use Rattle.journal_model.specs.AwaitTree.{AwaitTree};
-ghost use Rattle.journal_model.specs.Future.{tree_of};
-ghost use Rattle.journal_model.specs.Waiting.{only_leaves};
 ghost use Rattle.journal_model.specs.Spelling.{awaiting_on_payload};
-ghost use Rattle.attempt_model.specs.Results.{slot_of};
 ghost use Rattle.protocol_stream.specs.Records.{future_record};
 ghost use Rattle.protocol_stream.specs.declared.encoder.EncodingError.TheVariants.{OutOfMemory};
 ghost use Rattle.protocol_types.specs.declared.message_type.MessageType.TheVariants.{Suspension, AwaitingOn};
 ghost use Rattle.vm_awaits.specs.Views.{slots_of};
+ghost use Rattle.vm_waiting.specs.WaitsFor.{ids_over, awaited_ids, waits_for_any};
 ghost use Rattle.vm_waiting.specs.Suspending.{suspension_payload_in, Writes, Suspends, allows_telling, tells_awaiting, TellsIf};
 
-use crate::handles::has_handle;
-use journal_model::UnresolvedFuture;
+use crate::WaitsFor;
 use protocol_records::{AwaitingOnMessage, Future, SuspensionMessage};
 use protocol_stream::{EncodingError, Feature, Version};
 use std::alloc::Global;
@@ -22,13 +19,17 @@ use vm_calls::Active;
 use vm_context::Output;
 use vm_types::AwaitingOnPolicy;
 
-// What a future waits for, as a record over ids.
-fn record_of(results: &AsyncResultsState, future: UnresolvedFuture) -> Result<Future, EncodingError>
-    ensures told { IfOk result (λ told. told ≡ future_record (only_leaves (slot_of (slots_of results.now)) (tree_of future))) }
+// What is waited for, as a record over ids.
+fn record_of(
+    results: &AsyncResultsState,
+    alloc: Global,
+    waits: WaitsFor,
+) -> Result<Future, EncodingError>
+    ensures told { IfOk result (λ told. told ≡ future_record (ids_over (slots_of results.now) waits)) }
     ensures memory { IfErr result (λ error. error ≡ OutOfMemory) }
 {
-    let told = results.resolve_unresolved_future(&future);
-    drop(future);
+    let told = waits.to_record(alloc, results);
+    drop(waits);
     match told {
         Ok(told) => Ok(told),
         Err(_) => Err(EncodingError::OutOfMemory),
@@ -64,17 +65,13 @@ fn write_awaiting_on(output: &mut Output, alloc: Global, told: Future) -> Result
     sent
 }
 
-/// Suspends the attempt: writes what is left of what it awaits, and ends the output.
+/// Suspends the attempt: writes what it waits for, and ends the output.
 ///
 /// Where it cannot be written the attempt stays as it was.
-pub fn suspend(
-    active: &mut Active,
-    alloc: Global,
-    left: UnresolvedFuture,
-) -> Result<(), EncodingError>
-    ensures { Suspends (tree_of left) active.old result active.new }
+pub fn suspend(active: &mut Active, alloc: Global, waits: WaitsFor) -> Result<(), EncodingError>
+    ensures { Suspends (awaited_ids active.old waits) active.old result active.new }
 {
-    let awaiting_on = record_of(&active.results, left)?;
+    let awaiting_on = record_of(&active.results, alloc, waits)?;
     write_suspension(&mut active.output, alloc, awaiting_on)?;
     active.output.send_eof();
     Ok(())
@@ -94,37 +91,37 @@ fn tells_awaiting(
     version: Version,
     policy: AwaitingOnPolicy,
     executes_run: bool,
-    left: &UnresolvedFuture,
+    waits: &WaitsFor,
 ) -> bool
-    ensures { result ≡ tells_awaiting version policy executes_run (tree_of left.now) }
+    ensures { result ≡ tells_awaiting version policy executes_run (waits_for_any waits.now) }
 {
     Feature::AwaitTree.is_in(version.number())
         && allows_telling(policy, executes_run)
-        && has_handle(left)
+        && waits.is_for_any()
 }
 
-fn tell(active: &mut Active, alloc: Global, left: UnresolvedFuture) -> Result<(), EncodingError>
-    ensures { TellsIf true (tree_of left) active.old result active.new }
+fn tell(active: &mut Active, alloc: Global, waits: WaitsFor) -> Result<(), EncodingError>
+    ensures { TellsIf true (awaited_ids active.old waits) active.old result active.new }
 {
-    let awaiting_on = record_of(&active.results, left)?;
+    let awaiting_on = record_of(&active.results, alloc, waits)?;
     write_awaiting_on(&mut active.output, alloc, awaiting_on)
 }
 
-/// Tells what is left of what the attempt awaits, where it stays for more input: as the policy has it, by whether any run is
-/// being executed, and only of a future that has a handle in it. The version is the output's.
+/// Tells what the attempt waits for, where it stays for more input: as the policy has it, by whether any run is being executed, and
+/// only where there is anything in it. The version is the output's.
 pub fn tell_awaiting_on(
     active: &mut Active,
     alloc: Global,
     version: Version,
     policy: AwaitingOnPolicy,
     executes_run: bool,
-    left: UnresolvedFuture,
+    waits: WaitsFor,
 ) -> Result<(), EncodingError>
-    ensures { TellsIf (tells_awaiting version policy executes_run (tree_of left)) (tree_of left) active.old result active.new }
+    ensures { TellsIf (tells_awaiting version policy executes_run (waits_for_any waits)) (awaited_ids active.old waits) active.old result active.new }
 {
-    if tells_awaiting(version, policy, executes_run, &left) {
-        return tell(active, alloc, left);
+    if tells_awaiting(version, policy, executes_run, &waits) {
+        return tell(active, alloc, waits);
     }
-    drop(left);
+    drop(waits);
     Ok(())
 }

@@ -1,5 +1,5 @@
--- Proved in `Handles`.
-use Rattle.handle_laws.proofs.Handles.{awaited_trees_fit}
+-- Proved in `Children`.
+use Rattle.handle_laws.proofs.Children.{awaited_trees_fit}
 use Rattle.handle_laws.proofs.awaited_trees_fit.Goals as goal
 
 pub returns : goal.returns

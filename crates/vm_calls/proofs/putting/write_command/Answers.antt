@@ -8,6 +8,6 @@ returns-clause-ok g c =
     let means = g.met.M.Command.means in
     let version = c.args.output.now.version in
     let parts = g.M.Record.parts command in
-    λ request h. writes_request c.send.result c.args.output.now c.send.new.self (plain_message g.M.Record.record_type version parts) request
+    λ request h. writes_request c.send_command.result c.args.output.now c.send_command.new.self (plain_message g.M.Record.record_type version parts) request
     (command_message g.M.Record.record_type version parts request (means.typed command request h) (means.spelled command request h))
-    c.send.ensures.ok c.send.ensures.too_long
+    c.send_command.ensures.ok c.send_command.ensures.too_long

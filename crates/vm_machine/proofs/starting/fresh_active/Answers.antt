@@ -11,4 +11,5 @@ returns c = record {
   state = c.in_ok-new.ensures.made ∙ ap (λ (pairs : List (List ℕ × List ℕ)). known_from true pairs) c.new-3.ensures.items;
   journal = c.new-5.ensures;
   output = c.new-6.ensures;
+  children = c.new-7.ensures;
 }

@@ -12,7 +12,7 @@ returns-in-Admitted c =
     let refused = refused_as c.args.vm.now.version c.number-number.result (Call.Attach c.args.target) _ c.refuse_attach-refused.result told c.number-number.ensures c.refuse_attach-refused.ensures c.refusal_error-refusal.ensures in
     calls_made attach_invocation_command_difference (Call.Attach c.args.target) (λ handle. Answer.Handle handle) [] AttachInvocationCommand [] told c.args.vm.now c.admit.new.self c.settle.result c.settle.new.self refused c.in-Admitted.ensures
     (made_by attach_invocation_command_difference (Call.Attach c.args.target) (λ handle. Answer.Handle handle) AttachInvocationCommand [] c.checks_off-ignoring.result c.admit.new.self c.attach-made.result c.attach-made.new.active c.settle.result c.settle.new.self c.checks_off-ignoring.ensures
-    (λ given m is_of childless sees. c.attach-made.ensures.made given m (unrefused_of given (Call.Attach c.args.target) _ told c.args.vm.now c.admit.new.self refused c.in-Admitted.ensures is_of) sees) c.attach-made.ensures.told c.attach-made.ensures.spent c.attach-made.ensures.found c.settle.ensures)
+    (λ given m is_of sees. c.attach-made.ensures.made given m (unrefused_of given (Call.Attach c.args.target) _ told c.args.vm.now c.admit.new.self refused c.in-Admitted.ensures is_of) sees) c.attach-made.ensures.told c.attach-made.ensures.spent c.attach-made.ensures.found c.settle.ensures)
 
 pub returns-in-Elsewhere : goal.returns-in-Elsewhere
 returns-in-Elsewhere c =

@@ -12,7 +12,7 @@ returns-in-Admitted c =
     let refused = refused_as c.args.vm.now.version c.number-number.result (Call.GetOutput c.args.target) _ c.refuse_attach-refused.result told c.number-number.ensures c.refuse_attach-refused.ensures c.refusal_error-refusal.ensures in
     calls_made get_invocation_output_command_difference (Call.GetOutput c.args.target) (λ handle. Answer.Handle handle) [] GetInvocationOutputCommand [] told c.args.vm.now c.admit.new.self c.settle.result c.settle.new.self refused c.in-Admitted.ensures
     (made_by get_invocation_output_command_difference (Call.GetOutput c.args.target) (λ handle. Answer.Handle handle) GetInvocationOutputCommand [] c.checks_off-ignoring.result c.admit.new.self c.get_output-made.result c.get_output-made.new.active c.settle.result c.settle.new.self c.checks_off-ignoring.ensures
-    (λ given m is_of childless sees. c.get_output-made.ensures.made given m (unrefused_of given (Call.GetOutput c.args.target) _ told c.args.vm.now c.admit.new.self refused c.in-Admitted.ensures is_of) sees) c.get_output-made.ensures.told c.get_output-made.ensures.spent c.get_output-made.ensures.found c.settle.ensures)
+    (λ given m is_of sees. c.get_output-made.ensures.made given m (unrefused_of given (Call.GetOutput c.args.target) _ told c.args.vm.now c.admit.new.self refused c.in-Admitted.ensures is_of) sees) c.get_output-made.ensures.told c.get_output-made.ensures.spent c.get_output-made.ensures.found c.settle.ensures)
 
 pub returns-in-Elsewhere : goal.returns-in-Elsewhere
 returns-in-Elsewhere c =

@@ -13,7 +13,7 @@ returns-in-Admitted c =
     let refused = refused_as c.args.vm.now.version c.number-number.result (Call.Call c.args.target c.args.parameter c.args.name c.args.options) _ c.refuse_target-refused.result told c.number-number.ensures c.refuse_target-refused.ensures c.refusal_error-refusal.ensures in
     calls_made call_command_difference (Call.Call c.args.target c.args.parameter c.args.name c.args.options) (λ made. Answer.Handles made.invocation_id_notification_handle made.call_notification_handle) [] CallCommand (name_or_empty c.args.name) told c.args.vm.now c.admit.new.self c.settle.result c.settle.new.self refused c.in-Admitted.ensures
     (made_by call_command_difference (Call.Call c.args.target c.args.parameter c.args.name c.args.options) (λ made. Answer.Handles made.invocation_id_notification_handle made.call_notification_handle) CallCommand (name_or_empty c.args.name) c.checks_off-ignoring.result c.admit.new.self c.call-made.result c.call-made.new.active c.settle.result c.settle.new.self c.checks_off-ignoring.ensures
-    (λ given m is_of childless sees. c.call-made.ensures.made given m (unrefused_of given (Call.Call c.args.target c.args.parameter c.args.name c.args.options) _ told c.args.vm.now c.admit.new.self refused c.in-Admitted.ensures is_of) childless sees) c.call-made.ensures.told c.call-made.ensures.spent c.call-made.ensures.found c.settle.ensures)
+    (λ given m is_of sees. c.call-made.ensures.made given m (unrefused_of given (Call.Call c.args.target c.args.parameter c.args.name c.args.options) _ told c.args.vm.now c.admit.new.self refused c.in-Admitted.ensures is_of) is_of.cancellation sees) c.call-made.ensures.told c.call-made.ensures.spent c.call-made.ensures.found c.settle.ensures)
 
 pub returns-in-Elsewhere : goal.returns-in-Elsewhere
 returns-in-Elsewhere c =

@@ -12,7 +12,7 @@ returns-in-Admitted c =
     let refused = refused_as c.args.vm.now.version c.number-number.result (Call.CompletePromise c.args.key c.args.value c.args.options) _ c.refuse_value-refused.result told c.number-number.ensures c.refuse_value-refused.ensures c.refusal_error-refusal.ensures in
     calls_made complete_promise_command_difference (Call.CompletePromise c.args.key c.args.value c.args.options) (λ handle. Answer.Handle handle) [] CompletePromiseCommand [] told c.args.vm.now c.admit.new.self c.settle.result c.settle.new.self refused c.in-Admitted.ensures
     (made_by complete_promise_command_difference (Call.CompletePromise c.args.key c.args.value c.args.options) (λ handle. Answer.Handle handle) CompletePromiseCommand [] c.checks_off-ignoring.result c.admit.new.self c.complete_promise-made.result c.complete_promise-made.new.self c.settle.result c.settle.new.self c.checks_off-ignoring.ensures
-    (λ given m is_of childless sees. c.complete_promise-made.ensures.made given m (unrefused_of given (Call.CompletePromise c.args.key c.args.value c.args.options) _ told c.args.vm.now c.admit.new.self refused c.in-Admitted.ensures is_of) sees) c.complete_promise-made.ensures.told c.complete_promise-made.ensures.spent c.complete_promise-made.ensures.found c.settle.ensures)
+    (λ given m is_of sees. c.complete_promise-made.ensures.made given m (unrefused_of given (Call.CompletePromise c.args.key c.args.value c.args.options) _ told c.args.vm.now c.admit.new.self refused c.in-Admitted.ensures is_of) sees) c.complete_promise-made.ensures.told c.complete_promise-made.ensures.spent c.complete_promise-made.ensures.found c.settle.ensures)
 
 pub returns-in-Elsewhere : goal.returns-in-Elsewhere
 returns-in-Elsewhere c =

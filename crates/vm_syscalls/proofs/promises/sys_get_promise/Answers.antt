@@ -10,7 +10,7 @@ pub returns-in-Admitted : goal.returns-in-Admitted
 returns-in-Admitted c =
     calls_made get_promise_command_difference (Call.GetPromise c.args.key) (λ handle. Answer.Handle handle) [] GetPromiseCommand [] None c.args.vm.now c.admit.new.self c.settle.result c.settle.new.self refl c.in-Admitted.ensures
     (made_by get_promise_command_difference (Call.GetPromise c.args.key) (λ handle. Answer.Handle handle) GetPromiseCommand [] c.checks_off-ignoring.result c.admit.new.self c.get_promise-made.result c.get_promise-made.new.self c.settle.result c.settle.new.self c.checks_off-ignoring.ensures
-    (λ given m is_of childless sees. c.get_promise-made.ensures.made given m sees) c.get_promise-made.ensures.told c.get_promise-made.ensures.spent c.get_promise-made.ensures.found c.settle.ensures)
+    (λ given m is_of sees. c.get_promise-made.ensures.made given m sees) c.get_promise-made.ensures.told c.get_promise-made.ensures.spent c.get_promise-made.ensures.found c.settle.ensures)
 
 pub returns-in-Elsewhere : goal.returns-in-Elsewhere
 returns-in-Elsewhere c =

@@ -10,7 +10,7 @@ pub returns-in-Admitted : goal.returns-in-Admitted
 returns-in-Admitted c =
     calls_made peek_promise_command_difference (Call.PeekPromise c.args.key) (λ handle. Answer.Handle handle) [] PeekPromiseCommand [] None c.args.vm.now c.admit.new.self c.settle.result c.settle.new.self refl c.in-Admitted.ensures
     (made_by peek_promise_command_difference (Call.PeekPromise c.args.key) (λ handle. Answer.Handle handle) PeekPromiseCommand [] c.checks_off-ignoring.result c.admit.new.self c.peek_promise-made.result c.peek_promise-made.new.self c.settle.result c.settle.new.self c.checks_off-ignoring.ensures
-    (λ given m is_of childless sees. c.peek_promise-made.ensures.made given m sees) c.peek_promise-made.ensures.told c.peek_promise-made.ensures.spent c.peek_promise-made.ensures.found c.settle.ensures)
+    (λ given m is_of sees. c.peek_promise-made.ensures.made given m sees) c.peek_promise-made.ensures.told c.peek_promise-made.ensures.spent c.peek_promise-made.ensures.found c.settle.ensures)
 
 pub returns-in-Elsewhere : goal.returns-in-Elsewhere
 returns-in-Elsewhere c =

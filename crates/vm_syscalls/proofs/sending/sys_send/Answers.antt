@@ -18,10 +18,10 @@ returns-in-Admitted c =
     c.settle.result c.settle.new.self refused c.in-Admitted.ensures
     (made_by one_way_call_command_difference call (λ made. Answer.Handle made.invocation_id_notification_handle) OneWayCallCommand (name_or_empty c.args.name) c.checks_off-ignoring.result c.admit.new.self
     c.sent-made.result c.send-put.new.active c.settle.result c.settle.new.self c.checks_off-ignoring.ensures
-    (λ given m is_of childless sees.
+    (λ given m is_of sees.
     let free = unrefused_of given call _ told c.args.vm.now c.admit.new.self refused c.in-Admitted.ensures is_of in
     makes_sent c.checks_off-ignoring.result given m call c.admit.new.self.active c.send-put.new.active c.send-put.result c.sent-made.result c.sent-made.ensures
-    (c.send-put.ensures.made given m c.args.execution_time (sym (c.invoke_time-time.ensures (moment_passes given.version c.args.target c.args.execution_time free))) free childless sees))
+    (c.send-put.ensures.made given m c.args.execution_time (sym (c.invoke_time-time.ensures (moment_passes given.version c.args.target c.args.execution_time free))) free is_of.cancellation sees))
     c.send-put.ensures.told
     (λ spent. spent_sent c.admit.new.self.active c.send-put.new.active c.send-put.result c.sent-made.result c.sent-made.ensures (c.send-put.ensures.spent spent))
     (found_sent OneWayCallCommand c.admit.new.self.active c.send-put.new.active c.send-put.result c.sent-made.result c.sent-made.ensures c.send-put.ensures.found) c.settle.ensures)

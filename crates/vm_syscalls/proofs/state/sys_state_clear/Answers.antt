@@ -11,7 +11,7 @@ pub returns-in-Admitted : goal.returns-in-Admitted
 returns-in-Admitted c =
     calls_made clear_state_command_difference (Call.StateClear c.args.key c.args.name) (λ done. Answer.Done) [] ClearStateCommand (name_or_empty c.args.name) None c.args.vm.now c.admit.new.self c.settle.result c.settle.new.self refl c.in-Admitted.ensures
     (made_by clear_state_command_difference (Call.StateClear c.args.key c.args.name) (λ done. Answer.Done) ClearStateCommand (name_or_empty c.args.name) c.checks_off-ignoring.result c.admit.new.self c.state_clear-made.result c.state_clear-made.new.self c.settle.result c.settle.new.self c.checks_off-ignoring.ensures
-    (λ given m is_of childless sees. c.state_clear-made.ensures.made given m sees) c.state_clear-made.ensures.told c.state_clear-made.ensures.spent c.state_clear-made.ensures.found c.settle.ensures)
+    (λ given m is_of sees. c.state_clear-made.ensures.made given m sees) c.state_clear-made.ensures.told c.state_clear-made.ensures.spent c.state_clear-made.ensures.found c.settle.ensures)
 
 pub returns-in-Elsewhere : goal.returns-in-Elsewhere
 returns-in-Elsewhere c =

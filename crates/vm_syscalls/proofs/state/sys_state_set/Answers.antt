@@ -11,7 +11,7 @@ pub returns-in-Admitted : goal.returns-in-Admitted
 returns-in-Admitted c =
     calls_made set_state_command_difference (Call.StateSet c.args.key c.args.value c.args.name c.args.options) (λ done. Answer.Done) [] SetStateCommand (name_or_empty c.args.name) None c.args.vm.now c.admit.new.self c.settle.result c.settle.new.self refl c.in-Admitted.ensures
     (made_by set_state_command_difference (Call.StateSet c.args.key c.args.value c.args.name c.args.options) (λ done. Answer.Done) SetStateCommand (name_or_empty c.args.name) c.checks_off-ignoring.result c.admit.new.self c.state_set-made.result c.state_set-made.new.self c.settle.result c.settle.new.self c.checks_off-ignoring.ensures
-    (λ given m is_of childless sees. c.state_set-made.ensures.made given m sees) c.state_set-made.ensures.told c.state_set-made.ensures.spent c.state_set-made.ensures.found c.settle.ensures)
+    (λ given m is_of sees. c.state_set-made.ensures.made given m sees) c.state_set-made.ensures.told c.state_set-made.ensures.spent c.state_set-made.ensures.found c.settle.ensures)
 
 pub returns-in-Elsewhere : goal.returns-in-Elsewhere
 returns-in-Elsewhere c =

@@ -10,7 +10,7 @@ pub returns-in-Admitted : goal.returns-in-Admitted
 returns-in-Admitted c =
     calls_made send_signal_command_difference (Call.Cancel c.args.target_id) (λ done. Answer.Done) [] SendSignalCommand [] None c.args.vm.now c.admit.new.self c.settle.result c.settle.new.self refl c.in-Admitted.ensures
     (made_by send_signal_command_difference (Call.Cancel c.args.target_id) (λ done. Answer.Done) SendSignalCommand [] c.checks_off-ignoring.result c.admit.new.self c.cancel-made.result c.cancel-made.new.self c.settle.result c.settle.new.self c.checks_off-ignoring.ensures
-    (λ given m is_of childless sees. c.cancel-made.ensures.made given m sees) c.cancel-made.ensures.told c.cancel-made.ensures.spent c.cancel-made.ensures.found c.settle.ensures)
+    (λ given m is_of sees. c.cancel-made.ensures.made given m sees) c.cancel-made.ensures.told c.cancel-made.ensures.spent c.cancel-made.ensures.found c.settle.ensures)
 
 pub returns-in-Elsewhere : goal.returns-in-Elsewhere
 returns-in-Elsewhere c =

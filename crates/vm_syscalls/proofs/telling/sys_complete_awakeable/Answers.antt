@@ -12,7 +12,7 @@ returns-in-Admitted c =
     let refused = refused_as c.args.vm.now.version c.number-number.result (Call.CompleteAwakeable c.args.id c.args.value c.args.options) _ c.refuse_value-refused.result told c.number-number.ensures c.refuse_value-refused.ensures c.refusal_error-refusal.ensures in
     calls_made complete_awakeable_command_difference (Call.CompleteAwakeable c.args.id c.args.value c.args.options) (λ done. Answer.Done) [] CompleteAwakeableCommand [] told c.args.vm.now c.admit.new.self c.settle.result c.settle.new.self refused c.in-Admitted.ensures
     (made_by complete_awakeable_command_difference (Call.CompleteAwakeable c.args.id c.args.value c.args.options) (λ done. Answer.Done) CompleteAwakeableCommand [] c.checks_off-ignoring.result c.admit.new.self c.complete_awakeable-made.result c.complete_awakeable-made.new.self c.settle.result c.settle.new.self c.checks_off-ignoring.ensures
-    (λ given m is_of childless sees. c.complete_awakeable-made.ensures.made given m (unrefused_of given (Call.CompleteAwakeable c.args.id c.args.value c.args.options) _ told c.args.vm.now c.admit.new.self refused c.in-Admitted.ensures is_of) sees) c.complete_awakeable-made.ensures.told c.complete_awakeable-made.ensures.spent c.complete_awakeable-made.ensures.found c.settle.ensures)
+    (λ given m is_of sees. c.complete_awakeable-made.ensures.made given m (unrefused_of given (Call.CompleteAwakeable c.args.id c.args.value c.args.options) _ told c.args.vm.now c.admit.new.self refused c.in-Admitted.ensures is_of) sees) c.complete_awakeable-made.ensures.told c.complete_awakeable-made.ensures.spent c.complete_awakeable-made.ensures.found c.settle.ensures)
 
 pub returns-in-Elsewhere : goal.returns-in-Elsewhere
 returns-in-Elsewhere c =

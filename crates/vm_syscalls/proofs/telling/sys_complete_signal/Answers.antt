@@ -12,7 +12,7 @@ returns-in-Admitted c =
     let refused = refused_as c.args.vm.now.version c.number-number.result (Call.CompleteSignal c.args.target_id c.args.name c.args.value) _ c.refuse_value-refused.result told c.number-number.ensures c.refuse_value-refused.ensures c.refusal_error-refusal.ensures in
     calls_made send_signal_command_difference (Call.CompleteSignal c.args.target_id c.args.name c.args.value) (λ done. Answer.Done) [] SendSignalCommand [] told c.args.vm.now c.admit.new.self c.settle.result c.settle.new.self refused c.in-Admitted.ensures
     (made_by send_signal_command_difference (Call.CompleteSignal c.args.target_id c.args.name c.args.value) (λ done. Answer.Done) SendSignalCommand [] c.checks_off-ignoring.result c.admit.new.self c.complete_signal-made.result c.complete_signal-made.new.self c.settle.result c.settle.new.self c.checks_off-ignoring.ensures
-    (λ given m is_of childless sees. c.complete_signal-made.ensures.made given m (unrefused_of given (Call.CompleteSignal c.args.target_id c.args.name c.args.value) _ told c.args.vm.now c.admit.new.self refused c.in-Admitted.ensures is_of) sees) c.complete_signal-made.ensures.told c.complete_signal-made.ensures.spent c.complete_signal-made.ensures.found c.settle.ensures)
+    (λ given m is_of sees. c.complete_signal-made.ensures.made given m (unrefused_of given (Call.CompleteSignal c.args.target_id c.args.name c.args.value) _ told c.args.vm.now c.admit.new.self refused c.in-Admitted.ensures is_of) sees) c.complete_signal-made.ensures.told c.complete_signal-made.ensures.spent c.complete_signal-made.ensures.found c.settle.ensures)
 
 pub returns-in-Elsewhere : goal.returns-in-Elsewhere
 returns-in-Elsewhere c =

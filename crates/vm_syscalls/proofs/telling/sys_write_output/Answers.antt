@@ -12,7 +12,7 @@ returns-in-Admitted c =
     let refused = refused_as c.args.vm.now.version c.number-number.result (Call.Output c.args.value c.args.options) _ c.refuse_value-refused.result told c.number-number.ensures c.refuse_value-refused.ensures c.refusal_error-refusal.ensures in
     calls_made output_command_difference (Call.Output c.args.value c.args.options) (λ done. Answer.Done) [] OutputCommand [] told c.args.vm.now c.admit.new.self c.settle.result c.settle.new.self refused c.in-Admitted.ensures
     (made_by output_command_difference (Call.Output c.args.value c.args.options) (λ done. Answer.Done) OutputCommand [] c.checks_off-ignoring.result c.admit.new.self c.output-made.result c.output-made.new.self c.settle.result c.settle.new.self c.checks_off-ignoring.ensures
-    (λ given m is_of childless sees. c.output-made.ensures.made given m (unrefused_of given (Call.Output c.args.value c.args.options) _ told c.args.vm.now c.admit.new.self refused c.in-Admitted.ensures is_of) sees) c.output-made.ensures.told c.output-made.ensures.spent c.output-made.ensures.found c.settle.ensures)
+    (λ given m is_of sees. c.output-made.ensures.made given m (unrefused_of given (Call.Output c.args.value c.args.options) _ told c.args.vm.now c.admit.new.self refused c.in-Admitted.ensures is_of) sees) c.output-made.ensures.told c.output-made.ensures.spent c.output-made.ensures.found c.settle.ensures)
 
 pub returns-in-Elsewhere : goal.returns-in-Elsewhere
 returns-in-Elsewhere c =

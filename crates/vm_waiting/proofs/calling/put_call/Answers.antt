@@ -1,17 +1,17 @@
-use Rattle.vm_waiting.proofs.Pairing.{both_complete, both_fail}
+use Rattle.vm_calls.proofs.Making.{put_answers, put_fails_as}
 use Rattle.vm_calls.proofs.Finding.{tells_before}
 use Rattle.vm_calls.proofs.Spending.{none_for, none_stands}
 use Rattle.vm_waiting.proofs.calling.put_call.Goals as goal
 
 pub returns-in-Ok-clause-makes : goal.returns-in-Ok-clause-makes
 returns-in-Ok-clause-makes g c =
-    λ checks_off given m call request old h two ignores begun.
-    both_complete given m call request two _ old c.args.active.now begun checks_off c.args.ignore ignores c.put.new.self (c.in-Ok.ensures.put request m.written h)
+    λ checks_off given m call request old h answer asks ignores ready answered.
+    put_answers checks_off c.args.ignore given m call request asks ignores old c.args.active.now ready (answer c.args.handles) answered c.put.new.self (c.in-Ok.ensures.put request m.written h)
 
 pub returns-in-Err-clause-makes : goal.returns-in-Err-clause-makes
 returns-in-Err-clause-makes g c =
-    λ checks_off given m call request old h two ignores begun.
-    both_fail given m call request two _ old c.args.active.now begun checks_off c.args.ignore ignores c.put.new.self c.in-Err.error (c.in-Err.ensures.put request m.written h)
+    λ checks_off given m call request old h answer asks ignores ready answered.
+    put_fails_as checks_off c.args.ignore given m call request asks ignores old c.args.active.now ready c.in-Err.error c.put.new.self (c.in-Err.ensures.put request m.written h)
 
 pub returns-in-Ok-clause-spent : goal.returns-in-Ok-clause-spent
 returns-in-Ok-clause-spent g c = λ request taken old h keeps has spent. none_stands old c.args.active.now keeps spent c.in-Ok.stands _ (c.in-Ok.ensures.spent request h)

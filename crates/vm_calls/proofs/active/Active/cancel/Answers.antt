@@ -9,13 +9,13 @@ use Rattle.vm_calls.proofs.active.Active.cancel.Goals as goal
 pub returns-clause-made : goal.returns-clause-made
 returns-clause-made c =
     λ given m sees.
-    c.put_done.ensures.makes c.args.checks_off given m _ _ c.args.self.now refl
+    c.put_done.ensures.makes c.args.checks_off given m _ _ c.args.self.now c.cancel_command.ensures
     (cancel_does given m c.args.target_id c.in_ok-entry_name.entry_name (c.in_ok-entry_name.ensures.copy ∙ c.new.ensures))
     (unchecked c.args.checks_off)
     (asks_to_keep given m c.args.self.now c.ask.new.self sees SendSignalCommand c.new.result c.in_ok-entry_name.ensures.journal _ refl)
 
 pub returns-clause-spent : goal.returns-clause-spent
-returns-clause-spent c = c.put_done.ensures.spent _ 0 c.args.self.now refl (asks_rest SendSignalCommand c.new.result c.args.self.now c.in_ok-entry_name.ensures.journal) (λ lacks. lacks)
+returns-clause-spent c = c.put_done.ensures.spent _ 0 c.args.self.now c.cancel_command.ensures (asks_rest SendSignalCommand c.new.result c.args.self.now c.in_ok-entry_name.ensures.journal) (λ lacks. lacks)
 
 pub returns-clause-found : goal.returns-clause-found
 returns-clause-found c = c.put_done.ensures.found SendSignalCommand c.args.self.now refl (asks_rest SendSignalCommand c.new.result c.args.self.now c.in_ok-entry_name.ensures.journal)

@@ -9,4 +9,4 @@ pub returns : goal.returns
 returns c =
     λ wake_up now millis unrefused.
     made_by sleep_command_difference (Call.Sleep c.args.name wake_up now) (λ handle. Answer.Handle handle) SleepCommand c.args.name c.checks_off-ignoring.result c.args.self.now c.sleep-made.result c.sleep-made.new.self
-    c.settle.result c.settle.new.self c.checks_off-ignoring.ensures (λ given m is_of childless sees. c.sleep-made.ensures.made given m wake_up now millis unrefused sees) c.sleep-made.ensures.told c.sleep-made.ensures.spent c.sleep-made.ensures.found c.settle.ensures
+    c.settle.result c.settle.new.self c.checks_off-ignoring.ensures (λ given m is_of sees. c.sleep-made.ensures.made given m wake_up now millis unrefused sees) c.sleep-made.ensures.told c.sleep-made.ensures.spent c.sleep-made.ensures.found c.settle.ensures
