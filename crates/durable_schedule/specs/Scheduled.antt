@@ -53,6 +53,8 @@ HasTakenFrames _ = ⊥
 abbrev pub IsWritten : {H : Type 0} → scheduled.Event H → Reply → Type 0
 IsWritten (event.Invoke one) answer = IsDone answer
 IsWritten (event.Result id completion value) answer = IsPlaced answer
+IsWritten (event.Signal id key value) answer = IsPlaced answer
+IsWritten (event.Cancel id) answer = IsPlaced answer
 IsWritten (event.Tick now) answer = HasTicked answer
 IsWritten (event.Begin id handler now) answer = HasBegun answer
 IsWritten (event.Move id attempt count) answer = HasTakenFrames answer

@@ -1,7 +1,7 @@
 //! How an attempt that is held is made, and how its bytes go to the store.
-ghost use Rattle.std.specs.Prelude.{IfSome};
+ghost use Rattle.std.specs.Prelude.{◌≡◌, false, IfSome};
 ghost use Rattle.journal_store.specs.Stands.{Endures, Leads};
-ghost use Rattle.schedule_model.specs.Attempts.{IsMadeAndFed};
+ghost use Rattle.schedule_model.specs.Attempts.{has_stopped, IsMadeAndFed};
 ghost use Rattle.schedule_model.specs.Lends.{held_as};
 ghost use Rattle.schedule_model.specs.Schedule.{MovesOne};
 ghost use Rattle.durable_schedule.specs.Scheduled.{HasTakenFrames, IsLive, IsMovedIfHeld, IsOfHeld, LeadsMoved, MovesSome};
@@ -15,7 +15,18 @@ use sqlite::Alter;
 use std::alloc::Global;
 use vm_types::VMOptions;
 
-/// An attempt that speaks this version, and was fed its start frame; none where memory is refused.
+/// An attempt, if it goes on.
+fn going<H: Handler + Drop>(attempt: Attempt<H>) -> Option<Attempt<H>>
+    ensures { IfSome result (λ going. (going ≡ attempt) × (has_stopped going.vm.state.phase ≡ false)) }
+{
+    if attempt.has_stopped() {
+        drop(attempt);
+        return None;
+    }
+    Some(attempt)
+}
+
+/// An attempt that speaks this version, and was fed its start frame; none where memory is refused, to the attempt too.
 pub(crate) fn make<H: Handler + Drop>(
     alloc: Global,
     version: Version,
@@ -23,13 +34,14 @@ pub(crate) fn make<H: Handler + Drop>(
     handler: H,
     start: Bytes,
 ) -> Option<Attempt<H>>
-    ensures { IfSome result (IsMadeAndFed version options handler start) }
+    ensures fed { IfSome result (IsMadeAndFed version options handler start) }
+    ensures goes_on { IfSome result (λ attempt. has_stopped attempt.vm.state.phase ≡ false) }
 {
     match Attempt::new(alloc, version, options, handler) {
         Ok(made) => {
             let mut attempt = made;
             attempt.feed(start);
-            Some(attempt)
+            going(attempt)
         }
         Err(error) => {
             drop(error);

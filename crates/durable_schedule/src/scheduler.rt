@@ -21,7 +21,8 @@ use bytes::ByteStr;
 use journal_model::{Handler, NewInvocation, NonEmptyValue, NotificationResult};
 use journal_store::Store;
 use schedule_model::{
-    Event, HeldAttempt, HeldAttempts, Refusal, Reply, invocation_fits, result_fits,
+    Event, HeldAttempt, HeldAttempts, OutsideSignal, Refusal, Reply, invocation_fits, result_fits,
+    signal_fits,
 };
 use sqlite::Alter;
 use std::alloc::Global;
@@ -72,6 +73,26 @@ impl<H: Handler + Drop, S: Alter + Drop> Scheduler<H, S> {
     {
         result_fits(completion, &value);
         placed(self.store.result(invocation, completion, value))
+    }
+
+    /// A signal comes.
+    fn signal(
+        &mut self,
+        invocation: &ByteStr,
+        signal: OutsideSignal,
+        value: NotificationResult,
+    ) -> Reply
+        ensures { Performs S.Store H.next_call (Event.Signal invocation.now signal value) result self.old self.new }
+    {
+        signal_fits(&signal, &value);
+        placed(self.store.signal(invocation, signal.into_key(), value))
+    }
+
+    /// An invocation is cancelled.
+    fn cancel(&mut self, invocation: &ByteStr) -> Reply
+        ensures { Performs S.Store H.next_call (Event.Cancel invocation.now) result self.old self.new }
+    {
+        placed(self.store.cancel(invocation))
     }
 
     /// The sleeps that are due are over.
@@ -189,6 +210,12 @@ impl<H: Handler + Drop, S: Alter + Drop> Scheduler<H, S> {
                 completion,
                 value,
             } => self.complete(&invocation, completion, value),
+            Event::Signal {
+                invocation,
+                signal,
+                value,
+            } => self.signal(&invocation, signal, value),
+            Event::Cancel { invocation } => self.cancel(&invocation),
             Event::Tick(now) => self.tick(now),
             Event::Begin {
                 invocation,

@@ -13,8 +13,8 @@ use Rattle.schedule_runs.specs.Passed.{LeavesHolds, ReplaysInLine}
 use Rattle.schedule_runs.specs.Schedules.event
 use Rattle.schedule_runs.specs.Schedules.{FitsEvent, Event, Reply, Turned, Scheduled, AppliesAll, Brings}
 use Rattle.script_lines.specs.declared.line.Line.{Line}
-use Rattle.script_lines.specs.declared.line.Line.TheVariants.{Invoke, Result, Tick, Begin, Feed, Close, Turn, Move, Stop, Due, Show, State}
-use Rattle.durable_script.specs.Line.{brought, new_invocation, AppliesOne, AnsweredTurns, AreOfLine, DoesEvent, DoesLine}
+use Rattle.script_lines.specs.declared.line.Line.TheVariants.{Invoke, Result, Signal, Cancel, Tick, Begin, Feed, Close, Turn, Move, Stop, Due, Show, State}
+use Rattle.durable_script.specs.Line.{brought, new_invocation, signal_key, AppliesOne, AnsweredTurns, AreOfLine, DoesEvent, DoesLine}
 use Rattle.durable_script.specs.Printed.{printed}
 use Rattle.durable_script.specs.Run.{DoneLine, AllBring, AreFirst, AreOfLines, DoesAll, DoesFirst, LinesFollow}
 
@@ -174,6 +174,10 @@ module _ (before : List DoneLine) (number : ℕ) (text : List ℕ) where
         plain_more (Invoke id object version state seed input) (event.Invoke (new_invocation id object version state seed input)) d
         (event.Invoke (new_invocation id object version state seed input), d.reply, refl, refl, refl, d.text_is) (λ id next. tt)
     line_more (Result id completion value) d = plain_more (Result id completion value) (event.Result id completion (brought value)) d (event.Result id completion (brought value), d.reply, refl, refl, refl, d.text_is) (λ id next. tt)
+    line_more (Signal id target value) d =
+        plain_more (Signal id target value) (event.Signal id (signal_key target) (brought value)) d
+        (event.Signal id (signal_key target) (brought value), d.reply, refl, refl, refl, d.text_is) (λ id next. tt)
+    line_more (Cancel id) d = plain_more (Cancel id) (event.Cancel id) d (event.Cancel id, d.reply, refl, refl, refl, d.text_is) (λ id next. tt)
     line_more (Tick now) d = plain_more (Tick now) (event.Tick now) d (event.Tick now, d.reply, refl, refl, refl, d.text_is) (λ id next. tt)
     line_more (Begin id name now) d =
         one_more (Begin id name now) (event.Begin id d.0 now) d.2 (event.Begin id d.0 now, d.2.reply, (d.0, d.1, refl), refl, refl, d.2.text_is) (λ want next all is. all.1 is d.0 d.1)

@@ -4,7 +4,7 @@ ghost use Rattle.script_lines.specs.Line.{IsLine};
 ghost use Rattle.vm_types.specs.Options.{default_options};
 ghost use Rattle.durable_script.specs.Reaching.{Nowhere, Reaches};
 ghost use Rattle.durable_script.specs.Printed.{Makes};
-ghost use Rattle.durable_script.specs.Line.{brought, new_invocation, was_answered, IsBegin, DoesEvent, DoesSomeEvent, TakesTurns, TookTurns, DoesLine, DoesSomeLine};
+ghost use Rattle.durable_script.specs.Line.{brought, new_invocation, signal_key, was_answered, IsBegin, DoesEvent, DoesSomeEvent, TakesTurns, TookTurns, DoesLine, DoesSomeLine};
 ghost use Rattle.durable_script.specs.Runner.{DoesNext, StopsAt};
 
 use crate::due::show_due;
@@ -15,9 +15,10 @@ use built_in_handlers::BuiltIn;
 use bytes::{ByteStr, Bytes};
 use journal_model::{Failure, NewInvocation, NotificationResult};
 use journal_store::Store;
-use schedule_runs::{Event, Reply, Scheduler, Turn};
+use schedule_runs::{Event, OutsideSignal, Reply, Scheduler, Turn};
 use script_lines::fault::ScriptFault;
 use script_lines::line::{Line, parse_line};
+use script_lines::target::LineTarget;
 use script_lines::value::LineValue;
 use script_lines::word::{HandlerName, StateMode};
 use sequence::Sequence;
@@ -70,6 +71,16 @@ fn brought(alloc: Global, value: LineValue) -> NotificationResult
             metadata: Sequence::new(alloc),
         }),
         LineValue::InvocationId(id) => NotificationResult::InvocationId(id),
+    }
+}
+
+/// The signal that a line names.
+fn outside_signal(target: LineTarget) -> OutsideSignal
+    ensures { result ≡ signal_key target }
+{
+    match target {
+        LineTarget::Number(number) => OutsideSignal::numbered(number),
+        LineTarget::Name(name) => OutsideSignal::named(name),
     }
 }
 
@@ -178,6 +189,19 @@ fn carry_out<S: Alter + Drop>(
                 },
             )
         }
+        Line::Signal { id, target, value } => {
+            let signal = outside_signal(target);
+            let value = brought(alloc, value);
+            do_event(
+                scheduler,
+                Event::Signal {
+                    invocation: id,
+                    signal,
+                    value,
+                },
+            )
+        }
+        Line::Cancel { id } => do_event(scheduler, Event::Cancel { invocation: id }),
         Line::Tick { now } => do_event(scheduler, Event::Tick(now)),
         Line::Begin {
             id,

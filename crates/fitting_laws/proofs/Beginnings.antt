@@ -9,11 +9,11 @@ use Rattle.std.proofs.lemmas.Bool.Decides.{nat_tests}
 use Rattle.journal_model.specs.declared.invocation.NewInvocation.{NewInvocation}
 use Rattle.journal_model.specs.declared.invocation.StateMode.{StateMode}
 use Rattle.journal_model.specs.declared.options.RunOptions.{RunOptions}
-use Rattle.journal_model.specs.Notification.{Bytes, Text, Arrival}
+use Rattle.journal_model.specs.Notification.{Bytes, Text}
 use Rattle.journal_model.specs.State.{StateMap, state_after}
 use Rattle.journal_model.specs.Spelling.{frame_bytes}
 use Rattle.journal_model.specs.Event.{Event, Frame}
-use Rattle.journal_model.specs.Journal.{Entry, Recorded, Arrived, is_of, is_open, begins, invoked_by, invocation_begun, starting_state, object_state, entries_of, entries_from, entries_added, entries_of_event, arrivals_in, recorded_requests, slept}
+use Rattle.journal_model.specs.Journal.{Entry, Recorded, Arrived, is_of, is_open, begins, invoked_by, invocation_begun, starting_state, object_state, entries_of, entries_from, entries_added, entries_of_event, recorded_requests, slept}
 use Rattle.journal_model.specs.Attempt.{begins_attempt, attempts_begun}
 use Rattle.journal_model.specs.Request.{Request}
 use Rattle.journal_model.specs.Start.{is_some_entry, moment_begun, begun_since_entry, attempts_since_entry, since_first, start_payload, start_payload_for, start_payload_of}
@@ -28,20 +28,19 @@ use Rattle.protocol_records.specs.StateEntry.{StateEntryFits}
 use Rattle.protocol_stream.specs.Records.{state_shown, state_entry_record, start_record}
 use Rattle.input_laws.specs.Message.{InputMessage, CarriesInput, message_of, requests_carried}
 use Rattle.input_laws.proofs.Events.{itself, added_by, entries_now, entries_first, unborn_open}
-use Rattle.input_laws.proofs.Telling.{entries_arrivals, entries_requests}
+use Rattle.input_laws.proofs.Telling.{entries_requests}
 use Rattle.state_laws.specs.Keys.{HasTextKeys}
 use Rattle.state_laws.proofs.States.{states_ordered, states_text}
 use Rattle.turn_laws.specs.Begun.{journal_after}
 use Rattle.position_laws.specs.Beginning.{AttemptStart, ShowsStart, IsBegunAs, start_after}
 use Rattle.position_laws.proofs.Beginning.{start_shows}
-use Rattle.children_laws.specs.Childless.{is_cancellation}
 use Rattle.beginning_laws.proofs.Passed.{of_asked}
 use Rattle.beginning_laws.specs.Reading.{MessageFits}
 use Rattle.beginning_laws.specs.Standing.{IsEntry}
 use Rattle.vm_start.specs.Starts.{AreText}
 use Rattle.fitting_laws.specs.Fitting.{AcceptedFits, AllFit}
 use Rattle.fitting_laws.specs.Laws.{CanStart, AttemptsAreFedWell, AttemptsCanStart}
-use Rattle.fitting_laws.proofs.Fits.{ArrivalCome, EntryFits, entries_fit, recorded_come, invocation_fits, input_short, has_own_id, not_long}
+use Rattle.fitting_laws.proofs.Fits.{EntryFits, entries_fit, invocation_fits, input_short, has_own_id, not_long}
 
 -- ---- its journal
 
@@ -55,26 +54,18 @@ messages_fit all [] fit = tt
 messages_fit all (Recorded request ∷ entries) fit = (fit.0, messages_fit all entries fit.1)
 messages_fit all (Arrived arrival ∷ entries) fit = ((fit.0.fits, of_asked all arrival.id fit.0.asked), messages_fit all entries fit.1)
 
-none_cancels : (all : List Entry) (arrivals : List Arrival) → AllByRecursion (ArrivalCome all) arrivals → list_any is_cancellation arrivals ≡ false
-none_cancels all [] fit = refl
-none_cancels all (arrival ∷ arrivals) fit = ap (λ (b : Bool). b || list_any is_cancellation arrivals) fit.0.uncancelled ∙ none_cancels all arrivals fit.1
-
 pub fed_begun : AttemptsAreFedWell
 fed_begun options fallback_seed id now events new accepted is typed =
     let entries = entries_of events id in
     record {
-      input = record {
-        journal = entries_are entries entries;
-        later = [];
-        parts = ap (λ (messages : List InputMessage). CarriesInput new ∷ messages) (sym (append-nil (journal_after events id)));
-        arrivals = tt;
-        fit = (
-          record { fits = (invocation_fits id events new typed is).input; short = input_short events accepted.1 id new is },
-          messages_fit entries entries (entries_fit id events accepted.1 typed),
-        );
-      };
-      uncancelled = ap (λ (arrivals : List Arrival). list_any is_cancellation arrivals) (entries_arrivals entries entries)
-          ∙ none_cancels entries (arrivals_in entries) (recorded_come id events accepted.1 typed);
+      journal = entries_are entries entries;
+      later = [];
+      parts = ap (λ (messages : List InputMessage). CarriesInput new ∷ messages) (sym (append-nil (journal_after events id)));
+      arrivals = tt;
+      fit = (
+        record { fits = (invocation_fits id events new typed is).input; short = input_short events accepted.1 id new is },
+        messages_fit entries entries (entries_fit id events accepted.1 typed),
+      );
     }
 
 -- ---- its places
@@ -144,9 +135,17 @@ module _ (id : Text) (events : List Event) where
       let tests = tests_of events (Event.Complete id n value) in
       holds-head (tail_of (tail_of (tail_of (tail_of tests)))) (holds-tail (tail_of (tail_of (tail_of tests))) (holds-tail (tail_of (tail_of tests)) (holds-tail (tail_of tests) (holds-tail tests own))))) few
   added_few (Event.Signal other key value) causes fits few =
-      few_if all (bytes_eq other id || false) (entries_of_event (starting_state events id) all (Event.Signal other key value)) (λ e. absurd (fits ((bytes_eq-Decides other id).0 (or_false (bytes_eq other id) e)))) few
+      few_if all (bytes_eq other id || false) (entries_of_event (starting_state events id) all (Event.Signal other key value))
+      (λ e. let same : other ≡ id = (bytes_eq-Decides other id).0 (or_false (bytes_eq other id) e) in
+      let own : causes_of events (Event.Signal id key value) ≡ [] = subst (λ (x : Text). causes_of events (Event.Signal x key value) ≡ []) same causes in
+      let tests = tests_of events (Event.Signal id key value) in
+      holds-head (tail_of (tail_of (tail_of (tail_of tests)))) (holds-tail (tail_of (tail_of (tail_of tests))) (holds-tail (tail_of (tail_of tests)) (holds-tail (tail_of tests) (holds-tail tests own))))) few
   added_few (Event.Cancel other) causes fits few =
-      few_if all (bytes_eq other id || false) (entries_of_event (starting_state events id) all (Event.Cancel other)) (λ e. absurd (fits ((bytes_eq-Decides other id).0 (or_false (bytes_eq other id) e)))) few
+      few_if all (bytes_eq other id || false) (entries_of_event (starting_state events id) all (Event.Cancel other))
+      (λ e. let same : other ≡ id = (bytes_eq-Decides other id).0 (or_false (bytes_eq other id) e) in
+      let own : causes_of events (Event.Cancel id) ≡ [] = subst (λ (x : Text). causes_of events (Event.Cancel x) ≡ []) same causes in
+      let tests = tests_of events (Event.Cancel id) in
+      holds-head (tail_of (tail_of tests)) (holds-tail (tail_of tests) (holds-tail tests own))) few
   added_few (Event.Tick now) causes fits few = few_if all (is_open events id) (map Arrived (slept all now)) (λ e. ticked_few now causes e) few
   added_few (Event.Take other attempt (Frame.Command request)) causes fits few =
       few_if all (bytes_eq other id || false) (entries_of_event (starting_state events id) all (Event.Take other attempt (Frame.Command request)))

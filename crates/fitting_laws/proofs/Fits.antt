@@ -8,24 +8,23 @@ use Rattle.journal_model.specs.declared.notification.NotificationId.{Notificatio
 use Rattle.journal_model.specs.declared.notification.NotificationId.TheVariants.{CompletionId}
 use Rattle.journal_model.specs.declared.notification.NotificationResult.{NotificationResult}
 use Rattle.journal_model.specs.Notification.{Bytes, Text, Arrival}
-use Rattle.journal_model.specs.Request.{Request}
+use Rattle.journal_model.specs.Request.{Request, SignalKey}
 use Rattle.journal_model.specs.State.{StateMap, value_at, state_keys, state_after}
 use Rattle.journal_model.specs.Delivery.{value_or_void}
 use Rattle.journal_model.specs.Spelling.{varint, varint_groups, input_payload, request_payload, notification_payload}
 use Rattle.journal_model.specs.declared.value.NonEmptyValue.{NonEmptyValue}
 use Rattle.journal_model.specs.Event.{Event, Frame}
-use Rattle.journal_model.specs.Journal.{Entry, Recorded, Arrived, is_of, is_open, begins, invoked_by, invocation_begun, starting_state, entries_of, entries_of_event, requests_in, arrivals_in, recorded_arrivals, completion, asks_for, request_asking, is_awaited, open_request, sleeps_in, by_moment, sorted_by_moment, is_over, slept, read_answer}
+use Rattle.journal_model.specs.Journal.{Entry, Recorded, Arrived, is_of, is_open, begins, invoked_by, invocation_begun, starting_state, entries_of, entries_of_event, requests_in, arrivals_in, recorded_arrivals, completion, id_of_signal, asks_for, request_asking, is_awaited, open_request, sleeps_in, by_moment, sorted_by_moment, is_over, slept, read_answer}
 use Rattle.journal_model.specs.Cause.{causes_of, tests_of, own_tests, entry_payload, is_too_long, IsAccepted}
 use Rattle.journal_laws.proofs.ObjectState.{tail_of, holds-head, holds-tail, begun_before, find-passes, not-false, open_when_accepted, requests_in-append}
 use Rattle.input_laws.specs.Message.{InputMessage, CarriesInput, CarriesRequest, CarriesArrival, CarriesOutcome, arrivals_carried, IsBroughtBy}
 use Rattle.input_laws.proofs.Events.{added_by, entries_now, entries_first, unborn_open}
 use Rattle.input_laws.proofs.Telling.{arrivals_carried-append}
 use Rattle.machine_laws.proofs.Recording.{own_passes}
-use Rattle.children_laws.specs.Childless.{is_cancellation}
 use Rattle.request_laws.specs.Fitting.{RequestFits}
 use Rattle.beginning_laws.proofs.Passed.{of_asked}
 use Rattle.beginning_laws.specs.Reading.{ArrivalFits, IsAsked, IsNotificationType, MayCome}
-use Rattle.schedule_model.specs.Fitting.{InvocationFits, ResultFits}
+use Rattle.schedule_model.specs.Fitting.{InvocationFits, ResultFits, signal_arrival, cancellation}
 use Rattle.fitting_laws.specs.Fitting.{AcceptedFits, AllFit}
 use Rattle.fitting_laws.specs.Laws.{MessagesMayCome, UnbornFit}
 
@@ -44,8 +43,7 @@ not_same other id far = by_test (bytes_eq other id) refl
 pub other_fits : (id : Text) (event : Event) → is_of id event ≡ false → AcceptedFits id event
 other_fits id (Event.Invoke new) e = λ same. absurd (apart new.id id e same)
 other_fits id (Event.Complete other n value) e = λ same. absurd (apart other id e same)
-other_fits id (Event.Signal other key value) e = λ same. apart other id e same
-other_fits id (Event.Cancel other) e = λ same. apart other id e same
+other_fits id (Event.Signal other key value) e = λ same. absurd (apart other id e same)
 other_fits id (Event.Begin other now) e = λ same. absurd (apart other id e same)
 other_fits id (Event.Take other attempt frame) e = λ same. absurd (apart other id e same)
 other_fits id event e = tt
@@ -111,7 +109,6 @@ input_short (event ∷ earlier) accepted id new e = input_short earlier accepted
 -- an arrival that can be told, behind these entries
 pub record ArrivalCome (all : List Entry) (arrival : Arrival) : Type 0 where
   pub fits : ArrivalFits arrival
-  pub uncancelled : is_cancellation arrival ≡ false
   pub asked : IsAsked all arrival.id
 
 abbrev pub EntryFits : List Entry → Entry → Type 0
@@ -133,7 +130,7 @@ asked_more all more _ asked = tt
 
 entry_more : (all more : List Entry) (entry : Entry) → EntryFits all entry → EntryFits (all ++ more) entry
 entry_more all more (Recorded request) fits = fits
-entry_more all more (Arrived arrival) fits = record { fits = fits.fits; uncancelled = fits.uncancelled; asked = asked_more all more arrival.id fits.asked }
+entry_more all more (Arrived arrival) fits = record { fits = fits.fits; asked = asked_more all more arrival.id fits.asked }
 
 entries_more : (all more entries : List Entry) → AllByRecursion (EntryFits all) entries → AllByRecursion (EntryFits (all ++ more)) entries
 entries_more all more [] fit = tt
@@ -197,7 +194,6 @@ void_short n =
 sleep_over : (all : List Entry) (sleep : ℕ × ℕ) → SleepFits all sleep → ArrivalCome all (completion sleep.1 NotificationResult.Void)
 sleep_over all sleep fits = record {
   fits = record { fits = record { level = omega arith; id = fits.small; result = record { level = omega arith } }; short = void_short sleep.1 };
-  uncancelled = refl;
   asked = fits.asked;
 }
 
@@ -288,7 +284,6 @@ answer_come all request n value asks fits long = record {
     fits = fits;
     short = not_long (length (notification_payload (completion n value))) (answer_short (is_too_long (request_payload request)) (is_too_long (notification_payload (completion n value))) long);
   };
-  uncancelled = refl;
   asked =
       ap (λ (requests : List Request). list_any (asks_for n) requests) (requests_in-append all (Recorded request ∷ Arrived (completion n value) ∷ []))
       ∙ any_after (asks_for n) (requests_in all) (request ∷ []) (any_first (asks_for n) request [] asks);
@@ -314,6 +309,15 @@ command_fits all state (Request.GetLazyStateKeys n name) fits long = (
 )
 command_fits all state request fits long = (fits, tt)
 
+-- a signal is asked for by none
+signal_asked : (all : List Entry) (key : SignalKey) → IsAsked all (id_of_signal key)
+signal_asked all (SignalKey.ByIndex n) = tt
+signal_asked all (SignalKey.ByName name) = tt
+
+either : (b : Bool) → (b || false) ≡ false → b ≡ false
+either true e = e
+either false e = refl
+
 module _ (id : Text) (events : List Event) where
   abbrev all : List Entry
   all = entries_of events id
@@ -328,13 +332,22 @@ module _ (id : Text) (events : List Event) where
       (holds-tail (tail_of (tail_of (tail_of (tail_of tests)))) (holds-tail (tail_of (tail_of (tail_of tests))) (holds-tail (tail_of (tail_of tests)) one))) in
       record {
         fits = record { fits = fits; short = not_long (length (notification_payload (completion n value))) (either (is_too_long (notification_payload (completion n value))) long) };
-        uncancelled = refl;
         asked = open_asks all n (not-false (is_some (open_request all n)) opened);
       }
-    where
-      either : (b : Bool) → (b || false) ≡ false → b ≡ false
-      either true e = e
-      either false e = refl
+
+  signalled : (key : SignalKey) (value : NotificationResult) → causes_of events (Event.Signal id key value) ≡ [] → ResultFits (signal_arrival key value) → ArrivalCome all (signal_arrival key value)
+  signalled key value causes fits =
+      let tests = tests_of events (Event.Signal id key value) in
+      let long : (is_too_long (notification_payload (signal_arrival key value)) || false) ≡ false =
+      holds-head (tail_of (tail_of (tail_of (tail_of (tail_of tests)))))
+      (holds-tail (tail_of (tail_of (tail_of (tail_of tests)))) (holds-tail (tail_of (tail_of (tail_of tests))) (holds-tail (tail_of (tail_of tests)) (holds-tail (tail_of tests) (holds-tail tests causes))))) in
+      record {
+        fits = record { fits = fits; short = not_long (length (notification_payload (signal_arrival key value))) (either (is_too_long (notification_payload (signal_arrival key value))) long) };
+        asked = signal_asked all key;
+      }
+
+  cancelled : ArrivalCome all cancellation
+  cancelled = record { fits = record { fits = record { level = omega arith; id = omega arith; result = record { level = omega arith } }; short = omega arith }; asked = tt }
 
   own_command : (attempt : ℕ) (request : Request) → causes_of events (Event.Take id attempt (Frame.Command request)) ≡ [] → RequestFits request
       → let added = Recorded request ∷ map Arrived (read_answer (state_after (requests_in all) (starting_state events id)) request) in AllByRecursion (EntryFits (all ++ added)) added
@@ -353,11 +366,13 @@ module _ (id : Text) (events : List Event) where
       entries_more all (added_by events id (Event.Complete other n value)) (Arrived (completion n value) ∷ [])
       (completed n value (subst (λ (x : Text). causes_of events (Event.Complete x n value) ≡ []) same causes) (fits same), tt))
   added_fit (Event.Signal other key value) causes fits before =
-      if_adds (EntryFits (all ++ added_by events id (Event.Signal other key value))) (bytes_eq other id || false) (entries_of_event (starting_state events id) all (Event.Signal other key value))
-      (λ e. absurd (fits ((bytes_eq-Decides other id).0 (or_false (bytes_eq other id) e))))
+      if_adds (EntryFits (all ++ added_by events id (Event.Signal other key value))) (bytes_eq other id || false) (Arrived (signal_arrival key value) ∷ [])
+      (λ e. let same : other ≡ id = (bytes_eq-Decides other id).0 (or_false (bytes_eq other id) e) in
+      entries_more all (added_by events id (Event.Signal other key value)) (Arrived (signal_arrival key value) ∷ [])
+      (signalled key value (subst (λ (x : Text). causes_of events (Event.Signal x key value) ≡ []) same causes) (fits same), tt))
   added_fit (Event.Cancel other) causes fits before =
-      if_adds (EntryFits (all ++ added_by events id (Event.Cancel other))) (bytes_eq other id || false) (entries_of_event (starting_state events id) all (Event.Cancel other))
-      (λ e. absurd (fits ((bytes_eq-Decides other id).0 (or_false (bytes_eq other id) e))))
+      if_adds (EntryFits (all ++ added_by events id (Event.Cancel other))) (bytes_eq other id || false) (Arrived cancellation ∷ [])
+      (λ e. entries_more all (added_by events id (Event.Cancel other)) (Arrived cancellation ∷ []) (cancelled, tt))
   added_fit (Event.Tick now) causes fits before =
       if_adds (EntryFits (all ++ added_by events id (Event.Tick now))) (is_open events id) (map Arrived (slept all now))
       (λ e. entries_more all (added_by events id (Event.Tick now)) (map Arrived (slept all now)) (slept_fit all now before))
@@ -411,7 +426,7 @@ come : (entries : List Entry) (id : Text) (event : Event) (more : List InputMess
     → AllByRecursion (ArrivalCome entries) (arrivals_carried more) → AllByRecursion MayCome more
 come entries id event [] fits brought arrivals = tt
 come entries id event (CarriesArrival ty arrival ∷ more) fits brought arrivals = (
-  ((arrivals.0.fits, subst IsNotificationType (sym brought.0) (of_asked entries arrival.id arrivals.0.asked)), arrivals.0.uncancelled),
+  (arrivals.0.fits, subst IsNotificationType (sym brought.0) (of_asked entries arrival.id arrivals.0.asked)),
   come entries id event more fits brought.1 arrivals.1,
 )
 come entries id event (CarriesOutcome number value ∷ more) fits brought arrivals = absurd (no_outcome entries id event number value fits brought.0)

@@ -5,7 +5,7 @@ use Rattle.journal_model.specs.Notification.{Text}
 use Rattle.journal_model.specs.Event.{Event, Frame}
 use Rattle.journal_model.specs.Journal.{completion}
 use Rattle.request_laws.specs.Fitting.{RequestFits}
-use Rattle.schedule_model.specs.Fitting.{InvocationFits, ResultFits}
+use Rattle.schedule_model.specs.Fitting.{InvocationFits, ResultFits, signal_arrival}
 
 -- of a frame that was taken; no run is executed, so none has an outcome
 abbrev pub FrameFits : Frame → Type 0
@@ -13,12 +13,11 @@ FrameFits (Frame.Command request) = RequestFits request
 FrameFits (Frame.RunOutcome completion value is_acknowledged) = ⊥
 FrameFits _ = Unit {0}
 
--- of an accepted event, if it is one of this invocation; none signals or cancels it
+-- of an accepted event, if it is one of this invocation
 abbrev pub AcceptedFits : Text → Event → Type 0
 AcceptedFits id (Event.Invoke new) = new.id ≡ id → InvocationFits new
 AcceptedFits id (Event.Complete other n value) = other ≡ id → ResultFits (completion n value)
-AcceptedFits id (Event.Signal other key value) = other ≡ id → ⊥
-AcceptedFits id (Event.Cancel other) = other ≡ id → ⊥
+AcceptedFits id (Event.Signal other key value) = other ≡ id → ResultFits (signal_arrival key value)
 AcceptedFits id (Event.Begin other now) = other ≡ id → now < 2 ^ 64
 AcceptedFits id (Event.Take other attempt frame) = other ≡ id → FrameFits frame
 AcceptedFits id _ = Unit {0}

@@ -1,6 +1,6 @@
 -- The laws of this crate.
-use Rattle.std.specs.Prelude.{◌≡◌, ◌<◌, ◌^◌, ℕ, false, List, ◌∷◌, ◌++◌, Some, None}
-use Rattle.std.specs.List.{AllByRecursion, list_any}
+use Rattle.std.specs.Prelude.{◌≡◌, ◌<◌, ◌^◌, ℕ, List, ◌∷◌, ◌++◌, Some, None}
+use Rattle.std.specs.List.{AllByRecursion}
 use Rattle.journal_model.specs.declared.invocation.NewInvocation.{NewInvocation}
 use Rattle.journal_model.specs.declared.options.RunOptions.{RunOptions}
 use Rattle.journal_model.specs.Notification.{Text}
@@ -8,10 +8,9 @@ use Rattle.journal_model.specs.Event.{Event}
 use Rattle.journal_model.specs.Journal.{invocation_begun, entries_of}
 use Rattle.journal_model.specs.Cause.{IsAccepted}
 use Rattle.journal_model.specs.Run.{Handler}
-use Rattle.input_laws.specs.Message.{InputMessage, CarriesInput, arrivals_carried, IsBroughtBy}
+use Rattle.input_laws.specs.Message.{InputMessage, CarriesInput, IsBroughtBy}
 use Rattle.position_laws.specs.Beginning.{AttemptStart, ShowsStart, IsBegunAs, start_after}
 use Rattle.machine_laws.specs.Living.{LiveAttempt, IsLiveMachine}
-use Rattle.children_laws.specs.Childless.{is_cancellation}
 use Rattle.beginning_laws.specs.Reading.{MayCome}
 use Rattle.beginning_laws.specs.Standing.{IsInputOf, CanBegin}
 use Rattle.fitting_laws.specs.Fitting.{AllFit}
@@ -22,10 +21,9 @@ MessagesMayCome = (next : Handler) (options : RunOptions) (fallback_seed : ℕ) 
     → live.unread ≡ unread ++ more → IsAccepted (event ∷ events) → AllFit id (event ∷ events) → IsLiveMachine next options fallback_seed id (event ∷ events) live
     → AllByRecursion (IsBroughtBy (entries_of (event ∷ events) id) id event) more → AllByRecursion MayCome more
 
--- the messages that an attempt is begun with are such as the protocol can carry, and none cancels
-pub record IsFedWell (start : AttemptStart) : Type 0 where
-  pub input : IsInputOf start (CarriesInput start.new ∷ start.journal)
-  pub uncancelled : list_any is_cancellation (arrivals_carried (CarriesInput start.new ∷ start.journal)) ≡ false
+-- the messages that an attempt is begun with are such as the protocol can carry
+abbrev pub IsFedWell : AttemptStart → Type 0
+IsFedWell start = IsInputOf start (CarriesInput start.new ∷ start.journal)
 
 abbrev pub AttemptsAreFedWell : Type 0
 AttemptsAreFedWell = (options : RunOptions) (fallback_seed : ℕ) (id : Text) (now : ℕ) (events : List Event) (new : NewInvocation) → IsAccepted (Event.Begin id now ∷ events)

@@ -188,7 +188,7 @@ module _ {H : Type 0} (function : H → Handler) (next : Handler) (options : VMO
         has_begun : (output_of h.attempt ≡ []) × (Serves function next answer.version options (attempt_started start) false h.attempt ⊎ LacksMemory h.attempt)
         has_begun =
             laws.begins answer.version start starts.shows handler h.fresh.made h.attempt brings is_run starts.can
-            (record { input = fed_well.input; uncancelled = fed_well.uncancelled })
+            fed_well
             h.fresh.begun (subst (λ (bytes : Bytes). Feeds bytes h.fresh.made h.attempt) told h.fresh.fed)
 
         begun_stands : Serves function next answer.version options (attempt_started start) false h.attempt ⊎ LacksMemory h.attempt

@@ -14,9 +14,6 @@ use Rattle.journal_model.specs.Attempt.{arrivals_within}
 use Rattle.journal_model.specs.Cause.{Cause, IsAccepted, causes_of}
 use Rattle.protocol_types.specs.declared.message_type.MessageType.{MessageType}
 use Rattle.store_refusals.specs.Refused.{refusal_of, first_of}
-use Rattle.store_steps.specs.declared.frame.FrameReply.{FrameReply}
-use Rattle.store_steps.specs.declared.frame.FrameReply.TheVariants as replies
-use Rattle.store_steps.specs.Taken.{IsReply}
 use Rattle.store_calls.specs.declared.begun.BegunAttempt.{BegunAttempt}
 use Rattle.store_calls.specs.Standing.{Standing}
 use Rattle.store_calls.specs.Calls.{Begins}
@@ -24,6 +21,7 @@ use Rattle.journal_laws.proofs.Isolation.{IsToldAlike, frames_of-view, version_o
 use Rattle.journal_laws.proofs.ObjectState.{accepted_followed, open_when_accepted}
 use Rattle.journal_laws.proofs.Refusing.{first_cause, left_alike, refused_alike}
 use Rattle.input_laws.proofs.Events.{itself}
+use Rattle.piece_laws.proofs.Replies.{taken_alike}
 use Rattle.schedule_laws.specs.Isolation.{AllAnswerAlone, AllKeepState, AllReplyAlike, AllStandAlone, IsOwn}
 -- passed on, so that crates above name this one alone
 pub use Rattle.journal_laws.proofs.ObjectState.{own_followed}
@@ -102,33 +100,6 @@ begins_open id now begun old new it =
     let accepted : IsAccepted (Event.Begin id now ∷ old.events) = subst IsAccepted it.leaves.events new.accepted in
     open_when_accepted old.events (Event.Begin id now) id refl (itself id) accepted.0
 
-recorded_alike : (one two : ℕ) (place at : ℕ) → place ≡ 1 + one → at ≡ 1 + two → one ≡ two → replies.Recorded place ≡ replies.Recorded at
-recorded_alike one two place at is was same = ap (λ (n : ℕ). replies.Recorded n) (is ∙ ap (λ (n : ℕ). 1 + n) same ∙ sym was)
-
-taken_alike : (id : Text) (events others : List Event) → entries_of events id ≡ entries_of others id → (frame : Frame) (reply answer : FrameReply)
-    → IsReply events id frame reply → IsReply others id frame answer → reply ≡ answer
-taken_alike id events others same (Frame.Command request) (replies.Recorded place) (replies.Recorded at) it also =
-    recorded_alike (length (entries_of events id)) (length (entries_of others id)) place at it also (ap (λ (entries : List Entry). length entries) same)
-taken_alike id events others same (Frame.Command request) (replies.Recorded place) _ it also = absurd also
-taken_alike id events others same (Frame.Command request) _ _ it also = absurd it
-taken_alike id events others same (Frame.RunOutcome n value is_acknowledged) (replies.Recorded place) (replies.Recorded at) it also =
-    recorded_alike (length (entries_of events id)) (length (entries_of others id)) place at it also (ap (λ (entries : List Entry). length entries) same)
-taken_alike id events others same (Frame.RunOutcome n value is_acknowledged) (replies.Recorded place) _ it also = absurd also
-taken_alike id events others same (Frame.RunOutcome n value is_acknowledged) _ _ it also = absurd it
-taken_alike id events others same Frame.AwaitingOn replies.Noted replies.Noted it also = refl
-taken_alike id events others same Frame.AwaitingOn replies.Noted _ it also = absurd also
-taken_alike id events others same Frame.AwaitingOn _ _ it also = absurd it
-taken_alike id events others same (Frame.Suspend suspension) replies.Suspended replies.Suspended it also = refl
-taken_alike id events others same (Frame.Suspend suspension) replies.Suspended _ it also = absurd also
-taken_alike id events others same (Frame.Suspend suspension) _ _ it also = absurd it
-taken_alike id events others same (Frame.Error code message behavior delay) replies.Failed replies.Failed it also = refl
-taken_alike id events others same (Frame.Error code message behavior delay) replies.Failed _ it also = absurd also
-taken_alike id events others same (Frame.Error code message behavior delay) _ _ it also = absurd it
-taken_alike id events others same Frame.End replies.Ended replies.Ended it also = refl
-taken_alike id events others same Frame.End replies.Ended _ it also = absurd also
-taken_alike id events others same Frame.End _ _ it also = absurd it
-taken_alike id events others same _ _ _ it also = absurd it
-
 pub reply_alike : AllReplyAlike
 reply_alike id old other it = record {
   begun = λ now one two new more begins begun. (
@@ -138,5 +109,7 @@ reply_alike id old other it = record {
   );
   handed = λ attempt most bytes others new more hands handed. hands.0 ∙ ap (take most) it.0.left ∙ sym handed.0;
   placed = λ completion brought place at new more completes completed. completes.0 ∙ ap (λ (entries : List Entry). 1 + length entries) it.0.entries ∙ sym completed.0;
+  signalled = λ key brought place at new more signals signalled. signals.0 ∙ ap (λ (entries : List Entry). 1 + length entries) it.0.entries ∙ sym signalled.0;
+  cancelled = λ place at new more cancels cancelled. cancels.0 ∙ ap (λ (entries : List Entry). 1 + length entries) it.0.entries ∙ sym cancelled.0;
   taken = taken_alike id old.events other.events it.0.entries;
 }

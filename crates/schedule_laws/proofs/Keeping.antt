@@ -5,6 +5,7 @@ use Rattle.std.proofs.lemmas.Slice.Eq.{bytes_eq-Decides}
 use Rattle.journal_model.specs.declared.invocation.NewInvocation.{NewInvocation}
 use Rattle.journal_model.specs.declared.notification.NotificationResult.{NotificationResult}
 use Rattle.journal_model.specs.Notification.{Bytes, Text}
+use Rattle.journal_model.specs.Request.{SignalKey}
 use Rattle.journal_model.specs.Event.{Event as ModelEvent}
 use Rattle.journal_model.specs.Journal.{is_of, invocation_begun, completion}
 use Rattle.journal_model.specs.Attempt.{live_attempt, is_live, input_left}
@@ -13,10 +14,10 @@ use Rattle.journal_model.specs.Run.{Handler}
 use Rattle.journal_laws.proofs.ObjectState.{tail_of, holds-head, holds-tail, not-false}
 use Rattle.vm_types.specs.declared.options.VMOptions.{VMOptions}
 use Rattle.store_calls.specs.Standing.{Standing, Stays, Adds}
-use Rattle.store_calls.specs.Calls.{Invokes, Completes, Ticks, Stops}
+use Rattle.store_calls.specs.Calls.{Invokes, Completes, Signals, Cancels, Ticks, Stops}
 use Rattle.store_calls.proofs.Live.{live_when}
 use Rattle.store_calls.proofs.Taking.{bytes_stay}
-use Rattle.schedule_model.specs.Fitting.{ResultFits}
+use Rattle.schedule_model.specs.Fitting.{ResultFits, signal_arrival}
 use Rattle.schedule_laws.specs.Following.{ReplaysInLine, FollowsBegun, FollowsWhere, Follows}
 use Rattle.schedule_laws.proofs.Acting.{fed, closed, turned, advanced}
 use Rattle.schedule_laws.proofs.Beginning.{made, unheld, begun}
@@ -61,7 +62,7 @@ module _ {H : Type 0} (function : H → Handler) (next : Handler) (options : VMO
   same_state : (s t : Standing) (held more : List (HeldAttempt H)) → Stays s t → more ≡ held → In s held → In t more
   same_state s t held more stays same f = subst (λ (hs : List (HeldAttempt H)). In t hs) (sym same) (stands_still function next options id s t held stays f)
 
-  -- ---- a result and a tick
+  -- ---- a result, a signal, a cancellation and a tick
 
   complete_plain : (other : Text) (n : ℕ) (value : NotificationResult) → IsPlain id (ModelEvent.Complete other n value)
   complete_plain other n value = record { old = refl; going = refl; asks = refl; closes = never (is_of id (ModelEvent.Complete other n value)) }
@@ -71,6 +72,26 @@ module _ {H : Type 0} (function : H → Handler) (next : Handler) (options : VMO
       let accepted : IsAccepted (ModelEvent.Complete other n value ∷ s.events) = subst IsAccepted adds.events t.accepted in
       into function next options id t (ModelEvent.Complete other n value ∷ s.events) (s.outputs id) held adds.events (adds.outputs id)
       (where_on function next options id (ModelEvent.Complete other n value) s.events (complete_plain other n value) accepted.0 accepted.1 (λ same. fits) laws (s.outputs id) (s.outputs id) held
+      (λ frames. refl) (λ now is. is) f)
+
+  signal_plain : (other : Text) (key : SignalKey) (value : NotificationResult) → IsPlain id (ModelEvent.Signal other key value)
+  signal_plain other key value = record { old = refl; going = refl; asks = refl; closes = never (is_of id (ModelEvent.Signal other key value)) }
+
+  signalled : (other : Text) (key : SignalKey) (value : NotificationResult) (s t : Standing) (held : List (HeldAttempt H)) → ResultFits (signal_arrival key value) → Adds (ModelEvent.Signal other key value) s t → In s held → In t held
+  signalled other key value s t held fits adds f =
+      let accepted : IsAccepted (ModelEvent.Signal other key value ∷ s.events) = subst IsAccepted adds.events t.accepted in
+      into function next options id t (ModelEvent.Signal other key value ∷ s.events) (s.outputs id) held adds.events (adds.outputs id)
+      (where_on function next options id (ModelEvent.Signal other key value) s.events (signal_plain other key value) accepted.0 accepted.1 (λ same. fits) laws (s.outputs id) (s.outputs id) held
+      (λ frames. refl) (λ now is. is) f)
+
+  cancel_plain : (other : Text) → IsPlain id (ModelEvent.Cancel other)
+  cancel_plain other = record { old = refl; going = refl; asks = refl; closes = never (is_of id (ModelEvent.Cancel other)) }
+
+  cancelled : (other : Text) (s t : Standing) (held : List (HeldAttempt H)) → Adds (ModelEvent.Cancel other) s t → In s held → In t held
+  cancelled other s t held adds f =
+      let accepted : IsAccepted (ModelEvent.Cancel other ∷ s.events) = subst IsAccepted adds.events t.accepted in
+      into function next options id t (ModelEvent.Cancel other ∷ s.events) (s.outputs id) held adds.events (adds.outputs id)
+      (where_on function next options id (ModelEvent.Cancel other) s.events (cancel_plain other) accepted.0 accepted.1 tt laws (s.outputs id) (s.outputs id) held
       (λ frames. refl) (λ now is. is) f)
 
   ticked : (now : ℕ) (s t : Standing) (held : List (HeldAttempt H)) → Adds (ModelEvent.Tick now) s t → In s held → In t held
@@ -205,6 +226,17 @@ module _ {H : Type 0} (function : H → Handler) (next : Handler) (options : VMO
   kept_result other n value (reply.Refused (refusal.Store why)) s t held fits d f = stands_still function next options id s t held d.stays f
   kept_result other n value _ s t held fits d f = absurd d
 
+  kept_signal : (other : Text) (key : SignalKey) (value : NotificationResult) (answer : Reply) (s t : Standing) (held : List (HeldAttempt H)) → ResultFits (signal_arrival key value)
+      → RepliesPlace (λ result. Signals other key value result s t) answer → In s held → In t held
+  kept_signal other key value (reply.Placed place) s t held fits d f = signalled other key value s t held fits d.1 f
+  kept_signal other key value (reply.Refused (refusal.Store why)) s t held fits d f = stands_still function next options id s t held d.stays f
+  kept_signal other key value _ s t held fits d f = absurd d
+
+  kept_cancel : (other : Text) (answer : Reply) (s t : Standing) (held : List (HeldAttempt H)) → RepliesPlace (λ result. Cancels other result s t) answer → In s held → In t held
+  kept_cancel other (reply.Placed place) s t held d f = cancelled other s t held d.1 f
+  kept_cancel other (reply.Refused (refusal.Store why)) s t held d f = stands_still function next options id s t held d.stays f
+  kept_cancel other _ s t held d f = absurd d
+
   kept_tick : (now : ℕ) (answer : Reply) (s t : Standing) (held : List (HeldAttempt H)) → RepliesCount (λ result. Ticks now result s t) answer → In s held → In t held
   kept_tick now (reply.Ticked count) s t held d f = ticked now s t held d.1 f
   kept_tick now (reply.Refused (refusal.Store why)) s t held d f = stands_still function next options id s t held d.stays f
@@ -290,6 +322,8 @@ module _ {H : Type 0} (function : H → Handler) (next : Handler) (options : VMO
       → Does function options one s held answer t more → In s held → In t more
   keeps (event.Invoke one) answer s t held more in_line fits brings d f = subst (λ (hs : List (HeldAttempt H)). In t hs) (sym d.1) (kept_invoke one answer s t held fits d.0 f)
   keeps (event.Result other n value) answer s t held more in_line fits brings d f = subst (λ (hs : List (HeldAttempt H)). In t hs) (sym d.1) (kept_result other n value answer s t held fits d.0 f)
+  keeps (event.Signal other key value) answer s t held more in_line fits brings d f = subst (λ (hs : List (HeldAttempt H)). In t hs) (sym d.1) (kept_signal other key value answer s t held fits d.0 f)
+  keeps (event.Cancel other) answer s t held more in_line fits brings d f = subst (λ (hs : List (HeldAttempt H)). In t hs) (sym d.1) (kept_cancel other answer s t held d.0 f)
   keeps (event.Tick now) answer s t held more in_line fits brings d f = subst (λ (hs : List (HeldAttempt H)). In t hs) (sym d.1) (kept_tick now answer s t held d.0 f)
   keeps (event.Begin other handler now) answer s t held more in_line fits brings d f = kept_begin other handler now answer s t held more in_line fits brings d f
   keeps (event.Feed other n count) answer s t held more in_line fits brings d f =

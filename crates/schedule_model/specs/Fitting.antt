@@ -8,6 +8,7 @@ use Rattle.protocol_stream.specs.Records.{input_record}
 use Rattle.journal_model.specs.declared.invocation.NewInvocation.{NewInvocation}
 use Rattle.journal_model.specs.Journal.{completion}
 use Rattle.journal_model.specs.Notification.{Arrival}
+pub use Rattle.store_arrivals.specs.Signals.{key_of, signal_arrival, cancellation}
 use Rattle.schedule_model.specs.declared.event.Event.{Event}
 use Rattle.schedule_model.specs.declared.event.Event.TheVariants as event
 
@@ -24,5 +25,6 @@ ResultFits arrival = NotificationFits LEVELS (notification_record arrival)
 abbrev pub FitsEvent : {H : Type 0} → Event H → Type 0
 FitsEvent (event.Invoke one) = InvocationFits one
 FitsEvent (event.Result id n value) = ResultFits (completion n value)
+FitsEvent (event.Signal id key value) = ResultFits (signal_arrival key value)
 FitsEvent (event.Begin id handler now) = now < 2 ^ 64
 FitsEvent _ = Unit {0}

@@ -1,5 +1,5 @@
 -- What each event answers and leaves, and what a list of events does one after another.
-use Rattle.std.specs.Prelude.{◌≡◌, ◌⊎◌, ℕ, min, List, [], ◌∷◌, ◌++◌, length, take, Option, Some, None, Result, Ok, Err}
+use Rattle.std.specs.Prelude.{◌≡◌, ◌⊎◌, ℕ, min, false, List, [], ◌∷◌, ◌++◌, length, take, Option, Some, None, Result, Ok, Err}
 use Rattle.journal_model.specs.Notification.{Bytes, Text}
 use Rattle.journal_model.specs.Run.{Handler}
 use Rattle.store_refusals.specs.declared.refusal.Refusal.{Refusal}
@@ -18,7 +18,7 @@ use Rattle.schedule_model.specs.declared.held.HeldAttempt.{HeldAttempt}
 use Rattle.store_steps.specs.declared.frame.FrameReply.{FrameReply}
 use Rattle.store_calls.specs.declared.begun.BegunAttempt.{BegunAttempt}
 use Rattle.store_calls.specs.Standing.{Standing, Stays}
-use Rattle.store_calls.specs.Calls.{Invokes, Completes, Ticks, Begins, BeginsAttempt, HandsOut, ClosesInput, Stops}
+use Rattle.store_calls.specs.Calls.{Invokes, Completes, Signals, Cancels, Ticks, Begins, BeginsAttempt, HandsOut, ClosesInput, Stops}
 use Rattle.store_calls.specs.Frames.{Accepts}
 use Rattle.schedule_model.specs.Held.{held_of, with_attempt}
 
@@ -30,7 +30,7 @@ RepliesDone Does reply.Done = Does (Ok tt)
 RepliesDone Does (reply.Refused (refusal.Store why)) = Does (Err why)
 RepliesDone Does _ = ⊥
 
--- to a result
+-- to a result, to a signal and to a cancellation
 abbrev pub RepliesPlace : (Result ℕ Refusal → Type 0) → Reply → Type 0
 RepliesPlace Does (reply.Placed place) = Does (Ok place)
 RepliesPlace Does (reply.Refused (refusal.Store why)) = Does (Err why)
@@ -50,13 +50,14 @@ pub record Scheduled (H : Type 0) : Type 0 where
 module _ {H : Type 0} where
   -- ---- an attempt begins
 
-  -- one that speaks the invocation's version was made, was fed its start frame, and is held
+  -- one that speaks the invocation's version was made, was fed its start frame, which has not stopped it, and is held
   pub record HoldsBegun (options : VMOptions) (id : Text) (handler : H) (begun : BegunAttempt) (old new : List (HeldAttempt H)) : Type 0 where
     pub attempt : Attempt H
     pub fresh : attempts.IsMadeAndFed begun.version options handler begun.start attempt
+    pub goes_on : attempts.has_stopped attempt.vm.state.phase ≡ false
     pub held : new ≡ old ++ record { invocation = id; number = begun.number; attempt = attempt } ∷ []
 
-  -- where memory is refused to the scheduler, the attempt stays begun, and nobody holds it
+  -- where memory is refused to the scheduler or to the attempt, it stays begun, and nobody holds it
   abbrev pub BeginDoes : VMOptions → Text → H → ℕ → Standing → List (HeldAttempt H) → Reply → Standing → List (HeldAttempt H) → Type 0
   BeginDoes options id handler now old held (reply.Begun number) new more =
       (begun : BegunAttempt) × (number ≡ begun.number) × Begins id now begun old new × HoldsBegun options id handler begun held more
@@ -110,6 +111,9 @@ module _ {H : Type 0} where
   Does function options (event.Invoke one) old held answer new more = RepliesDone (λ result. Invokes one result old new) answer × (more ≡ held)
   Does function options (event.Result id completion value) old held answer new more =
       RepliesPlace (λ result. Completes id completion value result old new) answer × (more ≡ held)
+  Does function options (event.Signal id key value) old held answer new more =
+      RepliesPlace (λ result. Signals id key value result old new) answer × (more ≡ held)
+  Does function options (event.Cancel id) old held answer new more = RepliesPlace (λ result. Cancels id result old new) answer × (more ≡ held)
   Does function options (event.Tick now) old held answer new more = RepliesCount (λ result. Ticks now result old new) answer × (more ≡ held)
   Does function options (event.Begin id handler now) old held answer new more = BeginDoes options id handler now old held answer new more
   Does function options (event.Feed id number count) old held answer new more = IfHeld (FeedsOne count) (held_of held id number) old held answer new more

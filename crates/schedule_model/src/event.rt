@@ -2,6 +2,7 @@
 ghost use Rattle.std.specs.Prelude.{◌≡◌};
 ghost use Rattle.schedule_model.specs.Names.{name_of};
 
+use crate::signal::OutsideSignal;
 use bytes::ByteStr;
 use journal_model::{NewInvocation, NotificationResult};
 use vm_attempt::Turn;
@@ -16,6 +17,16 @@ pub enum Event<H> {
         invocation: ByteStr,
         completion: u32,
         value: NotificationResult,
+    },
+    /// A signal comes: void, a value or a failure.
+    Signal {
+        invocation: ByteStr,
+        signal: OutsideSignal,
+        value: NotificationResult,
+    },
+    /// The invocation is cancelled. It may be so any number of times.
+    Cancel {
+        invocation: ByteStr,
     },
     /// It is this moment, in milliseconds: the sleeps that are due are over.
     Tick(u64),
@@ -80,7 +91,7 @@ impl Refusal {
 pub enum Reply {
     /// An invocation was made, an input closed, or an attempt stopped.
     Done,
-    /// A result took this place of the journal.
+    /// A result, a signal or a cancellation took this place of the journal.
     Placed(u32),
     /// So many sleeps are over.
     Ticked(u64),

@@ -11,7 +11,9 @@ ghost use Rattle.protocol_records.specs.InputCommand.{InputCommandFits};
 ghost use Rattle.protocol_spellings.specs.Records.{arrived_failure_record, result_record};
 ghost use Rattle.protocol_stream.specs.Records.{header_record, input_record, pair_record};
 ghost use Rattle.protocol_wire.specs.declared.record.TheConstants.{LEVELS};
+ghost use Rattle.schedule_model.specs.Fitting.{ResultFits, signal_arrival};
 
+use crate::signal::OutsideSignal;
 use bytes::ByteStr;
 use journal_model::{Failure, Header, NewInvocation, NotificationResult};
 use protocol_records::fits::{long_fits, short_fits, text_fits};
@@ -84,5 +86,13 @@ pub fn result_fits(completion: u32, value: &NotificationResult)
     ensures { NotificationFits LEVELS (record { id = Some (CompletionId completion); result = Some (result_record value.now) }) }
 {
     short_fits(completion);
+    value_fits(value);
+}
+
+/// So it is of a signal.
+pub fn signal_fits(signal: &OutsideSignal, value: &NotificationResult)
+    ensures { ResultFits (signal_arrival signal.now value.now) }
+{
+    signal.fits();
     value_fits(value);
 }

@@ -8,10 +8,13 @@ mod fitting;
 mod held;
 mod laws;
 mod places;
+mod signal;
 
 pub use attempts::HeldAttempts;
 pub use event::{Event, Refusal, Reply};
-pub use fitting::{invocation_fits, result_fits};
+pub use fitting::{invocation_fits, result_fits, signal_fits};
 pub use held::HeldAttempt;
 pub use laws::{attempts_are_held, schedules_grow};
+pub use signal::OutsideSignal;
+pub use store_arrivals::SignalKey;
 pub use vm_attempt::{Attempt, Turn};

@@ -2,6 +2,7 @@
 use Rattle.std.proofs.Common.{◌≡◌, refl, sym, ap, subst, ◌∙◌, ℕ, arith, Bool, true, false, ◌++◌, append_assoc, length, length-append, map, if◌then◌else◌, List, [], ◌∷◌, Option, Some, None, inl, inr}
 use Rattle.std.proofs.lemmas.List.{map-append}
 use Rattle.journal_model.specs.Notification.{Text}
+use Rattle.journal_model.specs.Request.{SignalKey}
 use Rattle.journal_model.specs.declared.invocation.NewInvocation.{NewInvocation}
 use Rattle.journal_model.specs.declared.notification.NotificationResult.{NotificationResult}
 use Rattle.journal_model.specs.Run.{Handler}
@@ -12,7 +13,7 @@ use Rattle.store_refusals.specs.declared.refusal.Refusal.{Refusal}
 use Rattle.store_steps.specs.declared.frame.FrameReply.{FrameReply}
 use Rattle.store_steps.specs.Taken.{lies_in_frame}
 use Rattle.store_calls.specs.Standing.{Standing, Stays}
-use Rattle.store_calls.specs.Calls.{Completes, Invokes, Stops, Ticks}
+use Rattle.store_calls.specs.Calls.{Cancels, Completes, Invokes, Signals, Stops, Ticks}
 use Rattle.store_calls.specs.Frames.{LeavesRefused, Rests, TakesEach}
 use Rattle.store_calls.proofs.Taking.{bytes_stay}
 use Rattle.schedule_laws.specs.Attempts.{Attempt}
@@ -70,6 +71,17 @@ module _ {H : Type 0} (function : H → Handler) (options : VMOptions) where
   complete_adds id n value (reply.Placed place) s t it = (Event.Complete id n value ∷ [], refl, it.1.events)
   complete_adds id n value (reply.Refused (refusal.Store why)) s t it = ([], refl, it.stays.events)
   complete_adds id n value _ s t it = absurd it
+
+  signal_adds : (id : Text) (key : SignalKey) (value : NotificationResult) (answer : Reply) (s t : Standing) → RepliesPlace (λ result. Signals id key value result s t) answer
+      → Adds {H = H} (event.Signal id key value) answer s t
+  signal_adds id key value (reply.Placed place) s t it = (Event.Signal id key value ∷ [], refl, it.1.events)
+  signal_adds id key value (reply.Refused (refusal.Store why)) s t it = ([], refl, it.stays.events)
+  signal_adds id key value _ s t it = absurd it
+
+  cancel_adds : (id : Text) (answer : Reply) (s t : Standing) → RepliesPlace (λ result. Cancels id result s t) answer → Adds {H = H} (event.Cancel id) answer s t
+  cancel_adds id (reply.Placed place) s t it = (Event.Cancel id ∷ [], refl, it.1.events)
+  cancel_adds id (reply.Refused (refusal.Store why)) s t it = ([], refl, it.stays.events)
+  cancel_adds id _ s t it = absurd it
 
   tick_adds : (now : ℕ) (answer : Reply) (s t : Standing) → RepliesCount (λ result. Ticks now result s t) answer → Adds {H = H} (event.Tick now) answer s t
   tick_adds now (reply.Ticked count) s t it = (Event.Tick now ∷ [], refl, it.1.events)
@@ -140,6 +152,8 @@ module _ {H : Type 0} (function : H → Handler) (options : VMOptions) where
   pub does_add : (one : scheduled.Event H) (s t : Standing) (held more : List (HeldAttempt H)) (answer : Reply) → Does function options one s held answer t more → Adds one answer s t
   does_add (event.Invoke one) s t held more answer it = invoke_adds one answer s t it.0
   does_add (event.Result id n value) s t held more answer it = complete_adds id n value answer s t it.0
+  does_add (event.Signal id key value) s t held more answer it = signal_adds id key value answer s t it.0
+  does_add (event.Cancel id) s t held more answer it = cancel_adds id answer s t it.0
   does_add (event.Tick now) s t held more answer it = tick_adds now answer s t it.0
   does_add (event.Begin id handler now) s t held more answer it = begin_adds id handler now s t held more answer it
   does_add (event.Feed id n count) s t held more answer it =

@@ -2,6 +2,7 @@
 use Rattle.std.proofs.Common.{◌≡◌, ◌∙◌, sym, subst, ℕ, inl, inr, refl, arith, Bool, true, false, length, take, List, [], ◌∷◌, Option, Some, None, Ok}
 use Rattle.sqlite.specs.State.{State, HasCleanDisk}
 use Rattle.journal_model.specs.Notification.{Bytes, Text}
+use Rattle.journal_model.specs.Request.{SignalKey}
 use Rattle.journal_model.specs.declared.invocation.NewInvocation.{NewInvocation}
 use Rattle.journal_model.specs.declared.notification.NotificationResult.{NotificationResult}
 use Rattle.journal_model.specs.Event.{Event as Accepted}
@@ -11,7 +12,7 @@ use Rattle.vm_types.specs.declared.options.VMOptions.{VMOptions}
 use Rattle.store_refusals.specs.declared.refusal.Refusal.{Refusal}
 use Rattle.store_steps.specs.declared.frame.FrameReply.{FrameReply}
 use Rattle.store_calls.specs.Standing.{Standing}
-use Rattle.store_calls.specs.Calls.{Invokes, Completes, Ticks, RefusesBytes}
+use Rattle.store_calls.specs.Calls.{Invokes, Completes, Signals, Cancels, Ticks, RefusesBytes}
 use Rattle.store_calls.specs.Frames.{Accepts}
 use Rattle.store_calls.proofs.Taking.{bytes_stay}
 use Rattle.schedule_laws.specs.Attempts.{Attempt, output_of}
@@ -36,6 +37,17 @@ completed_at_most : (id : Text) (n : ℕ) (value : NotificationResult) (answer :
 completed_at_most id n value (reply.Placed place) s t it = inr it.1.events
 completed_at_most id n value (reply.Refused (refusal.Store why)) s t it = inl it.stays.events
 completed_at_most id n value _ s t it = absurd it
+
+signalled_at_most : (id : Text) (key : SignalKey) (value : NotificationResult) (answer : Reply) (s t : Standing) → RepliesPlace (λ result. Signals id key value result s t) answer
+    → AddsAtMost (Accepted.Signal id key value) s t
+signalled_at_most id key value (reply.Placed place) s t it = inr it.1.events
+signalled_at_most id key value (reply.Refused (refusal.Store why)) s t it = inl it.stays.events
+signalled_at_most id key value _ s t it = absurd it
+
+cancelled_at_most : (id : Text) (answer : Reply) (s t : Standing) → RepliesPlace (λ result. Cancels id result s t) answer → AddsAtMost (Accepted.Cancel id) s t
+cancelled_at_most id (reply.Placed place) s t it = inr it.1.events
+cancelled_at_most id (reply.Refused (refusal.Store why)) s t it = inl it.stays.events
+cancelled_at_most id _ s t it = absurd it
 
 ticked_at_most : (now : ℕ) (answer : Reply) (s t : Standing) → RepliesCount (λ result. Ticks now result s t) answer → AddsAtMost (Accepted.Tick now) s t
 ticked_at_most now (reply.Ticked count) s t it = inr it.1.events
@@ -135,6 +147,18 @@ module _ (database : State) (clean : HasCleanDisk database) where
     complete_unwritten id n value why certain from to it = (
       same_kept from.standing to.standing it.0.stays.events,
       λ t late. refused_kept (Accepted.Complete id n value) why from.standing to.standing t certain it.0 (completed_at_most id n value late.0 from.standing t late.2.0),
+    )
+
+    pub signal_unwritten : (id : Text) (key : SignalKey) (value : NotificationResult) (why : Refusal) → IsCertain why → IsUnwritten (event.Signal id key value) (reply.Refused (refusal.Store why))
+    signal_unwritten id key value why certain from to it = (
+      same_kept from.standing to.standing it.0.stays.events,
+      λ t late. refused_kept (Accepted.Signal id key value) why from.standing to.standing t certain it.0 (signalled_at_most id key value late.0 from.standing t late.2.0),
+    )
+
+    pub cancel_unwritten : (id : Text) (why : Refusal) → IsCertain why → IsUnwritten (event.Cancel id) (reply.Refused (refusal.Store why))
+    cancel_unwritten id why certain from to it = (
+      same_kept from.standing to.standing it.0.stays.events,
+      λ t late. refused_kept (Accepted.Cancel id) why from.standing to.standing t certain it.0 (cancelled_at_most id late.0 from.standing t late.2.0),
     )
 
     pub tick_unwritten : (now : ℕ) (why : Refusal) → IsCertain why → IsUnwritten (event.Tick now) (reply.Refused (refusal.Store why))

@@ -3,6 +3,7 @@
 use Rattle.std.proofs.Common.{◌≡◌, refl, sym, ap, subst, ◌∙◌, ℕ, Bool, true, false, ◌++◌, append_assoc, take, List, [], ◌∷◌, Option, Some, None, inl, inr, Result, Ok, Err}
 use Rattle.std.specs.List.{AllByRecursion}
 use Rattle.journal_model.specs.Notification.{Bytes, Text}
+use Rattle.journal_model.specs.Request.{SignalKey}
 use Rattle.journal_model.specs.declared.invocation.NewInvocation.{NewInvocation}
 use Rattle.journal_model.specs.Run.{Handler}
 use Rattle.journal_model.specs.declared.notification.NotificationResult.{NotificationResult}
@@ -21,7 +22,7 @@ use Rattle.schedule_laws.specs.Schedules.{Reply, HeldAttempt, held_of, RepliesDo
 use Rattle.store_steps.specs.declared.frame.FrameReply.{FrameReply}
 use Rattle.store_steps.specs.Taken.{lies_in_frame}
 use Rattle.store_calls.specs.Standing.{Standing, Stays, Refuses}
-use Rattle.store_calls.specs.Calls.{Completes, Invokes, Stops, Ticks}
+use Rattle.store_calls.specs.Calls.{Cancels, Completes, Invokes, Signals, Stops, Ticks}
 use Rattle.store_calls.specs.Frames.{Accepts, LeavesRefused, Rests, TakesEach}
 use Rattle.store_calls.proofs.Taking.{bytes_stay}
 use Rattle.schedule_runs.specs.Runs.{AppliesEach, IsOneOf, invocation_named}
@@ -115,6 +116,14 @@ complete_grows : (id : Text) (n : ℕ) (value : NotificationResult) (s t : Stand
 complete_grows id n value s t (Ok place) it = more_grows s t (Event.Complete id n value) it.1.events
 complete_grows id n value s t (Err why) it = refuses_grows (Event.Complete id n value) why s t it
 
+signal_grows : (id : Text) (key : SignalKey) (value : NotificationResult) (s t : Standing) (result : Result ℕ Refusal) → Signals id key value result s t → GrowsBy (Some id, false) s t
+signal_grows id key value s t (Ok place) it = more_grows s t (Event.Signal id key value) it.1.events
+signal_grows id key value s t (Err why) it = refuses_grows (Event.Signal id key value) why s t it
+
+cancel_grows : (id : Text) (s t : Standing) (result : Result ℕ Refusal) → Cancels id result s t → GrowsBy (Some id, false) s t
+cancel_grows id s t (Ok place) it = more_grows s t (Event.Cancel id) it.1.events
+cancel_grows id s t (Err why) it = refuses_grows (Event.Cancel id) why s t it
+
 tick_grows : (now : ℕ) (s t : Standing) (result : Result ℕ Refusal) → Ticks now result s t → GrowsBy (None, false) s t
 tick_grows now s t (Ok count) it = more_grows s t (Event.Tick now) it.1.events
 tick_grows now s t (Err why) it = refuses_grows (Event.Tick now) why s t it
@@ -167,6 +176,8 @@ module _ {H : Type 0} (function : H → Handler) (options : VMOptions) where
   pub does_grow : (one : scheduled.Event H) (s t : Standing) (held more : List (HeldAttempt H)) (answer : Reply) → Does function options one s held answer t more → GrowsBy (kind_named one) s t
   does_grow (event.Invoke one) s t held more answer it = done_grows (λ result. Invokes one result s t) (Some one.id, false) answer s t (invoke_grows one s t) it.0
   does_grow (event.Result id n value) s t held more answer it = place_grows (λ result. Completes id n value result s t) (Some id, false) answer s t (complete_grows id n value s t) it.0
+  does_grow (event.Signal id key value) s t held more answer it = place_grows (λ result. Signals id key value result s t) (Some id, false) answer s t (signal_grows id key value s t) it.0
+  does_grow (event.Cancel id) s t held more answer it = place_grows (λ result. Cancels id result s t) (Some id, false) answer s t (cancel_grows id s t) it.0
   does_grow (event.Tick now) s t held more answer it = count_grows (λ result. Ticks now result s t) (None, false) answer s t (tick_grows now s t) it.0
   does_grow (event.Begin id handler now) s t held more answer it = begin_grows id handler now s t held more answer it
   does_grow (event.Feed id n count) s t held more answer it = held_grows true (FeedsOne count) id n s t held more answer (λ one. feed_grows count one s t answer) it

@@ -343,6 +343,12 @@ module _ (id : Text) where
         step (event.Result other completion value) answer bytes old new before it at =
             quiet_step (event.Result other completion value) answer old new before it.0 (Some other, false) refl
             (does_grow function options (event.Result other completion value) old.standing new.standing old.held new.held answer it.0) (same_unheld old.held new.held it.0.1) at
+        step (event.Signal other key value) answer bytes old new before it at =
+            quiet_step (event.Signal other key value) answer old new before it.0 (Some other, false) refl
+            (does_grow function options (event.Signal other key value) old.standing new.standing old.held new.held answer it.0) (same_unheld old.held new.held it.0.1) at
+        step (event.Cancel other) answer bytes old new before it at =
+            quiet_step (event.Cancel other) answer old new before it.0 (Some other, false) refl (does_grow function options (event.Cancel other) old.standing new.standing old.held new.held answer it.0)
+            (same_unheld old.held new.held it.0.1) at
         step (event.Tick now) answer bytes old new before it at =
             quiet_step (event.Tick now) answer old new before it.0 (None, false) refl (does_grow function options (event.Tick now) old.standing new.standing old.held new.held answer it.0)
             (same_unheld old.held new.held it.0.1) at

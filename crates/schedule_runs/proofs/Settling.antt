@@ -20,7 +20,7 @@ use Rattle.durable_schedule.specs.Scheduled.{AppliesWith, IsScheduled, IsWritten
 use Rattle.schedule_runs.specs.Runs.{AreCertain, IsCertain, LastsNext, LastsBehind, at_first}
 use Rattle.schedule_runs.proofs.Quieting.{KeepsAsWell, fed_kept, shut_kept, turned_kept, ended_kept}
 use Rattle.schedule_runs.proofs.Refusing.{rest_lasts}
-use Rattle.schedule_runs.proofs.Crashing.{IsUnwritten, invoke_unwritten, complete_unwritten, tick_unwritten, begin_unwritten, refused_unwritten, moved_unwritten, unheld_kept, move_replies}
+use Rattle.schedule_runs.proofs.Crashing.{IsUnwritten, invoke_unwritten, complete_unwritten, signal_unwritten, cancel_unwritten, tick_unwritten, begin_unwritten, refused_unwritten, moved_unwritten, unheld_kept, move_replies}
 use Rattle.schedule_runs.proofs.Running.{LeadsFirst}
 
 module _ {H : Type 0} (function : H → Handler) (options : VMOptions) where
@@ -115,18 +115,26 @@ module _ {H : Type 0} (function : H → Handler) (options : VMOptions) where
       by_event : (one : Event H) (answer : Reply) → Told one answer
       by_event (event.Invoke one) reply.Done spares lives from to applies = inr (tt, λ it t lasts. lasts)
       by_event (event.Result id n value) (reply.Placed place) spares lives from to applies = inr (tt, λ it t lasts. lasts)
+      by_event (event.Signal id key value) (reply.Placed place) spares lives from to applies = inr (tt, λ it t lasts. lasts)
+      by_event (event.Cancel id) (reply.Placed place) spares lives from to applies = inr (tt, λ it t lasts. lasts)
       by_event (event.Tick now) (reply.Ticked count) spares lives from to applies = inr (tt, λ it t lasts. lasts)
       by_event (event.Begin id handler now) (reply.Begun number) spares lives from to applies = inr (tt, λ it t lasts. lasts)
       by_event (event.Invoke one) (reply.Refused (refusal.Store why)) spares lives from to applies =
           refused_lasts (event.Invoke one) why (λ it. it) (invoke_unwritten (state g new.store.connection) clean function options one why) lives
       by_event (event.Result id n value) (reply.Refused (refusal.Store why)) spares lives from to applies =
           refused_lasts (event.Result id n value) why (λ it. it) (complete_unwritten (state g new.store.connection) clean function options id n value why) lives
+      by_event (event.Signal id key value) (reply.Refused (refusal.Store why)) spares lives from to applies =
+          refused_lasts (event.Signal id key value) why (λ it. it) (signal_unwritten (state g new.store.connection) clean function options id key value why) lives
+      by_event (event.Cancel id) (reply.Refused (refusal.Store why)) spares lives from to applies =
+          refused_lasts (event.Cancel id) why (λ it. it) (cancel_unwritten (state g new.store.connection) clean function options id why) lives
       by_event (event.Tick now) (reply.Refused (refusal.Store why)) spares lives from to applies =
           refused_lasts (event.Tick now) why (λ it. it) (tick_unwritten (state g new.store.connection) clean function options now why) lives
       by_event (event.Begin id handler now) (reply.Refused (refusal.Store why)) spares lives from to applies =
           refused_lasts (event.Begin id handler now) why (λ it. it) (begin_unwritten (state g new.store.connection) clean function options id handler now why) lives
       by_event (event.Invoke one) _ spares lives from to applies = absurd applies.0
       by_event (event.Result id n value) _ spares lives from to applies = absurd applies.0
+      by_event (event.Signal id key value) _ spares lives from to applies = absurd applies.0
+      by_event (event.Cancel id) _ spares lives from to applies = absurd applies.0
       by_event (event.Tick now) _ spares lives from to applies = absurd applies.0
       by_event (event.Begin id handler now) _ spares lives from to applies = absurd applies
       by_event (event.Feed id n count) answer spares lives from to applies =

@@ -44,6 +44,8 @@ stop_for id attempt (Some why) = if lies_in_frame why then Event.Stop id attempt
 abbrev pub IsAcceptedOf : {H : Type 0} → scheduled.Event H → Reply → List Event → Type 0
 IsAcceptedOf (event.Invoke new) reply.Done accepted = accepted ≡ Event.Invoke new ∷ []
 IsAcceptedOf (event.Result id completion value) (reply.Placed place) accepted = accepted ≡ Event.Complete id completion value ∷ []
+IsAcceptedOf (event.Signal id key value) (reply.Placed place) accepted = accepted ≡ Event.Signal id key value ∷ []
+IsAcceptedOf (event.Cancel id) (reply.Placed place) accepted = accepted ≡ Event.Cancel id ∷ []
 IsAcceptedOf (event.Tick now) (reply.Ticked count) accepted = accepted ≡ Event.Tick now ∷ []
 IsAcceptedOf (event.Begin id handler now) (reply.Begun number) accepted = accepted ≡ Event.Begin id now ∷ []
 IsAcceptedOf (event.Begin id handler now) (reply.Refused why) accepted =

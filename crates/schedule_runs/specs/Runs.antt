@@ -46,6 +46,8 @@ module _ {H : Type 0} (function : H → Handler) (options : VMOptions) where
 abbrev pub invocation_named : {H : Type 0} → scheduled.Event H → Option Text
 invocation_named (event.Invoke one) = Some one.id
 invocation_named (event.Result id completion value) = Some id
+invocation_named (event.Signal id key value) = Some id
+invocation_named (event.Cancel id) = Some id
 invocation_named (event.Tick now) = None
 invocation_named (event.Begin id handler now) = Some id
 invocation_named (event.Feed id attempt count) = Some id

@@ -1,4 +1,5 @@
 pub mod WordLaws
+pub mod TargetLaws
 pub mod ValueLaws
 pub mod LineLaws
 pub mod SplitLaws

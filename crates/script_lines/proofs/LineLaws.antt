@@ -12,17 +12,20 @@ use Rattle.std.proofs.lemmas.List.Splits.{slice_split_at, slice_split_none, join
 use Rattle.script_lines.specs.declared.word.StateMode.{StateMode}
 use Rattle.script_lines.specs.declared.word.StateMode.TheVariants.{Whole, Hidden}
 use Rattle.script_lines.specs.declared.word.HandlerName.{HandlerName}
-use Rattle.script_lines.specs.declared.word.HandlerName.TheVariants.{Nap, Nap99, Race, Both, Ask, Pair, Twice, Keys, Read}
+use Rattle.script_lines.specs.declared.word.HandlerName.TheVariants.{Nap, Nap99, Race, Both, Ask, Pair, Twice, Keys, Read, Go, Hook}
 use Rattle.script_lines.specs.declared.word.Command.{Command}
-use Rattle.script_lines.specs.declared.word.Command.TheVariants.{Invoke as InvokeCommand, Result as ResultCommand, Tick as TickCommand, Begin as BeginCommand, Feed as FeedCommand, Close as CloseCommand, Turn as TurnCommand, Move as MoveCommand, Stop as StopCommand, Due as DueCommand, Show as ShowCommand, State as StateCommand}
+use Rattle.script_lines.specs.declared.word.Command.TheVariants.{Invoke as InvokeCommand, Result as ResultCommand, Signal as SignalCommand, Cancel as CancelCommand, Tick as TickCommand, Begin as BeginCommand, Feed as FeedCommand, Close as CloseCommand, Turn as TurnCommand, Move as MoveCommand, Stop as StopCommand, Due as DueCommand, Show as ShowCommand, State as StateCommand}
+use Rattle.script_lines.specs.declared.target.LineTarget.{LineTarget}
+use Rattle.script_lines.specs.declared.target.LineTarget.TheVariants.{Number, Name}
 use Rattle.script_lines.specs.declared.value.LineValue.{LineValue}
 use Rattle.script_lines.specs.declared.value.LineValue.TheVariants.{Void, Value, Failure, InvocationId}
 use Rattle.script_lines.specs.declared.line.Line.{Line}
-use Rattle.script_lines.specs.declared.line.Line.TheVariants.{Invoke, Result as ResultLine, Tick, Begin, Feed, Close, Turn, Move, Stop, Due, Show, State}
-use Rattle.script_lines.specs.Word.{text_word, IsText, IsWordByte, mode_word, handler_word, value_word, IsValue}
+use Rattle.script_lines.specs.declared.line.Line.TheVariants.{Invoke, Result as ResultLine, Signal, Cancel, Tick, Begin, Feed, Close, Turn, Move, Stop, Due, Show, State}
+use Rattle.script_lines.specs.Word.{text_word, IsText, IsWordByte, mode_word, handler_word, target_word, IsTarget, value_word, IsValue}
 use Rattle.script_lines.specs.Line.{words_of, spelled, IsLine}
-use Rattle.script_lines.specs.Reading.{then_read, text_of, invoke_of, result_of, tick_of, begin_of, feed_of, close_of, turn_of, move_of, stop_of, show_of, state_of, of_none, of_one, of_two, of_three, of_six, command_of, arguments_of, line_of}
+use Rattle.script_lines.specs.Reading.{then_read, text_of, invoke_of, result_of, signal_of, cancel_of, tick_of, begin_of, feed_of, close_of, turn_of, move_of, stop_of, show_of, state_of, of_none, of_one, of_two, of_three, of_six, command_of, arguments_of, line_of}
 use Rattle.script_lines.proofs.WordLaws.{number_32, number_64, text_reading, mode_reading, handler_reading, read_step, chosen, tested}
+use Rattle.script_lines.proofs.TargetLaws.{target_reading}
 use Rattle.script_lines.proofs.ValueLaws.{value_reading}
 
 -- the words are those of the line
@@ -58,6 +61,15 @@ result_takes id completion value line e =
     let it = text_reading.takes id i.0 i.1 in
     let vt = value_reading.takes value v.0 v.1 in
     made _ (ResultLine i.0 c.0 v.0) line v.2 (record { is_line = (it.0, ct.0, vt.0); same = next refl (next it.1 (next ct.1 (next vt.1 refl))) })
+
+signal_takes : (id target value : List ℕ) (line : Line) → signal_of id target value ≡ Some line → Spells (codes "signal" ∷ id ∷ target ∷ value ∷ []) line
+unfolding signal_of
+signal_takes id target value line e =
+    let i = read_step e in let t = read_step i.2 in let v = read_step t.2 in
+    let it = text_reading.takes id i.0 i.1 in
+    let at = target_reading.takes target t.0 t.1 in
+    let vt = value_reading.takes value v.0 v.1 in
+    made _ (Signal i.0 t.0 v.0) line v.2 (record { is_line = (it.0, at.0, vt.0); same = next refl (next it.1 (next at.1 (next vt.1 refl))) })
 
 tick_takes : (now : List ℕ) (line : Line) → tick_of now ≡ Some line → Spells (codes "tick" ∷ now ∷ []) line
 unfolding tick_of
@@ -124,6 +136,13 @@ stop_takes id attempt line e =
     let at = number_32.takes attempt a.0 a.1 in
     made _ (Stop i.0 a.0) line i.2 (record { is_line = (it.0, at.0); same = next refl (next it.1 (next at.1 refl)) })
 
+cancel_takes : (id : List ℕ) (line : Line) → cancel_of id ≡ Some line → Spells (codes "cancel" ∷ id ∷ []) line
+unfolding cancel_of
+cancel_takes id line e =
+    let i = read_step e in
+    let it = text_reading.takes id i.0 i.1 in
+    made _ (Cancel i.0) line i.2 (record { is_line = it.0; same = next refl (next it.1 refl) })
+
 show_takes : (id : List ℕ) (line : Line) → show_of id ≡ Some line → Spells (codes "show" ∷ id ∷ []) line
 unfolding show_of
 show_takes id line e =
@@ -179,6 +198,8 @@ six_words read (a ∷ b ∷ c ∷ d ∷ e ∷ f ∷ g ∷ more) line h = absurd 
 abbrev command_word : Command → List ℕ
 command_word InvokeCommand = codes "invoke"
 command_word ResultCommand = codes "result"
+command_word SignalCommand = codes "signal"
+command_word CancelCommand = codes "cancel"
 command_word TickCommand = codes "tick"
 command_word BeginCommand = codes "begin"
 command_word FeedCommand = codes "feed"
@@ -194,9 +215,9 @@ command_takes : (word : List ℕ) (command : Command) → command_of word ≡ So
 unfolding command_of
 command_takes word command =
     let test = tested command_word word in
-    test InvokeCommand _ command (test ResultCommand _ command (test TickCommand _ command (test BeginCommand _ command (test FeedCommand _ command
-    (test CloseCommand _ command (test TurnCommand _ command (test MoveCommand _ command (test StopCommand _ command (test DueCommand _ command
-    (test ShowCommand _ command (test StateCommand _ command (λ e. absurd (none-some command e)))))))))))))
+    test InvokeCommand _ command (test ResultCommand _ command (test SignalCommand _ command (test CancelCommand _ command (test TickCommand _ command (test BeginCommand _ command
+    (test FeedCommand _ command (test CloseCommand _ command (test TurnCommand _ command (test MoveCommand _ command (test StopCommand _ command
+    (test DueCommand _ command (test ShowCommand _ command (test StateCommand _ command (λ e. absurd (none-some command e)))))))))))))))
 
 retold : (name : List ℕ) (words others : List (List ℕ)) (line : Line) → words ≡ others → Spells (name ∷ others) line → Spells (name ∷ words) line
 retold name words others line e h = record { is_line = h.is_line; same = ap (λ (ws : List (List ℕ)). name ∷ ws) e ∙ h.same }
@@ -205,6 +226,8 @@ arguments_take : (command : Command) (words : List (List ℕ)) (line : Line) →
 unfolding arguments_of
 arguments_take InvokeCommand words line e = let w = six_words invoke_of words line e in retold _ words _ line w.6 (invoke_takes w.0 w.1 w.2 w.3 w.4 w.5 line w.7)
 arguments_take ResultCommand words line e = let w = three_words result_of words line e in retold _ words _ line w.3 (result_takes w.0 w.1 w.2 line w.4)
+arguments_take CancelCommand words line e = let w = one_words cancel_of words line e in retold _ words _ line w.1 (cancel_takes w.0 line w.2)
+arguments_take SignalCommand words line e = let w = three_words signal_of words line e in retold _ words _ line w.3 (signal_takes w.0 w.1 w.2 line w.4)
 arguments_take TickCommand words line e = let w = one_words tick_of words line e in retold _ words _ line w.1 (tick_takes w.0 line w.2)
 arguments_take BeginCommand words line e = let w = three_words begin_of words line e in retold _ words _ line w.3 (begin_takes w.0 w.1 w.2 line w.4)
 arguments_take FeedCommand words line e = let w = three_words feed_of words line e in retold _ words _ line w.3 (feed_takes w.0 w.1 w.2 line w.4)
@@ -227,10 +250,11 @@ line_takes (word ∷ words) line e =
 -- ---- what is spelled so is read
 
 line_again : (line : Line) → IsLine line → line_of (words_of line) ≡ Some line
-unfolding line_of then_read command_of arguments_of of_none of_one of_two of_three of_six invoke_of result_of tick_of begin_of feed_of close_of turn_of move_of stop_of show_of state_of
+unfolding line_of then_read command_of arguments_of of_none of_one of_two of_three of_six invoke_of result_of signal_of cancel_of tick_of begin_of feed_of close_of turn_of move_of stop_of show_of state_of
 line_again (Invoke id object version state seed input) h =
     rw (text_reading.again id h.0, text_reading.again object h.1, number_32.again version h.2, mode_reading.again state tt, number_64.again seed h.3, text_reading.again input h.4) refl
 line_again (ResultLine id completion value) h = rw (text_reading.again id h.0, number_32.again completion h.1, value_reading.again value h.2) refl
+line_again (Signal id target value) h = rw (text_reading.again id h.0, target_reading.again target h.1, value_reading.again value h.2) refl
 line_again (Tick now) h = rw (number_64.again now h) refl
 line_again (Begin id handler now) h = rw (text_reading.again id h.0, handler_reading.again handler tt, number_64.again now h.1) refl
 line_again (Feed id attempt count) h = rw (text_reading.again id h.0, number_32.again attempt h.1, number_32.again count h.2) refl
@@ -241,6 +265,7 @@ line_again (Turn id attempt count) h =
 line_again (Move id attempt count) h = rw (text_reading.again id h.0, number_32.again attempt h.1, number_32.again count h.2) refl
 line_again (Stop id attempt) h = rw (text_reading.again id h.0, number_32.again attempt h.1) refl
 line_again Due h = refl
+line_again (Cancel id) h = rw (text_reading.again id h) refl
 line_again (Show id) h = rw (text_reading.again id h) refl
 line_again (State object) h = rw (text_reading.again object h) refl
 
@@ -288,6 +313,8 @@ handler-no_space Pair = letters (codes "pair") refl
 handler-no_space Twice = letters (codes "twice") refl
 handler-no_space Keys = letters (codes "keys") refl
 handler-no_space Read = letters (codes "read") refl
+handler-no_space Go = letters (codes "go") refl
+handler-no_space Hook = letters (codes "hook") refl
 
 joined-no_space : (front back : List ℕ) → NoSpace front → NoSpace back → NoSpace (front ++ back)
 joined-no_space [] back f b = b
@@ -301,6 +328,10 @@ value-no_space (Failure code message) h =
     (refl, (refl, joined-no_space (decimal code) (58 ∷ message) (decimal-no_space code (omega arith)) (refl, printable-no_space message (recursion_from_All IsWordByte message h.1))))
 value-no_space (InvocationId id) h = (refl, (refl, (refl, printable-no_space id (recursion_from_All IsWordByte id h))))
 
+target-no_space : (target : LineTarget) → IsTarget target → NoSpace (target_word target)
+target-no_space (Number number) h = (refl, decimal-no_space number (omega (arith, h)))
+target-no_space (Name name) h = text-no_space name h.0
+
 counted-no_space : (command id : List ℕ) (attempt count : ℕ) → NoSpace command → IsText id → attempt < 2 ^ 32 → count < 2 ^ 32 → AllByRecursion NoSpace (command ∷ text_word id ∷ decimal attempt ∷ decimal count ∷ [])
 counted-no_space command id attempt count h text a c = (h, (text-no_space id text, (decimal-no_space attempt (omega arith), (decimal-no_space count (omega arith), tt))))
 
@@ -311,6 +342,7 @@ words-no_space (Invoke id object version state seed input) h =
 words-no_space (ResultLine id completion value) h =
     let c = h.1 in
     (letters (codes "result") refl, (text-no_space id h.0, (decimal-no_space completion (omega arith), (value-no_space value h.2, tt))))
+words-no_space (Signal id target value) h = (letters (codes "signal") refl, (text-no_space id h.0, (target-no_space target h.1, (value-no_space value h.2, tt))))
 words-no_space (Tick now) h = (letters (codes "tick") refl, (decimal-no_space now h, tt))
 words-no_space (Begin id handler now) h =
     let n = h.1 in
@@ -321,6 +353,7 @@ words-no_space (Turn id attempt count) h = counted-no_space (codes "turn") id at
 words-no_space (Move id attempt count) h = counted-no_space (codes "move") id attempt count (letters (codes "move") refl) h.0 h.1 h.2
 words-no_space (Stop id attempt) h = let a = h.1 in (letters (codes "stop") refl, (text-no_space id h.0, (decimal-no_space attempt (omega arith), tt)))
 words-no_space Due h = (letters (codes "due") refl, tt)
+words-no_space (Cancel id) h = (letters (codes "cancel") refl, (text-no_space id h, tt))
 words-no_space (Show id) h = (letters (codes "show") refl, (text-no_space id h, tt))
 words-no_space (State object) h = (letters (codes "state") refl, (text-no_space object h, tt))
 
@@ -332,6 +365,7 @@ split_again word (other ∷ words) h =
 words_again : (line : Line) → IsLine line → slice_split (λ byte. eqb byte 32) (spelled line) ≡ words_of line
 words_again (Invoke id object version state seed input) h = split_again _ _ (words-no_space (Invoke id object version state seed input) h)
 words_again (ResultLine id completion value) h = split_again _ _ (words-no_space (ResultLine id completion value) h)
+words_again (Signal id target value) h = split_again _ _ (words-no_space (Signal id target value) h)
 words_again (Tick now) h = split_again _ _ (words-no_space (Tick now) h)
 words_again (Begin id handler now) h = split_again _ _ (words-no_space (Begin id handler now) h)
 words_again (Feed id attempt count) h = split_again _ _ (words-no_space (Feed id attempt count) h)
@@ -340,6 +374,7 @@ words_again (Turn id attempt count) h = split_again _ _ (words-no_space (Turn id
 words_again (Move id attempt count) h = split_again _ _ (words-no_space (Move id attempt count) h)
 words_again (Stop id attempt) h = split_again _ _ (words-no_space (Stop id attempt) h)
 words_again Due h = split_again _ _ (words-no_space Due h)
+words_again (Cancel id) h = split_again _ _ (words-no_space (Cancel id) h)
 words_again (Show id) h = split_again _ _ (words-no_space (Show id) h)
 words_again (State object) h = split_again _ _ (words-no_space (State object) h)
 

@@ -2,14 +2,16 @@
 use Rattle.std.specs.Prelude.{ℕ, ◌<◌, ◌≤◌, ◌^◌, List, [], ◌∷◌, codes, decimal}
 use Rattle.std.specs.List.{join_with_byte}
 use Rattle.script_lines.specs.declared.line.Line.{Line}
-use Rattle.script_lines.specs.declared.line.Line.TheVariants.{Invoke, Result, Tick, Begin, Feed, Close, Turn, Move, Stop, Due, Show, State}
-use Rattle.script_lines.specs.Word.{text_word, IsText, mode_word, handler_word, value_word, IsValue}
+use Rattle.script_lines.specs.declared.line.Line.TheVariants.{Invoke, Result, Signal, Cancel, Tick, Begin, Feed, Close, Turn, Move, Stop, Due, Show, State}
+use Rattle.script_lines.specs.Word.{text_word, IsText, mode_word, handler_word, target_word, IsTarget, value_word, IsValue}
 
 -- the words of a line: a command, and what it is about; numbers are decimal
 abbrev pub words_of : Line → List (List ℕ)
 words_of (Invoke id object version state seed input) =
     codes "invoke" ∷ text_word id ∷ text_word object ∷ decimal version ∷ mode_word state ∷ decimal seed ∷ text_word input ∷ []
 words_of (Result id completion value) = codes "result" ∷ text_word id ∷ decimal completion ∷ value_word value ∷ []
+words_of (Signal id target value) = codes "signal" ∷ text_word id ∷ target_word target ∷ value_word value ∷ []
+words_of (Cancel id) = codes "cancel" ∷ text_word id ∷ []
 words_of (Tick now) = codes "tick" ∷ decimal now ∷ []
 words_of (Begin id handler now) = codes "begin" ∷ text_word id ∷ handler_word handler ∷ decimal now ∷ []
 words_of (Feed id attempt count) = codes "feed" ∷ text_word id ∷ decimal attempt ∷ decimal count ∷ []
@@ -30,6 +32,8 @@ abbrev pub IsLine : Line → Type 0
 IsLine (Invoke id object version state seed input) =
     IsText id × IsText object × (version < 2 ^ 32) × (seed < 2 ^ 64) × IsText input
 IsLine (Result id completion value) = IsText id × (completion < 2 ^ 32) × IsValue value
+IsLine (Signal id target value) = IsText id × IsTarget target × IsValue value
+IsLine (Cancel id) = IsText id
 IsLine (Tick now) = now < 2 ^ 64
 IsLine (Begin id handler now) = IsText id × (now < 2 ^ 64)
 IsLine (Feed id attempt count) = IsText id × (attempt < 2 ^ 32) × (count < 2 ^ 32)

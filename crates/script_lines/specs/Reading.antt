@@ -6,16 +6,18 @@ use Rattle.std.specs.Str.Parse.{digits_value}
 use Rattle.script_lines.specs.declared.word.StateMode.{StateMode}
 use Rattle.script_lines.specs.declared.word.StateMode.TheVariants.{Whole, Hidden}
 use Rattle.script_lines.specs.declared.word.HandlerName.{HandlerName}
-use Rattle.script_lines.specs.declared.word.HandlerName.TheVariants.{Nap, Nap99, Race, Both, Ask, Pair, Twice, Keys, Read}
+use Rattle.script_lines.specs.declared.word.HandlerName.TheVariants.{Nap, Nap99, Race, Both, Ask, Pair, Twice, Keys, Read, Go, Hook}
 use Rattle.script_lines.specs.Word.{handler_word}
 use Rattle.script_lines.specs.declared.word.LineError.{LineError}
 use Rattle.script_lines.specs.declared.word.LineError.TheVariants.{NotUnderstood, Memory}
 use Rattle.script_lines.specs.declared.word.Command.{Command}
-use Rattle.script_lines.specs.declared.word.Command.TheVariants.{Invoke as InvokeCommand, Result as ResultCommand, Tick as TickCommand, Begin as BeginCommand, Feed as FeedCommand, Close as CloseCommand, Turn as TurnCommand, Move as MoveCommand, Stop as StopCommand, Due as DueCommand, Show as ShowCommand, State as StateCommand}
+use Rattle.script_lines.specs.declared.word.Command.TheVariants.{Invoke as InvokeCommand, Result as ResultCommand, Signal as SignalCommand, Cancel as CancelCommand, Tick as TickCommand, Begin as BeginCommand, Feed as FeedCommand, Close as CloseCommand, Turn as TurnCommand, Move as MoveCommand, Stop as StopCommand, Due as DueCommand, Show as ShowCommand, State as StateCommand}
+use Rattle.script_lines.specs.declared.target.LineTarget.{LineTarget}
+use Rattle.script_lines.specs.declared.target.LineTarget.TheVariants.{Number, Name}
 use Rattle.script_lines.specs.declared.value.LineValue.{LineValue}
 use Rattle.script_lines.specs.declared.value.LineValue.TheVariants.{Void, Value, Failure, InvocationId}
 use Rattle.script_lines.specs.declared.line.Line.{Line}
-use Rattle.script_lines.specs.declared.line.Line.TheVariants.{Invoke, Result as ResultLine, Tick, Begin, Feed, Close, Turn, Move, Stop, Due, Show, State}
+use Rattle.script_lines.specs.declared.line.Line.TheVariants.{Invoke, Result as ResultLine, Signal, Cancel, Tick, Begin, Feed, Close, Turn, Move, Stop, Due, Show, State}
 
 -- the next step of a reading, where there was a value so far
 unfoldable pub then_read : {A B : Type 0} → Option A → (A → Option B) → Option B
@@ -60,7 +62,9 @@ handler_of word =
     (if bytes_eq word (handler_word Pair) then Some Pair else
     (if bytes_eq word (handler_word Twice) then Some Twice else
     (if bytes_eq word (handler_word Keys) then Some Keys else
-    (if bytes_eq word (handler_word Read) then Some Read else None))))))))
+    (if bytes_eq word (handler_word Read) then Some Read else
+    (if bytes_eq word (handler_word Go) then Some Go else
+    (if bytes_eq word (handler_word Hook) then Some Hook else None))))))))))
 
 -- what stands before the first colon, and behind it
 unfoldable pub at_colon : List ℕ → Option (List ℕ × List ℕ)
@@ -89,6 +93,23 @@ value_of word = if bytes_eq word (codes "void") then Some Void else (do
   parts ← at_colon word
   value_in parts.0 parts.1)
 
+-- the number behind a '#', where one is spelled there
+unfoldable pub signal_number_of : List ℕ → Option ℕ
+signal_number_of [] = None
+signal_number_of (byte ∷ number) = if byte == 35 then number_below (2 ^ 32) number else None
+
+unfoldable pub named_target_of : List ℕ → Option LineTarget
+named_target_of word = do
+  name ← text_of word
+  Some (Name name)
+
+unfoldable pub target_from : Option ℕ → List ℕ → Option LineTarget
+target_from (Some number) word = Some (Number number)
+target_from None word = named_target_of word
+
+unfoldable pub target_of : List ℕ → Option LineTarget
+target_of word = target_from (signal_number_of word) word
+
 unfoldable pub invoke_of : List ℕ → List ℕ → List ℕ → List ℕ → List ℕ → List ℕ → Option Line
 invoke_of id object version state seed input = do
   version ← number_below (2 ^ 32) version
@@ -105,6 +126,18 @@ result_of id completion value = do
   id ← text_of id
   value ← value_of value
   Some (ResultLine id completion value)
+
+unfoldable pub signal_of : List ℕ → List ℕ → List ℕ → Option Line
+signal_of id target value = do
+  id ← text_of id
+  target ← target_of target
+  value ← value_of value
+  Some (Signal id target value)
+
+unfoldable pub cancel_of : List ℕ → Option Line
+cancel_of id = do
+  id ← text_of id
+  Some (Cancel id)
 
 unfoldable pub tick_of : List ℕ → Option Line
 tick_of now = do
@@ -187,6 +220,8 @@ unfoldable pub command_of : List ℕ → Option Command
 command_of word =
     if bytes_eq word (codes "invoke") then Some InvokeCommand else
     (if bytes_eq word (codes "result") then Some ResultCommand else
+    (if bytes_eq word (codes "signal") then Some SignalCommand else
+    (if bytes_eq word (codes "cancel") then Some CancelCommand else
     (if bytes_eq word (codes "tick") then Some TickCommand else
     (if bytes_eq word (codes "begin") then Some BeginCommand else
     (if bytes_eq word (codes "feed") then Some FeedCommand else
@@ -196,11 +231,13 @@ command_of word =
     (if bytes_eq word (codes "stop") then Some StopCommand else
     (if bytes_eq word (codes "due") then Some DueCommand else
     (if bytes_eq word (codes "show") then Some ShowCommand else
-    (if bytes_eq word (codes "state") then Some StateCommand else None)))))))))))
+    (if bytes_eq word (codes "state") then Some StateCommand else None)))))))))))))
 
 unfoldable pub arguments_of : Command → List (List ℕ) → Option Line
 arguments_of InvokeCommand = of_six invoke_of
 arguments_of ResultCommand = of_three result_of
+arguments_of SignalCommand = of_three signal_of
+arguments_of CancelCommand = of_one cancel_of
 arguments_of TickCommand = of_one tick_of
 arguments_of BeginCommand = of_three begin_of
 arguments_of FeedCommand = of_three feed_of

@@ -3,7 +3,9 @@ use Rattle.std.specs.Prelude.{◌≡◌, ◌≢◌, ℕ, ◌^◌, ◌<◌, ◌�
 use Rattle.script_lines.specs.declared.word.StateMode.{StateMode}
 use Rattle.script_lines.specs.declared.word.StateMode.TheVariants.{Whole, Hidden}
 use Rattle.script_lines.specs.declared.word.HandlerName.{HandlerName}
-use Rattle.script_lines.specs.declared.word.HandlerName.TheVariants.{Nap, Nap99, Race, Both, Ask, Pair, Twice, Keys, Read}
+use Rattle.script_lines.specs.declared.word.HandlerName.TheVariants.{Nap, Nap99, Race, Both, Ask, Pair, Twice, Keys, Read, Go, Hook}
+use Rattle.script_lines.specs.declared.target.LineTarget.{LineTarget}
+use Rattle.script_lines.specs.declared.target.LineTarget.TheVariants.{Number, Name}
 use Rattle.script_lines.specs.declared.value.LineValue.{LineValue}
 use Rattle.script_lines.specs.declared.value.LineValue.TheVariants.{Void, Value, Failure, InvocationId}
 
@@ -40,6 +42,8 @@ handler_word Pair = codes "pair"
 handler_word Twice = codes "twice"
 handler_word Keys = codes "keys"
 handler_word Read = codes "read"
+handler_word Go = codes "go"
+handler_word Hook = codes "hook"
 
 -- a value's word; the text behind a colon (58) is as it is, and may be empty
 abbrev pub value_word : LineValue → List ℕ
@@ -54,3 +58,16 @@ IsValue Void = Unit {0}
 IsValue (Value bytes) = All IsWordByte bytes
 IsValue (Failure code message) = (code < 2 ^ 16) × All IsWordByte message
 IsValue (InvocationId id) = All IsWordByte id
+
+-- a signal's number behind a '#' (35), or its name
+abbrev pub number_word : ℕ → List ℕ
+number_word number = 35 ∷ decimal number
+
+abbrev pub target_word : LineTarget → List ℕ
+target_word (Number number) = number_word number
+target_word (Name name) = text_word name
+
+-- The signals that have a word. A name is not spelled as a number is.
+abbrev pub IsTarget : LineTarget → Type 0
+IsTarget (Number number) = number < 2 ^ 32
+IsTarget (Name name) = IsText name × ((number : ℕ) → number < 2 ^ 32 → name ≢ number_word number)

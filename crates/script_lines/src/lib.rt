@@ -7,6 +7,7 @@ pub mod line;
 pub mod output;
 pub mod reading;
 pub mod script;
+pub mod target;
 pub mod text;
 pub mod value;
 pub mod word;

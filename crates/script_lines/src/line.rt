@@ -1,13 +1,14 @@
 //! The lines of a script.
-#![tactic(auto, unfolding(crate::specs::Reading::then_read, crate::specs::Reading::invoke_of, crate::specs::Reading::result_of, crate::specs::Reading::tick_of, crate::specs::Reading::begin_of, crate::specs::Reading::feed_of, crate::specs::Reading::close_of, crate::specs::Reading::turn_of, crate::specs::Reading::move_of, crate::specs::Reading::stop_of, crate::specs::Reading::show_of, crate::specs::Reading::state_of, crate::specs::Reading::of_none, crate::specs::Reading::of_one, crate::specs::Reading::of_two, crate::specs::Reading::of_three, crate::specs::Reading::of_six))]
+#![tactic(auto, unfolding(crate::specs::Reading::then_read, crate::specs::Reading::invoke_of, crate::specs::Reading::result_of, crate::specs::Reading::signal_of, crate::specs::Reading::cancel_of, crate::specs::Reading::tick_of, crate::specs::Reading::begin_of, crate::specs::Reading::feed_of, crate::specs::Reading::close_of, crate::specs::Reading::turn_of, crate::specs::Reading::move_of, crate::specs::Reading::stop_of, crate::specs::Reading::show_of, crate::specs::Reading::state_of, crate::specs::Reading::of_none, crate::specs::Reading::of_one, crate::specs::Reading::of_two, crate::specs::Reading::of_three, crate::specs::Reading::of_six))]
 
 ghost use Rattle.std.specs.Prelude.{◌≡◌, ◌==◌, map, IfOk};
 ghost use Rattle.std.specs.List.{slice_split};
 ghost use Rattle.script_lines.specs.Word.{Reads};
 ghost use Rattle.script_lines.specs.Line.{spelled, IsLine};
 ghost use Rattle.script_lines.specs.declared.line.Line.TheVariants as line;
-ghost use Rattle.script_lines.specs.Reading.{Gives, invoke_of, result_of, tick_of, begin_of, feed_of, close_of, turn_of, move_of, stop_of, show_of, state_of, of_none, of_one, of_two, of_three, of_six, line_of};
+ghost use Rattle.script_lines.specs.Reading.{Gives, invoke_of, result_of, signal_of, cancel_of, tick_of, begin_of, feed_of, close_of, turn_of, move_of, stop_of, show_of, state_of, of_none, of_one, of_two, of_three, of_six, line_of};
 
+use crate::target::{LineTarget, parse_target};
 use crate::value::{LineValue, parse_value};
 use crate::word::{
     Command, HandlerName, LineError, StateMode, parse_command, parse_handler, parse_mode,
@@ -34,6 +35,16 @@ pub enum Line {
         id: ByteStr,
         completion: u32,
         value: LineValue,
+    },
+    /// Brings a signal.
+    Signal {
+        id: ByteStr,
+        target: LineTarget,
+        value: LineValue,
+    },
+    /// Cancels an invocation.
+    Cancel {
+        id: ByteStr,
     },
     /// Lets it be this moment, in milliseconds.
     Tick {
@@ -137,6 +148,18 @@ fn parse_arrival(alloc: Global, arguments: &[&[u8]]) -> Result<Line, LineError>
     })
 }
 
+fn parse_signal(alloc: Global, arguments: &[&[u8]]) -> Result<Line, LineError>
+    ensures { Gives result (of_three signal_of (map (λ word. word.now) arguments.now)) }
+{
+    let [id, target, value] = arguments else {
+        return Err(LineError::NotUnderstood);
+    };
+    let id = parse_text(alloc, id)?;
+    let target = parse_target(alloc, target)?;
+    let value = parse_value(alloc, value)?;
+    Ok(Line::Signal { id, target, value })
+}
+
 fn parse_tick(arguments: &[&[u8]]) -> Result<Line, LineError>
     ensures { Gives result (of_one tick_of (map (λ word. word.now) arguments.now)) }
 {
@@ -229,6 +252,16 @@ fn parse_due(arguments: &[&[u8]]) -> Result<Line, LineError>
     }
 }
 
+fn parse_cancel(alloc: Global, arguments: &[&[u8]]) -> Result<Line, LineError>
+    ensures { Gives result (of_one cancel_of (map (λ word. word.now) arguments.now)) }
+{
+    let [id] = arguments else {
+        return Err(LineError::NotUnderstood);
+    };
+    let id = parse_text(alloc, id)?;
+    Ok(Line::Cancel { id })
+}
+
 fn parse_show(alloc: Global, arguments: &[&[u8]]) -> Result<Line, LineError>
     ensures { Gives result (of_one show_of (map (λ word. word.now) arguments.now)) }
 {
@@ -266,6 +299,8 @@ fn parse_words(alloc: Global, words: &[&[u8]]) -> Result<Line, LineError>
     match parse_command(command).ok_or(LineError::NotUnderstood)? {
         Command::Invoke => parse_invoke(alloc, arguments),
         Command::Result => parse_arrival(alloc, arguments),
+        Command::Signal => parse_signal(alloc, arguments),
+        Command::Cancel => parse_cancel(alloc, arguments),
         Command::Tick => parse_tick(arguments),
         Command::Begin => parse_begin(alloc, arguments),
         Command::Feed => parse_feed(alloc, arguments),

@@ -33,6 +33,8 @@ impl From<AllocError> for LineError {
 pub enum Command {
     Invoke,
     Result,
+    Signal,
+    Cancel,
     Tick,
     Begin,
     Feed,
@@ -75,6 +77,10 @@ pub enum HandlerName {
     Keys,
     /// Reads the key `x`, and answers its value.
     Read,
+    /// Waits for the signal `go`, and answers what it brings.
+    Go,
+    /// Makes an awakeable, which is signal 17, waits for it, and answers what it brings.
+    Hook,
 }
 
 impl HandlerName {
@@ -92,6 +98,8 @@ impl HandlerName {
             HandlerName::Twice => b"twice".as_slice(),
             HandlerName::Keys => b"keys".as_slice(),
             HandlerName::Read => b"read".as_slice(),
+            HandlerName::Go => b"go".as_slice(),
+            HandlerName::Hook => b"hook".as_slice(),
         }
     }
 }
@@ -187,6 +195,10 @@ pub fn parse_handler(word: &[u8]) -> Option<HandlerName>
         Some(HandlerName::Keys)
     } else if word == HandlerName::Read.word() {
         Some(HandlerName::Read)
+    } else if word == HandlerName::Go.word() {
+        Some(HandlerName::Go)
+    } else if word == HandlerName::Hook.word() {
+        Some(HandlerName::Hook)
     } else {
         None
     }
@@ -201,6 +213,10 @@ pub fn parse_command(word: &[u8]) -> Option<Command>
         Some(Command::Invoke)
     } else if word == b"result".as_slice() {
         Some(Command::Result)
+    } else if word == b"signal".as_slice() {
+        Some(Command::Signal)
+    } else if word == b"cancel".as_slice() {
+        Some(Command::Cancel)
     } else if word == b"tick".as_slice() {
         Some(Command::Tick)
     } else if word == b"begin".as_slice() {

@@ -26,7 +26,7 @@ returns-in-Ok-push-clause-settled g c written clean s is =
         c.in-Ok.begun,
         refl,
         it.2,
-        record { attempt = c.in-Some.attempt; fresh = c.in-Some.ensures; held = c.in-Ok-push.ensures.ok },
+        record { attempt = c.in-Some.attempt; fresh = c.in-Some.ensures.fed; goes_on = c.in-Some.ensures.goes_on; held = c.in-Ok-push.ensures.ok },
       ),
       it.3,
     )
