@@ -1,0 +1,4 @@
+pub mod Replies
+pub mod Behind
+pub mod Frames
+pub mod Pieces

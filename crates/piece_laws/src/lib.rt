@@ -1,0 +1,10 @@
+//! Bytes that an attempt has written may come in any cut. The functions do nothing: their contracts are the laws.
+#![tactic(auto)]
+
+ghost use Rattle.piece_laws.specs.Pieces.{PiecesJoin};
+
+/// What is accepted in one piece and then in a second is recorded as what the two joined would be, and answered so, where nothing is
+/// refused for want of memory or by a statement.
+pub fn pieces_join()
+    ensures { PiecesJoin }
+{}
