@@ -1,8 +1,10 @@
 //! `example_schedule`: a handler of one's own, stopped while it sleeps, by the schedule whose contract is the headline, and gone on with by
-//! a loop over the scheduler that this leaves; and one that keeps something in its object's state.
+//! a loop over the scheduler that this leaves; one that keeps something in its object's state; and one that makes every call that waits for
+//! nothing.
 #![tactic(auto)]
 
 mod attempt;
+mod calls;
 mod orders;
 mod reminder;
 mod stamp;
@@ -10,6 +12,7 @@ mod stamp;
 use anyhow::{Result, bail};
 use attempt::go_on;
 use bytes::{ByteStr, Bytes};
+use calls::{make_calls, print_types};
 use orders::take_orders;
 use reminder::Reminder;
 use schedule_runs::{
@@ -165,7 +168,34 @@ fn run_orders<R: Print>(rt: &R, alloc: Global) -> Result<()> {
     Ok(printed?)
 }
 
+// The commands of an invocation that are recorded.
+fn print_commands<R: Print, S: Alter + Drop>(rt: &R, store: &mut Store<S>) -> io::Result<()> {
+    match store.entries(&id()) {
+        Ok(entries) => {
+            let printed = print_types(rt, entries.as_slice());
+            drop(entries);
+            printed
+        }
+        Err(refusal) => println!(rt; "{refusal:?}"),
+    }
+}
+
+// Every call that waits for nothing, over a store of its own.
+fn run_calls<R: Print>(rt: &R, alloc: Global) -> Result<()> {
+    let Ok(store) = open_in_memory(alloc) else {
+        bail!("no store was made");
+    };
+    let mut scheduler = Scheduler::new(alloc, store, VMOptions::default());
+    let made = make_calls(rt, &mut scheduler);
+    let mut store = scheduler.into_store();
+    let printed = print_commands(rt, &mut store);
+    close(store);
+    made?;
+    Ok(printed?)
+}
+
 fn main(rt: HostRuntime) -> Result<()> {
     run(&rt, rt.alloc())?;
-    run_orders(&rt, rt.alloc())
+    run_orders(&rt, rt.alloc())?;
+    run_calls(&rt, rt.alloc())
 }

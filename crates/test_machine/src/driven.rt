@@ -2,11 +2,11 @@
 //! are answered; of each is told what it came to, or its error by the code, and the types of the frames that it wrote.
 use crate::answers::{debug, failed};
 use crate::operands::bytes;
-use crate::steps::{Steps, step_named};
 use invocation_vm::{Attempt, Sequence, Turn, VMOptions, Version};
 use protocol_stream::Decoder;
 use std::alloc::Global;
 use std::fmt::Write;
+use test_steps::{Steps, step_named};
 
 fn types(alloc: Global, frames: &[u8]) -> Option<String> {
     let mut told = String::new(alloc);

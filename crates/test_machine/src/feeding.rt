@@ -1,7 +1,9 @@
 //! What a machine is told, and what is asked of itself. `new REQUEST WORD ..` with the options that are not as they are by default:
-//! `overwrite` for signals, `fresh` for a journal that is not replayed, `stays` where a cancellation ends no await, `silent` where it
-//! is not told what is waited for, `always` where it is told that also beside a run, `unchecked` where payloads are not compared,
-//! `pauses` and `fails` where a journal that does not match asks for a pause and for the end; any other word changes nothing. `in HEX`, `close`, `fail CODE`, `out`, `head`, `state`, `index`, `ready`.
+//! `overwrite` for signals, `fresh` for a journal that is not replayed, `stays` where a cancellation ends no await, `sends` where it
+//! is passed on to what was sent and not to what was called, `silent` where the machine is not told what is waited for, `always` where
+//! it is told that also beside a run, `unchecked` where payloads are not compared, `pauses` and `fails` where a journal that does not
+//! match asks for a pause and for the end; any other word changes nothing. `in HEX`, `close`, `fail CODE`, `out`, `head`, `state`,
+//! `index`, `ready`.
 use crate::answers::{debug, done, failed};
 use crate::operands::{byte_str, bytes};
 use crate::requests::{Unreadable, headers};
@@ -32,6 +34,12 @@ fn choose_waiting(options: &mut VMOptions, word: &str) {
     match word {
         "overwrite" => options.signal_delivery = SignalDelivery::Overwrite,
         "stays" => options.implicit_cancellation = ImplicitCancellationOption::Disabled,
+        "sends" => {
+            options.implicit_cancellation = ImplicitCancellationOption::Enabled {
+                cancel_children_calls: false,
+                cancel_children_one_way_calls: true,
+            };
+        }
         "silent" => options.awaiting_on_policy = AwaitingOnPolicy::DontSend,
         "always" => options.awaiting_on_policy = AwaitingOnPolicy::SendAlways,
         _ => {}

@@ -15,7 +15,6 @@ mod printed;
 mod requests;
 mod results;
 mod state;
-mod steps;
 mod tables;
 mod telling;
 

@@ -6,7 +6,7 @@ use Rattle.journal_model.specs.declared.call.Call.{Call}
 use Rattle.journal_model.specs.declared.call.PayloadOptions.{PayloadOptions}
 use Rattle.journal_model.specs.declared.call.Target.{Target}
 use Rattle.journal_model.specs.Run.{Handler}
-use Rattle.test_machine.specs.declared.steps.Step.{Step}
+use Rattle.test_steps.specs.declared.steps.Step.{Step}
 
 -- the handler `h` of the service `s`
 abbrev pub service : Target

@@ -1,12 +1,12 @@
-//! A handler that makes the calls of a list, one after the other, whatever they are answered, and then ends.
+//! The calls that a list may have, and the handler of a list.
 ghost use Rattle.std.specs.Prelude.{◌≡◌};
-ghost use Rattle.test_machine.specs.Steps as stepping;
+ghost use Rattle.test_steps.specs.Steps as stepping;
 
 use bytes::{ByteStr, Bytes};
-use invocation_vm::{
-    Answer, AttachInvocationTarget, Call, Handler, Input, NonEmptyValue, PayloadOptions, Sequence,
-    Target,
+use journal_model::{
+    Answer, AttachInvocationTarget, Call, Handler, Input, NonEmptyValue, PayloadOptions, Target,
 };
+use sequence::Sequence;
 use std::alloc::{AllocError, Global};
 
 /// A call of the handler.
@@ -169,7 +169,7 @@ pub struct Steps {
 }
 
 impl Handler for Steps {
-    ghost use Rattle.test_machine.specs.Steps.{steps};
+    ghost use Rattle.test_steps.specs.Steps.{steps};
 
     ghost next_call = { λ handler. steps handler.steps };
 
