@@ -49,7 +49,7 @@ fn begin<S: Alter + Drop>(scheduler: &mut Scheduler<Steps, S>, handler: Steps) -
     })
 }
 
-/// How many turns answer a call, and what the turn behind them comes to.
+/// How many turns are answered, the first of which reads the input, and what the turn behind them comes to.
 fn make_turns<S: Alter + Drop>(scheduler: &mut Scheduler<Steps, S>) -> (u32, Reply) {
     for answered in 0..100 {
         let reply = scheduler.apply(Event::Turn {
