@@ -99,6 +99,14 @@ impl Error {
         self
     }
 
+    /// The error with this delay until the next attempt, or with the usual one.
+    pub fn with_next_retry_delay(mut self, delay: Option<Duration>) -> Error
+        ensures { result ≡ record self { next_retry_delay = delay } }
+    {
+        self.next_retry_delay = delay;
+        self
+    }
+
     /// The error, upon which the invocation is paused.
     pub fn with_should_pause(mut self) -> Error
         ensures { result ≡ record self { behavior = ErrorBehavior.Pause } }

@@ -1,4 +1,5 @@
 pub mod Seen
+pub mod Lining
 pub mod Futures
 pub mod Gathering
 pub mod ResolutionRows

@@ -1,10 +1,13 @@
 -- What each call leaves.
-use Rattle.std.specs.Prelude.{ℕ, Bool, true, false, List, [], ◌∷◌, ◌++◌, Option, Some}
+use Rattle.std.specs.Prelude.{◌≡◌, ℕ, Bool, true, false, ◌||◌, List, [], ◌∷◌, ◌++◌, Option, Some, None, is_some}
+use Rattle.std.specs.List.{list_any}
 use Rattle.journal_model.specs.declared.notification.NotificationId.{NotificationId}
+use Rattle.journal_model.specs.declared.notification.NotificationId.TheVariants.{CompletionId}
 use Rattle.journal_model.specs.declared.notification.NotificationResult.{NotificationResult}
 use Rattle.journal_model.specs.declared.options.SignalDelivery.{SignalDelivery}
+use Rattle.journal_model.specs.Journal.{completes}
 use Rattle.journal_model.specs.Notification.{Arrival}
-use Rattle.attempt_model.specs.Results.{ready_after}
+use Rattle.attempt_model.specs.Results.{Ready, first_of, ready_after}
 use Rattle.vm_results.specs.Views.{none_ready}
 use Rattle.vm_results.specs.Calls.{ready_left, slots_left}
 use Rattle.vm_awaits.specs.Views.{AsyncResults}
@@ -26,6 +29,16 @@ abbrev pub has_next : List Arrival → Bool
 has_next [] = false
 has_next (arrival ∷ queue) = true
 
+-- the one that stands first
+abbrev pub first_in : List Arrival → Option Arrival
+first_in [] = None
+first_in (arrival ∷ queue) = Some arrival
+
+-- the first of a line is looked at, if one stands there
+abbrev pub LooksAtOne : SignalDelivery → (looked : Bool) → (queue : List Arrival) → Ready → (queue' : List Arrival) → Ready → Type 0
+LooksAtOne delivery looked [] ready queue' ready' = (looked ≡ false) × (queue' ≡ []) × (ready' ≡ ready)
+LooksAtOne delivery looked (arrival ∷ queue) ready queue' ready' = (looked ≡ true) × (queue' ≡ queue) × (ready' ≡ ready_after delivery ready arrival)
+
 -- the first of these that stand in line is looked at; where none does all stays
 abbrev pub looked_at : List Arrival → AsyncResults → AsyncResults
 looked_at [] results = results
@@ -33,6 +46,10 @@ looked_at (arrival ∷ queue) results = record results { queue = queue; ready = 
 
 abbrev pub after_look : AsyncResults → AsyncResults
 after_look results = looked_at results.queue results
+
+-- whether something has come for a completion, looked at or not
+abbrev pub has_come : ℕ → AsyncResults → Bool
+has_come n results = list_any (completes n) results.queue || is_some (first_of (results.ready (CompletionId n)))
 
 -- one more handle
 abbrev pub with_handle : NotificationId → AsyncResults → AsyncResults

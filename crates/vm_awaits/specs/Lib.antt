@@ -1,4 +1,5 @@
 pub mod Views
+pub mod Lines
 pub mod Calls
 pub mod Trees
 pub mod Resolving

@@ -17,7 +17,7 @@ abbrev pub delivery_of : AsyncResultsState → SignalDelivery
 delivery_of state = state.signal_delivery
 
 abbrev pub queue_of : AsyncResultsState → List Arrival
-queue_of state = state.line.items
+queue_of state = state.line
 
 abbrev pub ready_of : AsyncResultsState → Ready
 ready_of state = ready_in state.ready

@@ -8,6 +8,7 @@
 mod flat;
 mod growing;
 mod ids;
+mod line;
 mod records;
 mod resolving;
 mod state;

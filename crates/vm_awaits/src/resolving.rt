@@ -1,22 +1,20 @@
 // How an awaited future is resolved from the line.
-ghost use Rattle.std.specs.Prelude.{◌≡◌, ◌∷◌, ◌<◌, Some, OnOk, OnErr, IfOk};
-ghost use Rattle.std.specs.VecDeque.{deque_len, deque_capacity};
+ghost use Rattle.std.specs.Prelude.{◌≡◌, Some, OnErr, IfOk};
 ghost use Rattle.journal_model.specs.AwaitTree.{Single};
 ghost use Rattle.journal_model.specs.Delivery.{state_of_result};
 ghost use Rattle.journal_model.specs.Future.{tree_of};
-ghost use Rattle.attempt_model.specs.Results.{ready_after, resolution_of};
+ghost use Rattle.attempt_model.specs.Results.{resolution_of};
 ghost use Rattle.vm_flat_trees.specs.Counts.{state_meant};
 ghost use Rattle.vm_awaits.specs.Resolving.{resolution_as, line_left, StopsMidway};
 ghost use Rattle.vm_results.specs.Views.{ready_in};
 
 use crate::flat::FlatTree;
+use crate::line::Line;
 use journal_model::{
-    Notification, NotificationHandle, NotificationId, NotificationResult, SignalDelivery,
-    UnresolvedFuture,
+    NotificationHandle, NotificationId, NotificationResult, SignalDelivery, UnresolvedFuture,
 };
 use protocol_trees::AwaitState;
-use std::alloc::AllocError;
-use std::collections::VecDeque;
+use std::alloc::{AllocError, Global};
 use vm_flat_trees::climbing::is_completed;
 use vm_flat_trees::opening::{Opened, open};
 use vm_results::{ReadyNotifications, state_for};
@@ -42,64 +40,44 @@ fn result_state(brought: &NotificationResult) -> AwaitState
     }
 }
 
-/// A notification that stood first in line is looked at. Where there is no memory for it, it stands there again.
-pub(crate) fn look_at(
-    line: &mut VecDeque<Notification>,
-    ready: &mut ReadyNotifications,
-    delivery: SignalDelivery,
-    notification: Notification,
-) -> Result<(), AllocError>
-    requires { deque_len line.old < deque_capacity line.old }
-    ensures ok { OnOk result ((line.new.items ≡ line.old.items) × (ready_in ready.new ≡ ready_after delivery (ready_in ready.old) notification)) }
-    ensures err { OnErr result ((line.new.items ≡ notification ∷ line.old.items) × (ready_in ready.new ≡ ready_in ready.old)) }
-{
-    match ready.push(delivery, notification) {
-        Ok(()) => Ok(()),
-        Err(refused) => {
-            line.push_front_reserved(refused.value);
-            Err(AllocError)
-        }
-    }
-}
-
 // Of a future that is one leaf: nothing is made of it.
 fn resolve_leaf(
     delivery: SignalDelivery,
     slots: &[Option<NotificationId>],
-    line: &mut VecDeque<Notification>,
+    line: &mut Line,
     ready: &mut ReadyNotifications,
     handle: NotificationHandle,
 ) -> Result<ResolveFutureResult, AllocError>
-    ensures resolved { IfOk result (λ answer. resolution_of delivery slots.now (Single handle) line.old.items (ready_in ready.old)
-        ≡ resolution_as line.new.items (ready_in ready.new) answer) }
-    ensures left { IfOk result (λ answer. line.new.items ≡ line_left line.new.items answer) }
-    ensures err { OnErr result (StopsMidway delivery slots.now (Single handle) line.old.items (ready_in ready.old) line.new.items (ready_in ready.new)) }
+    ensures resolved { IfOk result (λ answer. resolution_of delivery slots.now (Single handle) line.old (ready_in ready.old)
+        ≡ resolution_as line.new (ready_in ready.new) answer) }
+    ensures left { IfOk result (λ answer. line.new ≡ line_left line.new answer) }
+    ensures err { OnErr result (StopsMidway delivery slots.now (Single handle) line.old (ready_in ready.old) line.new (ready_in ready.new)) }
 {
     'steps: loop {
         if is_completed(state_for(slots, ready, handle)) {
             return Ok(ResolveFutureResult::AnyCompleted);
         }
-        let Some(notification) = line.pop_front() else {
+        let looked = line.look_at_one(ready, delivery)?;
+        if !looked {
             return Ok(ResolveFutureResult::WaitExternalInput(UnresolvedFuture::Single(handle)));
-        };
-        look_at(line, ready, delivery, notification)?;
+        }
     }
 }
 
 // Of any other.
 fn resolve_tree(
+    alloc: Global,
     delivery: SignalDelivery,
     slots: &[Option<NotificationId>],
-    line: &mut VecDeque<Notification>,
+    line: &mut Line,
     ready: &mut ReadyNotifications,
     future: UnresolvedFuture,
 ) -> Result<ResolveFutureResult, AllocError>
-    ensures resolved { IfOk result (λ answer. resolution_of delivery slots.now (tree_of future) line.old.items (ready_in ready.old)
-        ≡ resolution_as line.new.items (ready_in ready.new) answer) }
-    ensures left { IfOk result (λ answer. line.new.items ≡ line_left line.new.items answer) }
-    ensures err { OnErr result (StopsMidway delivery slots.now (tree_of future) line.old.items (ready_in ready.old) line.new.items (ready_in ready.new)) }
+    ensures resolved { IfOk result (λ answer. resolution_of delivery slots.now (tree_of future) line.old (ready_in ready.old)
+        ≡ resolution_as line.new (ready_in ready.new) answer) }
+    ensures left { IfOk result (λ answer. line.new ≡ line_left line.new answer) }
+    ensures err { OnErr result (StopsMidway delivery slots.now (tree_of future) line.old (ready_in ready.old) line.new (ready_in ready.new)) }
 {
-    let alloc = *line.allocator();
     let made = FlatTree::new(alloc, slots, ready, &future);
     drop(future);
     let mut flat = made?;
@@ -107,33 +85,34 @@ fn resolve_tree(
         if flat.is_awake() {
             return Ok(ResolveFutureResult::AnyCompleted);
         }
-        let Some(notification) = line.pop_front() else {
+        let Some(notification) = line.first() else {
             let left = flat.left(alloc)?;
             return Ok(ResolveFutureResult::WaitExternalInput(left));
         };
         flat.deliver(&notification.id, result_state(&notification.result));
-        look_at(line, ready, delivery, notification)?;
+        line.look_at_one(ready, delivery)?;
     }
 }
 
 /// Looks at one notification a step, until the future is awake.
 pub(crate) fn resolve(
+    alloc: Global,
     delivery: SignalDelivery,
     slots: &[Option<NotificationId>],
-    line: &mut VecDeque<Notification>,
+    line: &mut Line,
     ready: &mut ReadyNotifications,
     future: UnresolvedFuture,
 ) -> Result<ResolveFutureResult, AllocError>
-    ensures resolved { IfOk result (λ answer. resolution_of delivery slots.now (tree_of future) line.old.items (ready_in ready.old)
-        ≡ resolution_as line.new.items (ready_in ready.new) answer) }
-    ensures left { IfOk result (λ answer. line.new.items ≡ line_left line.new.items answer) }
-    ensures err { OnErr result (StopsMidway delivery slots.now (tree_of future) line.old.items (ready_in ready.old) line.new.items (ready_in ready.new)) }
+    ensures resolved { IfOk result (λ answer. resolution_of delivery slots.now (tree_of future) line.old (ready_in ready.old)
+        ≡ resolution_as line.new (ready_in ready.new) answer) }
+    ensures left { IfOk result (λ answer. line.new ≡ line_left line.new answer) }
+    ensures err { OnErr result (StopsMidway delivery slots.now (tree_of future) line.old (ready_in ready.old) line.new (ready_in ready.new)) }
 {
     match open(&future) {
         Opened::Leaf(handle) => {
             drop(future);
             resolve_leaf(delivery, slots, line, ready, handle)
         }
-        Opened::Node(..) => resolve_tree(delivery, slots, line, ready, future),
+        Opened::Node(..) => resolve_tree(alloc, delivery, slots, line, ready, future),
     }
 }

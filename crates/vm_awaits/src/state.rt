@@ -8,12 +8,13 @@ ghost use Rattle.std.specs.Option.{option_copied};
 ghost use Rattle.attempt_model.specs.Results.{first_of, waiting_for, slot_of, resolution_of};
 ghost use Rattle.vm_results.specs.Children.{completion_in};
 ghost use Rattle.vm_awaits.specs.Views.{results_of, delivery_of, queue_of, ready_of, slots_of};
-ghost use Rattle.vm_awaits.specs.Calls.{no_results, with_queued, with_ready, with_handle, has_next, after_look, after_take};
+ghost use Rattle.vm_awaits.specs.Calls.{no_results, with_queued, with_ready, with_handle, has_come, has_next, after_look, after_take};
 ghost use Rattle.vm_awaits.specs.Resolving.{resolution_as, line_left, StopsMidway};
 ghost use Rattle.vm_awaits.specs.declared.state.CreateHandleError.TheVariants.{HandlesExhausted, OutOfMemory};
 
+use crate::line::Line;
 use crate::records::record_of;
-use crate::resolving::{ResolveFutureResult, look_at, resolve};
+use crate::resolving::{ResolveFutureResult, resolve};
 use journal_model::{
     Notification, NotificationHandle, NotificationId, NotificationResult, SignalDelivery,
     UnresolvedFuture,
@@ -21,7 +22,6 @@ use journal_model::{
 use protocol_records::Future;
 use protocol_trees::NotificationIdRef;
 use std::alloc::{AllocError, AllocFailed, Global};
-use std::collections::VecDeque;
 use vm_results::{ReadyNotifications, Slots, first_for, id_for, next_handle, take_for};
 
 /// What has come of an invocation's notifications, and what its handles stand for.
@@ -31,7 +31,7 @@ use vm_results::{ReadyNotifications, Slots, first_for, id_for, next_handle, take
 #[derive(Debug, Drop)]
 pub struct AsyncResultsState {
     signal_delivery: SignalDelivery,
-    line: VecDeque<Notification>,
+    line: Line,
     ready: ReadyNotifications,
     slots: Slots,
 }
@@ -59,7 +59,7 @@ impl AsyncResultsState {
     {
         AsyncResultsState {
             signal_delivery,
-            line: VecDeque::new(alloc),
+            line: Line::new(alloc),
             ready: ReadyNotifications::new(alloc),
             slots: Vec::new(alloc),
         }
@@ -70,8 +70,7 @@ impl AsyncResultsState {
         ensures ok { OnOk result (results_of self.new ≡ with_queued notification (results_of self.old)) }
         ensures err { OnErr result (results_of self.new ≡ results_of self.old) }
     {
-        self.line.push_back(notification)?;
-        Ok(())
+        self.line.push(notification)
     }
 
     /// One is known at once, as the value of a key that was read before: no await has to look at it.
@@ -159,22 +158,20 @@ impl AsyncResultsState {
         self.ready.first(&NotificationId::CompletionId(completion))
     }
 
+    /// Whether something has come for this completion: it waits to be taken, or stands in line.
+    pub fn has_come(&self, completion: u32) -> bool
+        ensures { result ≡ has_come completion (results_of self.now) }
+    {
+        self.line.has(completion) || self.value_of_child(completion).is_some()
+    }
+
     /// Looks at the notification that stands first in line, if one does. Where there is no memory for it, it stands there still.
     pub fn look_at_one(&mut self) -> Result<bool, AllocError>
         ensures next { IfOk result (λ looked. looked ≡ has_next (queue_of self.old)) }
         ensures ok { OnOk result (results_of self.new ≡ after_look (results_of self.old)) }
         ensures err { OnErr result (results_of self.new ≡ results_of self.old) }
     {
-        let Some(notification) = self.line.pop_front() else {
-            return Ok(false);
-        };
-        look_at(
-            &mut self.line,
-            &mut self.ready,
-            self.signal_delivery,
-            notification,
-        )?;
-        Ok(true)
+        self.line.look_at_one(&mut self.ready, self.signal_delivery)
     }
 
     /// Looks at what stands in line, one notification a step, until the future is awake. Where it stays asleep, this is what it
@@ -194,6 +191,7 @@ impl AsyncResultsState {
         ensures err { OnErr result (StopsMidway (delivery_of self.old) (slots_of self.old) (tree_of future) (queue_of self.old) (ready_of self.old) (queue_of self.new) (ready_of self.new)) }
     {
         resolve(
+            *self.slots.allocator(),
             self.signal_delivery,
             self.slots.as_slice(),
             &mut self.line,

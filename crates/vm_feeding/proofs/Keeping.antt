@@ -27,7 +27,7 @@ receives_keeps message incoming.Start old (Err error) new h = ap (λ (vm : Machi
 receives_keeps message incoming.Command old result new h = ap (λ (vm : MachineState). vm.decoder) h.others
 receives_keeps message incoming.Notification old result new h = ap (λ (vm : MachineState). vm.decoder) h.others
 receives_keeps message incoming.EphemeralAnswer old result new h = ap (λ (vm : MachineState). vm.decoder) h.others
-receives_keeps message incoming.RunAcknowledgement old result new h = ap (λ (vm : MachineState). vm.decoder) h.1
+receives_keeps message incoming.RunAcknowledgement old result new h = ap (λ (vm : MachineState). vm.decoder) h.others
 receives_keeps message incoming.Other old result new h = ap (λ (vm : MachineState). vm.decoder) h.1
 
 pub fails_keeps : (cause : Result Error AllocError) (old : MachineState) (answer : Error) (new : MachineState) → MachineFails cause old answer new → new.decoder ≡ old.decoder
@@ -51,7 +51,7 @@ module _ (bytes : List ℕ) where
   receives_over message incoming.Command old result new h = record { comes = h.comes; others = ap (with_bytes bytes) h.others }
   receives_over message incoming.Notification old result new h = record { comes = h.comes; others = ap (with_bytes bytes) h.others }
   receives_over message incoming.EphemeralAnswer old result new h = record { comes = h.comes; others = ap (with_bytes bytes) h.others }
-  receives_over message incoming.RunAcknowledgement old result new h = (h.0, ap (with_bytes bytes) h.1)
+  receives_over message incoming.RunAcknowledgement old result new h = record { comes = h.comes; others = ap (with_bytes bytes) h.others }
   receives_over message incoming.Other old result new h = (h.0, ap (with_bytes bytes) h.1)
 
   fails_over : (cause : Result Error AllocError) (old : MachineState) (answer : Error) (new : MachineState)

@@ -16,6 +16,10 @@ use Rattle.vm_machine.specs.declared.machine_state.MachineState.{MachineState}
 use Rattle.vm_start.specs.Negotiation.{Negotiates, negotiation_code, negotiation_text, content_type}
 use Rattle.vm_start.specs.declared.negotiation.NegotiationError.{NegotiationError}
 use Rattle.vm_start.specs.declared.negotiation.NegotiationError.TheVariants.{MissingContentType, OutOfMemory}
+use Rattle.attempt_model.specs.Machine.{Machine}
+use Rattle.body_laws.specs.Bodies.{executor_over}
+use Rattle.vm_runs.specs.Keeping.{KeepsBodies}
+use Rattle.vm_runs.specs.Runs.{no_runs}
 use Rattle.vm_types.specs.declared.answers.ResponseHead.{ResponseHead}
 use Rattle.vm_types.specs.declared.options.VMOptions.{VMOptions}
 
@@ -40,6 +44,9 @@ pub record IsNew (version : Version) (options : VMOptions) (vm : MachineState) :
   pub phase : vm.phase ≡ WaitingStart
   pub active : IsFresh version options.signal_delivery vm.active
   pub reads : vm.reads ≡ no_reads
+  -- no run was called, whatever machine is seen
+  pub runs : vm.runs ≡ no_runs
+  pub bodies : (m : Machine) → KeepsBodies vm.runs (executor_over m)
 
 abbrev pub IsMade : Version → VMOptions → Result MachineState Error → Type 0
 IsMade version options (Ok vm) = IsNew version options vm

@@ -11,6 +11,7 @@ use std::alloc::{AllocError, Global};
 use std::fmt;
 use vm_ephemeral::EphemeralCommands;
 use vm_machine::{MachineState, about_nothing, fresh_active};
+use vm_runs::RunState;
 use vm_start::{
     NegotiationError, Phase, negotiate, or_out_of_memory, out_of_memory, response_head,
 };
@@ -56,6 +57,7 @@ fn make(alloc: Global, version: Version, options: VMOptions) -> Result<MachineSt
             phase: Phase::WaitingStart,
             active,
             reads: EphemeralCommands::new(alloc),
+            runs: RunState::new(alloc),
         }),
     }
 }

@@ -1,3 +1,4 @@
 mod Gathering
 pub mod Admitted
 mod Moments
+mod Acknowledging

@@ -5,9 +5,6 @@ use Rattle.protocol_controls.specs.GetStateEphemeralNotification.{get_state_ephe
 use Rattle.protocol_controls.specs.declared.get_state_ephemeral_notification.GetStateEphemeralNotificationMessage.{GetStateEphemeralNotificationMessage}
 use Rattle.protocol_controls.specs.declared.get_state_ephemeral_notification.GetStateEphemeralNotificationResult.{GetStateEphemeralNotificationResult}
 use Rattle.protocol_controls.specs.declared.get_state_ephemeral_notification.GetStateEphemeralNotificationResult.TheVariants as brought
-use Rattle.protocol_controls.specs.ProposeRunCompletionAck.{propose_run_completion_ack_of}
-use Rattle.protocol_controls.specs.declared.propose_run_completion_ack.ProposeRunCompletionAckMessage.{ProposeRunCompletionAckMessage}
-use Rattle.protocol_errors.specs.declared.typed.BadProposeRunCompletionAck.{BadProposeRunCompletionAck}
 use Rattle.protocol_errors.specs.declared.fixed.FixedError.{FixedError}
 use Rattle.protocol_errors.specs.declared.fixed.FixedError.TheVariants as fixed
 use Rattle.protocol_messages.specs.Decoded.{DecodesTo}
@@ -17,7 +14,7 @@ use Rattle.protocol_table.specs.declared.table.RecordType.TheVariants as records
 use Rattle.vm_ephemeral.specs.Reads.{EphemeralReads, after_answer}
 use Rattle.vm_types.specs.declared.handles.EphemeralCompletionId.{EphemeralCompletionId}
 use Rattle.vm_machine.specs.declared.entry_error.EntryError.{EntryError}
-use Rattle.vm_machine.specs.declared.entry_error.EntryError.TheVariants.{Fixed, Unexpected, Decoding, UnknownRun, OutOfMemory}
+use Rattle.vm_machine.specs.declared.entry_error.EntryError.TheVariants.{Fixed, Unexpected, Decoding, OutOfMemory}
 use Rattle.vm_machine.specs.declared.incoming.Incoming.TheVariants as incoming
 use Rattle.vm_machine.specs.declared.answers.Stage.{Stage}
 use Rattle.vm_machine.specs.declared.answers.Stage.TheVariants as stages
@@ -81,22 +78,3 @@ abbrev pub ComesAnswer : RawMessage → Stage → (old : EphemeralReads) → Res
 ComesAnswer message stages.Processing old result new = Completes message old result new
 ComesAnswer message stages.Before old result new = (result ≡ Err (Unexpected incoming.EphemeralAnswer)) × (new ≡ old)
 ComesAnswer message stages.Behind old result new = (result ≡ Ok tt) × (new ≡ old)
-
--- the message acknowledges an outcome, and none is known
-pub record TellsRun (message : RawMessage) (error : BadProposeRunCompletionAck) : Type 0 where
-  pub whole : ProposeRunCompletionAckMessage
-  pub decoded : DecodesTo records.ProposeRunCompletionAck propose_run_completion_ack_of (pos 0) message (Ok whole)
-  pub id : error.completion_id ≡ whole.completion_id
-
-abbrev pub IsUnknownRun : RawMessage → EntryError → Type 0
-IsUnknownRun message (UnknownRun error) = TellsRun message error
-IsUnknownRun message (Decoding error) = DecodesTo {R = ProposeRunCompletionAckMessage} records.ProposeRunCompletionAck propose_run_completion_ack_of (pos 0) message (Err error) × (error ≢ unread.OutOfMemory)
-IsUnknownRun message OutOfMemory = Unit {0}
-IsUnknownRun message _ = ⊥
-
--- An acknowledgement of a run's outcome, of which none is kept; behind the end it is ignored.
-abbrev pub ComesAcknowledgement : RawMessage → Stage → Result (Unit {0}) EntryError → Type 0
-ComesAcknowledgement message stages.Processing (Ok done) = ⊥
-ComesAcknowledgement message stages.Processing (Err error) = IsUnknownRun message error
-ComesAcknowledgement message stages.Before result = result ≡ Err (Unexpected incoming.RunAcknowledgement)
-ComesAcknowledgement message stages.Behind result = result ≡ Ok tt

@@ -2,6 +2,7 @@ pub mod Incoming
 pub mod Entries
 pub mod Starting
 pub mod Answers
+pub mod Acknowledging
 pub mod Input
 pub mod Gathering
 pub mod Passed

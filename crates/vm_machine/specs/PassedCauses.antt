@@ -1,5 +1,6 @@
 -- Names of this crate, and of crates below it, under one more name, by which it cites them itself.
-pub use Rattle.vm_machine.specs.Answers.{stage_of, ComesAnswer, ComesAcknowledgement}
+pub use Rattle.vm_machine.specs.Answers.{stage_of, ComesAnswer}
+pub use Rattle.vm_machine.specs.Acknowledging.{ComesAcknowledgement}
 pub use Rattle.vm_machine.specs.Entries.{ComesCommand, ComesNotification}
 pub use Rattle.vm_machine.specs.Incoming.{incoming_of}
 pub use Rattle.vm_machine.specs.Input.{ReadsInput}

@@ -40,8 +40,10 @@ pub record ReceivesAnswer (message : RawMessage) (old : MachineState) (result : 
   pub comes : ComesAnswer message (stage_of old.phase old.active.is_replaying) old.reads result new.reads
   pub others : new ≡ record old { reads = new.reads }
 
-abbrev pub ReceivesAcknowledgement : RawMessage → (old : MachineState) → Result (Unit {0}) EntryError → (new : MachineState) → Type 0
-ReceivesAcknowledgement message old result new = ComesAcknowledgement message (stage_of old.phase old.active.is_replaying) result × (new ≡ old)
+-- an acknowledgement changes what has come, and what is kept of runs
+pub record ReceivesAcknowledgement (message : RawMessage) (old : MachineState) (result : Result (Unit {0}) EntryError) (new : MachineState) : Type 0 where
+  pub comes : ComesAcknowledgement message (stage_of old.phase old.active.is_replaying) old.runs old.active result new.runs new.active
+  pub others : new ≡ record old { active = new.active; runs = new.runs }
 
 -- what a message of this kind tells is kept, or the message is none for the machine
 abbrev pub Receives : RawMessage → Incoming → (old : MachineState) → Result (Unit {0}) EntryError → (new : MachineState) → Type 0

@@ -1,10 +1,15 @@
 // What else comes while calls are made.
 ghost use Rattle.std.specs.Prelude.{◌≡◌};
-ghost use Rattle.vm_machine.specs.Answers.{value_told, Answers, stage_of, Completes, ComesAnswer, IsUnknownRun, ComesAcknowledgement};
+ghost use Rattle.journal_model.specs.Value.{result_of_value};
+ghost use Rattle.vm_awaits.specs.Views.{results_of};
+ghost use Rattle.vm_machine.specs.Answers.{value_told, Answers, stage_of, Completes, ComesAnswer};
+ghost use Rattle.vm_machine.specs.Acknowledging.{TellsOutcome, ComesOutcome, TakesTold, ComesAcknowledgement};
 
 use crate::Incoming;
 use crate::entry_error::{EntryError, unread};
-use journal_model::Value;
+use journal_model::{
+    Failure, NonEmptyValue, Notification, NotificationId, NotificationResult, Value,
+};
 use protocol_controls::{
     GetStateEphemeralNotificationMessage, GetStateEphemeralNotificationResult,
     ProposeRunCompletionAckMessage,
@@ -13,7 +18,10 @@ use protocol_errors::{BadProposeRunCompletionAck, EMPTY_GET_STATE_EPHEMERAL_NOTI
 use protocol_messages::RawMessageExt;
 use protocol_stream::RawMessage;
 use std::alloc::Global;
+use vm_awaits::AsyncResultsState;
+use vm_calls::Active;
 use vm_ephemeral::EphemeralCommands;
+use vm_runs::RunState;
 use vm_start::Phase;
 use vm_types::EphemeralCompletionId;
 
@@ -118,29 +126,86 @@ pub fn receive_ephemeral_answer(
     }
 }
 
-// No run has an outcome that could be acknowledged.
-fn unknown_run(alloc: Global, message: RawMessage) -> EntryError
-    ensures { IsUnknownRun message result }
+// The completion whose outcome is acknowledged.
+fn acknowledged_completion(alloc: Global, message: RawMessage) -> Result<u32, EntryError>
+    ensures { TellsOutcome message result }
 {
     let decoded = message.decode_to::<ProposeRunCompletionAckMessage>(alloc, 0);
     drop(message);
     match decoded {
-        Ok(told) => EntryError::UnknownRun(BadProposeRunCompletionAck::new(told.completion_id)),
-        Err(error) => unread(error),
+        Ok(told) => Ok(told.completion_id),
+        Err(error) => Err(unread(error)),
     }
 }
 
-/// What was proposed of a run is acknowledged. No outcome of a run is kept, so none is known; behind the end it is ignored.
+// What is recorded of an outcome.
+fn recorded(value: NonEmptyValue) -> NotificationResult
+    ensures { result ≡ result_of_value value }
+{
+    match value {
+        NonEmptyValue::Success(bytes) => NotificationResult::Value(bytes),
+        NonEmptyValue::Failure(failure) => NotificationResult::Failure(Failure {
+            code: failure.code as u32,
+            message: failure.message,
+            metadata: failure.metadata,
+        }),
+    }
+}
+
+// The outcome that was kept for a completion comes.
+fn outcome_comes(
+    results: &mut AsyncResultsState,
+    number: u32,
+    kept: Option<NonEmptyValue>,
+) -> Result<(), EntryError>
+    ensures { ComesOutcome number kept (results_of results.old) result (results_of results.new) }
+{
+    let Some(value) = kept else {
+        return Err(EntryError::UnknownRun(BadProposeRunCompletionAck::new(number)));
+    };
+    let queued = results.enqueue(Notification {
+        id: NotificationId::CompletionId(number),
+        result: recorded(value),
+    });
+    match queued {
+        Ok(()) => Ok(()),
+        Err(_) => Err(EntryError::OutOfMemory),
+    }
+}
+
+// Takes what was told of a completion.
+fn acknowledge(
+    results: &mut AsyncResultsState,
+    runs: &mut RunState,
+    told: Result<u32, EntryError>,
+) -> Result<(), EntryError>
+    ensures { TakesTold told runs.old (results_of results.old) result runs.new (results_of results.new) }
+{
+    match told {
+        Ok(number) => {
+            let kept = runs.acknowledge(number);
+            outcome_comes(results, number, kept)
+        }
+        Err(error) => Err(error),
+    }
+}
+
+/// An outcome that was proposed of a run is acknowledged: it comes as a notification does. That none was kept for its completion is
+/// the fault of the other side; behind the end an acknowledgement is ignored.
 pub fn receive_run_acknowledgement(
     phase: &Phase,
-    is_replaying: bool,
+    active: &mut Active,
+    runs: &mut RunState,
     alloc: Global,
     message: RawMessage,
 ) -> Result<(), EntryError>
-    ensures { ComesAcknowledgement message (stage_of phase.now is_replaying) result }
+    ensures { ComesAcknowledgement message (stage_of phase.now active.old.is_replaying) runs.old active.old result runs.new active.new }
 {
-    match stage_in(phase, is_replaying) {
-        Stage::Processing => Err(unknown_run(alloc, message)),
+    match stage_in(phase, active.is_replaying) {
+        Stage::Processing => {
+            let told = acknowledged_completion(alloc, message);
+            acknowledge(&mut active.results, runs, told)
+        }
         Stage::Before => {
             drop(message);
             Err(EntryError::Unexpected(Incoming::RunAcknowledgement))

@@ -5,6 +5,7 @@ use protocol_stream::Decoder;
 use protocol_types::Version;
 use std::alloc::Global;
 use vm_ephemeral::EphemeralCommands;
+use vm_runs::RunState;
 use vm_types::VMOptions;
 
 /// All that a machine keeps.
@@ -23,4 +24,6 @@ pub struct MachineState {
     /// What is kept for the calls; before the first and behind the last it is kept all the same.
     pub active: Active,
     pub reads: EphemeralCommands,
+    /// The runs that were called, until their outcomes are proposed and acknowledged.
+    pub runs: RunState,
 }

@@ -39,7 +39,13 @@ impl MachineState {
     fn receive_acknowledgement(&mut self, message: RawMessage) -> Result<(), EntryError>
         ensures { ReceivesAcknowledgement message self.old result self.new }
     {
-        receive_run_acknowledgement(&self.phase, self.active.is_replaying, self.alloc, message)
+        receive_run_acknowledgement(
+            &self.phase,
+            &mut self.active,
+            &mut self.runs,
+            self.alloc,
+            message,
+        )
     }
 
     // What a message tells is kept, or the message is none for the machine.

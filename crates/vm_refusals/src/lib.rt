@@ -2,7 +2,7 @@
 //! of each call, its code and its text.
 //!
 //! Beside these stand plain types of runs: what a host is answered of a run, what it tells of one, and how a run that has failed is
-//! tried again. No call takes or answers them yet.
+//! tried again.
 #![tactic(auto)]
 
 mod refusal;

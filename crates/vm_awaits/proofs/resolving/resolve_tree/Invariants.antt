@@ -5,7 +5,7 @@ use Rattle.vm_awaits.proofs.Going.{Going}
 use Rattle.vm_awaits.proofs.resolving.resolve_tree.Given as goal
 
 abbrev pub invariant-steps : goal.invariant-steps
-invariant-steps l = Going l.delivery l.slots (tree_of l.fn.future) l.fn.line.items (ready_in l.fn.ready) l.flat l.line.items (ready_in l.ready)
+invariant-steps l = Going l.delivery l.slots (tree_of l.fn.future) l.fn.line (ready_in l.fn.ready) l.flat l.line (ready_in l.ready)
 
 abbrev pub decreases-steps : goal.decreases-steps
-decreases-steps l = length l.line.items
+decreases-steps l = length l.line
