@@ -3,6 +3,7 @@ use Rattle.std.proofs.Common.{◌≡◌, ◌≤◌, ◌+◌, ◌*◌, ◌^◌, m
 use Rattle.std.specs.declared.alloc.AllocError.{AllocError}
 use Rattle.journal_model.specs.declared.handler.Input.{Input}
 use Rattle.journal_model.specs.declared.options.SignalDelivery.{SignalDelivery}
+use Rattle.journal_model.specs.declared.value.NonEmptyValue.{NonEmptyValue}
 use Rattle.protocol_differences.specs.declared.relationship.CommandRelationship.{CommandRelationship}
 use Rattle.protocol_errors.specs.declared.error.Error.{Error}
 use Rattle.protocol_records.specs.declared.input_command.InputCommandMessage.{InputCommandMessage}
@@ -11,7 +12,7 @@ use Rattle.protocol_stream.specs.Header.{message_type}
 use Rattle.protocol_stream.specs.declared.decoder.DecodingError.{DecodingError}
 use Rattle.protocol_stream.specs.declared.decoder.RawMessage.{RawMessage}
 use Rattle.protocol_types.specs.declared.message_type.MessageType.TheVariants.{InputCommand}
-use Rattle.vm_awaits.specs.Views.{AsyncResults, delivery_of}
+use Rattle.vm_awaits.specs.Views.{AsyncResults, delivery_of, results_of}
 use Rattle.vm_feeding.specs.Reading.{Gives, ReadsAs, AnswersReading, ReadsInputs, IsRead}
 use Rattle.vm_feeding.specs.declared.reading.Reading.{Reading}
 use Rattle.vm_feeding.specs.declared.reading.Reading.TheVariants as readings
@@ -21,6 +22,8 @@ use Rattle.vm_calls.specs.declared.active.Active.{Active}
 use Rattle.vm_context.specs.Eager.{KnownState}
 use Rattle.vm_context.specs.Following.{KnowsState, start_of}
 use Rattle.vm_context.specs.Output.{all_taken}
+use Rattle.vm_machine.specs.Acknowledging.{ComesAcknowledgement, ComesOutcome, TakesTold}
+use Rattle.vm_machine.specs.Answers.{active_stage, stage_of}
 use Rattle.vm_machine.specs.Entries.{ComesCommand, ComesNotification}
 use Rattle.vm_machine.specs.Incoming.{incoming_of}
 use Rattle.vm_machine.specs.Input.{Leaves, counted, skipped, at_input}
@@ -43,6 +46,7 @@ use Rattle.vm_feeding.specs.Feeding.{has_failed, with_bytes, with_input, TakesEa
 use Rattle.vm_feeding.specs.Passed.{is_active, IsElsewhere, Takes, TakesAs, Receives, MachineState}
 use Rattle.vm_feeding.specs.Telling.{IsTold}
 use Rattle.vm_start.specs.Starts.{pairs_of}
+use Rattle.vm_runs.specs.Runs.{Runs, outcome_at}
 use Rattle.vm_types.specs.declared.options.VMOptions.{VMOptions}
 use Rattle.host_laws.proofs.Keeping.{Keeps, made_like, counted_like, Replays, StandsIn, Stands, moved, when_active, active_again, IsLike, keeps_like, replays_like, like_again, results_like, output_like, failed, steps_stand}
 
@@ -100,6 +104,30 @@ notification_stands message done phases.Closed delivery old phase' new comes sta
 notification_stands message done phases.WaitingStart delivery old phase' new comes stands = let wrong = comes.0 in cc
 notification_stands message done (phases.Failed error) delivery old phase' new comes stands = let wrong = comes.0 in cc
 
+-- an acknowledgement that is taken changes what has come, and nothing else of what is kept
+taken_like : (told : Result ℕ EntryError) (runs runs' : Runs) (done : Unit {0}) (old new : Active) → TakesTold told runs (results_of old.results) (Ok done) runs' (results_of new.results)
+    → new ≡ record old { results = new.results } → IsLike old new
+taken_like (Ok number) runs runs' done old new takes is = by_kept (outcome_at runs.cached number) takes.comes
+  where
+    by_kept : (kept : Option NonEmptyValue) → ComesOutcome number kept (results_of old.results) (Ok done) (results_of new.results) → IsLike old new
+    by_kept (Some value) queued = results_like old new is (ap (λ (results : AsyncResults). results.delivery) queued)
+    by_kept None wrong = absurd wrong
+taken_like (Err error) runs runs' done old new takes is = let wrong = takes.0 in cc
+
+acknowledgement_stands : (message : RawMessage) (done : Unit {0}) (phase : Phase) (delivery : SignalDelivery) (runs : Runs) (old : Active) (runs' : Runs) (new : Active)
+    → ComesAcknowledgement message (stage_of phase old.is_replaying) runs old (Ok done) runs' new → StandsIn phase delivery old → StandsIn phase delivery new
+acknowledgement_stands message done phases.Active delivery runs old runs' new comes stands = by_replaying old.is_replaying comes
+  where
+    by_replaying : (replaying : Bool) → ComesAcknowledgement message (active_stage replaying) runs old (Ok done) runs' new → StandsIn phases.Active delivery new
+    by_replaying true comes = let wrong = comes.0 in cc
+    by_replaying false comes =
+        let like : IsLike old new = taken_like comes.told runs runs' done old new comes.takes comes.others in
+        (keeps_like delivery old new like stands.0, replays_like old new like stands.1)
+acknowledgement_stands message done phases.Closed delivery runs old runs' new comes stands = tt
+acknowledgement_stands message done phases.WaitingStart delivery runs old runs' new comes stands = let wrong = comes.0 in cc
+acknowledgement_stands message done (phases.WaitingReplayEntries left) delivery runs old runs' new comes stands = let wrong = comes.0 in cc
+acknowledgement_stands message done (phases.Failed error) delivery runs old runs' new comes stands = let wrong = comes.0 in cc
+
 start_stands : (message : RawMessage) (start : StartMessage) (phase : Phase) (delivery : SignalDelivery) (old : Active) (phase' : Phase) (new : Active) → ComesStart message phase old (Ok start) phase' new
     → StandsIn phase delivery old → StandsIn phase' delivery new
 start_stands message start phases.WaitingStart delivery old phase' new comes stands =
@@ -137,7 +165,11 @@ received message incoming.Command done old new is stands =
 received message incoming.Notification done old new is stands =
     stands_at old new (ap (λ (vm : MachineState). vm.options) is.others) (notification_stands message done old.phase old.options.signal_delivery old.active new.phase new.active is.comes) stands
 received message incoming.EphemeralAnswer done old new is stands = moved (record old { reads = new.reads }) new is.others stands
-received message incoming.RunAcknowledgement done old new is stands = moved old new is.1 stands
+received message incoming.RunAcknowledgement done old new is stands =
+    stands_at old new (ap (λ (vm : MachineState). vm.options) is.others)
+    (λ stands.
+    at_phase old.phase new.phase old.options.signal_delivery new.active (ap (λ (vm : MachineState). vm.phase) is.others)
+    (acknowledgement_stands message done old.phase old.options.signal_delivery old.runs old.active new.runs new.active is.comes stands)) stands
 received message incoming.Other done old new is stands = let wrong = is.0 in cc
 
 taken_as : (message : RawMessage) (kind : Incoming) (old : MachineState) (made : Result (Unit {0}) EntryError) (between new : MachineState) → Receives message kind old made between

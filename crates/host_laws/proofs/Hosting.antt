@@ -18,11 +18,12 @@ use Rattle.vm_start.specs.declared.phase.Phase.{Phase}
 use Rattle.vm_start.specs.declared.phase.Phase.TheVariants as phases
 use Rattle.vm_feeding.specs.Passed.{MachineState}
 use Rattle.vm_types.specs.declared.options.VMOptions.{VMOptions}
-use Rattle.host_laws.specs.Hosting.{HostCall, NotifyInput, NotifyInputClosed, NotifyError, TakeOutput, SysInput, EphemeralStateGet, TakeEphemeralNotification, MakeCall, MakesCall, Does, DoesEach}
+use Rattle.host_laws.specs.Hosting.{HostCall, NotifyInput, NotifyInputClosed, NotifyError, TakeOutput, SysInput, EphemeralStateGet, TakeEphemeralNotification, ProposeRunCompletion, MakeCall, MakesCall, Does, DoesEach}
 use Rattle.host_laws.specs.Standing.{CallsSpeak}
 use Rattle.host_laws.proofs.Keeping.{Keeps, StandsIn, Stands, moved, spoken_of}
 use Rattle.host_laws.proofs.Making.{commands_stand, reads_stand, signals_stand, awakeables_stand, takes_stand}
 use Rattle.host_laws.proofs.Feeding.{fed_stands, closed_stands, told_stands, output_stands, read_stands}
+use Rattle.host_laws.proofs.Runs.{run_stands, proposal_stands}
 use Rattle.host_laws.proofs.Waiting.{awaits_stand, ends_stand, gets_ephemeral, takes_ephemeral}
 
 -- ---- a machine that was made
@@ -70,7 +71,7 @@ makes_stand (Call.CompleteSignal target_id name value) old new (result, is) stan
 makes_stand (Call.GetPromise key) old new (result, is) stands = commands_stand _ _ refl _ _ _ _ old result new is stands
 makes_stand (Call.PeekPromise key) old new (result, is) stands = commands_stand _ _ refl _ _ _ _ old result new is stands
 makes_stand (Call.CompletePromise key value options) old new (result, is) stands = commands_stand _ _ refl _ _ _ _ old result new is stands
-makes_stand (Call.Run name) old new is stands = absurd is
+makes_stand (Call.Run name) old new (result, is) stands = run_stands name old result new is stands
 makes_stand (Call.Cancel target_id) old new (result, is) stands = commands_stand _ _ refl _ _ _ _ old result new is stands
 makes_stand (Call.Attach target) old new (result, is) stands = commands_stand _ _ refl _ _ _ _ old result new is stands
 makes_stand (Call.GetOutput target) old new (result, is) stands = commands_stand _ _ refl _ _ _ _ old result new is stands
@@ -88,6 +89,7 @@ does_stand TakeOutput old new (result, is) stands = output_stands old result new
 does_stand SysInput old new (result, is) stands = read_stands old result new is stands
 does_stand (EphemeralStateGet key) old new (result, is) stands = gets_ephemeral key old result new is stands
 does_stand (TakeEphemeralNotification id) old new (result, is) stands = takes_ephemeral id old result new is stands
+does_stand (ProposeRunCompletion handle exit policy) old new (result, is) stands = proposal_stands handle exit policy old result new is stands
 does_stand (MakeCall call) old new is stands = makes_stand call old new is stands
 
 each_stands : (calls : List HostCall) (old new : MachineState) → DoesEach calls old new → Stands old → Stands new

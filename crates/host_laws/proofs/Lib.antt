@@ -2,4 +2,5 @@ mod Keeping
 mod Making
 mod Feeding
 mod Waiting
+mod Runs
 mod Hosting

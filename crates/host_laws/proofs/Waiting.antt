@@ -29,7 +29,8 @@ use Rattle.vm_feeding.specs.Refusals.{lacks_reads}
 use Rattle.vm_start.specs.Phases.{kept_error}
 use Rattle.vm_start.specs.declared.phase.Phase.TheVariants as phases
 use Rattle.vm_feeding.specs.Passed.{checks_off, is_active, IsUnexpected, MachineState}
-use Rattle.vm_progress.specs.Asleep.{FailsUnwritten, SettlesStay, ClosesAs, SleepsAs}
+use Rattle.vm_progress.specs.Asleep.{FailsUnwritten, SettlesStay, ClosesAs, SleepsAs, SleepsWhere}
+use Rattle.vm_progress.specs.Executing.{executes_any, is_executing_for, run_for}
 use Rattle.vm_progress.specs.Awaiting.{ready_read, GoesOnAs, IsAwaited, DoesAwaitWhere, DoesAwait}
 use Rattle.vm_progress.specs.Ending.{end_place, closed_active, ClosesEnd, EndsAt, EndsAs}
 use Rattle.vm_progress.specs.declared.asleep.Sleep.{Sleep}
@@ -73,12 +74,12 @@ writes_like : (tells : Bool) (ids : AwaitTree NotificationId) (done : Unit {0}) 
 writes_like true ids done old new is = output_like old new is.1 (ap (λ (written : Written). written.is_closed) is.0.1 ∙ frame_keeps _ old.output)
 writes_like false ids done old new is = same_like old new is
 
-stay_settled : (tells : Bool) (ids : AwaitTree NotificationId) (old : MachineState) (written : Result (Unit {0}) EncodingError) (active : Active) (result : Result AwaitResponse Error) (new : MachineState)
-    → TellsIf tells ids old.active written active → SettlesStay written (record old { active = active }) result new → Stands old → Stands new
-stay_settled tells ids old (Ok done) active (Ok response) new is settles stands = like_again old active new settles.1 (writes_like tells ids done old.active active is) stands
-stay_settled tells ids old (Ok done) active (Err told) new is settles stands = absurd settles
-stay_settled tells ids old (Err error) active (Ok response) new is settles stands = absurd settles
-stay_settled tells ids old (Err error) active (Err told) new is settles stands = unwritten_stands error (record old { active = active }) told new settles
+stay_settled : (tells executing : Bool) (ids : AwaitTree NotificationId) (old : MachineState) (written : Result (Unit {0}) EncodingError) (active : Active) (result : Result AwaitResponse Error) (new : MachineState)
+    → TellsIf tells ids old.active written active → SettlesStay executing written (record old { active = active }) result new → Stands old → Stands new
+stay_settled tells executing ids old (Ok done) active (Ok response) new is settles stands = like_again old active new settles.1 (writes_like tells ids done old.active active is) stands
+stay_settled tells executing ids old (Ok done) active (Err told) new is settles stands = absurd settles
+stay_settled tells executing ids old (Err error) active (Ok response) new is settles stands = absurd settles
+stay_settled tells executing ids old (Err error) active (Err told) new is settles stands = unwritten_stands error (record old { active = active }) told new settles
 
 closed_as : (written : Result (Unit {0}) EncodingError) (old : MachineState) (told : Error) (new : MachineState) → ClosesAs written old told new → Stands new
 closed_as (Ok done) old told new closes = moved (record old { phase = phases.Closed }) new closes.1 tt
@@ -86,11 +87,19 @@ closed_as (Err error) old told new closes = unwritten_stands error old told new 
 
 sleep_goes_on : (sleep : Sleep) (waits : WaitsFor) (old : MachineState) (result : Result AwaitResponse Error) (new : MachineState) → SleepsAs sleep waits old result new → Stands old → Stands new
 sleep_goes_on sleeps.Stays waits old result new is stands =
-    stay_settled (tells_awaiting old.version old.options.awaiting_on_policy false (waits_for_any waits)) (awaited_ids old.active waits) old is.told is.active result new is.tells is.settles stands
+    stay_settled (tells_awaiting old.version old.options.awaiting_on_policy (executes_any old.runs) (waits_for_any waits)) (is_executing_for waits old.runs) (awaited_ids old.active waits) old is.told is.active result new is.tells is.settles stands
 sleep_goes_on sleeps.Unanswered waits old (Ok response) new is stands = absurd is
 sleep_goes_on sleeps.Unanswered waits old (Err told) new is stands = failed _ old told new is
+sleep_goes_on sleeps.Proposal waits old (Ok response) new is stands = moved old new is.1 stands
+sleep_goes_on sleeps.Proposal waits old (Err told) new is stands = absurd is
 sleep_goes_on sleeps.Suspends waits old (Ok response) new is stands = absurd is
 sleep_goes_on sleeps.Suspends waits old (Err told) new is stands = closed_as is.written (record old { active = is.active }) told new is.closes
+
+-- a run of it is handed out, or none is
+sleeps_where : (found : Option ℕ) (waits : WaitsFor) (old : MachineState) (result : Result AwaitResponse Error) (new : MachineState) → SleepsWhere found waits old result new → Stands old → Stands new
+sleeps_where (Some handle) waits old (Ok response) new is stands = moved (record old { runs = new.runs }) new is.1.others stands
+sleeps_where (Some handle) waits old (Err told) new is stands = absurd is
+sleeps_where None waits old result new is stands = sleep_goes_on is.sleep waits old result new is.goes_on stands
 
 -- ---- a cancellation that is passed on
 
@@ -174,7 +183,7 @@ awaited_as awaits.AnyCompleted between (Ok response) new goes_on stands = moved 
 awaited_as awaits.AnyCompleted between (Err told) new goes_on stands = absurd goes_on
 awaited_as awaits.Cancelled between (Ok response) new goes_on stands = moved between new goes_on.1 stands
 awaited_as awaits.Cancelled between (Err told) new goes_on stands = absurd goes_on
-awaited_as (awaits.Asleep waits) between result new goes_on stands = sleep_goes_on goes_on.sleep waits between result new goes_on.goes_on stands
+awaited_as (awaits.Asleep waits) between result new goes_on stands = sleeps_where (run_for waits between.runs) waits between result new goes_on stands
 
 unawaited_as : (error : AwaitError) (between : MachineState) (result : Result AwaitResponse Error) (new : MachineState) → GoesOnAs (Err error) between result new → Stands new
 unawaited_as (unawaited.UncompletedInReplay waits) between (Ok response) new goes_on = absurd goes_on

@@ -17,6 +17,11 @@ use Rattle.vm_feeding.specs.Passed.{MachineState}
 use Rattle.vm_feeding.specs.Telling.{IsTold}
 use Rattle.vm_progress.specs.Awaiting.{DoesAwait}
 use Rattle.vm_progress.specs.Ending.{EndsAs}
+use Rattle.vm_proposals.specs.Calling.{CallsRun}
+use Rattle.vm_proposals.specs.Proposing.{ProposesRun}
+use Rattle.vm_refusals.specs.declared.retries.RetryPolicy.{RetryPolicy}
+use Rattle.vm_refusals.specs.declared.runs.RunExitResult.{RunExitResult}
+use Rattle.vm_refusals.specs.declared.runs.RunHandle.{RunHandle}
 use Rattle.vm_types.specs.declared.answers.AwaitResponse.{AwaitResponse}
 use Rattle.vm_types.specs.declared.handles.AwakeableHandle.{AwakeableHandle}
 use Rattle.vm_types.specs.declared.handles.CallHandle.{CallHandle}
@@ -33,9 +38,10 @@ pub data HostCall : Type 0 where
   SysInput : HostCall
   EphemeralStateGet : (key : Text) → HostCall
   TakeEphemeralNotification : EphemeralCompletionId → HostCall
+  ProposeRunCompletion : (handle : ℕ) → RunExitResult → RetryPolicy → HostCall
   MakeCall : Call → HostCall
 
--- a call of a handler; there is none of a run
+-- a call of a handler
 abbrev pub MakesCall : Call → (old new : MachineState) → Type 0
 MakesCall (Call.StateGet key name options) old new = (result : Result ℕ Error) × calls.SysStateGet key name options old result new
 MakesCall (Call.StateGetKeys name) old new = (result : Result ℕ Error) × calls.SysStateGetKeys name old result new
@@ -52,7 +58,7 @@ MakesCall (Call.CompleteSignal target_id name value) old new = (result : Result 
 MakesCall (Call.GetPromise key) old new = (result : Result ℕ Error) × calls.SysGetPromise key old result new
 MakesCall (Call.PeekPromise key) old new = (result : Result ℕ Error) × calls.SysPeekPromise key old result new
 MakesCall (Call.CompletePromise key value options) old new = (result : Result ℕ Error) × calls.SysCompletePromise key value options old result new
-MakesCall (Call.Run name) old new = ⊥
+MakesCall (Call.Run name) old new = (result : Result RunHandle Error) × CallsRun name old result new
 MakesCall (Call.Cancel target_id) old new = (result : Result (Unit {0}) Error) × calls.SysCancelInvocation target_id old result new
 MakesCall (Call.Attach target) old new = (result : Result ℕ Error) × calls.SysAttachInvocation target old result new
 MakesCall (Call.GetOutput target) old new = (result : Result ℕ Error) × calls.SysGetInvocationOutput target old result new
@@ -70,6 +76,7 @@ Does TakeOutput old new = (result : Result (List ℕ) AllocError) × TakesOutput
 Does SysInput old new = (result : Result Input Error) × IsRead old result new
 Does (EphemeralStateGet key) old new = (result : Result EphemeralCompletionId Error) × IsGot key old result new
 Does (TakeEphemeralNotification id) old new = (result : Result (Option Value) Error) × IsTaken id old result new
+Does (ProposeRunCompletion handle exit policy) old new = (result : Result (Unit {0}) Error) × ProposesRun handle exit policy old result new
 Does (MakeCall call) old new = MakesCall call old new
 
 -- one behind the other, the last one first

@@ -1,3 +1,5 @@
 mod Made
 mod Machines
-mod Naming
+pub mod Naming
+mod Executing
+mod Greatest

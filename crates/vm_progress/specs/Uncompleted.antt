@@ -1,10 +1,14 @@
 -- What is told of an await that stays asleep although the journal goes on behind it.
-use Rattle.std.specs.Prelude.{◌≡◌, ℕ, ◌==◌, nat_lt, if◌then◌else◌, List, [], ◌∷◌, ◌++◌, map, Some, IsPermutation, IsSortedBy}
+use Rattle.std.specs.Prelude.{◌≡◌, ◌≤◌, ℕ, max, ◌==◌, nat_lt, Bool, true, false, ◌&&◌, if◌then◌else◌, List, [], ◌∷◌, ◌++◌, map, Option, Some, None, is_some, option_map, IsPermutation, IsSortedBy}
 use Rattle.std.specs.List.{flat_map}
 use Rattle.journal_model.specs.Awakeable.{awakeable_id}
 use Rattle.journal_model.specs.AwaitTree.{AwaitTree}
+use Rattle.journal_model.specs.Future.{tree_of}
 use Rattle.journal_model.specs.Notification.{Bytes}
 use Rattle.journal_model.specs.declared.notification.NotificationId.{NotificationId}
+use Rattle.attempt_model.specs.Results.{Slots}
+use Rattle.body_laws.specs.Bodies.{has_handle}
+use Rattle.protocol_differences.specs.Passed.{CommandMetadata}
 use Rattle.protocol_errors.specs.Awaited.{comes_before}
 use Rattle.protocol_errors.specs.Code.{journal_mismatch}
 use Rattle.protocol_errors.specs.Texts.{uncompleted_text}
@@ -17,11 +21,17 @@ use Rattle.protocol_errors.specs.declared.uncompleted.UncompletedDoProgressDurin
 use Rattle.protocol_messages.specs.Leaves.{lists_of}
 use Rattle.protocol_records.specs.declared.suspension_v6.SuspensionMessageV6.{SuspensionMessageV6}
 use Rattle.protocol_stream.specs.Records.{future_record}
+use Rattle.vm_awaits.specs.Views.{slots_of}
+use Rattle.vm_machine.specs.Admitting.{IsAbout}
 use Rattle.vm_machine.specs.PassedMachine.{Tells}
 use Rattle.vm_machine.specs.Steps.{FailsBy}
 use Rattle.vm_machine.specs.declared.machine_state.MachineState.{MachineState}
-use Rattle.vm_waiting.specs.WaitsFor.{awaited_ids}
+use Rattle.vm_proposals.specs.Failing.{run_told}
+use Rattle.vm_runs.specs.Runs.{Table, Runs, run_at}
+use Rattle.vm_runs.specs.declared.run.Run.{Run}
+use Rattle.vm_waiting.specs.WaitsFor.{ids_over}
 use Rattle.vm_waiting.specs.declared.waits_for.WaitsFor.{WaitsFor}
+use Rattle.vm_waiting.specs.declared.waits_for.WaitsFor.TheVariants.{Future, Child}
 pub use Rattle.vm_start.specs.Starts.{started_id}
 
 -- ---- ids
@@ -48,14 +58,57 @@ pub record NamesIn (invocation : Bytes) (lists : SuspensionMessageV6) (error : U
   pub in_order : IsSortedBy comes_before error.awaited.items
   pub known : error.known.items ≡ flat_map (known_of invocation) lists.waiting_signals
 
+-- ---- the run
+
+-- the greatest number that passes a test, if one does
+abbrev pub IsGreatest : (ℕ → Bool) → Option ℕ → Type 0
+IsGreatest test None = (n : ℕ) → test n ≡ false
+IsGreatest test (Some greatest) = (test greatest ≡ true) × ((n : ℕ) → test n ≡ true → n ≤ greatest)
+
+abbrev pub greater : Option ℕ → Option ℕ → Option ℕ
+greater None other = other
+greater (Some one) None = Some one
+greater (Some one) (Some other) = Some (max one other)
+
+-- whether a handle of a tree is that of a run whose outcome was not proposed
+abbrev pub is_unfinished : Table → AwaitTree ℕ → ℕ → Bool
+is_unfinished table tree handle = is_some (run_at table handle) && has_handle handle tree
+
+-- the last such handle of what is waited for, if there is one: of a child there is none
+abbrev pub IsLast : Table → WaitsFor → Option ℕ → Type 0
+IsLast table (Future left) last = IsGreatest (is_unfinished table (tree_of left)) last
+IsLast table (Child completion) last = last ≡ None
+
+abbrev pub run_of : Table → Option ℕ → Option Run
+run_of table None = None
+run_of table (Some handle) = run_at table handle
+
+-- this command is that of the run of the last such handle, or there is none
+pub record IsLastRun (table : Table) (waits : WaitsFor) (command : Option CommandMetadata) : Type 0 where
+  pub last : Option ℕ
+  pub is_last : IsLast table waits last
+  pub command_is : command ≡ option_map run_told (run_of table last)
+
+-- an error of which this is known is told about a command, or about none
+abbrev pub TellsAbout : Option CommandMetadata → (Error → Type 0) → Error → Type 0
+TellsAbout None Causes told = Causes told
+TellsAbout (Some command) Causes told = IsAbout command Causes told
+
 -- ---- the machine
 
 -- what is told of the error over the ids of this tree, about no command
-pub record TellsUncompleted (invocation : Bytes) (tree : AwaitTree NotificationId) (told : Error) : Type 0 where
+pub record TellsAwaited (invocation : Bytes) (tree : AwaitTree NotificationId) (told : Error) : Type 0 where
   pub error : UncompletedDoProgressDuringReplay
   pub names : NamesIn invocation (lists_over tree) error
   pub tells : Tells journal_mismatch (Some (uncompleted_text error)) told
 
--- the machine fails with the ids that are waited for; a handle that stands for nothing is left out
+-- It is told of the ids that are waited for, about the run of the last handle whose outcome was not proposed; where there is none, about no
+-- command. A handle that stands for nothing is left out.
+pub record TellsUncompleted (invocation : Bytes) (slots : Slots) (runs : Runs) (waits : WaitsFor) (told : Error) : Type 0 where
+  pub run : Option CommandMetadata
+  pub last : IsLastRun runs.table waits run
+  pub tells : TellsAbout run (TellsAwaited invocation (ids_over slots waits)) told
+
+-- the machine fails with the ids that are waited for
 abbrev pub IsUncompleted : WaitsFor → (old : MachineState) → Error → (new : MachineState) → Type 0
-IsUncompleted waits old answer new = FailsBy (TellsUncompleted (started_id old.start) (awaited_ids old.active waits)) old answer new
+IsUncompleted waits old answer new = FailsBy (TellsUncompleted (started_id old.start) (slots_of old.active.results) old.runs waits) old answer new

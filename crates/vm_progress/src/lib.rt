@@ -12,6 +12,7 @@ mod ending;
 mod lists;
 mod reading;
 mod uncompleted;
+mod unfinished;
 
 pub use asleep::Sleep;
 pub use awaiting::do_await;

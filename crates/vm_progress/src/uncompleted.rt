@@ -2,14 +2,16 @@
 ghost use Rattle.std.specs.Prelude.{◌≡◌, IfOk};
 ghost use Rattle.vm_awaits.specs.Views.{slots_of};
 ghost use Rattle.vm_waiting.specs.WaitsFor.{ids_over};
-ghost use Rattle.vm_progress.specs.Uncompleted.{started_id, lists_over, NamesIn, TellsUncompleted, IsUncompleted};
+ghost use Rattle.vm_progress.specs.Uncompleted.{started_id, lists_over, NamesIn, TellsAwaited, TellsUncompleted, IsUncompleted};
 
 use crate::lists::{ids_in, known_signals, lists_of};
+use crate::unfinished::last_command;
 use protocol_errors::{Error, UncompletedDoProgressDuringReplay};
 use protocol_records::{StartMessage, SuspensionMessageV6};
 use std::alloc::{AllocError, Global};
 use vm_awaits::AsyncResultsState;
 use vm_machine::{MachineState, about_nothing};
+use vm_runs::RunState;
 use vm_waiting::WaitsFor;
 
 // The error over the ids in three lists.
@@ -40,14 +42,14 @@ fn naming_waits(
     error
 }
 
-// What a machine fails with whose await stays asleep: it is about no command.
-fn uncompleted_cause(
+// What is told of the ids that are waited for, about no command.
+fn told_of_ids(
     alloc: Global,
     start: &Option<StartMessage>,
     results: &AsyncResultsState,
     waits: &WaitsFor,
 ) -> Result<Error, AllocError>
-    ensures { IfOk result (TellsUncompleted (started_id start.now) (ids_over (slots_of results.now) waits.now)) }
+    ensures { IfOk result (TellsAwaited (started_id start.now) (ids_over (slots_of results.now) waits.now)) }
 {
     let error = naming_waits(alloc, start, results, waits)?;
     let told = about_nothing(alloc, &error);
@@ -55,11 +57,32 @@ fn uncompleted_cause(
     told
 }
 
+// What a machine fails with whose await stays asleep: it is about the last of the runs that are waited for.
+fn uncompleted_cause(
+    alloc: Global,
+    start: &Option<StartMessage>,
+    results: &AsyncResultsState,
+    runs: &RunState,
+    waits: &WaitsFor,
+) -> Result<Error, AllocError>
+    ensures { IfOk result (TellsUncompleted (started_id start.now) (slots_of results.now) runs.now waits.now) }
+{
+    let error = told_of_ids(alloc, start, results, waits)?;
+    match last_command(runs, waits) {
+        Ok(Some(command)) => Ok(error.with_related_command_metadata(command)),
+        Ok(None) => Ok(error),
+        Err(refused) => {
+            drop(error);
+            Err(refused)
+        }
+    }
+}
+
 /// Fails with the ids that an await waits for which were not recorded before the commands behind it.
 pub(crate) fn fail_uncompleted(vm: &mut MachineState, waits: WaitsFor) -> Error
     ensures { IsUncompleted waits vm.old result vm.new }
 {
-    let cause = uncompleted_cause(vm.alloc, &vm.start, &vm.active.results, &waits);
+    let cause = uncompleted_cause(vm.alloc, &vm.start, &vm.active.results, &vm.runs, &waits);
     drop(waits);
     vm.fail(cause)
 }

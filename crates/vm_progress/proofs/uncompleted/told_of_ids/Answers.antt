@@ -2,7 +2,7 @@ use Rattle.vm_awaits.specs.Views.{slots_of}
 use Rattle.vm_waiting.specs.WaitsFor.{ids_over}
 use Rattle.vm_progress.specs.Uncompleted.{started_id}
 use Rattle.vm_progress.proofs.Naming.{told_by}
-use Rattle.vm_progress.proofs.uncompleted.uncompleted_cause.Goals as goal
+use Rattle.vm_progress.proofs.uncompleted.told_of_ids.Goals as goal
 
 pub returns : goal.returns
 returns c =

@@ -1,0 +1,3 @@
+mod Runs
+mod Called
+mod Proposals

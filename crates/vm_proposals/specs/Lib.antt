@@ -1,0 +1,4 @@
+pub mod Running
+pub mod Failing
+pub mod Calling
+pub mod Proposing
