@@ -8,6 +8,8 @@
 pub mod async_results;
 pub mod context;
 pub mod ephemeral;
+pub mod retries;
+pub mod run_state;
 pub mod transitions;
 
 // The machine.
@@ -20,7 +22,7 @@ pub use vm_types::{
     SendHandle, State, VMOptions,
 };
 
-// What it is answered of a run, and tells of one. No call does so yet.
+// What it is answered of a run, and tells of one.
 pub use vm_refusals::{
     EntryRetryInfo, Factor, NextRetry, OnMaxAttempts, RetryPolicy, RunExitResult, RunHandle,
 };
@@ -38,6 +40,7 @@ pub use protocol_differences::CommandRelationship;
 pub use protocol_errors::{CommandMetadata, Error, ErrorBehavior, InvocationErrorCode, codes};
 pub use protocol_stream::{CommandType, HeaderMap, Version};
 
-// The handler of an attempt, and the attempt that drives it. A turn that fails brings an `Error`.
+// The handler of an attempt, and the attempt that drives it. A turn is given how the body of a run has ended, and one that fails brings an
+// `Error`.
 pub use journal_model::{Answer, AwaitedFuture, Call, Handler};
-pub use vm_attempt::{Attempt, Turn};
+pub use vm_attempt::{Attempt, RunOutcome, Turn};

@@ -6,6 +6,7 @@ pub use vm_feeding::{
 };
 pub use vm_machine::MachineState;
 pub use vm_progress::{do_await, sys_end, sys_state_get, sys_state_get_keys};
+pub use vm_proposals::{propose_run_completion, sys_run};
 pub use vm_start::Phase;
 pub use vm_syscalls::{
     sys_attach_invocation, sys_call, sys_cancel_invocation, sys_complete_awakeable,

@@ -1,30 +1,43 @@
 -- A call that the machine has carried out, and how the attempt goes on then.
-use Rattle.std.proofs.Common.{◌≡◌, inl, inr, ap, sym, subst}
+use Rattle.std.proofs.Common.{◌≡◌, Bool, true, false, Option, Some, inl, inr, ap, sym, subst}
+use Rattle.std.specs.Option.{ForSome}
+use Rattle.journal_model.specs.Run.{Handler}
 use Rattle.journal_model.specs.declared.call.Call.{Call}
+use Rattle.journal_model.specs.declared.handler.Input.{Input}
 use Rattle.request_laws.specs.Calls.{IsTypedCall}
 use Rattle.vm_core.specs.declared.core_vm.CoreVM.{CoreVM}
 use Rattle.vm_core.specs.Outcomes.outcomes
 use Rattle.vm_core.specs.Outcomes.{CarriesOut, CallOutcome}
-use Rattle.vm_attempt.specs.Turning.{TakesOutcome, CarriesCall}
+use Rattle.vm_attempt.specs.Turning.{TakesOutcome, CarriesCall, AnswersCall, ReadsOrAsks}
 use Rattle.vm_attempt.specs.declared.attempt.Attempt.{Attempt}
+use Rattle.vm_attempt.specs.declared.run_outcome.RunOutcome.{RunOutcome}
 use Rattle.vm_attempt.specs.declared.turn.Turn.{Turn}
 
-module _ {H : Type 0} where
-  -- the machine stays as the call has left it
-  machine_stays : (outcome : CallOutcome) (between : Attempt H) (turn : Turn) (after : Attempt H) → TakesOutcome outcome between turn after → after.vm ≡ between.vm
-  machine_stays (outcomes.Answered answer) between turn after h = elim h [ inl told ↦ ap (λ (a : Attempt H). a.vm) told.1 | inr over ↦ ap (λ (a : Attempt H). a.vm) over.1 ]
-  machine_stays outcomes.Waiting between turn after h = ap (λ (a : Attempt H). a.vm) h.1
-  machine_stays outcomes.Suspended between turn after h = ap (λ (a : Attempt H). a.vm) h.1
-  machine_stays outcomes.Ended between turn after h = ap (λ (a : Attempt H). a.vm) h.1
-  machine_stays (outcomes.Failed error) between turn after h = ap (λ (a : Attempt H). a.vm) h.1
+-- whether the body of a run is executed for a call
+abbrev pub executes : CallOutcome → Bool
+executes (outcomes.Executes handle) = true
+executes _ = false
 
-  pub carried : (call : Call) (before : Attempt H) (vm : CoreVM) (outcome : CallOutcome) (turn : Turn) (after : Attempt H) → IsTypedCall call → CarriesOut call before.vm.state outcome vm.state
-      → TakesOutcome outcome (record before { vm = vm }) turn after → CarriesCall call before turn after
-  carried call before vm outcome turn after typed carries comes =
-      let stays : vm ≡ after.vm = sym (machine_stays outcome (record before { vm = vm }) turn after comes) in
-      record {
-        typed = typed;
-        outcome = outcome;
-        carries = subst (λ (vm : CoreVM). CarriesOut call before.vm.state outcome vm.state) stays carries;
-        comes = subst (λ (vm : CoreVM). TakesOutcome outcome (record before { vm = vm }) turn after) stays comes;
-      }
+module _ {H : Type 0} where
+  -- where none is, the machine stays as the call has left it
+  pub machine_stays : (ran : RunOutcome) (outcome : CallOutcome) (between : Attempt H) (turn : Turn) (after : Attempt H) → executes outcome ≡ false → TakesOutcome ran outcome between turn after → between.vm ≡ after.vm
+  machine_stays ran (outcomes.Answered answer) between turn after none h =
+      elim h [ inl told ↦ sym (ap (λ (a : Attempt H). a.vm) told.1) | inr over ↦ sym (ap (λ (a : Attempt H). a.vm) over.1) ]
+  machine_stays ran outcomes.Waiting between turn after none h = sym (ap (λ (a : Attempt H). a.vm) h.1)
+  machine_stays ran (outcomes.Executes handle) between turn after none h = cc
+  machine_stays ran outcomes.Suspended between turn after none h = sym (ap (λ (a : Attempt H). a.vm) h.1)
+  machine_stays ran outcomes.Ended between turn after none h = sym (ap (λ (a : Attempt H). a.vm) h.1)
+  machine_stays ran (outcomes.Failed error) between turn after none h = sym (ap (λ (a : Attempt H). a.vm) h.1)
+
+  pub carried : (ran : Option RunOutcome) (call : Call) (before : Attempt H) (between : CoreVM) (outcome : CallOutcome) (turn : Turn) (after : Attempt H) → IsTypedCall call
+      → CarriesOut call before.vm.state outcome between.state → ForSome ran (λ ran. TakesOutcome ran outcome (record before { vm = between }) turn after)
+      → ForSome ran (λ ran. CarriesCall ran call before turn after)
+  carried given call before between outcome turn after typed carries comes ran is = record { typed = typed; outcome = outcome; between = between; carries = carries; comes = comes ran is }
+
+  -- the handler is asked for its next call, and this is answered
+  pub asked : (function : H → Handler) (ran : Option RunOutcome) (input : Input) (call : Call) (before : Attempt H) (turn : Turn) (after : Attempt H) → before.input ≡ Some input
+      → call ≡ function before.handler input before.answers → ForSome ran (λ ran. AnswersCall ran call before turn after)
+      → ForSome ran (λ ran. ReadsOrAsks function ran before.input before turn after)
+  asked function given input call before turn after has_read asks answers ran is =
+      subst (λ (read : Option Input). ReadsOrAsks function ran read before turn after) (sym has_read)
+      (inl (subst (λ (call : Call). AnswersCall ran call before turn after) asks (answers ran is)))

@@ -4,3 +4,4 @@ mod Lists
 mod Stopped
 pub mod Nested
 pub mod Pieces
+pub mod Typing

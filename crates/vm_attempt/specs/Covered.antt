@@ -7,15 +7,6 @@ use Rattle.journal_model.specs.declared.call.Call.{Call}
 use Rattle.journal_model.specs.declared.options.ImplicitCancellationOption.{ImplicitCancellationOption}
 use Rattle.journal_model.specs.declared.options.ImplicitCancellationOption.TheVariants.{Disabled, Enabled}
 
--- ---- what it asks for
-
--- all but runs, which are to come
-abbrev pub asks_of_store : Call → Bool
-asks_of_store (Call.Run name) = false
-asks_of_store _ = true
-
--- ---- what it awaits
-
 -- nodes stand in no more than so many levels
 abbrev mutual
   pub is_nested_within : (levels : ℕ) → AwaitTree ℕ → Bool
@@ -36,9 +27,7 @@ abbrev pub levels_left : ImplicitCancellationOption → ℕ
 levels_left Disabled = LEVELS - 1
 levels_left (Enabled calls sends) = LEVELS - 2
 
--- ---- a call that is carried out
-
--- it asks for no other, and a frame can tell what it awaits
+-- all but an await that no frame can tell
 abbrev pub is_covered : ImplicitCancellationOption → Call → Bool
 is_covered cancellation (Call.Await tree) = can_be_told cancellation tree
-is_covered cancellation call = asks_of_store call
+is_covered cancellation call = true

@@ -2,6 +2,7 @@ pub mod Attempt
 pub mod Coding
 pub mod Covered
 pub mod Output
+pub mod Typed
 pub mod Turning
 pub mod Machine
 pub mod Outcomes

@@ -1,5 +1,5 @@
 -- What a turn of an attempt comes to.
-use Rattle.std.specs.Prelude.{◌≡◌, ◌⊎◌, Bool, true, false, [], ◌∷◌, ◌++◌, codes, Option, Some, None, Result, Ok, Err}
+use Rattle.std.specs.Prelude.{◌≡◌, ◌⊎◌, ℕ, Bool, true, false, [], ◌∷◌, ◌++◌, codes, Option, Some, None, Result, Ok, Err}
 use Rattle.journal_model.specs.Run.{Handler}
 use Rattle.journal_model.specs.declared.call.Answer.{Answer}
 use Rattle.journal_model.specs.declared.call.Call.{Call}
@@ -12,10 +12,14 @@ use Rattle.vm_feeding.specs.Reading.{IsRead}
 use Rattle.vm_start.specs.Failing.{out_of_memory}
 use Rattle.vm_feeding.specs.Asking.{IsReady}
 use Rattle.vm_feeding.specs.Telling.{IsTold}
+use Rattle.vm_proposals.specs.Proposing.{ProposesRun}
 use Rattle.vm_core.specs.Outcomes.outcomes
 use Rattle.vm_core.specs.Outcomes.{CarriesOut, CallOutcome}
+use Rattle.vm_core.specs.declared.core_vm.CoreVM.{CoreVM}
 use Rattle.vm_attempt.specs.Covered.{is_covered}
+use Rattle.vm_attempt.specs.Typed.{IsTypedOutcome}
 use Rattle.vm_attempt.specs.declared.attempt.Attempt.{Attempt}
+use Rattle.vm_attempt.specs.declared.run_outcome.RunOutcome.{RunOutcome}
 use Rattle.vm_attempt.specs.declared.turn.Finish.{Finish}
 use Rattle.vm_attempt.specs.declared.turn.Finish.TheVariants as finishes
 use Rattle.vm_attempt.specs.declared.turn.Turn.{Turn}
@@ -28,7 +32,12 @@ again finishes.OutOfMemory = Turn.Failed out_of_memory
 
 -- what an attempt fails with whose handler makes a call that is not carried out
 abbrev pub not_carried_out : Error
-not_carried_out = plain_error unsupported_feature (codes "the call is not carried out")
+not_carried_out = plain_error unsupported_feature (codes "what is awaited is nested too deep to be told")
+
+-- what a turn comes to that has proposed how a body has ended
+abbrev pub ran_or_failed : Result (Unit {0}) Error → Turn
+ran_or_failed (Ok done) = Turn.RanBody
+ran_or_failed (Err error) = Turn.Failed error
 
 module _ {H : Type 0} where
   -- the attempt is over, and answers that in each turn
@@ -42,20 +51,30 @@ module _ {H : Type 0} where
   TakesAnswer answer between turn after =
       ((turn ≡ Turn.Answered) × (after ≡ record between { answers = between.answers ++ answer ∷ [] })) ⊎ FinishesBy finishes.OutOfMemory between turn after
 
-  -- how the attempt goes on by what the call has come to; what its machine has failed with this keeps
-  abbrev pub TakesOutcome : CallOutcome → (between : Attempt H) → Turn → (after : Attempt H) → Type 0
-  TakesOutcome (outcomes.Answered answer) between turn after = TakesAnswer answer between turn after
-  TakesOutcome outcomes.Waiting between turn after = (turn ≡ Turn.Waiting) × (after ≡ between)
-  TakesOutcome outcomes.Suspended between turn after = FinishesBy finishes.Suspended between turn after
-  TakesOutcome outcomes.Ended between turn after = FinishesBy finishes.Ended between turn after
-  TakesOutcome (outcomes.Failed error) between turn after = (turn ≡ Turn.Failed error) × (after ≡ between)
+  -- How the body of a run has ended is proposed to the machine, which fails with it where it is no outcome.
+  pub record RunsBody (ran : RunOutcome) (handle : ℕ) (between : Attempt H) (turn : Turn) (after : Attempt H) : Type 0 where
+    pub typed : IsTypedOutcome ran
+    pub proposed : Result (Unit {0}) Error
+    pub proposes : ProposesRun handle ran.result ran.policy between.vm.state proposed after.vm.state
+    pub turn_is : turn ≡ ran_or_failed proposed
+    pub others : after ≡ record between { vm = after.vm }
 
-  -- the machine carries the call out, which is of its type
-  pub record CarriesCall (call : Call) (before : Attempt H) (turn : Turn) (after : Attempt H) : Type 0 where
+  -- how the attempt goes on by what the call has come to; what its machine has failed with this keeps
+  abbrev pub TakesOutcome : RunOutcome → CallOutcome → (between : Attempt H) → Turn → (after : Attempt H) → Type 0
+  TakesOutcome ran (outcomes.Answered answer) between turn after = TakesAnswer answer between turn after
+  TakesOutcome ran outcomes.Waiting between turn after = (turn ≡ Turn.Waiting) × (after ≡ between)
+  TakesOutcome ran (outcomes.Executes handle) between turn after = RunsBody ran handle between turn after
+  TakesOutcome ran outcomes.Suspended between turn after = FinishesBy finishes.Suspended between turn after
+  TakesOutcome ran outcomes.Ended between turn after = FinishesBy finishes.Ended between turn after
+  TakesOutcome ran (outcomes.Failed error) between turn after = (turn ≡ Turn.Failed error) × (after ≡ between)
+
+  -- the machine carries the call out, which is of its type, and stands between then
+  pub record CarriesCall (ran : RunOutcome) (call : Call) (before : Attempt H) (turn : Turn) (after : Attempt H) : Type 0 where
     pub typed : IsTypedCall call
     pub outcome : CallOutcome
-    pub carries : CarriesOut call before.vm.state outcome after.vm.state
-    pub comes : TakesOutcome outcome (record before { vm = after.vm }) turn after
+    pub between : CoreVM
+    pub carries : CarriesOut call before.vm.state outcome between.state
+    pub comes : TakesOutcome ran outcome (record before { vm = between }) turn after
 
   -- the machine is told that the call is not carried out, and fails; what it has failed with is answered, and nothing of the call is done
   pub record RefusesCall (before : Attempt H) (turn : Turn) (after : Attempt H) : Type 0 where
@@ -65,13 +84,13 @@ module _ {H : Type 0} where
     pub turn_is : turn ≡ Turn.Failed answer
     pub others : after ≡ record before { vm = after.vm }
 
-  abbrev pub CarriesWhere : (covered : Bool) → Call → (before : Attempt H) → Turn → (after : Attempt H) → Type 0
-  CarriesWhere true call before turn after = CarriesCall call before turn after
-  CarriesWhere false call before turn after = RefusesCall before turn after
+  abbrev pub CarriesWhere : (covered : Bool) → RunOutcome → Call → (before : Attempt H) → Turn → (after : Attempt H) → Type 0
+  CarriesWhere true ran call before turn after = CarriesCall ran call before turn after
+  CarriesWhere false ran call before turn after = RefusesCall before turn after
 
   -- the call is carried out if it is one that is
-  abbrev pub AnswersCall : Call → (before : Attempt H) → Turn → (after : Attempt H) → Type 0
-  AnswersCall call before turn after = CarriesWhere (is_covered before.cancellation call) call before turn after
+  abbrev pub AnswersCall : RunOutcome → Call → (before : Attempt H) → Turn → (after : Attempt H) → Type 0
+  AnswersCall ran call before turn after = CarriesWhere (is_covered before.cancellation call) ran call before turn after
 
   -- ---- the input
 
@@ -87,11 +106,12 @@ module _ {H : Type 0} where
 
   -- ---- a turn
 
-  module _ (function : H → Handler) where
+  -- the body of a run is executed in a turn where the machine asks for that, and then it has ended so; else that is not looked at
+  module _ (function : H → Handler) (ran : RunOutcome) where
     -- the input is read first, which no call is; then the handler's next call is carried out or refused, if there is memory for it
     abbrev pub ReadsOrAsks : Option Input → (before : Attempt H) → Turn → (after : Attempt H) → Type 0
     ReadsOrAsks None before turn after = ReadsInput before turn after
-    ReadsOrAsks (Some input) before turn after = AnswersCall (function before.handler input before.answers) before turn after ⊎ FinishesBy finishes.OutOfMemory before turn after
+    ReadsOrAsks (Some input) before turn after = AnswersCall ran (function before.handler input before.answers) before turn after ⊎ FinishesBy finishes.OutOfMemory before turn after
 
     -- calls are made of the machine, or more has to come, or it has failed
     abbrev pub TurnsWhere : Result Bool Error → (before : Attempt H) → Turn → (after : Attempt H) → Type 0

@@ -1,16 +1,18 @@
 // An attempt.
-ghost use Rattle.std.specs.Prelude.{◌≡◌, OnOk};
+ghost use Rattle.std.specs.Prelude.{◌≡◌, Some, IsSome, OnOk};
+ghost use Rattle.std.specs.Option.{ForSome};
 ghost use Rattle.vm_attempt.specs.Attempt.{IsBegun, has_stopped, Feeds, ClosesInput};
 ghost use Rattle.vm_attempt.specs.Output.{Gathers, HasFront, Shows, LetsGo, TakesOutput};
-ghost use Rattle.vm_attempt.specs.Turning.{FinishesBy, TakesAnswer, TakesOutcome, CarriesCall, RefusesCall, AnswersCall, ReadsInput, ReadsOrAsks, TurnsOn, Turns};
+ghost use Rattle.vm_attempt.specs.Turning.{FinishesBy, TakesAnswer, RunsBody, TakesOutcome, CarriesCall, RefusesCall, AnswersCall, ReadsInput, ReadsOrAsks, TurnsOn, Turns};
 
 use crate::covered::is_covered;
 use crate::header::ContentType;
 use crate::output::{advance, first, join};
-use crate::turn::{Finish, Turn, not_carried_out, turn_again};
-use crate::typed::call_is_typed;
+use crate::run_outcome::RunOutcome;
+use crate::turn::{Finish, Turn, not_carried_out, ran_or_failed, turn_again};
+use crate::typed::{call_is_typed, outcome_is_typed};
 use bytes::Bytes;
-use journal_model::{Answer, Call, Handler, ImplicitCancellationOption, Input};
+use journal_model::{Answer, Call, Handler, ImplicitCancellationOption, Input, NotificationHandle};
 use protocol_errors::Error;
 use protocol_types::Version;
 use sequence::Sequence;
@@ -36,6 +38,17 @@ pub struct Attempt<H> {
     /// What was taken from the machine and was not handed out, in two pieces.
     front: Bytes,
     behind: Bytes,
+}
+
+// How a body has ended, which is held until one is executed.
+fn taken(ran: &mut Option<RunOutcome>) -> RunOutcome
+    requires { IsSome ran.old }
+    ensures { ran.old ≡ Some result }
+{
+    match ran.take() {
+        Some(ran) => ran,
+        None => unreachable!(),
+    }
 }
 
 impl<H: Handler> Attempt<H> {
@@ -124,13 +137,26 @@ impl<H: Handler> Attempt<H> {
         }
     }
 
+    // The body of a run has ended so.
+    fn run_body(&mut self, handle: NotificationHandle, ran: RunOutcome) -> Turn
+        ensures { RunsBody ran handle self.old result self.new }
+    {
+        outcome_is_typed(&ran);
+        let proposed = self
+            .vm
+            .propose_run_completion(handle, ran.result, ran.policy);
+        ran_or_failed(proposed)
+    }
+
     // A call has come to this.
-    fn come_to(&mut self, outcome: CallOutcome) -> Turn
-        ensures { TakesOutcome outcome self.old result self.new }
+    fn come_to(&mut self, outcome: CallOutcome, ran: &mut Option<RunOutcome>) -> Turn
+        requires { IsSome ran.old }
+        ensures { ForSome ran.old (λ ran. TakesOutcome ran outcome self.old result self.new) }
     {
         match outcome {
             CallOutcome::Answered(answer) => self.take_answer(answer),
             CallOutcome::Waiting => Turn::Waiting,
+            CallOutcome::Executes(handle) => self.run_body(handle, taken(ran)),
             CallOutcome::Suspended => self.finish(Finish::Suspended),
             CallOutcome::Ended => self.finish(Finish::Ended),
             CallOutcome::Failed(error) => Turn::Failed(error),
@@ -138,12 +164,13 @@ impl<H: Handler> Attempt<H> {
     }
 
     // The handler's call is carried out.
-    fn carry(&mut self, call: Call) -> Turn
-        ensures { CarriesCall call self.old result self.new }
+    fn carry(&mut self, call: Call, ran: &mut Option<RunOutcome>) -> Turn
+        requires { IsSome ran.old }
+        ensures { ForSome ran.old (λ ran. CarriesCall ran call self.old result self.new) }
     {
         call_is_typed(&call);
         let outcome = carry_out(&mut self.vm, call);
-        self.come_to(outcome)
+        self.come_to(outcome, ran)
     }
 
     // The attempt fails, since a call is made that is not carried out. What it has failed with is what all later turns answer, also where
@@ -159,11 +186,12 @@ impl<H: Handler> Attempt<H> {
     }
 
     // The handler's call is carried out, if it is one that is.
-    fn answer_call(&mut self, call: Call) -> Turn
-        ensures { AnswersCall call self.old result self.new }
+    fn answer_call(&mut self, call: Call, ran: &mut Option<RunOutcome>) -> Turn
+        requires { IsSome ran.old }
+        ensures { ForSome ran.old (λ ran. AnswersCall ran call self.old result self.new) }
     {
         if is_covered(self.cancellation, &call) {
-            return self.carry(call);
+            return self.carry(call, ran);
         }
         drop(call);
         self.refuse()
@@ -183,25 +211,27 @@ impl<H: Handler> Attempt<H> {
     }
 
     // The handler is asked for its next call, once the input was read.
-    fn go_on(&mut self) -> Turn
-        ensures { ReadsOrAsks H.next_call self.old.input self.old result self.new }
+    fn go_on(&mut self, ran: &mut Option<RunOutcome>) -> Turn
+        requires { IsSome ran.old }
+        ensures { ForSome ran.old (λ ran. ReadsOrAsks H.next_call ran self.old.input self.old result self.new) }
     {
         let next = match &self.input {
             None => return self.read_input(),
             Some(input) => self.handler.next(input, self.answers.as_slice()),
         };
         match next {
-            Ok(call) => self.answer_call(call),
+            Ok(call) => self.answer_call(call, ran),
             Err(_) => self.finish(Finish::OutOfMemory),
         }
     }
 
-    // A turn of an attempt that is not over, unless its machine has failed.
-    fn turn_on(&mut self) -> Turn
-        ensures { TurnsOn H.next_call self.old result self.new }
+    // A turn of an attempt that is not over, unless its machine has failed. How a body has ended stays where it is, unless one is executed.
+    fn turn_on(&mut self, ran: &mut Option<RunOutcome>) -> Turn
+        requires { IsSome ran.old }
+        ensures { ForSome ran.old (λ ran. TurnsOn H.next_call ran self.old result self.new) }
     {
         match self.vm.is_ready_to_execute() {
-            Ok(true) => self.go_on(),
+            Ok(true) => self.go_on(ran),
             Ok(false) => Turn::Waiting,
             Err(error) => Turn::Failed(error),
         }
@@ -209,15 +239,21 @@ impl<H: Handler> Attempt<H> {
 
     /// One turn: reads the input once it has come with the journal, or asks the handler and carries its call out.
     ///
+    /// Where that is an await for which the body of a run is to be executed, the body has ended with the outcome that is given, and this is
+    /// proposed. In any other turn the outcome is let go of.
+    ///
     /// An attempt that is over answers the same again. What it has failed with is copied for each answer; where memory is refused for
     /// the copy, the answer says so.
-    pub fn turn(&mut self) -> Turn
-        ensures { Turns H.next_call self.old result self.new }
+    pub fn turn(&mut self, outcome: RunOutcome) -> Turn
+        ensures { Turns H.next_call outcome self.old result self.new }
     {
-        match self.over {
+        let mut ran = Some(outcome);
+        let turn = match self.over {
             Some(finish) => turn_again(finish),
-            None => self.turn_on(),
-        }
+            None => self.turn_on(&mut ran),
+        };
+        drop(ran);
+        turn
     }
 
     // Has the front piece be all that waits and all that the machine has written, unless it has so many bytes already.

@@ -1,7 +1,7 @@
 // Which calls are carried out.
 ghost use Rattle.std.specs.Prelude.{◌≡◌};
 ghost use Rattle.journal_model.specs.Future.{tree_of};
-ghost use Rattle.vm_attempt.specs.Covered.{is_nested_within, can_be_told, asks_of_store, is_covered, levels_left};
+ghost use Rattle.vm_attempt.specs.Covered.{is_nested_within, can_be_told, is_covered, levels_left};
 
 use journal_model::{AwaitedFuture, Call, ImplicitCancellationOption, UnresolvedFuture};
 use protocol_wire::LEVELS;
@@ -51,19 +51,12 @@ fn can_be_told(cancellation: ImplicitCancellationOption, future: &AwaitedFuture)
     is_within(future, levels_left(cancellation))
 }
 
-// Whether a call asks for what a store records, or for nothing. What is to come are runs.
-fn asks_of_store(call: &Call) -> bool
-    ensures { result ≡ asks_of_store call.now }
-{
-    !matches!(call, Call::Run { .. })
-}
-
 /// Whether a call is carried out.
 pub(crate) fn is_covered(cancellation: ImplicitCancellationOption, call: &Call) -> bool
     ensures { result ≡ is_covered cancellation call.now }
 {
     match call {
         Call::Await(future) => can_be_told(cancellation, future),
-        _ => asks_of_store(call),
+        _ => true,
     }
 }

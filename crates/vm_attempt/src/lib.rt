@@ -8,9 +8,12 @@ mod attempt;
 mod covered;
 mod header;
 mod output;
+mod run_outcome;
 mod turn;
 mod typed;
 
 pub use attempt::Attempt;
+pub use run_outcome::RunOutcome;
 pub use turn::{Finish, Turn};
 pub use vm_core::{CoreVM, VM, VMResult};
+pub use vm_refusals::{RetryPolicy, RunExitResult};

@@ -1,6 +1,6 @@
 // What turns come to.
 ghost use Rattle.std.specs.Prelude.{◌≡◌};
-ghost use Rattle.vm_attempt.specs.Turning.{again, not_carried_out};
+ghost use Rattle.vm_attempt.specs.Turning.{again, not_carried_out, ran_or_failed};
 
 use bytes::ByteStr;
 use protocol_errors::{Error, codes};
@@ -11,6 +11,8 @@ use vm_start::out_of_memory;
 pub enum Turn {
     /// The input was read, or a call was answered: there is another turn to make.
     Answered,
+    /// The body of a run that the handler awaits was executed, and its outcome was proposed: there is another turn to make.
+    RanBody,
     /// More input has to come, or what the handler awaits.
     Waiting,
     /// What the handler awaits has not come, and no more input does: the suspension was written.
@@ -36,7 +38,7 @@ pub(crate) fn not_carried_out() -> Error
 {
     Error::new(
         codes::UNSUPPORTED_FEATURE,
-        ByteStr::from_static("the call is not carried out"),
+        ByteStr::from_static("what is awaited is nested too deep to be told"),
     )
 }
 
@@ -48,5 +50,15 @@ pub(crate) fn turn_again(finish: Finish) -> Turn
         Finish::Suspended => Turn::Suspended,
         Finish::Ended => Turn::Ended,
         Finish::OutOfMemory => Turn::Failed(out_of_memory()),
+    }
+}
+
+/// What a turn comes to that has proposed how a body has ended.
+pub(crate) fn ran_or_failed(proposed: Result<(), Error>) -> Turn
+    ensures { result ≡ ran_or_failed proposed }
+{
+    match proposed {
+        Ok(()) => Turn::RanBody,
+        Err(error) => Turn::Failed(error),
     }
 }

@@ -1,10 +1,14 @@
-// What a call is by its types: functions that look at each text and number in it, and change nothing.
+// What a call, and the end of a run's body, is by its types: functions that look at each text and number in it, and change nothing.
 ghost use Rattle.std.specs.Prelude.{◌<◌, ◌^◌, IsUtf8, IfSome};
 ghost use Rattle.std.specs.List.{AllByRecursion};
 ghost use Rattle.request_laws.specs.Calls.{IsTypedPair, IsTypedFailure, IsTypedValue, IsTypedHeader, IsTypedTarget, IsTypedAttach, IsTypedCall};
+ghost use Rattle.vm_attempt.specs.Typed.{IsTypedCommand, IsTypedError, IsTypedExit, IsTypedOutcome};
 
+use crate::run_outcome::RunOutcome;
 use bytes::ByteStr;
 use journal_model::{AttachInvocationTarget, Call, Header, NonEmptyValue, Target, TerminalFailure};
+use protocol_errors::{CommandMetadata, Error};
+use vm_refusals::RunExitResult;
 
 fn text_is_typed(text: &ByteStr)
     ensures { IsUtf8 text.now }
@@ -165,4 +169,50 @@ pub(crate) fn call_is_typed(call: &Call)
         Call::Output { value, .. } => value_is_typed(value),
         Call::Awakeable | Call::IsCompleted(_) | Call::Take(_) | Call::Await(_) | Call::End => (),
     }
+}
+
+fn number_is_typed(number: u32)
+    ensures { number < 2 ^ 32 }
+{
+    let _ = number;
+}
+
+fn message_is_typed(text: &str)
+    ensures { IsUtf8 text.now }
+{
+    let _ = text.as_bytes();
+}
+
+fn command_is_typed(command: &CommandMetadata)
+    ensures { IsTypedCommand command.now }
+{
+    number_is_typed(command.index);
+    text_or_none_is_typed(&command.name);
+}
+
+fn error_is_typed(error: &Error)
+    ensures { IsTypedError error.now }
+{
+    code_is_typed(error.code());
+    message_is_typed(error.message());
+    if let Some(command) = error.related_command() {
+        command_is_typed(command);
+    }
+}
+
+fn exit_is_typed(exit: &RunExitResult)
+    ensures { IsTypedExit exit.now }
+{
+    match exit {
+        RunExitResult::Success(_) => (),
+        RunExitResult::TerminalFailure(failure) => failure_is_typed(failure),
+        RunExitResult::RetryableFailure { error, .. } => error_is_typed(error),
+    }
+}
+
+/// The same of the end of a run's body.
+pub(crate) fn outcome_is_typed(outcome: &RunOutcome)
+    ensures { IsTypedOutcome outcome.now }
+{
+    exit_is_typed(&outcome.result);
 }

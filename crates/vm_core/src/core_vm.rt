@@ -1,6 +1,7 @@
 // The machine, closed.
 ghost use Rattle.std.specs.Prelude.{◌≡◌, ◌-ℤ◌, pos, IfOk, IfErr};
 ghost use Rattle.journal_model.specs.Future.{tree_of};
+ghost use Rattle.journal_model.specs.declared.call.Call.{Call};
 ghost use Rattle.vm_feeding.specs.Beginning.{Begins, head_of};
 ghost use Rattle.vm_feeding.specs.Reading.{IsRead};
 ghost use Rattle.vm_feeding.specs.EphemeralReading.{IsGot, IsTaken};
@@ -13,6 +14,9 @@ ghost use Rattle.vm_feeding.specs.Telling.{IsTold};
 ghost use Rattle.vm_feeding.specs.Handles.{id_of, IsNamed, Looks};
 ghost use Rattle.vm_progress.specs.Awaiting.{DoesAwait};
 ghost use Rattle.vm_progress.specs.Ending.{EndsAs};
+ghost use Rattle.vm_proposals.specs.Calling.{CallsRun};
+ghost use Rattle.vm_proposals.specs.Proposing.{ProposesRun};
+ghost use Rattle.vm_outcomes.specs.Runs.{BodiesAreKept};
 ghost use Rattle.vm_core.specs.Closed.{state_made};
 ghost use Rattle.vm_start.specs.Negotiation.{content_type};
 ghost use Rattle.vm_core.specs.Calls.{SysStateGet, SysStateGetKeys, SysStateSet, SysStateClear, SysStateClearAll, SysSleep, SysCall, SysSend, SysAwakeable, SysCompleteAwakeable, CreateSignalHandle, SysCompleteSignal, SysGetPromise, SysPeekPromise, SysCompletePromise, SysCancelInvocation, SysAttachInvocation, SysGetInvocationOutput, TakeNotification, SysWriteOutput};
@@ -29,6 +33,7 @@ use protocol_stream::HeaderMap;
 use std::alloc::{AllocError, Global};
 use std::fmt;
 use vm_feeding::begin;
+use vm_refusals::{RetryPolicy, RunExitResult, RunHandle};
 use vm_start::Phase;
 use vm_syscalls::MachineState;
 use vm_types::{
@@ -298,6 +303,24 @@ impl VM for CoreVM {
         ensures { SysCompletePromise key value options self.old.state result self.new.state }
     {
         vm_syscalls::sys_complete_promise(&mut self.state, key, value, options)
+    }
+
+    fn sys_run(&mut self, name: ByteStr) -> VMResult<RunHandle>
+        ensures calls { CallsRun name self.old.state result self.new.state }
+        ensures bodies { BodiesAreKept (Call.Run name) self.old.state result self.new.state }
+    {
+        vm_proposals::sys_run(&mut self.state, name)
+    }
+
+    fn propose_run_completion(
+        &mut self,
+        handle: NotificationHandle,
+        exit: RunExitResult,
+        policy: RetryPolicy,
+    ) -> VMResult<()>
+        ensures { ProposesRun handle exit policy self.old.state result self.new.state }
+    {
+        vm_proposals::propose_run_completion(&mut self.state, handle, exit, policy)
     }
 
     fn sys_cancel_invocation(&mut self, target_id: ByteStr) -> VMResult<()>

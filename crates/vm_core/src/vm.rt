@@ -8,6 +8,7 @@ use protocol_differences::CommandRelationship;
 use protocol_errors::Error;
 use protocol_stream::HeaderMap;
 use std::alloc::{AllocError, Global};
+use vm_refusals::{RetryPolicy, RunExitResult, RunHandle};
 use vm_types::{
     AwaitResponse, AwakeableHandle, CallHandle, EphemeralCompletionId, ResponseHead, SendHandle,
     State, VMOptions,
@@ -46,7 +47,7 @@ pub trait VM: Sized {
     /// Whether something that the handle stands for has come and was looked at.
     fn is_completed(&self, handle: NotificationHandle) -> bool;
 
-    /// Waits for a future: whether it is awake, and else what is to be waited for outside.
+    /// Waits for a future: whether it is awake, and else which run's body is to be executed first, or what is to be waited for outside.
     fn do_await(&mut self, future: UnresolvedFuture) -> VMResult<AwaitResponse>;
 
     /// Takes what has come of a handle, if anything has.
@@ -149,6 +150,18 @@ pub trait VM: Sized {
         value: NonEmptyValue,
         options: PayloadOptions,
     ) -> VMResult<NotificationHandle>;
+
+    /// Calls a run: the handle's notification brings its outcome. Where that is not known yet, an await says when its body is to be executed.
+    fn sys_run(&mut self, name: ByteStr) -> VMResult<RunHandle>;
+
+    /// An attempt at the body of a run has ended so: the policy says whether that is proposed as its outcome, or the machine fails, upon
+    /// which the run is tried again or the invocation pauses.
+    fn propose_run_completion(
+        &mut self,
+        handle: NotificationHandle,
+        exit: RunExitResult,
+        policy: RetryPolicy,
+    ) -> VMResult<()>;
 
     /// Cancels another invocation.
     fn sys_cancel_invocation(&mut self, target_id: ByteStr) -> VMResult<()>;

@@ -1,5 +1,5 @@
 -- An await is carried out.
-use Rattle.std.proofs.Common.{◌≡◌, ◌≤◌, ◌<◌, ◌^◌, ◌==◌, inl, inr, ℕ, Bool, true, false, List, [], length, codes, Option, Some, None, Result, Ok, Err, IfOk, refl, sym, ap, subst, ◌∙◌, arith}
+use Rattle.std.proofs.Common.{◌≡◌, ◌⊎◌, ◌≤◌, ◌<◌, ◌^◌, ◌==◌, inl, inr, ℕ, Bool, true, false, not, ◌&&◌, List, [], length, codes, Option, Some, None, Result, Ok, Err, IfOk, refl, sym, ap, subst, ◌∙◌, arith}
 use Rattle.std.specs.declared.alloc.AllocError.{AllocError}
 use Rattle.journal_model.specs.AwaitTree.{AwaitTree}
 use Rattle.journal_model.specs.Notification.{Bytes}
@@ -12,6 +12,7 @@ use Rattle.journal_model.specs.declared.notification.NotificationId.{Notificatio
 use Rattle.journal_model.specs.declared.options.ImplicitCancellationOption.{ImplicitCancellationOption}
 use Rattle.attempt_model.specs.Machine.{Machine, FailedBy, UncompletedInReplay, ChildNotId}
 use Rattle.attempt_model.specs.Requests.{put_one}
+use Rattle.attempt_model.specs.Results.{Slots}
 use Rattle.protocol_errors.specs.Code.{internal, suspended}
 use Rattle.protocol_errors.specs.Error.{decoding_code}
 use Rattle.protocol_errors.specs.declared.error.Error.{Error}
@@ -21,7 +22,8 @@ use Rattle.protocol_stream.specs.declared.encoder.EncodingError.{EncodingError}
 use Rattle.protocol_stream.specs.declared.encoder.EncodingError.TheVariants as unsent
 use Rattle.protocol_types.specs.declared.message_type.MessageType.TheVariants.{SendSignalCommand}
 use Rattle.protocol_types.specs.declared.version.Version.{Version}
-use Rattle.vm_calls.specs.Active.{writes_frames}
+use Rattle.vm_awaits.specs.Views.{slots_of}
+use Rattle.vm_calls.specs.Active.{Sees, writes_frames}
 use Rattle.vm_calls.specs.declared.active.Active.{Active}
 use Rattle.vm_calls.specs.declared.call_error.CallError.TheVariants as calls
 use Rattle.vm_calls.specs.declared.put_error.PutError.{PutError}
@@ -35,12 +37,16 @@ use Rattle.vm_start.specs.declared.phase.Phase.{Phase}
 use Rattle.vm_start.specs.declared.phase.Phase.TheVariants as phases
 use Rattle.vm_machine.specs.PassedMachine.{child_not_id_error}
 use Rattle.vm_feeding.specs.Passed.{checks_off, CallCauses, MachineFails, IsUnexpected, MachineState, Settles, TellsLast, Unless}
-use Rattle.vm_progress.specs.Asleep.{LacksMemory, FailsUnwritten, SettlesStay, ClosesAs, SleepIs, SleepsAs}
+use Rattle.vm_progress.specs.Asleep.{LacksMemory, FailsUnwritten, SettlesStay, ClosesAs, HandsOutRun, SleepIs, SleepsAs, SleepsWhere}
 use Rattle.vm_progress.specs.Awaiting.{ready_read, GoesOnAs, IsAwaited, DoesAwaitWhere, DoesAwait}
+use Rattle.vm_progress.specs.Executing.{executes_any, is_executing_for, run_for}
 use Rattle.vm_progress.specs.Uncompleted.{started_id, TellsUncompleted}
+use Rattle.vm_progress.proofs.Naming.{uncompleted_code}
 use Rattle.vm_progress.specs.declared.asleep.Sleep.{Sleep}
 use Rattle.vm_progress.specs.declared.asleep.Sleep.TheVariants as sleeps
+use Rattle.vm_runs.specs.Runs.{Runs}
 use Rattle.vm_types.specs.declared.answers.AwaitResponse.{AwaitResponse}
+use Rattle.vm_types.specs.declared.answers.AwaitResponse.TheVariants.{ExecuteRun, WaitingExternalProgress}
 use Rattle.vm_types.specs.declared.handles.EphemeralCompletionId.{EphemeralCompletionId}
 use Rattle.vm_waiting.specs.Awaiting.{LooksAlone, ComesTo, FailsCancelling, Awaits}
 use Rattle.vm_waiting.specs.Cancelling.{after_cancels}
@@ -52,13 +58,13 @@ use Rattle.vm_waiting.specs.declared.awaiting.Awaited.TheVariants.{AnyCompleted,
 use Rattle.vm_waiting.specs.declared.awaiting.AwaitError.{AwaitError}
 use Rattle.vm_waiting.specs.declared.awaiting.AwaitError.TheVariants as unawaited
 use Rattle.vm_waiting.specs.declared.waits_for.WaitsFor.{WaitsFor}
-use Rattle.vm_outcomes.specs.Carrying.{Answers, Waits, Suspends as IsSuspended, Comes, CarriesOut}
+use Rattle.vm_outcomes.specs.Carrying.{tells_waiting, Answers, Waits, Executes, Suspends as IsSuspended, Comes, CarriesOut}
 use Rattle.vm_outcomes.specs.Causes.{ByFault, TooLong, Unread, Differs, IsAsked, IsLookedAt, waiting_payload, HasCause}
 use Rattle.vm_outcomes.specs.Driven.{IsDriven, reply_of}
 use Rattle.vm_outcomes.specs.Outcomes.{awaited_as}
 use Rattle.vm_outcomes.specs.Stopping.{HasPut, IsUnmatchedNext}
 use Rattle.vm_outcomes.specs.declared.outcome.CallOutcome.{CallOutcome}
-use Rattle.vm_outcomes.proofs.Answering.{driven_on, commands_stay, answered, answered_quietly, none_taken, nothing_written}
+use Rattle.vm_outcomes.proofs.Answering.{leaves_runs, driven_on, commands_stay, answered, answered_quietly, none_taken, nothing_written}
 use Rattle.vm_outcomes.proofs.Failing.{code_apart, plain_code, told_plain, told_last, looked_at, looked_asked, none_put, memory_lacks, mismatches_at, unless_ok, fails_of, failed_behind}
 use Rattle.vm_outcomes.proofs.Steps.{steps_of}
 use Rattle.vm_outcomes.proofs.Stopping.{StopsBehind, StopsFor, PutWhy, Keeps, await_keeps}
@@ -76,9 +82,9 @@ memory_apart (Err refused) none = tt
 child_apart : (told : Result Error AllocError) → told ≡ Ok child_not_id_error → Apart told
 child_apart told is = subst Apart (sym is) refl
 
-uncompleted_apart : (invocation : Bytes) (ids : AwaitTree NotificationId) (told : Result Error AllocError) → IfOk told (TellsUncompleted invocation ids) → Apart told
-uncompleted_apart invocation ids (Ok error) uncompleted = ap (λ (e : Error). e.code.0 == suspended) uncompleted.tells.plain
-uncompleted_apart invocation ids (Err refused) uncompleted = tt
+uncompleted_apart : (invocation : Bytes) (slots : Slots) (runs : Runs) (waits : WaitsFor) (told : Result Error AllocError) → IfOk told (TellsUncompleted invocation slots runs waits) → Apart told
+uncompleted_apart invocation slots runs waits (Ok error) uncompleted = ap (λ (code : ℕ). code == suspended) (uncompleted_code invocation slots runs waits error uncompleted)
+uncompleted_apart invocation slots runs waits (Err refused) uncompleted = tt
 
 decoding_apart : (error : DecodingError) → (decoding_code error == suspended) ≡ false
 decoding_apart (DecodingError.UnknownMessageType ty) = refl
@@ -101,11 +107,11 @@ put_apart difference journal (Encoding unsent.PayloadTooLong) told causes = last
 put_apart difference journal (Encoding unsent.OutOfMemory) (Ok error) causes = absurd causes
 put_apart difference journal (Encoding unsent.OutOfMemory) (Err refused) causes = tt
 
--- the ids are those that are waited for
-uncompleted_told : (invocation : Bytes) (resolved : Active) (waits : WaitsFor) (told : Result Error AllocError) → IfOk told (TellsUncompleted invocation (awaited_ids resolved waits))
-    → IfOk told (λ error. (some : WaitsFor) × TellsUncompleted invocation (awaited_ids resolved some) error)
-uncompleted_told invocation resolved waits (Ok error) uncompleted = (waits, uncompleted)
-uncompleted_told invocation resolved waits (Err refused) uncompleted = tt
+-- it is told of what is waited for
+uncompleted_told : (invocation : Bytes) (slots : Slots) (runs : Runs) (waits : WaitsFor) (told : Result Error AllocError) → IfOk told (TellsUncompleted invocation slots runs waits)
+    → IfOk told (λ error. (some : WaitsFor) × TellsUncompleted invocation slots runs some error)
+uncompleted_told invocation slots runs waits (Ok error) uncompleted = (waits, uncompleted)
+uncompleted_told invocation slots runs waits (Err refused) uncompleted = tt
 
 asked_behind : (front : List Request) (old new : JournalCounts) → new ≡ after_command SendSignalCommand [] (after_cancels front old) → IsAsked front old new
 asked_behind front old new is = inr (
@@ -161,97 +167,143 @@ module _ (given : Invocation) (m : Machine) (tree : AwaitTree ℕ) (old : Machin
           leaves = looked;
         }) unwritten fails
 
-    uncompleted_fails : (waits : WaitsFor) (told : Result Error AllocError) (answer : Error) (new : MachineState) → IfOk told (TellsUncompleted (started_id old.start) (awaited_ids resolved waits))
+    uncompleted_fails : (waits : WaitsFor) (told : Result Error AllocError) (answer : Error) (new : MachineState) → IfOk told (TellsUncompleted (started_id old.start) (slots_of resolved.results) old.runs waits)
         → reply_of old given m (Call.Await tree) ≡ FailedBy UncompletedInReplay → MachineFails told (record old { active = resolved }) answer new → Comes given m (Call.Await tree) old (awaited_as (Err answer)) new
     uncompleted_fails waits told answer new causes replies fails =
-        fails_awaiting told resolved answer new (uncompleted_apart (started_id old.start) (awaited_ids resolved waits) told causes)
-        (record { cause = ByFault UncompletedInReplay; when = replies; at = tt; tells = uncompleted_told (started_id old.start) resolved waits told causes; leaves = looked }) unwritten fails
+        fails_awaiting told resolved answer new (uncompleted_apart (started_id old.start) (slots_of resolved.results) old.runs waits told causes)
+        (record { cause = ByFault UncompletedInReplay; when = replies; at = tt; tells = uncompleted_told (started_id old.start) (slots_of resolved.results) old.runs waits told causes; leaves = looked }) unwritten fails
 
     module _ (waits : WaitsFor) (becomes : Becomes given m (reply_of old given m (Call.Await tree)) (waits_as waits) resolved) where
       abbrev ids : AwaitTree NotificationId
       ids = awaited_ids resolved waits
 
-      abbrev is_told : Bool
-      is_told = tells_awaiting old.version old.options.awaiting_on_policy false (waits_for_any waits)
+      -- what was looked at, and nothing else of it, is kept for calls
+      driven_asleep : (active : Active) (runs : Runs) → Sees given active becomes.machine → active.output.version ≡ resolved.output.version → active.output.has_commands ≡ resolved.output.has_commands
+          → IsDriven given becomes.machine (record old { active = active; runs = runs })
+      driven_asleep active runs sees version commands =
+          driven_on given m becomes.machine old active runs driven sees (version ∙ ap (λ (w : Written). w.version) unwritten)
+          (commands_stay m becomes.machine old.active.output active.output becomes.written (commands ∙ ap (λ (w : Written). w.has_commands) unwritten) driven.commands)
 
-      -- a frame that tells it could not be written
-      fails_unwritten : (error : EncodingError) (answer : Error) (new : MachineState) → (error ≡ unsent.PayloadTooLong → 2 ^ 32 ≤ length (waiting_payload old.is_input_closed old.version ids))
-          → FailsUnwritten error (record old { active = resolved }) answer new → Comes given m (Call.Await tree) old (awaited_as (Err answer)) new
-      fails_unwritten unsent.PayloadTooLong answer new long fails =
-          fails_awaiting fails.cause resolved answer new (code_apart internal fails.cause refl (plain_code internal (Some too_long_text) fails.cause fails.causes)) (record {
-            cause = TooLong;
-            when = (refl, inr (inl (record { waits = waits; machine = becomes.machine; replies = becomes.replies; resolved = resolved; sees = becomes.sees; long = long refl })));
-            at = tt;
-            tells = told_plain resolved.journal internal (Some too_long_text) fails.cause fails.causes;
-            leaves = looked_asked old.active resolved looked;
-          }) unwritten fails.fails
-      fails_unwritten unsent.OutOfMemory answer new long fails = lacks_memory answer new fails
-
-      long_told : (error : EncodingError) (told : Bool) (active : Active) → TellsIf told ids resolved (Err error) active → error ≡ unsent.PayloadTooLong
-          → 2 ^ 32 ≤ length (awaiting_on_payload ids false)
-      long_told unsent.PayloadTooLong true active tells is = tells.0.0
-      long_told unsent.OutOfMemory true active tells is = cc
-      long_told error false active tells is = absurd tells
-
-      -- it stays for more input
-      stays : (is_open : old.is_input_closed ≡ false) (told : Result (Unit {0}) EncodingError) (active : Active) (result : Result AwaitResponse Error) (new : MachineState)
-          → TellsIf is_told ids resolved told active → SettlesStay told (record old { active = active }) result new → Comes given m (Call.Await tree) old (awaited_as result) new
-      stays is_open (Ok done) active (Ok response) new tells settles =
-          let seen = tells_seen given becomes.machine is_told ids resolved active tells becomes.sees in
-          subst (λ (r : AwaitResponse). Comes given m (Call.Await tree) old (awaited_as (Ok r)) new) (sym settles.0)
-          (subst (λ (vm : MachineState). Waits given m (Call.Await tree) old vm) (sym settles.1) (record {
-            is_open = is_open;
+      -- a run of it is executed
+      executes : (handle : ℕ) (response : AwaitResponse) (new : MachineState) → response ≡ ExecuteRun handle → HandsOutRun waits handle (record old { active = resolved }) new
+          → Comes given m (Call.Await tree) old (awaited_as (Ok response)) new
+      executes handle response new is hands =
+          subst (λ (r : AwaitResponse). Comes given m (Call.Await tree) old (awaited_as (Ok r)) new) (sym is)
+          (subst (λ (vm : MachineState). Executes given m (Call.Await tree) old handle vm) (sym hands.others) (record {
             waits = waits;
             machine = becomes.machine;
             replies = becomes.replies;
-            driven = driven_on given m becomes.machine old active driven seen.sees (seen.version ∙ ap (λ (w : Written). w.version) unwritten)
-                (commands_stay m becomes.machine old.active.output active.output becomes.written (seen.commands ∙ ap (λ (w : Written). w.has_commands) unwritten) driven.commands);
+            driven = driven_asleep resolved new.runs becomes.sees refl refl;
             written = becomes.written;
-            resolved = resolved;
             unwritten = unwritten;
-            tells = tells;
+            looks = hands.looks;
             others = refl;
           }))
-      stays is_open (Ok done) active (Err answer) new tells settles = absurd settles
-      stays is_open (Err error) active (Ok response) new tells settles = absurd settles
-      stays is_open (Err error) active (Err answer) new tells settles =
-          fails_unwritten error answer new
-          (λ is. subst (λ (b : Bool). 2 ^ 32 ≤ length (waiting_payload b old.version ids)) (sym is_open) (long_told error is_told active tells is))
-          (subst (λ (a : Active). FailsUnwritten error (record old { active = a }) answer new) (untold is_told ids resolved active error tells) settles)
 
-      -- it is suspended
-      suspends : (is_closed : old.is_input_closed ≡ true) (written : Result (Unit {0}) EncodingError) (active : Active) (answer : Error) (new : MachineState) → Suspends ids resolved written active
-          → ClosesAs written (record old { active = active }) answer new → Comes given m (Call.Await tree) old (awaited_as (Err answer)) new
-      suspends is_closed (Ok done) active answer new suspended closes =
-          subst (λ (e : Error). Comes given m (Call.Await tree) old (awaited_as (Err e)) new) (sym closes.0)
-          (subst (λ (vm : MachineState). IsSuspended given m (Call.Await tree) old vm) (sym closes.1) (record {
-            is_closed = is_closed;
-            waits = waits;
-            machine = becomes.machine;
-            replies = becomes.replies;
-            written = becomes.written;
-            resolved = resolved;
-            sees = becomes.sees;
-            unwritten = unwritten;
-            suspended = suspended;
-            others = refl;
-          }))
-      suspends is_closed (Err unsent.PayloadTooLong) active answer new suspended closes =
-          fails_unwritten unsent.PayloadTooLong answer new
-          (λ is. subst (λ (b : Bool). 2 ^ 32 ≤ length (waiting_payload b old.version ids)) (sym is_closed)
-          (subst (λ (v : Version). 2 ^ 32 ≤ length (suspension_payload_in v ids)) (ap (λ (w : Written). w.version) unwritten ∙ driven.written) suspended.0))
-          (subst (λ (a : Active). FailsUnwritten unsent.PayloadTooLong (record old { active = a }) answer new) suspended.1 closes)
-      suspends is_closed (Err unsent.OutOfMemory) active answer new suspended closes =
-          lacks_memory answer new (subst (λ (a : Active). LacksMemory (record old { active = a }) answer new) suspended closes)
+      -- ---- no run of it is to be executed
 
-      sleeps_as : (sleep : Sleep) (result : Result AwaitResponse Error) (new : MachineState) → SleepIs sleep (record old { active = resolved }) → SleepsAs sleep waits (record old { active = resolved }) result new
+      module _ (no_run : run_for waits old.runs ≡ None) where
+        abbrev is_told : Bool
+        is_told = tells_awaiting old.version old.options.awaiting_on_policy (executes_any old.runs) (waits_for_any waits)
+
+        -- a frame that tells it could not be written
+        fails_unwritten : (error : EncodingError) (answer : Error) (new : MachineState) → (error ≡ unsent.PayloadTooLong → 2 ^ 32 ≤ length (waiting_payload old.is_input_closed old.version ids))
+            → (old.is_input_closed ≡ true → is_executing_for waits old.runs ≡ false) → FailsUnwritten error (record old { active = resolved }) answer new → Comes given m (Call.Await tree) old (awaited_as (Err answer)) new
+        fails_unwritten unsent.PayloadTooLong answer new long idle fails =
+            fails_awaiting fails.cause resolved answer new (code_apart internal fails.cause refl (plain_code internal (Some too_long_text) fails.cause fails.causes)) (record {
+              cause = TooLong;
+              when = (refl, inr (inl (record { waits = waits; machine = becomes.machine; replies = becomes.replies; none = no_run; idle = idle; resolved = resolved; sees = becomes.sees; long = long refl })));
+              at = tt;
+              tells = told_plain resolved.journal internal (Some too_long_text) fails.cause fails.causes;
+              leaves = looked_asked old.active resolved looked;
+            }) unwritten fails.fails
+        fails_unwritten unsent.OutOfMemory answer new long idle fails = lacks_memory answer new fails
+
+        long_told : (error : EncodingError) (told : Bool) (active : Active) → TellsIf told ids resolved (Err error) active → error ≡ unsent.PayloadTooLong
+            → 2 ^ 32 ≤ length (awaiting_on_payload ids false)
+        long_told unsent.PayloadTooLong true active tells is = tells.0.0
+        long_told unsent.OutOfMemory true active tells is = cc
+        long_told error false active tells is = absurd tells
+
+        -- it waits, and tells of it or does not
+        waits_with : (told : Bool) (active : Active) (response : AwaitResponse) (new : MachineState) (input run : Bool) → response ≡ WaitingExternalProgress input run → new ≡ record old { active = active }
+            → TellsIf told ids resolved (Ok tt) active → tells_waiting old waits ≡ told → (old.is_input_closed ≡ false) ⊎ (is_executing_for waits old.runs ≡ true)
+            → Comes given m (Call.Await tree) old (awaited_as (Ok response)) new
+        waits_with told active response new input run is others tells same still =
+            let seen = tells_seen given becomes.machine told ids resolved active tells becomes.sees in
+            subst (λ (r : AwaitResponse). Comes given m (Call.Await tree) old (awaited_as (Ok r)) new) (sym is)
+            (subst (λ (vm : MachineState). Waits given m (Call.Await tree) old vm) (sym others) (record {
+              waits = waits;
+              is_open = still;
+              none = no_run;
+              machine = becomes.machine;
+              replies = becomes.replies;
+              driven = driven_asleep active old.runs seen.sees seen.version seen.commands;
+              written = becomes.written;
+              resolved = resolved;
+              unwritten = unwritten;
+              tells = subst (λ (b : Bool). TellsIf b ids resolved (Ok tt) active) (sym same) tells;
+              others = refl;
+            }))
+
+        -- it stays for more input
+        stays : (is_open : old.is_input_closed ≡ false) (executing : Bool) (told : Result (Unit {0}) EncodingError) (active : Active) (result : Result AwaitResponse Error) (new : MachineState)
+            → TellsIf is_told ids resolved told active → SettlesStay executing told (record old { active = active }) result new → Comes given m (Call.Await tree) old (awaited_as result) new
+        stays is_open executing (Ok done) active (Ok response) new tells settles =
+            waits_with is_told active response new true executing settles.0 settles.1 tells (ap (λ (b : Bool). not b && is_told) is_open) (inl is_open)
+        stays is_open executing (Ok done) active (Err answer) new tells settles = absurd settles
+        stays is_open executing (Err error) active (Ok response) new tells settles = absurd settles
+        stays is_open executing (Err error) active (Err answer) new tells settles =
+            fails_unwritten error answer new
+            (λ is. subst (λ (b : Bool). 2 ^ 32 ≤ length (waiting_payload b old.version ids)) (sym is_open) (long_told error is_told active tells is))
+            (λ is_closed. (let wrong : true ≡ false = sym is_closed ∙ is_open in cc))
+            (subst (λ (a : Active). FailsUnwritten error (record old { active = a }) answer new) (untold is_told ids resolved active error tells) settles)
+
+        -- it is suspended
+        suspends : (is_closed : old.is_input_closed ≡ true) (idle : is_executing_for waits old.runs ≡ false) (written : Result (Unit {0}) EncodingError) (active : Active) (answer : Error) (new : MachineState)
+            → Suspends ids resolved written active → ClosesAs written (record old { active = active }) answer new → Comes given m (Call.Await tree) old (awaited_as (Err answer)) new
+        suspends is_closed idle (Ok done) active answer new suspended closes =
+            subst (λ (e : Error). Comes given m (Call.Await tree) old (awaited_as (Err e)) new) (sym closes.0)
+            (subst (λ (vm : MachineState). IsSuspended given m (Call.Await tree) old vm) (sym closes.1) (record {
+              is_closed = is_closed;
+              waits = waits;
+              none = no_run;
+              idle = idle;
+              machine = becomes.machine;
+              replies = becomes.replies;
+              written = becomes.written;
+              resolved = resolved;
+              sees = becomes.sees;
+              unwritten = unwritten;
+              suspended = suspended;
+              others = refl;
+            }))
+        suspends is_closed idle (Err unsent.PayloadTooLong) active answer new suspended closes =
+            fails_unwritten unsent.PayloadTooLong answer new
+            (λ is. subst (λ (b : Bool). 2 ^ 32 ≤ length (waiting_payload b old.version ids)) (sym is_closed)
+            (subst (λ (v : Version). 2 ^ 32 ≤ length (suspension_payload_in v ids)) (ap (λ (w : Written). w.version) unwritten ∙ driven.written) suspended.0))
+            (λ closed. idle)
+            (subst (λ (a : Active). FailsUnwritten unsent.PayloadTooLong (record old { active = a }) answer new) suspended.1 closes)
+        suspends is_closed idle (Err unsent.OutOfMemory) active answer new suspended closes =
+            lacks_memory answer new (subst (λ (a : Active). LacksMemory (record old { active = a }) answer new) suspended closes)
+
+        sleeps_as : (sleep : Sleep) (result : Result AwaitResponse Error) (new : MachineState) → SleepIs sleep waits (record old { active = resolved }) → SleepsAs sleep waits (record old { active = resolved }) result new
+            → Comes given m (Call.Await tree) old (awaited_as result) new
+        sleeps_as sleeps.Stays result new is goes_on = stays is (is_executing_for waits old.runs) goes_on.told goes_on.active result new goes_on.tells goes_on.settles
+        sleeps_as sleeps.Unanswered result new is goes_on =
+            let flying : 0 < length no_reads.in_flight = subst (λ (reads : EphemeralReads). 0 < length reads.in_flight) driven.reads is.1 in
+            absurd (omega (arith, flying))
+        sleeps_as sleeps.Proposal (Ok response) new is goes_on =
+            waits_with false resolved response new false true goes_on.0 goes_on.1 refl (ap (λ (b : Bool). not b && is_told) is.0) (inr is.2)
+        sleeps_as sleeps.Proposal (Err answer) new is goes_on = absurd goes_on
+        sleeps_as sleeps.Suspends (Ok response) new is goes_on = absurd goes_on
+        sleeps_as sleeps.Suspends (Err answer) new is goes_on = suspends is.0 is.2 goes_on.written goes_on.active answer new goes_on.suspends goes_on.closes
+
+      sleeps_where : (found : Option ℕ) (result : Result AwaitResponse Error) (new : MachineState) → run_for waits old.runs ≡ found → SleepsWhere found waits (record old { active = resolved }) result new
           → Comes given m (Call.Await tree) old (awaited_as result) new
-      sleeps_as sleeps.Stays result new is goes_on = stays is goes_on.told goes_on.active result new goes_on.tells goes_on.settles
-      sleeps_as sleeps.Unanswered result new is goes_on =
-          let flying : 0 < length no_reads.in_flight = subst (λ (reads : EphemeralReads). 0 < length reads.in_flight) driven.reads is.1 in
-          absurd (omega (arith, flying))
-      sleeps_as sleeps.Suspends (Ok response) new is goes_on = absurd goes_on
-      sleeps_as sleeps.Suspends (Err answer) new is goes_on = suspends is.0 goes_on.written goes_on.active answer new goes_on.suspends goes_on.closes
+      sleeps_where (Some handle) (Ok response) new is hands = executes handle response new hands.0 hands.1
+      sleeps_where (Some handle) (Err answer) new is hands = absurd hands
+      sleeps_where None result new is goes_on = sleeps_as is goes_on.sleep result new goes_on.is goes_on.goes_on
 
   -- ---- a cancellation stops among its requests
 
@@ -298,14 +350,14 @@ module _ (given : Invocation) (m : Machine) (tree : AwaitTree ℕ) (old : Machin
   goes_on_as (Ok AnyCompleted) resolved (Ok response) new looks awaits goes_on =
       subst (λ (r : AwaitResponse). Comes given m (Call.Await tree) old (awaited_as (Ok r)) new) (sym goes_on.0)
       (subst (λ (vm : MachineState). Answers given m (Call.Await tree) old Answer.Woken vm) (sym goes_on.1)
-      (answered_quietly given m (Call.Await tree) old driven (none_taken m (Call.Await tree) refl refl) Answer.Woken resolved awaits (unwritten resolved looks)))
+      (answered_quietly given m (Call.Await tree) old driven old.runs (leaves_runs m (Call.Await tree) old refl) (none_taken m (Call.Await tree) refl refl) Answer.Woken resolved awaits (unwritten resolved looks)))
   goes_on_as (Ok AnyCompleted) resolved (Err answer) new looks awaits goes_on = absurd goes_on
   goes_on_as (Ok Cancelled) resolved (Ok response) new keeps awaits goes_on =
       subst (λ (r : AwaitResponse). Comes given m (Call.Await tree) old (awaited_as (Ok r)) new) (sym goes_on.0)
       (subst (λ (vm : MachineState). Answers given m (Call.Await tree) old Answer.Cancelled vm) (sym goes_on.1)
-      (answered given m (Call.Await tree) old driven (inl refl) Answer.Cancelled resolved awaits))
+      (answered given m (Call.Await tree) old driven old.runs (leaves_runs m (Call.Await tree) old refl) (inl refl) Answer.Cancelled resolved awaits))
   goes_on_as (Ok Cancelled) resolved (Err answer) new keeps awaits goes_on = absurd goes_on
-  goes_on_as (Ok (Asleep waits)) resolved result new looks awaits goes_on = sleeps_as resolved looks waits awaits goes_on.sleep result new goes_on.is goes_on.goes_on
+  goes_on_as (Ok (Asleep waits)) resolved result new looks awaits goes_on = sleeps_where resolved looks waits awaits (run_for waits old.runs) result new refl goes_on
   goes_on_as (Err (unawaited.UncompletedInReplay waits)) resolved (Ok response) new looks awaits goes_on = absurd goes_on
   goes_on_as (Err (unawaited.UncompletedInReplay waits)) resolved (Err answer) new looks awaits goes_on =
       uncompleted_fails resolved looks waits goes_on.cause answer new goes_on.causes awaits goes_on.fails

@@ -23,13 +23,14 @@ use Rattle.vm_start.specs.Phases.{kept_error}
 use Rattle.vm_start.specs.declared.phase.Phase.TheVariants as phases
 use Rattle.vm_progress.specs.Uncompleted.{started_id}
 use Rattle.vm_refusals.specs.Refusals.{refusal_meant, refusal_code, refusal_text, text_of_refusal}
+use Rattle.vm_runs.specs.Runs.{Runs}
 use Rattle.vm_refusals.specs.declared.refusal_error.RefusalError.{RefusalError}
 use Rattle.vm_feeding.specs.Passed.{IsRefused, checks_off, MachineFails, MachineState, Tells, TellsLast, Unless}
 use Rattle.vm_outcomes.specs.Carrying.{Fails}
-use Rattle.vm_outcomes.specs.Causes.{Cause, ByFault, NoNumber, TooLong, NoReplay, NoRuns, NoMemory, FailsAt, IsAsked, IsAsBefore, IsLookedAt, Leaves, Unmatched, IsUnmatched, unmatched_code, unmatched_text, TellsEither, FaultTells, CauseTells, moment_event, HasCause}
+use Rattle.vm_outcomes.specs.Causes.{Cause, ByFault, NoNumber, TooLong, NoReplay, NoMemory, FailsAt, IsAsked, IsAsBefore, IsLookedAt, Leaves, Unmatched, IsUnmatched, unmatched_code, unmatched_text, TellsEither, FaultTells, CauseTells, moment_event, HasCause}
 use Rattle.vm_outcomes.specs.Driven.{reply_of}
 use Rattle.vm_outcomes.specs.Stopping.{HasPut, requests_passed_on, IsUnmatchedNext}
-use Rattle.vm_outcomes.proofs.Answering.{nothing_written}
+use Rattle.vm_outcomes.proofs.Answering.{MayBe, nothing_written}
 
 -- ---- what is told
 
@@ -55,10 +56,10 @@ unless_plain journal code text (Ok error) tells = inl tells
 unless_plain journal code text (Err refused) tells = tt
 
 -- of a recorded command that is not the call's
-mismatch_told : (version : Version) (invocation : Bytes) (left : Commands) (journal : JournalCounts) (slots : Slots) (call : Call) (why : Unmatched) (told : Result Error AllocError) → IsUnmatched left why
-    → Unless false (TellsLast journal (unmatched_code why) (Some (unmatched_text why))) told → IfOk told (λ error. FaultTells version invocation left journal slots call Mismatch error)
-mismatch_told version invocation left journal slots call why (Ok error) is tells = (why, (is, tells))
-mismatch_told version invocation left journal slots call why (Err refused) is tells = tt
+mismatch_told : (version : Version) (invocation : Bytes) (left : Commands) (journal : JournalCounts) (slots : Slots) (runs : Runs) (call : Call) (why : Unmatched) (told : Result Error AllocError) → IsUnmatched left why
+    → Unless false (TellsLast journal (unmatched_code why) (Some (unmatched_text why))) told → IfOk told (λ error. FaultTells version invocation left journal slots runs call Mismatch error)
+mismatch_told version invocation left journal slots runs call why (Ok error) is tells = (why, (is, tells))
+mismatch_told version invocation left journal slots runs call why (Err refused) is tells = tt
 
 -- ---- what is left
 
@@ -95,7 +96,6 @@ leaves_on (ByFault (Refused refusal)) front old between new others leaves = befo
 leaves_on NoNumber front old between new others leaves = asked_on front old between new others leaves
 leaves_on TooLong front old between new others leaves = asked_on front old between new others leaves
 leaves_on NoReplay front old between new others leaves = before_on old between new others leaves
-leaves_on NoRuns front old between new others leaves = before_on old between new others leaves
 leaves_on NoMemory front old between new others leaves = asked_on front old between new others leaves
 
 -- ---- causes
@@ -125,7 +125,7 @@ module _ (given : Invocation) (m : Machine) (call : Call) (vm : MachineState) wh
       cause = ByFault Mismatch;
       when = replies;
       at = at;
-      tells = mismatch_told vm.version (started_id vm.start) far.put.left after.journal (slots_of after.results) call why told is tells;
+      tells = mismatch_told vm.version (started_id vm.start) far.put.left after.journal (slots_of after.results) vm.runs call why told is tells;
       leaves = asked;
     }
 
@@ -154,9 +154,9 @@ pub fails_of : (told : Result Error AllocError) (old : MachineState) (answer : E
 fails_of told old answer new is fails =
     subst (λ (kept : Option Error). FailsAs old.version old.options.journal_mismatch_retry_behavior told kept old.phase old.active.output answer new.phase new.active.output) (ap kept_error is) fails.fails
 
-refusal_tells : (version : Version) (invocation : Bytes) (left : Commands) (journal : JournalCounts) (slots : Slots) (call : Call) (error : RefusalError) (told : Result Error AllocError) → error.version ≡ version → error.event.now ≡ moment_event call
-    → IfOk told (Tells (refusal_code error.refusal) (Some (refusal_text error))) → IfOk told (λ e. FaultTells version invocation left journal slots call (Refused (refusal_meant error.refusal)) e)
-refusal_tells version invocation left journal slots call error (Ok e) speaks names tells = (
+refusal_tells : (version : Version) (invocation : Bytes) (left : Commands) (journal : JournalCounts) (slots : Slots) (runs : Runs) (call : Call) (error : RefusalError) (told : Result Error AllocError) → error.version ≡ version → error.event.now ≡ moment_event call
+    → IfOk told (Tells (refusal_code error.refusal) (Some (refusal_text error))) → IfOk told (λ e. FaultTells version invocation left journal slots runs call (Refused (refusal_meant error.refusal)) e)
+refusal_tells version invocation left journal slots runs call error (Ok e) speaks names tells = (
   error.refusal,
   (
     refl,
@@ -164,7 +164,7 @@ refusal_tells version invocation left journal slots call error (Ok e) speaks nam
         (subst (λ (event : List ℕ). Tells (refusal_code error.refusal) (Some (text_of_refusal error.refusal error.version event)) e) names tells),
   ),
 )
-refusal_tells version invocation left journal slots call error (Err refused) speaks names tells = tt
+refusal_tells version invocation left journal slots runs call error (Err refused) speaks names tells = tt
 
 module _ (given : Invocation) (m : Machine) (call : Call) (old : MachineState) (is : old.phase ≡ phases.Active) where
   -- what is written changes no cause
@@ -174,34 +174,48 @@ module _ (given : Invocation) (m : Machine) (call : Call) (old : MachineState) (
     cause = has.cause;
     when = has.when;
     at = has.at;
-    tells = subst (λ (a : Active). IfOk told (λ error. CauseTells old.version (started_id old.start) far.put.left a.journal (slots_of a.results) call has.cause error)) (sym others) has.tells;
+    tells = subst (λ (a : Active). IfOk told (λ error. CauseTells old.version (started_id old.start) far.put.left a.journal (slots_of a.results) old.runs call has.cause error)) (sym others) has.tells;
     leaves = leaves_on has.cause far.front old.active active new others has.leaves;
   }
 
+  may_be : (runs new : Runs) → new ≡ runs → MayBe m call old runs → MayBe m call old new
+  may_be runs new same (inl is) = inl (same ∙ is)
+  may_be runs new same (inr is) = inr (same ∙ is)
+
   -- where some of its requests were put
-  pub failed_behind : (told : Result Error AllocError) (far : HasPut given m call old) (active : Active) (answer : Error) (new : MachineState) → HasCause given m call old far active told
-      → active.output ≡ writes_frames far.more old.active.output → MachineFails told (record old { active = active }) answer new → Fails given m call old answer new
-  failed_behind told far active answer new has_cause written fails = record {
+  pub failed_keeping : (told : Result Error AllocError) (far : HasPut given m call old) (active : Active) (runs : Runs) (answer : Error) (new : MachineState) → HasCause given m call old far active told
+      → active.output ≡ writes_frames far.more old.active.output → MayBe m call old runs → MachineFails told (record old { active = active; runs = runs }) answer new → Fails given m call old answer new
+  failed_keeping told far active runs answer new has_cause written may fails = record {
     told = told;
     far = far;
     has_cause = written_on told far active new.active (ap (λ (vm : MachineState). vm.active) fails.others) has_cause;
-    fails = subst (λ (w : Written). FailsNow old.version old.options.journal_mismatch_retry_behavior told w answer new.phase new.active.output) written (fails_of told (record old { active = active }) answer new is fails);
-    others = fails.others ∙ sym (ap (λ (vm : MachineState). record old { phase = new.phase; active = vm.active }) fails.others);
+    fails = subst (λ (w : Written). FailsNow old.version old.options.journal_mismatch_retry_behavior told w answer new.phase new.active.output) written
+        (fails_of told (record old { active = active; runs = runs }) answer new is fails);
+    runs = may_be runs new.runs (ap (λ (vm : MachineState). vm.runs) fails.others) may;
+    others = fails.others ∙ sym (ap (λ (vm : MachineState). record old { phase = new.phase; active = vm.active; runs = vm.runs }) fails.others);
   }
 
+  pub failed_behind : (told : Result Error AllocError) (far : HasPut given m call old) (active : Active) (answer : Error) (new : MachineState) → HasCause given m call old far active told
+      → active.output ≡ writes_frames far.more old.active.output → MachineFails told (record old { active = active }) answer new → Fails given m call old answer new
+  failed_behind told far active answer new has_cause written fails = failed_keeping told far active old.runs answer new has_cause written (inl refl) fails
+
   -- where none was
+  pub failed_alone : (told : Result Error AllocError) (active : Active) (runs : Runs) (answer : Error) (new : MachineState) → HasCause given m call old (none_put given m call old) active told
+      → active.output ≡ old.active.output → MayBe m call old runs → MachineFails told (record old { active = active; runs = runs }) answer new → Fails given m call old answer new
+  failed_alone told active runs answer new has_cause unwritten may fails =
+      failed_keeping told (none_put given m call old) active runs answer new has_cause (unwritten ∙ nothing_written old.active.output) may fails
+
   pub failed : (told : Result Error AllocError) (active : Active) (answer : Error) (new : MachineState) → HasCause given m call old (none_put given m call old) active told
       → active.output ≡ old.active.output → MachineFails told (record old { active = active }) answer new → Fails given m call old answer new
-  failed told active answer new has_cause unwritten fails =
-      failed_behind told (none_put given m call old) active answer new has_cause (unwritten ∙ nothing_written old.active.output) fails
+  failed told active answer new has_cause unwritten fails = failed_alone told active old.runs answer new has_cause unwritten (inl refl) fails
 
   -- a call that is refused
-  pub refused_call : (error : RefusalError) (answer : Error) (new : MachineState) → refusal_of given.version call ≡ Some (refusal_meant error.refusal) → error.version ≡ old.version
-      → error.event.now ≡ moment_event call → IsRefused error old answer new → Fails given m call old answer new
-  refused_call error answer new refuses speaks names is_refused = failed is_refused.cause old.active answer new (record {
+  pub refused_call : (error : RefusalError) (runs : Runs) (answer : Error) (new : MachineState) → refusal_of given.version call ≡ Some (refusal_meant error.refusal) → error.version ≡ old.version
+      → error.event.now ≡ moment_event call → MayBe m call old runs → IsRefused error (record old { runs = runs }) answer new → Fails given m call old answer new
+  refused_call error runs answer new refuses speaks names may is_refused = failed_alone is_refused.cause old.active runs answer new (record {
     cause = ByFault (Refused (refusal_meant error.refusal));
     when = ap (λ (r : Option Refusal). reply_unless_refused (same_header (checks_off old.options.non_determinism_checks) call) given m call r) refuses;
     at = tt;
-    tells = refusal_tells old.version (started_id old.start) m.left old.active.journal (slots_of old.active.results) call error is_refused.cause speaks names is_refused.causes;
+    tells = refusal_tells old.version (started_id old.start) m.left old.active.journal (slots_of old.active.results) old.runs call error is_refused.cause speaks names is_refused.causes;
     leaves = refl;
-  }) refl is_refused.fails
+  }) refl may is_refused.fails

@@ -37,7 +37,7 @@ use Rattle.vm_outcomes.specs.Driven.{IsDriven}
 use Rattle.vm_outcomes.specs.Outcomes.{answered_as}
 use Rattle.vm_outcomes.specs.declared.outcome.CallOutcome.{CallOutcome}
 use Rattle.vm_outcomes.specs.declared.outcome.CallOutcome.TheVariants.{Answered}
-use Rattle.vm_outcomes.proofs.Answering.{answered, answered_quietly, none_taken, nothing_written}
+use Rattle.vm_outcomes.proofs.Answering.{is_run, leaves_runs, answered, answered_quietly, none_taken, nothing_written}
 use Rattle.vm_machine.specs.PassedMachine.{child_not_id_error}
 use Rattle.vm_outcomes.proofs.Failing.{none_put, no_memory, unless_plain, looked_at, looked_asked, failed}
 use Rattle.vm_outcomes.proofs.Steps.{steps_of}
@@ -65,14 +65,14 @@ signal_left given m active sees has = by_test (leb_tells (m.signals + 1) (2 ^ 32
 
 -- ---- what makes a handle
 
-module _ (given : Invocation) (m : Machine) (call : Call) (old : MachineState) (driven : IsDriven given m old) (unrefused : refusal_of given.version call ≡ None) where
+module _ (given : Invocation) (m : Machine) (call : Call) (old : MachineState) (driven : IsDriven given m old) (unrefused : refusal_of given.version call ≡ None) (quiet : is_run call ≡ false) where
   handle_settles : {Taken : Type 0} (answer : Taken → Answer) (Lacks : Active → Type 0) (lacks : Lacks old.active → LacksNumber m call)
       (left : (Lacks old.active → ⊥) → (signals_of call ≡ 0) ⊎ (m.signals + signals_of call ≤ 2 ^ 32)) (made : Result Taken NumberError) (active : Active) (asked : IsAsked [] old.active.journal active.journal)
       (result : Result Taken Error) (new : MachineState) → MakesHandle (checks_off old.options.non_determinism_checks) given m call answer Lacks old.active made active
       → AnswersBy NumberCauses made (record old { active = active }) result new → Comes given m call old (answered_as answer result) new
   handle_settles {Taken = Taken} answer Lacks lacks left (Ok taken) active asked (Ok got) new makes answers =
       subst (λ (t : Taken). Answers given m call old (answer t) new) (sym answers.0)
-      (subst (λ (vm : MachineState). Answers given m call old (answer taken) vm) (sym answers.1) (answered given m call old driven (left makes.2) (answer taken) active makes.0))
+      (subst (λ (vm : MachineState). Answers given m call old (answer taken) vm) (sym answers.1) (answered given m call old driven old.runs (leaves_runs m call old quiet) (left makes.2) (answer taken) active makes.0))
   handle_settles answer Lacks lacks left (Ok taken) active asked (Err told) new makes answers = absurd answers
   handle_settles answer Lacks lacks left (Err lack) active asked (Ok got) new makes answers = absurd answers
   handle_settles answer Lacks lacks left (Err numbers.IdsExhausted) active asked (Err told) new makes answers =
@@ -87,7 +87,7 @@ signal_comes : (given : Invocation) (m : Machine) (name : Text) (old : MachineSt
 signal_comes given m name old driven result new steps =
     steps_of (IsCalled (MakesSignal name) NumberCauses) IsNoSignal None old driven.phase
     (λ (r : Result ℕ Error) (vm : MachineState). Comes given m (Call.Signal name) old (answered_as (λ handle. Answer.Handle handle) r) vm)
-    (λ r vm free called. handle_settles given m (Call.Signal name) old driven refl (λ handle. Answer.Handle handle) LacksHandle (λ lacks. inr (inr (lacks_handle given m old.active driven.sees lacks))) (λ has. inl refl)
+    (λ r vm free called. handle_settles given m (Call.Signal name) old driven refl refl (λ handle. Answer.Handle handle) LacksHandle (λ lacks. inr (inr (lacks_handle given m old.active driven.sees lacks))) (λ has. inl refl)
     called.made called.active (inl called.does.1) r vm (called.does.0 (checks_off old.options.non_determinism_checks) given m driven.sees) called.answers)
     (λ error told vm some refused. cc) result new steps
 
@@ -105,7 +105,7 @@ awakeable_answer made = Answer.Awakeable made.id made.handle
 awakeable_made : (given : Invocation) (m : Machine) (old : MachineState) (driven : IsDriven given m old) (replay : JournalReplay) (result : Result AwakeableHandle Error) (new : MachineState)
     → old.options.journal_replay ≡ replay → IsAwakeableWhere replay old result new → Comes given m Call.Awakeable old (answered_as awakeable_answer result) new
 awakeable_made given m old driven Enabled result new is called =
-    handle_settles given m Call.Awakeable old driven refl awakeable_answer LacksSignal (λ lacks. lacks_signal given m old.active driven.sees lacks) (λ has. inr (signal_left given m old.active driven.sees has))
+    handle_settles given m Call.Awakeable old driven refl refl awakeable_answer LacksSignal (λ lacks. lacks_signal given m old.active driven.sees lacks) (λ has. inr (signal_left given m old.active driven.sees has))
     called.made called.active (inl called.does.1) result new (called.does.0 (checks_off old.options.non_determinism_checks) given m driven.id driven.sees) called.answers
 awakeable_made given m old driven Disabled (Ok made) new is fails = absurd fails
 awakeable_made given m old driven Disabled (Err answer) new is fails =
@@ -139,7 +139,7 @@ module _ (given : Invocation) (m : Machine) (handle : ℕ) (old : MachineState) 
   take_settles (Ok taken) active (Ok got) new does answers =
       subst (λ (t : Option Value). Answers given m (Call.Take handle) old (Answer.Taken t) new) (sym answers.0)
       (subst (λ (vm : MachineState). Answers given m (Call.Take handle) old (Answer.Taken taken) vm) (sym answers.1)
-      (answered_quietly given m (Call.Take handle) old driven (none_taken m (Call.Take handle) refl refl) (Answer.Taken taken) active (does.taken given m (checks_off old.options.non_determinism_checks) driven.sees) (ap (λ (a : Active). a.output) does.others)))
+      (answered_quietly given m (Call.Take handle) old driven old.runs (leaves_runs m (Call.Take handle) old refl) (none_taken m (Call.Take handle) refl refl) (Answer.Taken taken) active (does.taken given m (checks_off old.options.non_determinism_checks) driven.sees) (ap (λ (a : Active). a.output) does.others)))
   take_settles (Ok taken) active (Err told) new does answers = absurd answers
   take_settles (Err error) active (Ok got) new does answers = absurd answers
   take_settles (Err untaken.KeyNotText) active (Err told) new does answers =
@@ -187,5 +187,7 @@ look_carried handle completed old looks = λ given m driven. record {
   frames = nothing_written old.active.output;
   fit = tt;
   numbers = none_taken m (Call.IsCompleted handle) refl refl;
+  kept = refl;
+  runs = (leaves_runs m (Call.IsCompleted handle) old refl).bodies;
   others = refl;
 }

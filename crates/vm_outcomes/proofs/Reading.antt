@@ -33,7 +33,7 @@ use Rattle.vm_outcomes.specs.Driven.{IsDriven}
 use Rattle.vm_outcomes.specs.Stopping.{requests_passed_on}
 use Rattle.vm_outcomes.specs.Outcomes.{answered_as}
 use Rattle.vm_outcomes.specs.declared.outcome.CallOutcome.{CallOutcome}
-use Rattle.vm_outcomes.proofs.Answering.{no_signal, answered}
+use Rattle.vm_outcomes.proofs.Answering.{is_run, leaves_runs, no_signal, answered}
 use Rattle.vm_outcomes.proofs.Calling.{lacks_completions}
 use Rattle.vm_outcomes.proofs.Failing.{none_put, no_memory, told_last, mismatches, failed}
 use Rattle.vm_outcomes.proofs.Steps.{steps_of}
@@ -44,7 +44,7 @@ at_read eager lazy true known name old new told = inr (type_in_replay eager lazy
 at_read eager lazy false known name old new told = inr (type_behind eager lazy known, (name, told))
 
 module _ (given : Invocation) (m : Machine) (call : Call) (old : MachineState) (driven : IsDriven given m old) (unrefused : refusal_of given.version call ≡ None)
-    (same : length (ids_of m.completions m.signals call) ≡ completions_of call) (alone : requests_passed_on given m call ≡ []) where
+    (same : length (ids_of m.completions m.signals call) ≡ completions_of call) (alone : requests_passed_on given m call ≡ []) (quiet : is_run call ≡ false) where
   module _ {L E : Type 0} (lazy_difference : L → L → List ℕ) (eager_difference : E → E → List ℕ) (empty : FixedError) (violates : fixed_code empty ≡ protocol_violation) where
     read_cause : (active : Active) (asked : IsAsked [] old.active.journal active.journal) (error : ReadError L E) (told : Result Error AllocError) → ReadFailsAs (checks_off old.options.non_determinism_checks) given m call old.active error
         → ReadCauses lazy_difference eager_difference empty active.journal error told → HasCause given m call old (none_put given m call old) active told
@@ -79,7 +79,7 @@ module _ (given : Invocation) (m : Machine) (call : Call) (old : MachineState) (
         → Comes given m call old (answered_as (λ handle. Answer.Handle handle) result) new
     read_settles (Ok handle) active asked (Ok got) new reads settles =
         subst (λ (n : ℕ). Answers given m call old (Answer.Handle n) new) (sym settles.0)
-        (subst (λ (vm : MachineState). Answers given m call old (Answer.Handle handle) vm) (sym settles.1) (answered given m call old driven (inl (no_signal m.completions m.signals call same)) (Answer.Handle handle) active reads))
+        (subst (λ (vm : MachineState). Answers given m call old (Answer.Handle handle) vm) (sym settles.1) (answered given m call old driven old.runs (leaves_runs m call old quiet) (inl (no_signal m.completions m.signals call same)) (Answer.Handle handle) active reads))
     read_settles (Ok handle) active asked (Err told) new reads settles = absurd settles
     read_settles (Err error) active asked (Ok got) new reads settles = absurd settles
     read_settles (Err error) active asked (Err told) new reads settles =
@@ -100,7 +100,7 @@ module _ (given : Invocation) (m : Machine) (call : Call) (old : MachineState) (
 -- a read is carried out
 pub read_carried : {L E : Type 0} (kind : ReadKind L E) (call : Call) (known : Active → Bool) (name : Text) (old : MachineState) (result : Result ℕ Error) (new : MachineState) (outcome : CallOutcome)
     → outcome ≡ answered_as (λ handle. Answer.Handle handle) result → fixed_code kind.empty ≡ protocol_violation → ((version : ℕ) → refusal_of version call ≡ None)
-    → ((n signal : ℕ) → length (ids_of n signal call) ≡ completions_of call) → ((given : Invocation) (m : Machine) → requests_passed_on given m call ≡ []) → StepsOfRead kind call known name old result new → CarriesOut call old outcome new
-read_carried kind call known name old result new outcome is violates unrefused same alone steps = λ given m driven.
+    → ((n signal : ℕ) → length (ids_of n signal call) ≡ completions_of call) → ((given : Invocation) (m : Machine) → requests_passed_on given m call ≡ []) → is_run call ≡ false → StepsOfRead kind call known name old result new → CarriesOut call old outcome new
+read_carried kind call known name old result new outcome is violates unrefused same alone quiet steps = λ given m driven.
     subst (λ (o : CallOutcome). Comes given m call old o new) (sym is)
-    (read_comes given m call old driven (unrefused given.version) (same m.completions m.signals) (alone given m) kind known name violates result new steps)
+    (read_comes given m call old driven (unrefused given.version) (same m.completions m.signals) (alone given m) quiet kind known name violates result new steps)

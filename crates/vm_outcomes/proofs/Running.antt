@@ -1,75 +1,80 @@
--- A run is not carried out; and a machine that has failed, and one that is closed, stays so.
-use Rattle.std.proofs.Common.{◌≡◌, Bool, true, None, Result, Ok, Err, IfOk, refl, sym, subst}
-use Rattle.std.specs.declared.alloc.AllocError.{AllocError}
+-- A run is carried out; and a machine that has failed, and one that is closed, stays so.
+use Rattle.std.proofs.Common.{◌≡◌, ◌+◌, inl, inr, ℕ, Bool, true, false, if◌then◌else◌, [], length, Result, Ok, Err, IfOk, refl, ap, subst, ◌∙◌}
 use Rattle.journal_model.specs.Notification.{Text}
 use Rattle.journal_model.specs.Run.{Invocation}
+use Rattle.journal_model.specs.declared.call.Answer.{Answer}
 use Rattle.journal_model.specs.declared.call.Call.{Call}
-use Rattle.attempt_model.specs.Machine.{Machine}
+use Rattle.attempt_model.specs.Machine.{Machine, next_slot}
+use Rattle.attempt_model.specs.Results.{Slots}
+use Rattle.body_laws.specs.Bodies.{has_come}
 use Rattle.protocol_errors.specs.declared.error.Error.{Error}
-use Rattle.protocol_types.specs.declared.version.Version.{Version}
-use Rattle.vm_context.specs.Journal.{JournalCounts}
-use Rattle.vm_context.specs.Output.{Written}
-use Rattle.vm_start.specs.Failing.{Fails as FailsBy}
+use Rattle.protocol_types.specs.declared.message_type.MessageType.TheVariants.{RunCommand}
+use Rattle.vm_awaits.specs.Calls.{has_come as has_come_among}
+use Rattle.vm_awaits.specs.Views.{AsyncResults}
+use Rattle.vm_calls.specs.Active.{Sees}
+use Rattle.vm_calls.specs.declared.active.Active.{Active}
+use Rattle.vm_context.specs.Journal.{after_command}
 use Rattle.vm_start.specs.Phases.{kept_error}
 use Rattle.vm_start.specs.declared.phase.Phase.{Phase}
 use Rattle.vm_start.specs.declared.phase.Phase.TheVariants as phases
 use Rattle.vm_feeding.specs.Asking.{IsReady}
 use Rattle.vm_feeding.specs.Passed.{MachineState}
-use Rattle.vm_feeding.specs.Telling.{HostCauses, IsTold}
-use Rattle.vm_types.specs.declared.options.JournalMismatchRetryBehavior.{JournalMismatchRetryBehavior}
-use Rattle.vm_outcomes.specs.Carrying.{Fails, CarriesOut, StaysFailed, StaysClosed}
-use Rattle.vm_outcomes.specs.Causes.{NoRuns, no_runs_error}
+use Rattle.vm_proposals.specs.Calling.{CallsRun, KeepsBodiesOf}
+use Rattle.vm_proposals.specs.Running.{IsKept, KeepsRun, handle_called, is_known, run_called, run_of}
+use Rattle.vm_refusals.specs.declared.runs.RunHandle.{RunHandle}
+use Rattle.vm_runs.specs.Runs.{Runs, with_run}
+use Rattle.vm_runs.specs.declared.run.Run.{Run}
+use Rattle.vm_outcomes.specs.Carrying.{Comes, CarriesOut, StaysFailed, StaysClosed}
 use Rattle.vm_outcomes.specs.Driven.{IsDriven}
+use Rattle.vm_outcomes.specs.Outcomes.{answered_as}
+use Rattle.vm_outcomes.specs.Runs.{BodiesAreKept, runs_after}
 use Rattle.vm_outcomes.specs.declared.outcome.CallOutcome.{CallOutcome}
 use Rattle.vm_outcomes.specs.declared.outcome.CallOutcome.TheVariants.{Failed}
-use Rattle.vm_outcomes.proofs.Failing.{failed}
+use Rattle.vm_outcomes.proofs.Answering.{RunsIn}
+use Rattle.vm_outcomes.proofs.Calling.{call_comes}
 
 -- ---- runs
 
-host_cause : (version : Version) (journal : JournalCounts) (error : Error) (cause : Result Error AllocError) → error ≡ no_runs_error → HostCauses version journal error None cause
-    → IfOk cause (λ e. e ≡ no_runs_error)
-host_cause version journal error cause is causes =
-    let same : cause ≡ Ok no_runs_error = subst (λ (e : Error). HostCauses version journal e None cause) is causes in
-    subst (λ (c : Result Error AllocError). IfOk c (λ e. e ≡ no_runs_error)) (sym same) refl
+abbrev kept_where : (known : Bool) → (handle : ℕ) → Run → Runs → Runs
+kept_where known handle run runs = if known then runs else with_run handle run runs
 
-run_comes : (given : Invocation) (m : Machine) (name : Text) (old : MachineState) (driven : IsDriven given m old) (error : Error) (new : MachineState) (answer : Error)
-    → error ≡ no_runs_error → IsTold error None old new → IsReady new.phase (Err answer) → Fails given m (Call.Run name) old answer new
-run_comes given m name old driven error new answer is told ready =
-    let comes : Fails given m (Call.Run name) old told.fails.answer new =
-    failed given m (Call.Run name) old driven.phase told.cause old.active told.fails.answer new
-    (record { cause = NoRuns; when = (name, refl); at = tt; tells = host_cause old.version old.active.journal error told.cause is told.causes; leaves = refl }) refl told.fails.fails in
-    record {
-      told = comes.told;
-      far = comes.far;
-      has_cause = comes.has_cause;
-      fails = record {
-        told = comes.fails.told;
-        before = comes.fails.before;
-        tells = comes.fails.tells;
-        output = comes.fails.output;
-        phase_is = comes.fails.phase_is;
-        answers = subst (λ (p : Phase). IsReady p (Err answer)) comes.fails.phase_is ready;
-      };
-      others = comes.others;
-    }
+kept_as : (known : Bool) (handle : ℕ) (run : Run) (old new : Runs) → IsKept known handle run old new → new ≡ kept_where known handle run old
+kept_as true handle run old new is = is
+kept_as false handle run old new is = is.runs
 
--- a run is not carried out
-pub run_carried : (name : Text) (old : MachineState) (error : Error) (new : MachineState) (answer : Error) → error ≡ no_runs_error → IsTold error None old new
-    → IsReady new.phase (Err answer) → CarriesOut (Call.Run name) old (Failed answer) new
-run_carried name old error new answer is told ready = λ given m driven. run_comes given m name old driven error new answer is told ready
+module _ (given : Invocation) (m : Machine) (name : Text) (active : Active) (sees : Sees given active m) where
+  -- its outcome has come to both, or to none
+  known_is : is_known active ≡ has_come m m.completions
+  known_is = ap (λ (r : AsyncResults). has_come_among active.journal.completions r) sees.results ∙ ap (λ (n : ℕ). has_come m n) sees.completions
 
-fails_ready : (version : Version) (asked : JournalMismatchRetryBehavior) (cause : Result Error AllocError) (old : Phase) (before : Written) (answer : Error) (new : Phase) (after : Written) (ready : Bool)
-    → FailsBy version asked cause old before answer new after → IsReady new (Ok ready) → ⊥
-fails_ready version asked cause phases.WaitingStart before answer new after ready fails is_ready = subst (λ (p : Phase). IsReady p (Ok ready)) fails.phase_is is_ready
-fails_ready version asked cause (phases.WaitingReplayEntries left) before answer new after ready fails is_ready = subst (λ (p : Phase). IsReady p (Ok ready)) fails.phase_is is_ready
-fails_ready version asked cause phases.Active before answer new after ready fails is_ready = subst (λ (p : Phase). IsReady p (Ok ready)) fails.phase_is is_ready
-fails_ready version asked cause phases.Closed before answer new after ready fails is_ready = subst (λ (p : Phase). IsReady p (Ok ready)) fails.phase_is is_ready
-fails_ready version asked cause (phases.Failed kept) before answer new after ready fails is_ready = subst (λ (p : Phase). IsReady p (Ok ready)) fails.0 is_ready
+  -- its handle and its completion are the next ones of both
+  run_kept : (old new : Runs) → IsKept (is_known active) (handle_called active) (run_called name active) old new → new ≡ runs_after m (Call.Run name) active.journal old
+  run_kept old new is =
+      kept_as (is_known active) (handle_called active) (run_called name active) old new is
+      ∙ ap (λ (known : Bool). kept_where known (handle_called active) (run_called name active) old) known_is
+      ∙ ap (λ (slots : Slots). kept_where (has_come m m.completions) (17 + length slots) (run_called name active) old) (ap (λ (r : AsyncResults). r.slots) sees.results)
+      ∙ ap (λ (n : ℕ). kept_where (has_come m m.completions) (next_slot m) (run_of n (after_command RunCommand name active.journal)) old) sees.completions
 
--- a machine that was told an error has failed
-pub told_unready : (error : Error) (old new : MachineState) (ready : Bool) → IsTold error None old new → IsReady new.phase (Ok ready) → ⊥
-told_unready error old new ready told is_ready =
-    fails_ready old.version old.options.journal_mismatch_retry_behavior told.cause old.phase old.active.output told.fails.answer new.phase new.active.output ready told.fails.fails.fails is_ready
+module _ (given : Invocation) (m : Machine) (name : Text) (old : MachineState) (driven : IsDriven given m old) where
+  runs_in : (result : Result RunHandle Error) (new : Runs) → KeepsRun name old.active old.runs result new → IfOk result (λ run. KeepsBodiesOf m (Call.Run name) old.runs new) → RunsIn m (Call.Run name) old new result
+  runs_in (Ok run) new keeps bodies = record { kept = run_kept given m name old.active driven.sees old.runs new keeps.1; bodies = bodies }
+  runs_in (Err error) new (inl same) bodies = inl same
+  runs_in (Err error) new (inr is) bodies = inr (run_kept given m name old.active driven.sees old.runs new is)
+
+  bodies_of : (result : Result RunHandle Error) (new : MachineState) → BodiesAreKept (Call.Run name) old result new → IfOk result (λ run. KeepsBodiesOf m (Call.Run name) old.runs new.runs)
+  bodies_of (Ok run) new bodies = bodies given m driven.sees
+  bodies_of (Err error) new bodies = tt
+
+  run_comes : (result : Result RunHandle Error) (new : MachineState) → CallsRun name old result new → BodiesAreKept (Call.Run name) old result new
+      → Comes given m (Call.Run name) old (answered_as (λ run. Answer.Handle run.handle) result) new
+  run_comes result new calls bodies =
+      call_comes given m (Call.Run name) old driven new.runs _ (λ (run : RunHandle). Answer.Handle run.handle) [] RunCommand name result new refl refl refl
+      (runs_in result new.runs calls.keeps (bodies_of result new bodies)) calls.calls
+
+-- a run is carried out
+pub run_carried : (name : Text) (old : MachineState) (result : Result RunHandle Error) (new : MachineState) → CallsRun name old result new → BodiesAreKept (Call.Run name) old result new
+    → CarriesOut (Call.Run name) old (answered_as (λ run. Answer.Handle run.handle) result) new
+run_carried name old result new calls bodies = λ given m driven. run_comes given m name old driven result new calls bodies
 
 -- ---- machines that have failed
 

@@ -32,14 +32,16 @@ use Rattle.vm_commands.specs.Popping.{IsNoRequest, IsNextUnread}
 use Rattle.vm_context.specs.Journal.{JournalCounts, no_id_text}
 use Rattle.vm_start.specs.Phases.{unexpected_error}
 use Rattle.vm_start.specs.declared.phase.Phase.TheVariants as phases
+use Rattle.vm_progress.specs.Executing.{is_executing_for, run_for}
 use Rattle.vm_progress.specs.Uncompleted.{started_id, TellsUncompleted}
 use Rattle.vm_refusals.specs.Refusals.{refusal_meant, refusal_code, text_of_refusal}
 use Rattle.vm_refusals.specs.declared.refusal.CallRefusal.{CallRefusal}
 use Rattle.vm_machine.specs.PassedMachine.{child_not_id_error}
+use Rattle.vm_runs.specs.Runs.{Runs}
 use Rattle.vm_types.specs.declared.options.JournalReplay.TheVariants.{Disabled}
 use Rattle.vm_waiting.specs.Cancelling.{after_cancels}
 use Rattle.vm_waiting.specs.Suspending.{suspension_payload_in}
-use Rattle.vm_waiting.specs.WaitsFor.{ids_over, awaited_ids, waits_as}
+use Rattle.vm_waiting.specs.WaitsFor.{awaited_ids, waits_as}
 use Rattle.vm_waiting.specs.declared.waits_for.WaitsFor.{WaitsFor}
 use Rattle.vm_feeding.specs.Passed.{place_text, checks_off, MachineState, Tells, TellsLast}
 use Rattle.vm_outcomes.specs.Driven.{reply_of}
@@ -55,8 +57,6 @@ pub data Cause : Type 0 where
   TooLong : Cause
   -- which awakeables were made is not known where the journal of the earlier attempts is not replayed
   NoReplay : Cause
-  -- runs are not carried out
-  NoRuns : Cause
   NoMemory : Cause
 
 -- a completion, an awakeable's signal or a handle of this call has no number
@@ -75,11 +75,14 @@ waiting_payload true version ids = suspension_payload_in version ids
 waiting_payload false version ids = awaiting_on_payload ids false
 
 module _ (given : Invocation) (m : Machine) (call : Call) (vm : MachineState) where
-  -- the await waits, and what it would write of that is too long
+  -- The await waits, and what it would write of that is too long. No run of it is to be executed; nor is one being executed where it
+  -- would write its suspension.
   pub record IsLongWait : Type 0 where
     pub waits : WaitsFor
     pub machine : Machine
     pub replies : reply_of vm given m call ≡ waits_as waits machine
+    pub none : run_for waits vm.runs ≡ None
+    pub idle : vm.is_input_closed ≡ true → is_executing_for waits vm.runs ≡ false
     pub resolved : Active
     pub sees : Sees given resolved machine
     pub long : 2 ^ 32 ≤ length (waiting_payload vm.is_input_closed vm.version (awaited_ids resolved waits))
@@ -99,7 +102,6 @@ module _ (given : Invocation) (m : Machine) (call : Call) (vm : MachineState) wh
   FailsWhen far TooLong =
       (refusal_of given.version call ≡ None) × (((m.left ≡ []) × IsLong (checks_off vm.options.non_determinism_checks) given m call) ⊎ (IsLongWait ⊎ IsLongCancel far))
   FailsWhen far NoReplay = (call ≡ Call.Awakeable) × (vm.options.journal_replay ≡ Disabled)
-  FailsWhen far NoRuns = (name : Text) × (call ≡ Call.Run name)
   FailsWhen far NoMemory = Unit {0}
 
   -- the request is the next one that is not what is recorded next
@@ -114,10 +116,6 @@ abbrev pub moment_event : Call → List ℕ
 moment_event (Call.Sleep name wake_up now) = codes "sleep duration"
 moment_event (Call.Send target input execution_time name options) = codes "send delay"
 moment_event _ = []
-
--- the error of a run that is asked for
-abbrev pub no_runs_error : Error
-no_runs_error = plain_error unsupported_feature (codes "runs are not carried out")
 
 -- an error about no command, or about the one that was asked for last
 abbrev pub TellsEither : JournalCounts → ℕ → Option (List ℕ) → Error → Type 0
@@ -154,12 +152,12 @@ unmatched_text (Differs index difference) = mismatch_text ++ place_text index ++
 unmatched_text (Unanswered empty) = fixed_text empty
 
 -- What a call is told as that is not carried out, of this invocation and where this version is spoken, where these recorded commands were
--- left, and in the end these were asked for and handles stand for these ids: the code, the text, and the command that it is about, if one is.
-module _ (version : Version) (invocation : Bytes) (left : Commands) (journal : JournalCounts) (slots : Slots) (call : Call) where
+-- left, and in the end these were asked for, handles stand for these ids and these runs are kept: the code, the text, and the command that it is about, if one is.
+module _ (version : Version) (invocation : Bytes) (left : Commands) (journal : JournalCounts) (slots : Slots) (runs : Runs) (call : Call) where
   abbrev pub FaultTells : Fault → Error → Type 0
   FaultTells Mismatch told = (why : Unmatched) × (IsUnmatched left why × TellsLast journal (unmatched_code why) (Some (unmatched_text why)) told)
-  -- the ids that are waited for are those of handles of a tree, or the one that brings a child's invocation id
-  FaultTells UncompletedInReplay told = (waits : WaitsFor) × TellsUncompleted invocation (ids_over slots waits) told
+  -- what is waited for is what is left of a tree, or the one completion that brings a child's invocation id
+  FaultTells UncompletedInReplay told = (waits : WaitsFor) × TellsUncompleted invocation slots runs waits told
   FaultTells EndInReplay told = told ≡ unexpected_error phases.Active true (codes "end invocation")
   FaultTells KeysNotText told = told ≡ plain_error internal (codes "Cannot convert an eager state key into UTF-8 String")
   FaultTells ChildNotId told = told ≡ child_not_id_error
@@ -171,7 +169,6 @@ module _ (version : Version) (invocation : Bytes) (left : Commands) (journal : J
   CauseTells NoNumber told = TellsEither journal internal (Some no_id_text) told
   CauseTells TooLong told = TellsEither journal internal (Some too_long_text) told
   CauseTells NoReplay told = told ≡ plain_error unsupported_feature (codes "awakeables need journal replay")
-  CauseTells NoRuns told = told ≡ no_runs_error
   -- no error is made where memory is refused
   CauseTells NoMemory told = ⊥
 
@@ -204,7 +201,6 @@ Leaves (ByFault fault) front old new = LeavesFault fault front old new
 Leaves NoNumber front old new = IsAsked front old.journal new.journal
 Leaves TooLong front old new = IsAsked front old.journal new.journal
 Leaves NoReplay front old new = IsAsBefore old new
-Leaves NoRuns front old new = IsAsBefore old new
 Leaves NoMemory front old new = IsAsked front old.journal new.journal
 
 -- A cause that there is where the call has come so far with its requests, with the error that it is told by, or that memory was refused for
@@ -213,5 +209,5 @@ pub record HasCause (given : Invocation) (m : Machine) (call : Call) (vm : Machi
   pub cause : Cause
   pub when : FailsWhen given m call vm far cause
   pub at : FailsAt given m call vm far cause
-  pub tells : IfOk told (λ error. CauseTells vm.version (started_id vm.start) far.put.left after.journal (slots_of after.results) call cause error)
+  pub tells : IfOk told (λ error. CauseTells vm.version (started_id vm.start) far.put.left after.journal (slots_of after.results) vm.runs call cause error)
   pub leaves : Leaves cause far.front vm.active after

@@ -1,4 +1,5 @@
 pub mod Driven
+pub mod Runs
 pub mod Stopping
 pub mod Causes
 pub mod Carrying

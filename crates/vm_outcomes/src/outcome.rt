@@ -1,5 +1,5 @@
 // What a handler's call comes to.
-ghost use Rattle.std.specs.Prelude.{◌≡◌, Err};
+ghost use Rattle.std.specs.Prelude.{◌≡◌, Ok, Err};
 ghost use Rattle.journal_model.specs.declared.call.Answer.{Answer as Answers};
 ghost use Rattle.vm_outcomes.specs.Outcomes.{answered_as, ended_as, awaited_as};
 
@@ -12,8 +12,10 @@ use vm_types::AwaitResponse;
 pub enum CallOutcome {
     /// It is answered.
     Answered(Answer),
-    /// It is an await, and more input can come that completes it.
+    /// It is an await, and what completes it can come still: by more input, or by the outcome of a run that is being executed.
     Waiting,
+    /// It is an await, and the body of this run is to be executed now, which it waits for.
+    Executes(NotificationHandle),
     /// It is an await, and no more input comes: the suspension was written.
     Suspended,
     /// It was the end, which was written.
@@ -52,20 +54,25 @@ pub fn ended(made: Result<(), Error>) -> CallOutcome
     }
 }
 
-/// Of an await. A suspension is told as an error, and is none. For a handler no run is executed, and nothing is read of which nothing
-/// is recorded.
+/// Of an await. A suspension is told as an error, and is none. For a handler nothing is read of which nothing is recorded.
 pub fn awaited(made: Result<AwaitResponse, Error>) -> CallOutcome
     ensures { result ≡ awaited_as made }
 {
     match made {
-        Ok(AwaitResponse::AnyCompleted) => CallOutcome::Answered(Answer::Woken),
-        Ok(AwaitResponse::CancelSignalReceived) => CallOutcome::Answered(Answer::Cancelled),
-        Ok(
-            AwaitResponse::WaitingExternalProgress { .. }
-            | AwaitResponse::ExecuteRun(_)
-            | AwaitResponse::EphemeralNotificationReady(_),
-        ) => CallOutcome::Waiting,
+        Ok(response) => answered_or_waiting(response),
         Err(error) => failed_or_suspended(error),
+    }
+}
+
+fn answered_or_waiting(response: AwaitResponse) -> CallOutcome
+    ensures { result ≡ awaited_as (Ok response) }
+{
+    match response {
+        AwaitResponse::AnyCompleted => CallOutcome::Answered(Answer::Woken),
+        AwaitResponse::CancelSignalReceived => CallOutcome::Answered(Answer::Cancelled),
+        AwaitResponse::ExecuteRun(handle) => CallOutcome::Executes(handle),
+        AwaitResponse::WaitingExternalProgress { .. }
+        | AwaitResponse::EphemeralNotificationReady(_) => CallOutcome::Waiting,
     }
 }
 

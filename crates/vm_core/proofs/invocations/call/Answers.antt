@@ -12,10 +12,10 @@ returns-in-Ok c =
     (λ (made : CallHandle). Answer.Handles made.invocation_id_notification_handle made.call_notification_handle)
     c.args.vm.now.state (Ok c.in-Ok.made) c.sys_call.new.self.state
     (Answered (Answer.Handles c.in-Ok.made.invocation_id_notification_handle c.in-Ok.made.call_notification_handle))
-    refl (λ n signal. refl) (λ given m. refl) refl c.in-Ok.ensures
+    refl (λ n signal. refl) (λ given m. refl) refl refl c.in-Ok.ensures
 
 pub returns-in-Err : goal.returns-in-Err
 returns-in-Err c =
     carried (Call.Call c.args.target c.args.input c.args.name c.args.options)
     (λ (made : CallHandle). Answer.Handles made.invocation_id_notification_handle made.call_notification_handle)
-    c.args.vm.now.state (Err c.in-Err.error) c.sys_call.new.self.state (Failed c.in-Err.error) refl (λ n signal. refl) (λ given m. refl) refl c.in-Err.ensures
+    c.args.vm.now.state (Err c.in-Err.error) c.sys_call.new.self.state (Failed c.in-Err.error) refl (λ n signal. refl) (λ given m. refl) refl refl c.in-Err.ensures

@@ -11,10 +11,10 @@ returns-in-Ok c =
     carried (Call.Send c.args.target c.args.input c.args.execution_time c.args.name c.args.options)
     (λ (made : SendHandle). Answer.Handle made.invocation_id_notification_handle)
     c.args.vm.now.state (Ok c.in-Ok.made) c.sys_send.new.self.state (Answered (Answer.Handle c.in-Ok.made.invocation_id_notification_handle))
-    refl (λ n signal. refl) (λ given m. refl) refl c.in-Ok.ensures
+    refl (λ n signal. refl) (λ given m. refl) refl refl c.in-Ok.ensures
 
 pub returns-in-Err : goal.returns-in-Err
 returns-in-Err c =
     carried (Call.Send c.args.target c.args.input c.args.execution_time c.args.name c.args.options)
     (λ (made : SendHandle). Answer.Handle made.invocation_id_notification_handle)
-    c.args.vm.now.state (Err c.in-Err.error) c.sys_send.new.self.state (Failed c.in-Err.error) refl (λ n signal. refl) (λ given m. refl) refl c.in-Err.ensures
+    c.args.vm.now.state (Err c.in-Err.error) c.sys_send.new.self.state (Failed c.in-Err.error) refl (λ n signal. refl) (λ given m. refl) refl refl c.in-Err.ensures

@@ -5,4 +5,4 @@ use Rattle.vm_core.proofs.outside.cancel.Goals as goal
 
 pub returns : goal.returns
 returns c =
-    done_carried (Call.Cancel c.args.target_id) c.args.vm.now.state c.sys_cancel_invocation.result c.sys_cancel_invocation.new.self.state c.done.result c.done.ensures (λ n signal. refl) (λ given m. refl) refl c.sys_cancel_invocation.ensures
+    done_carried (Call.Cancel c.args.target_id) c.args.vm.now.state c.sys_cancel_invocation.result c.sys_cancel_invocation.new.self.state c.done.result c.done.ensures (λ n signal. refl) (λ given m. refl) refl refl c.sys_cancel_invocation.ensures

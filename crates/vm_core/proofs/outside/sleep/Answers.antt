@@ -5,4 +5,4 @@ use Rattle.vm_core.proofs.outside.sleep.Goals as goal
 
 pub returns : goal.returns
 returns c =
-    handle_carried (Call.Sleep c.args.name c.args.wake_up c.args.now) c.args.vm.now.state c.sys_sleep.result c.sys_sleep.new.self.state c.handled.result c.handled.ensures (λ n signal. refl) (λ given m. refl) refl c.sys_sleep.ensures
+    handle_carried (Call.Sleep c.args.name c.args.wake_up c.args.now) c.args.vm.now.state c.sys_sleep.result c.sys_sleep.new.self.state c.handled.result c.handled.ensures (λ n signal. refl) (λ given m. refl) refl refl c.sys_sleep.ensures

@@ -5,4 +5,4 @@ use Rattle.vm_core.proofs.promises.get_promise.Goals as goal
 
 pub returns : goal.returns
 returns c =
-    handle_carried (Call.GetPromise c.args.key) c.args.vm.now.state c.sys_get_promise.result c.sys_get_promise.new.self.state c.handled.result c.handled.ensures (λ n signal. refl) (λ given m. refl) refl c.sys_get_promise.ensures
+    handle_carried (Call.GetPromise c.args.key) c.args.vm.now.state c.sys_get_promise.result c.sys_get_promise.new.self.state c.handled.result c.handled.ensures (λ n signal. refl) (λ given m. refl) refl refl c.sys_get_promise.ensures

@@ -5,4 +5,4 @@ use Rattle.vm_core.proofs.promises.peek_promise.Goals as goal
 
 pub returns : goal.returns
 returns c =
-    handle_carried (Call.PeekPromise c.args.key) c.args.vm.now.state c.sys_peek_promise.result c.sys_peek_promise.new.self.state c.handled.result c.handled.ensures (λ n signal. refl) (λ given m. refl) refl c.sys_peek_promise.ensures
+    handle_carried (Call.PeekPromise c.args.key) c.args.vm.now.state c.sys_peek_promise.result c.sys_peek_promise.new.self.state c.handled.result c.handled.ensures (λ n signal. refl) (λ given m. refl) refl refl c.sys_peek_promise.ensures

@@ -1,10 +1,9 @@
-use Rattle.vm_outcomes.proofs.Running.{run_carried, told_unready}
+use Rattle.std.proofs.Common.{Ok, Err}
+use Rattle.vm_outcomes.proofs.Running.{run_carried}
 use Rattle.vm_core.proofs.runs.run.Goals as goal
 
-pub unreachable-requires : goal.unreachable-requires
-unreachable-requires c = told_unready c.no_runs.result c.args.vm.now.state c.notify_error.new.self.state c.in-Ok.field-0 c.notify_error.ensures c.in-Ok.ensures
+pub returns-in-Ok : goal.returns-in-Ok
+returns-in-Ok c = run_carried c.args.name c.args.vm.now.state (Ok c.in-Ok.made) c.sys_run.new.self.state c.in-Ok.ensures.calls c.in-Ok.ensures.bodies
 
-pub returns : goal.returns
-returns c =
-    run_carried c.args.name c.args.vm.now.state c.no_runs.result c.notify_error.new.self.state c.in-Err.error
-    c.no_runs.ensures c.notify_error.ensures c.in-Err.ensures
+pub returns-in-Err : goal.returns-in-Err
+returns-in-Err c = run_carried c.args.name c.args.vm.now.state (Err c.in-Err.error) c.sys_run.new.self.state c.in-Err.ensures.calls c.in-Err.ensures.bodies

@@ -8,4 +8,4 @@ use Rattle.vm_core.proofs.state.state_get_keys.Goals as goal
 pub returns : goal.returns
 returns c =
     read_carried keys_read (Call.StateGetKeys c.args.name) (λ active. not active.state.is_partial) (name_or_empty c.args.name) c.args.vm.now.state c.sys_state_get_keys.result c.sys_state_get_keys.new.self.state c.handled.result
-    c.handled.ensures refl (λ version. refl) (λ n signal. refl) (λ given m. refl) c.sys_state_get_keys.ensures
+    c.handled.ensures refl (λ version. refl) (λ n signal. refl) (λ given m. refl) refl c.sys_state_get_keys.ensures

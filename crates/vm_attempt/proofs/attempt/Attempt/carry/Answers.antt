@@ -3,4 +3,4 @@ use Rattle.vm_attempt.proofs.attempt.Attempt.carry.Goals as goal
 
 pub returns : goal.returns
 returns g c =
-    carried c.args.call c.args.self.now c.carry_out-outcome.new.vm c.carry_out-outcome.result c.come_to.result c.come_to.new.self c.call_is_typed.ensures c.carry_out-outcome.ensures.driven c.come_to.ensures
+    carried c.args.ran.now c.args.call c.args.self.now c.carry_out-outcome.new.vm c.carry_out-outcome.result c.come_to.result c.come_to.new.self c.call_is_typed.ensures c.carry_out-outcome.ensures.driven c.come_to.ensures

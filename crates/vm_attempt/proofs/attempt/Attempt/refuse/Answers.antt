@@ -1,4 +1,4 @@
-use Rattle.vm_outcomes.proofs.Running.{told_unready}
+use Rattle.vm_attempt.proofs.Stopped.{told_unready}
 use Rattle.vm_attempt.proofs.attempt.Attempt.refuse.Goals as goal
 
 pub unreachable-requires : goal.unreachable-requires

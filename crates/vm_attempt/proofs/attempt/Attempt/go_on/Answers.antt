@@ -1,0 +1,10 @@
+use Rattle.std.proofs.Common.{◌≡◌, ◌∙◌, List, ap}
+use Rattle.journal_model.specs.declared.call.Answer.{Answer}
+use Rattle.vm_attempt.proofs.Carried.{asked}
+use Rattle.vm_attempt.proofs.attempt.Attempt.go_on.Goals as goal
+
+pub returns-in-Ok : goal.returns-in-Ok
+returns-in-Ok g c =
+    let asks : c.in-Ok.call ≡ g.H.Handler.next_call c.args.self.now.handler c.in-Some.input c.args.self.now.answers =
+    c.in-Ok.ensures ∙ ap (λ (answers : List Answer). g.H.Handler.next_call c.args.self.now.handler c.in-Some.input answers) c.as_slice.ensures in
+    asked g.H.Handler.next_call c.args.ran.now c.in-Some.input c.in-Ok.call c.args.self.now c.answer_call.result c.answer_call.new.self c.in-Some.is asks c.answer_call.ensures
