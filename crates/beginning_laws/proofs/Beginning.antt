@@ -14,6 +14,7 @@ use Rattle.journal_model.specs.Run.{Invocation}
 use Rattle.journal_model.specs.Start.{start_payload_of}
 use Rattle.input_laws.specs.Message.{InputMessage, piece_of, arrivals_carried, requests_carried}
 use Rattle.attempt_model.specs.Machine.{Machine, machine_at_start}
+use Rattle.body_laws.specs.Bodies.{Executor}
 use Rattle.position_laws.specs.Beginning.{AttemptStart, ShowsStart}
 use Rattle.position_laws.specs.Reading.{with_messages}
 use Rattle.position_laws.proofs.Reading.{only_read}
@@ -35,7 +36,7 @@ use Rattle.feeding_laws.specs.Inputs.{bytes_of, IsFedEach}
 use Rattle.feeding_laws.proofs.Inputs.{front, nothing_at, some_is_none}
 use Rattle.feeding_laws.proofs.Beginning.{starts_read_back}
 use Rattle.beginning_laws.specs.Standing.{IsInputOf, start_told, CanBegin, IsRunOf, kind_of, new_kind, AwaitsStart, HasStarted}
-use Rattle.beginning_laws.specs.Laws.{HoldsStart, ReadsOn, StartsAreRead, AnswersInput, RefusesInput, InputsAreAnswered, BeginsAttempt, AttemptsBegin}
+use Rattle.beginning_laws.specs.Laws.{KnowsNoRuns, HoldsStart, ReadsOn, StartsAreRead, AnswersInput, RefusesInput, InputsAreAnswered, BeginsAttempt, AttemptsBegin}
 use Rattle.beginning_laws.proofs.Messages.{all_behind}
 
 -- one that has failed answers that again, with nothing written
@@ -68,7 +69,7 @@ all_read (one ∷ still) held fit bytes none =
     (sym (front one fit.0 (input_bytes (map piece_of still))) ∙ ap item_at (sym bytes ∙ append-nil held) ∙ none))
 
 module _ (starts : StartsAreRead) (inputs : InputsAreAnswered) (start : AttemptStart) (shows : ShowsStart start) (version : Version) (options : VMOptions) (messages : List InputMessage) (cuts : List Bytes)
-    (old fed : MachineState) (result : Result Input Error) (new : MachineState) (of_run : IsRunOf start version options) (can : CanBegin start shows) (is : IsInputOf start messages) (is_new : IsNew version options old)
+    (old fed : MachineState) (result : Result Input Error) (new : MachineState) (of_run : IsRunOf start version options) (e : Executor) (can : CanBegin start shows) (is : IsInputOf start messages) (known : KnowsNoRuns e messages) (is_new : IsNew version options old)
     (bytes : bytes_of cuts ≡ start.frame ++ input_bytes (map piece_of messages)) (asks : IsRead fed result new) where
   abbrev Outcome : Type 0
   Outcome = BeginsAttempt start version options messages fed result new ⊎ RefusesInput version result new
@@ -86,7 +87,7 @@ module _ (starts : StartsAreRead) (inputs : InputsAreAnswered) (start : AttemptS
 
   holds : HoldsStart start (new_kind version options) messages (bytes_of cuts ++ []) old
   holds = record {
-    awaits = record { kind_is = is_kind; waits = record { phase = is_new.phase; active = fresh } };
+    awaits = record { kind_is = is_kind; waits = record { phase = is_new.phase; active = fresh }; runs = is_new.runs };
     bytes = ap (λ (held : List ℕ). held ++ (bytes_of cuts ++ [])) is_new.decoder ∙ append-nil (bytes_of cuts) ∙ bytes;
     whole = ap item_at is_new.decoder ∙ nothing_at;
   }
@@ -122,6 +123,7 @@ module _ (starts : StartsAreRead) (inputs : InputsAreAnswered) (start : AttemptS
       go (inl a) = inl (record {
         answers = subst (λ (m : Machine). AnswersInput start (new_kind version options) m fed result new) at_start a;
         held = ap (λ (vm : MachineState). vm.decoder) a.others ∙ none_held;
+        runs = ap (λ (vm : MachineState). vm.runs) a.others ∙ on.started.runs;
       })
       go (inr refused) = inr refused
 
@@ -131,6 +133,7 @@ module _ (starts : StartsAreRead) (inputs : InputsAreAnswered) (start : AttemptS
   begun (inr (inr failed)) = inr (asked_again version old fed result new nothing failed asks)
 
 pub attempts_begin : StartsAreRead → InputsAreAnswered → AttemptsBegin
-attempts_begin starts inputs start shows version options messages cuts old fed result new of_run can is is_new bytes feds asks =
-    begun starts inputs start shows version options messages cuts old fed result new of_run can is is_new bytes asks
-    (starts start shows (new_kind version options) messages cuts [] old fed can is (holds starts inputs start shows version options messages cuts old fed result new of_run can is is_new bytes asks) feds)
+attempts_begin starts inputs start shows version options messages cuts old fed result new e of_run can is known is_new bytes feds asks =
+    begun starts inputs start shows version options messages cuts old fed result new of_run e can is known is_new bytes asks
+    (starts start shows (new_kind version options) messages cuts [] old fed e can is known
+    (holds starts inputs start shows version options messages cuts old fed result new of_run e can is known is_new bytes asks) feds)

@@ -18,6 +18,7 @@ use Rattle.journal_model.specs.Start.{start_payload_of}
 use Rattle.journal_model.specs.State.{StartState}
 use Rattle.input_laws.specs.Message.{InputMessage, piece_of}
 use Rattle.attempt_model.specs.Machine.{Machine, machine_at_start}
+use Rattle.body_laws.specs.Bodies.{Executor}
 use Rattle.position_laws.specs.Beginning.{AttemptStart, ShowsStart}
 use Rattle.vm_machine.specs.Causes.{Tells}
 use Rattle.vm_machine.specs.Gathering.{Gathers}
@@ -33,9 +34,9 @@ use Rattle.feeding_laws.proofs.Inputs.{extended, same_found, same_message, unkno
 use Rattle.feeding_laws.proofs.Memory.{unless_refused, fails_for_memory, memory_over}
 use Rattle.feeding_laws.specs.Feeding.{has_failed, with_bytes, with_input, TakesNext, TakesEach, StopsAt, Stops, Rests, RestsWhere, IsFed}
 use Rattle.beginning_laws.specs.Standing.{IsInputOf, start_told, CanBegin, Kind, kind_of, AwaitsStart, HasStarted}
-use Rattle.beginning_laws.specs.Laws.{HoldsStart, ReadsOn, StartsAreRead}
+use Rattle.beginning_laws.specs.Laws.{KnowsNoRuns, HoldsStart, ReadsOn, StartsAreRead}
 use Rattle.beginning_laws.proofs.Messages.{input_waited_for}
-use Rattle.beginning_laws.proofs.Reading.{started_on}
+use Rattle.beginning_laws.proofs.Reading.{knows_none, bodies_behind, started_on}
 
 -- where it waits for its start, it is what it was, but for the bytes that it holds
 record Still (start : AttemptStart) (kind : Kind) (messages : List InputMessage) (coming : List ℕ) (new : MachineState) : Type 0 where
@@ -49,7 +50,7 @@ record Taken (start : AttemptStart) (told : StartMessage) (kind : Kind) (message
   pub took : Took start.given messages coming begun new
 
 module _ (start_kept : StartsAreKept) (keeps : MessagesAreKept) (start : AttemptStart) (shows : ShowsStart start) (kind : Kind) (messages : List InputMessage) (can : CanBegin start shows)
-    (is : IsInputOf start messages) where
+    (is : IsInputOf start messages) (e : Executor) (known : KnowsNoRuns e messages) where
   abbrev payload : Bytes
   payload = start_payload_of start.new shows.state (1 + length start.journal) shows.shows.retry_count shows.shows.duration
 
@@ -80,6 +81,7 @@ module _ (start_kept : StartsAreKept) (keeps : MessagesAreKept) (start : Attempt
     start_is = h.start;
     commands = h.commands;
     gathers = subst (λ (shown : StartState). Gathers start.given new.active (machine_at_start shown [] [])) (sym shows.shown_is) h.gathers;
+    runs = ap (λ (vm : MachineState). vm.runs) h.others ∙ awaits.runs;
     output = h.output ∙ fresh_output old awaits;
   }
 
@@ -87,6 +89,7 @@ module _ (start_kept : StartsAreKept) (keeps : MessagesAreKept) (start : Attempt
   awaits_over bytes vm awaits = record {
     kind_is = awaits.kind_is;
     waits = record { phase = awaits.waits.phase; active = awaits.waits.active };
+    runs = awaits.runs;
   }
 
   module _ (old : MachineState) (first : AwaitsStart start kind old) where
@@ -109,8 +112,9 @@ module _ (start_kept : StartsAreKept) (keeps : MessagesAreKept) (start : Attempt
         go (inl h) = inr (inl (record {
           begun = new;
           started = begun_so between new still.awaits h;
-          took = took_none start.given messages new.decoder coming new (ap has_failed h.phase) is.fit
+          took = took_none start.given messages new.decoder coming new e (ap has_failed h.phase) is.fit
               (subst (λ (p : Phase). AreWaitedFor messages p) (sym h.phase) (input_waited_for start messages is))
+              (knows_none e messages new (begun_so between new still.awaits h).runs known)
               (found_first coming new.decoder between.decoder (message (message_of types.Start payload)) still.bytes h.bytes).1;
         }))
         go (inr failed) = inr (inr (fails_behind between new (fresh_output between still.awaits) failed))
@@ -194,10 +198,11 @@ module _ (start_kept : StartsAreKept) (keeps : MessagesAreKept) (start : Attempt
       bytes = taken.took.bytes;
       whole = whole;
       started = started_on start (start_told start shows) kind [] taken.took.some taken.begun new taken.started taken.took.kept;
+      bodies = bodies_behind start taken.took.some taken.begun new taken.started.runs taken.took.kept;
     }))
     read_so coming new (inr (inr failed)) = inr (inr failed)
 
 pub starts_are_read : StartsAreKept → MessagesAreKept → StartsAreRead
-starts_are_read start_kept keeps start shows kind messages cuts coming old new can is holds fed =
-    read_so start_kept keeps start shows kind messages can is old holds.awaits coming new
-    (take_cuts start_kept keeps start shows kind messages can is old holds.awaits cuts coming old new (inl (record { awaits = holds.awaits; bytes = holds.bytes }, holds.whole)) fed)
+starts_are_read start_kept keeps start shows kind messages cuts coming old new e can is known holds fed =
+    read_so start_kept keeps start shows kind messages can is e known old holds.awaits coming new
+    (take_cuts start_kept keeps start shows kind messages can is e known old holds.awaits cuts coming old new (inl (record { awaits = holds.awaits; bytes = holds.bytes }, holds.whole)) fed)

@@ -10,6 +10,10 @@ use Rattle.journal_model.specs.Notification.{Bytes}
 use Rattle.journal_model.specs.Attempt.{input_bytes}
 use Rattle.input_laws.specs.Message.{InputMessage, CarriesInput, piece_of, arrivals_carried, requests_carried}
 use Rattle.attempt_model.specs.Machine.{Machine, machine_at_start}
+use Rattle.body_laws.specs.Bodies.{Executor}
+use Rattle.executor_laws.specs.Living.{reads_messages, AreCached}
+use Rattle.vm_runs.specs.Runs.{no_runs}
+use Rattle.vm_runs.specs.Keeping.{KeepsBodies}
 use Rattle.position_laws.specs.Beginning.{AttemptStart, ShowsStart}
 use Rattle.position_laws.specs.Reading.{with_messages}
 use Rattle.vm_feeding.specs.Beginning.{IsNew}
@@ -20,8 +24,15 @@ use Rattle.vm_machine.specs.declared.machine_state.MachineState.{MachineState}
 use Rattle.vm_types.specs.declared.options.VMOptions.{VMOptions}
 use Rattle.feeding_laws.specs.Memory.{FailsForMemory}
 use Rattle.feeding_laws.specs.Messages.{MessageFits}
-use Rattle.feeding_laws.specs.Inputs.{bytes_of, IsFedEach}
+use Rattle.feeding_laws.specs.Inputs.{bytes_of, IsFedEach, KnowsRuns}
 use Rattle.beginning_laws.specs.Standing.{IsArrival, IsInputOf, start_told, CanBegin, IsRunOf, Kind, new_kind, AwaitsStart, HasStarted, IsAsked}
+
+-- ---- the bodies of runs
+
+-- no run is kept, and each outcome that these messages acknowledge is cached: so they acknowledge none
+pub record KnowsNoRuns (e : Executor) (messages : List InputMessage) : Type 0 where
+  pub keeps : KeepsBodies no_runs e
+  pub cached : AreCached e messages
 
 -- ---- the start
 
@@ -39,22 +50,25 @@ pub record ReadsOn (start : AttemptStart) (told : StartMessage) (kind : Kind) (r
   pub bytes : vm.decoder ++ coming ≡ input_bytes (map piece_of still)
   pub whole : item_at vm.decoder ≡ None
   pub started : HasStarted start told kind (read ++ some) vm
+  -- what it keeps of runs is what the bodies are, where none was to be executed before
+  pub bodies : (e : Executor) → KeepsBodies no_runs e → KeepsBodies vm.runs (reads_messages e some)
 
 abbrev pub StartsAreRead : Type 0
-StartsAreRead = (start : AttemptStart) (shows : ShowsStart start) (kind : Kind) (messages : List InputMessage) (cuts : List Bytes) (coming : Bytes) (old new : MachineState)
-    → CanBegin start shows → IsInputOf start messages → HoldsStart start kind messages (bytes_of cuts ++ coming) old → IsFedEach cuts old new
+StartsAreRead = (start : AttemptStart) (shows : ShowsStart start) (kind : Kind) (messages : List InputMessage) (cuts : List Bytes) (coming : Bytes) (old new : MachineState) (e : Executor)
+    → CanBegin start shows → IsInputOf start messages → KnowsNoRuns e messages → HoldsStart start kind messages (bytes_of cuts ++ coming) old → IsFedEach cuts old new
     → HoldsStart start kind messages coming new ⊎ (ReadsOn start (start_told start shows) kind [] messages coming new ⊎ FailsForMemory old new)
 
 -- ---- the journal
 
 abbrev pub JournalsAreRead : Type 0
-JournalsAreRead = (start : AttemptStart) (told : StartMessage) (kind : Kind) (read unread : List InputMessage) (cuts : List Bytes) (coming : Bytes) (old new : MachineState)
-    → IsInputOf start (read ++ unread) → HasStarted start told kind read old → item_at old.decoder ≡ None → old.decoder ++ (bytes_of cuts ++ coming) ≡ input_bytes (map piece_of unread)
+JournalsAreRead = (start : AttemptStart) (told : StartMessage) (kind : Kind) (read unread : List InputMessage) (cuts : List Bytes) (coming : Bytes) (old new : MachineState) (e : Executor)
+    → IsInputOf start (read ++ unread) → HasStarted start told kind read old → KnowsNoRuns e unread → item_at old.decoder ≡ None → old.decoder ++ (bytes_of cuts ++ coming) ≡ input_bytes (map piece_of unread)
     → IsFedEach cuts old new → ReadsOn start told kind read unread coming new ⊎ FailsForMemory old new
 
 -- ---- arrivals behind it
 
--- the first of these arrivals have come whole, and calls see them; nothing is written
+-- the first of these arrivals have come whole, and calls see them; nothing is written, and what is kept of runs is what the bodies are with
+-- those that are acknowledged among them
 pub record ReadsArrivals (start : AttemptStart) (kind : Kind) (m : Machine) (unread : List InputMessage) (coming : Bytes) (old new : MachineState) : Type 0 where
   pub some : List InputMessage
   pub still : List InputMessage
@@ -62,11 +76,12 @@ pub record ReadsArrivals (start : AttemptStart) (kind : Kind) (m : Machine) (unr
   pub bytes : new.decoder ++ coming ≡ input_bytes (map piece_of still)
   pub whole : item_at new.decoder ≡ None
   pub asked : IsAsked start kind (with_messages m some) new
+  pub bodies : (e : Executor) → KeepsBodies old.runs e → KeepsBodies new.runs (reads_messages e some)
   pub output : new.active.output ≡ old.active.output
 
 abbrev pub ArrivalsAreRead : Type 0
-ArrivalsAreRead = (start : AttemptStart) (kind : Kind) (m : Machine) (unread : List InputMessage) (cuts : List Bytes) (coming : Bytes) (old new : MachineState)
-    → AllByRecursion IsArrival unread → AllByRecursion MessageFits unread → IsAsked start kind m old → item_at old.decoder ≡ None
+ArrivalsAreRead = (start : AttemptStart) (kind : Kind) (m : Machine) (unread : List InputMessage) (cuts : List Bytes) (coming : Bytes) (old new : MachineState) (e : Executor)
+    → AllByRecursion IsArrival unread → AllByRecursion MessageFits unread → IsAsked start kind m old → KnowsRuns e unread old → item_at old.decoder ≡ None
     → old.decoder ++ (bytes_of cuts ++ coming) ≡ input_bytes (map piece_of unread) → IsFedEach cuts old new
     → ReadsArrivals start kind m unread coming old new ⊎ FailsForMemory old new
 
@@ -96,9 +111,10 @@ InputsAreAnswered = (start : AttemptStart) (shows : ShowsStart start) (kind : Ki
 pub record BeginsAttempt (start : AttemptStart) (version : Version) (options : VMOptions) (messages : List InputMessage) (fed : MachineState) (result : Result Input Error) (new : MachineState) : Type 0 where
   pub answers : AnswersInput start (new_kind version options) (machine_at_start start.shown (map Some (requests_carried messages)) (arrivals_carried messages)) fed result new
   pub held : new.decoder ≡ []
+  pub runs : new.runs ≡ no_runs
 
 abbrev pub AttemptsBegin : Type 0
 AttemptsBegin = (start : AttemptStart) (shows : ShowsStart start) (version : Version) (options : VMOptions) (messages : List InputMessage) (cuts : List Bytes) (old fed : MachineState) (result : Result Input Error)
-    (new : MachineState) → IsRunOf start version options → CanBegin start shows → IsInputOf start messages → IsNew version options old
+    (new : MachineState) (e : Executor) → IsRunOf start version options → CanBegin start shows → IsInputOf start messages → KnowsNoRuns e messages → IsNew version options old
     → bytes_of cuts ≡ start.frame ++ input_bytes (map piece_of messages) → IsFedEach cuts old fed → IsRead fed result new
     → BeginsAttempt start version options messages fed result new ⊎ RefusesInput version result new

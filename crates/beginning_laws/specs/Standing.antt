@@ -9,12 +9,13 @@ use Rattle.journal_model.specs.Notification.{Bytes}
 use Rattle.journal_model.specs.State.{StateMap, IsOrdered}
 use Rattle.journal_model.specs.Start.{start_payload_of}
 use Rattle.journal_model.specs.Headline.{run_of}
-use Rattle.input_laws.specs.Message.{InputMessage, CarriesInput, CarriesRequest, CarriesArrival}
+use Rattle.input_laws.specs.Message.{InputMessage, CarriesInput, CarriesRequest, CarriesArrival, CarriesOutcome}
 use Rattle.attempt_model.specs.Machine.{Machine, machine_at_start}
 use Rattle.position_laws.specs.Beginning.{AttemptStart, ShowsStart}
 use Rattle.vm_calls.specs.Active.{Sees}
 use Rattle.vm_ephemeral.specs.Reads.{EphemeralReads, no_reads}
 use Rattle.vm_machine.specs.Gathering.{Gathers}
+use Rattle.vm_runs.specs.Runs.{no_runs}
 use Rattle.vm_start.specs.declared.phase.Phase.TheVariants as phases
 use Rattle.vm_machine.specs.declared.machine_state.MachineState.{MachineState}
 use Rattle.vm_start.specs.Starts.{without_state}
@@ -27,7 +28,7 @@ use Rattle.feeding_laws.specs.Inputs.{gathered_all, commands_in, phase_behind}
 
 -- ---- the attempt
 
--- a message of a journal, and one that comes behind it
+-- a message of a journal, and one that comes behind it: an acknowledgement comes only there
 abbrev pub IsEntry : InputMessage → Type 0
 IsEntry (CarriesRequest request) = Unit {0}
 IsEntry (CarriesArrival ty arrival) = Unit {0}
@@ -35,6 +36,7 @@ IsEntry _ = ⊥
 
 abbrev pub IsArrival : InputMessage → Type 0
 IsArrival (CarriesArrival ty arrival) = Unit {0}
+IsArrival (CarriesOutcome number value) = Unit {0}
 IsArrival _ = ⊥
 
 -- the messages of the attempt's input: the input, the journal that it was begun with, and later arrivals, all as the protocol can carry them
@@ -81,15 +83,17 @@ new_kind version options = record { version = version; options = options; is_inp
 pub record AwaitsStart (start : AttemptStart) (kind : Kind) (vm : MachineState) : Type 0 where
   pub kind_is : kind_of vm ≡ kind
   pub waits : WaitsForStart start.given vm
+  pub runs : vm.runs ≡ no_runs
 
 -- It has its start and has kept these messages; it waits for those entries that are left of the announced ones, and calls are made of it when
--- none is. Nothing was asked of it yet, and it has written nothing.
+-- none is. Nothing was asked of it yet: it has written nothing, and keeps no run.
 pub record HasStarted (start : AttemptStart) (told : StartMessage) (kind : Kind) (read : List InputMessage) (vm : MachineState) : Type 0 where
   pub kind_is : kind_of vm ≡ kind
   pub phase : vm.phase ≡ phase_behind read (phases.WaitingReplayEntries (1 + length start.journal))
   pub start_is : vm.start ≡ Some (without_state told)
   pub commands : vm.active.commands.items ≡ commands_in read
   pub gathers : Gathers start.given vm.active (gathered_all read (machine_at_start start.shown [] []))
+  pub runs : vm.runs ≡ no_runs
   pub output : vm.active.output ≡ record { version = kind.version; bytes = []; is_closed = false; has_commands = false }
 
 -- its input was read: calls see this machine

@@ -1,4 +1,3 @@
 pub mod Outcomes
 pub mod Flying
 pub mod Living
-pub mod Turning

@@ -1,35 +1,26 @@
 -- The live attempt with the bodies of its runs, between turns.
-use Rattle.std.specs.Prelude.{◌≡◌, ◌⊎◌, ℕ, suc, Bool, true, false, List, [], ◌∷◌, ◌++◌, map, take, Some, None}
+use Rattle.std.specs.Prelude.{◌≡◌, ◌⊎◌, ℕ, true, false, List, [], ◌∷◌, ◌++◌, take, Some, None}
 use Rattle.std.specs.List.{AllByRecursion}
-use Rattle.journal_model.specs.declared.call.Call.{Call}
 use Rattle.journal_model.specs.declared.invocation.NewInvocation.{NewInvocation}
 use Rattle.journal_model.specs.declared.options.RunOptions.{RunOptions}
-use Rattle.journal_model.specs.declared.options.SignalDelivery.TheVariants.{Queued}
 use Rattle.journal_model.specs.declared.value.NonEmptyValue.{NonEmptyValue}
-use Rattle.journal_model.specs.Notification.{Bytes, Text}
-use Rattle.journal_model.specs.AwaitTree.{Single, map_leaves}
-use Rattle.journal_model.specs.declared.notification.NotificationId.TheVariants.{CompletionId}
-use Rattle.journal_model.specs.Request.{Request}
+use Rattle.journal_model.specs.Notification.{Text}
 use Rattle.journal_model.specs.Run.{Handler, run}
 use Rattle.journal_model.specs.Event.{Event, Frame}
 use Rattle.journal_model.specs.Journal.{Recorded, begins, starting_state, invocation_begun, entries_of}
-use Rattle.journal_model.specs.Attempt.{begins_attempt, bytes_asked, input_bytes, input_left, is_input_closed}
+use Rattle.journal_model.specs.Attempt.{begins_attempt, bytes_asked, input_left}
 use Rattle.journal_model.specs.Cause.{IsAccepted}
 use Rattle.journal_model.specs.Headline.{run_of}
-use Rattle.input_laws.specs.Message.{InputMessage, CarriesInput, CarriesRequest, CarriesArrival, CarriesOutcome, piece_of, arrivals_carried, IsBroughtBy}
+use Rattle.input_laws.specs.Message.{InputMessage, CarriesInput, CarriesRequest, CarriesArrival, CarriesOutcome, arrivals_carried, IsBroughtBy}
 use Rattle.headline_laws.specs.Held.{Holds}
 use Rattle.turn_laws.specs.Begun.{IsProposed}
-use Rattle.turn_laws.specs.Sending.{FollowsSo, PassesOn}
+use Rattle.turn_laws.specs.Sending.{PassesOn}
 use Rattle.attempt_model.specs.Machine.{machine_at_start}
-use Rattle.attempt_model.specs.Results.{slot_of}
 use Rattle.attempt_model.specs.Attempts.{with_entry}
-use Rattle.attempt_model.specs.Standing.{next_call, AreReflexive}
-use Rattle.position_laws.specs.Reading.{IsInRun}
-use Rattle.position_laws.specs.Replies.{SendsWaiting}
 use Rattle.position_laws.specs.Beginning.{start_after}
 use Rattle.machine_laws.specs.Asking.{are_by_text}
-use Rattle.machine_laws.specs.Living.{LiveAttempt, attempt_begun, HasReadJournal, IsLiveMachine, handed_bytes, after_reading, after_turn}
-use Rattle.body_laws.specs.Bodies.{Executor, executor_over, reads_arrival, reads_outcome, ExecutorReply, Answers, Executes, AwaitsTreeOf, AwaitsChildOf, Finishes, Fails, executor_reply, acknowledges, proposing}
+use Rattle.machine_laws.specs.Living.{LiveAttempt, attempt_begun, HasReadJournal, IsLiveMachine, handed_bytes}
+use Rattle.body_laws.specs.Bodies.{Executor, executor_over, reads_arrival, reads_outcome, acknowledges}
 use Rattle.body_laws.specs.Standing.{Among, BodiesStand}
 use Rattle.executor_laws.specs.Flying.{OutcomesStand}
 
@@ -71,7 +62,7 @@ ExecutorsBegin = (next : Handler) (options : RunOptions) (fallback_seed : ℕ) (
     → IsLiveExecutor next options fallback_seed id (Event.Begin id now ∷ events) (attempt_begun (start_after options fallback_seed events id now new)) []
     (executor_over (machine_at_start (start_after options fallback_seed events id now new).shown [] []))
 
--- it stays so, whatever events bring and hand to it, and as it reads: then each outcome that is acknowledged is cached
+-- it stays so, whatever events bring and hand to it, and as it reads its start frame
 pub record StaysWithBodies (next : Handler) (options : RunOptions) (fallback_seed : ℕ) (id : Text) (events : List Event) (live : LiveAttempt) (proposed : List (ℕ × NonEmptyValue)) (e : Executor) : Type 0 where
   pub brings : (event : Event) (coming : List Frame) → IsAccepted (event ∷ events) → begins id event ≡ false → begins_attempt id event ≡ false → bytes_asked id event ≡ None → PassesOn id event live.coming coming
       → (more : List InputMessage) × AllByRecursion (IsBroughtBy (entries_of (event ∷ events) id) id event) more
@@ -79,8 +70,6 @@ pub record StaysWithBodies (next : Handler) (options : RunOptions) (fallback_see
   pub is_handed : (attempt most : ℕ) → IsAccepted (Event.HandOut id attempt most ∷ events)
       → IsLiveExecutor next options fallback_seed id (Event.HandOut id attempt most ∷ events) (handed_bytes live (take most (input_left events id))) proposed e
   pub reads_start : live.bytes ≡ live.start.frame ++ live.held → IsLiveExecutor next options fallback_seed id events (record live { bytes = live.held }) proposed e
-  pub reads : (some still : List InputMessage) (kept : Bytes) → live.bytes ≡ live.held → live.unread ≡ some ++ still → live.held ≡ input_bytes (map piece_of some) ++ kept
-      → AreCached e some × IsLiveExecutor next options fallback_seed id events (after_reading live some still kept) proposed (reads_messages e some)
 
 abbrev pub ExecutorsStayLive : Type 0
 ExecutorsStayLive = (next : Handler) (options : RunOptions) (fallback_seed : ℕ) (id : Text) (events : List Event) (live : LiveAttempt) (proposed : List (ℕ × NonEmptyValue)) (e : Executor) → IsAccepted events
@@ -91,28 +80,3 @@ ExecutorsStayLive = (next : Handler) (options : RunOptions) (fallback_seed : ℕ
 -- the frame by which the outcome of a body is proposed
 abbrev pub outcome_frame : ℕ → ℕ → NonEmptyValue → Frame
 outcome_frame version n value = Frame.RunOutcome n value (acknowledges version)
-
--- a turn that goes on leaves it live: one that answers sends the requests that it has written, if they are by keys that are text; one that
--- executes a body proposes its outcome, which keeps the invocation in its run
-abbrev pub TurnsLive : Handler → RunOptions → ℕ → Text → List Event → LiveAttempt → List (ℕ × NonEmptyValue) → ExecutorReply → Type 0
-TurnsLive next options fallback_seed id events live proposed (Answers answer e) =
-    (written : List Request) → e.machine.written ≡ live.machine.written ++ written → are_by_text written ≡ true
-    → IsLiveExecutor next options fallback_seed id events (after_turn live (map Frame.Command written) (suc live.calls) e.machine) proposed e
-TurnsLive next options fallback_seed id events live proposed (Executes body e) = (value : NonEmptyValue)
-    → FollowsSo next live.start.given id events (live.coming ++ outcome_frame live.start.given.version body.completion value ∷ [])
-    × IsLiveExecutor next options fallback_seed id events (after_turn live (outcome_frame live.start.given.version body.completion value ∷ []) live.calls e.machine)
-    (proposed ++ (body.completion, value) ∷ []) (proposing live.start.given.version e body value)
-TurnsLive next options fallback_seed id events live proposed (AwaitsTreeOf tree e) = (sent : List Frame) → SendsWaiting live.start.given.version (is_input_closed events id) (map_leaves (slot_of e.machine.slots) tree) sent
-    → IsLiveExecutor next options fallback_seed id events (after_turn live sent live.calls e.machine) proposed e
-TurnsLive next options fallback_seed id events live proposed (AwaitsChildOf child e) = (sent : List Frame) → SendsWaiting live.start.given.version (is_input_closed events id) (Single (Some (CompletionId child))) sent
-    → IsLiveExecutor next options fallback_seed id events (after_turn live sent live.calls e.machine) proposed e
-TurnsLive next options fallback_seed id events live proposed (Finishes e) = Unit {0}
-TurnsLive next options fallback_seed id events live proposed (Fails fault) = Unit {0}
-
--- where signals wait in line; that what was handed to it is as it was asked for follows from the accepted events
-abbrev pub ExecutorsTurn : Type 0
-ExecutorsTurn = (same_header : Call → Request → Request → Bool) (next : Handler) (options : RunOptions) (fallback_seed : ℕ) (id : Text) (events : List Event) (live : LiveAttempt) (proposed : List (ℕ × NonEmptyValue)) (e : Executor)
-    → AreReflexive same_header → options.signal_delivery ≡ Queued → IsAccepted events → FollowsSo next live.start.given id events live.coming → IsLiveExecutor next options fallback_seed id events live proposed e
-    → live.bytes ≡ live.held → HasReadJournal live
-    → (at : IsInRun next live.start.given live.read live.unread live.calls live.machine)
-    → TurnsLive next options fallback_seed id events live proposed (executor_reply same_header live.start.given e (next_call next live.start.given at.stands.steps))

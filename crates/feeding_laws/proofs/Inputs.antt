@@ -1,6 +1,6 @@
 -- The messages of an input are kept one after the other, in any cut of their bytes.
 use Rattle.std.proofs.Common.{◌≡◌, ◌⊎◌, inl, inr, ◌∙◌, ℕ, Bool, true, false, true≢false, List, [], ◌∷◌, ◌++◌, map, append_assoc, append-nil, Option, Some, None, Result, Ok, Err, refl, sym, ap, subst}
-use Rattle.std.specs.Prelude.{nat_lt, ◌-◌, if◌then◌else◌}
+use Rattle.std.specs.Prelude.{nat_lt, ◌-◌, ◌==◌, if◌then◌else◌}
 use Rattle.std.specs.List.{AllByRecursion}
 use Rattle.protocol_types.specs.declared.message_type.UnknownMessageType.{UnknownMessageType}
 use Rattle.protocol_stream.specs.Decoder.{ConsumesNext}
@@ -11,12 +11,17 @@ use Rattle.protocol_stream.specs.declared.decoder.DecodingError.TheVariants.{Unk
 use Rattle.protocol_stream.proofs.Frames.{item_at-frame_bytes}
 use Rattle.protocol_errors.specs.Error.{decoding_code}
 use Rattle.protocol_stream.specs.ErrorText.{decoding_text}
+use Rattle.journal_model.specs.declared.value.NonEmptyValue.{NonEmptyValue}
 use Rattle.journal_model.specs.Notification.{Bytes}
 use Rattle.journal_model.specs.Spelling.{notification_payload}
 use Rattle.journal_model.specs.Run.{Invocation}
 use Rattle.journal_model.specs.Attempt.{input_bytes}
 use Rattle.input_laws.specs.Message.{InputMessage, CarriesInput, CarriesRequest, CarriesArrival, CarriesOutcome, piece_of}
 use Rattle.attempt_model.specs.Machine.{Machine}
+use Rattle.body_laws.specs.Bodies.{Executor}
+use Rattle.executor_laws.specs.Living.{reads_message, reads_messages, AreCached}
+use Rattle.vm_runs.specs.Runs.{Runs}
+use Rattle.vm_runs.specs.Keeping.{KeepsBodies}
 use Rattle.vm_calls.specs.declared.active.Active.{Active}
 use Rattle.vm_calls.specs.Active.{Sees}
 use Rattle.vm_machine.specs.Causes.{Tells}
@@ -28,8 +33,9 @@ use Rattle.vm_feeding.specs.Passed.{MachineState}
 use Rattle.protocol_stream.proofs.Fronts.{item_at_extends}
 use Rattle.protocol_wire.proofs.Extends.{Extends}
 use Rattle.feeding_laws.specs.Memory.{FailsForMemory}
-use Rattle.feeding_laws.specs.Messages.{raw_of, MessageFits, IsWaitedFor, KeepsMessage, command_in, gathered, phase_then, Kept, Unkept, MessagesAreKept}
-use Rattle.feeding_laws.specs.Inputs.{bytes_of, IsFedEach, gathered_all, commands_in, phase_behind, AreWaitedFor, AreKept, TakesFirst, InputsAreKept}
+use Rattle.feeding_laws.specs.Messages.{raw_of, MessageFits, IsWaitedFor, IsExpected, KeepsMessage, command_in, gathered, runs_then, phase_then, Kept, Unkept, MessagesAreKept}
+use Rattle.feeding_laws.specs.Inputs.{bytes_of, IsFedEach, gathered_all, commands_in, phase_behind, runs_behind, AreWaitedFor, KnowsRuns, AreKept, TakesFirst, InputsAreKept}
+use Rattle.feeding_laws.proofs.Acknowledging.{acknowledgement_front}
 use Rattle.feeding_laws.proofs.Beginning.{inputs_read_back}
 use Rattle.request_laws.proofs.Requests.{requests_read_back}
 use Rattle.feeding_laws.proofs.Memory.{unless_refused, fails_for_memory, memory_over, unkept_fails}
@@ -41,7 +47,7 @@ pub front : (one : InputMessage) → MessageFits one → (rest : List ℕ) → i
 front (CarriesInput new) fits rest = (inputs_read_back new.headers new.input rest fits).front
 front (CarriesRequest request) fits rest = (requests_read_back request rest fits).front
 front (CarriesArrival ty arrival) fits rest = item_at-frame_bytes ty (notification_payload arrival) rest fits.1.named fits.0.short
-front (CarriesOutcome number value) fits rest = absurd fits
+front (CarriesOutcome number value) fits rest = acknowledgement_front number rest
 
 pub nothing_at : item_at [] ≡ None
 unfolding item_at
@@ -87,6 +93,14 @@ pub phase_append : (some more : List InputMessage) (phase : Phase) → phase_beh
 phase_append [] more phase = refl
 phase_append (first ∷ some) more phase = phase_append some more (phase_then phase)
 
+pub runs_append : (some more : List InputMessage) (runs : Runs) → runs_behind (some ++ more) runs ≡ runs_behind more (runs_behind some runs)
+runs_append [] more runs = refl
+runs_append (first ∷ some) more runs = runs_append some more (runs_then first runs)
+
+pub reads_append : (e : Executor) (some more : List InputMessage) → reads_messages e (some ++ more) ≡ reads_messages (reads_messages e some) more
+reads_append e [] more = refl
+reads_append e (first ∷ some) more = reads_append (reads_message e first) some more
+
 pub stays_active : (some : List InputMessage) → phase_behind some phases.Active ≡ phases.Active
 stays_active [] = refl
 stays_active (first ∷ some) = stays_active some
@@ -96,18 +110,18 @@ keeps_gathered : (given : Invocation) (one : InputMessage) (old new : Active) �
 keeps_gathered given (CarriesInput new_invocation) old new keeps m g = keeps m g
 keeps_gathered given (CarriesRequest request) old new keeps m g = keeps m g
 keeps_gathered given (CarriesArrival ty arrival) old new keeps m g = (keeps m).0 g
-keeps_gathered given (CarriesOutcome number value) old new keeps m g = keeps m g
+keeps_gathered given (CarriesOutcome number value) old new keeps m g = (keeps m).0 g
 
 -- and behind it
 keeps_seen : (given : Invocation) (one : InputMessage) (old new : Active) → IsWaitedFor one phases.Active → KeepsMessage given one old new → (m : Machine) → Sees given old m → Sees given new (gathered one m)
 keeps_seen given (CarriesInput new_invocation) old new waited keeps m s = absurd waited
 keeps_seen given (CarriesRequest request) old new waited keeps m s = absurd waited
 keeps_seen given (CarriesArrival ty arrival) old new waited keeps m s = (keeps m).1 s
-keeps_seen given (CarriesOutcome number value) old new waited keeps m s = absurd waited
+keeps_seen given (CarriesOutcome number value) old new waited keeps m s = (keeps m).1 s
 
-with_kept : (old between new : MachineState) → between ≡ record old { decoder = between.decoder; phase = between.phase; active = between.active }
-    → new ≡ record between { decoder = new.decoder; phase = new.phase; active = new.active } → new ≡ record old { decoder = new.decoder; phase = new.phase; active = new.active }
-with_kept old between new before is = is ∙ ap (λ (vm : MachineState). record vm { decoder = new.decoder; phase = new.phase; active = new.active }) before
+with_kept : (old between new : MachineState) → between ≡ record old { decoder = between.decoder; phase = between.phase; active = between.active; runs = between.runs }
+    → new ≡ record between { decoder = new.decoder; phase = new.phase; active = new.active; runs = new.runs } → new ≡ record old { decoder = new.decoder; phase = new.phase; active = new.active; runs = new.runs }
+with_kept old between new before is = is ∙ ap (λ (vm : MachineState). record vm { decoder = new.decoder; phase = new.phase; active = new.active; runs = new.runs }) before
 
 one_more : (given : Invocation) (some : List InputMessage) (one : InputMessage) (old between new : MachineState) → AreKept given some old between → IsWaitedFor one between.phase → Kept given one between new
     → AreKept given (some ++ one ∷ []) old new
@@ -125,6 +139,9 @@ one_more given some one old between new k waited kept = record {
       subst (λ (m' : Machine). Sees given new.active m') (sym (gathered_append some (one ∷ []) m))
       (keeps_seen given one between.active new.active
       (subst (λ (p : Phase). IsWaitedFor one p) (k.phase ∙ ap (phase_behind some) active ∙ stays_active some) waited) kept.keeps (gathered_all some m) (k.sees active m s));
+  replaying = kept.replaying ∙ k.replaying;
+  runs = kept.runs ∙ ap (runs_then one) k.runs ∙ sym (runs_append some (one ∷ []) old.runs);
+  bodies = λ e keeps. subst (λ (e' : Executor). KeepsBodies new.runs e') (sym (reads_append e some (one ∷ []))) (kept.bodies (reads_messages e some) (k.bodies e keeps));
   others = with_kept old between new k.others kept.others;
 }
 
@@ -135,7 +152,47 @@ none_kept given bytes old = record {
   commands = sym (append-nil old.active.commands.items);
   gathers = λ m g. g;
   sees = λ active m s. s;
+  replaying = refl;
+  runs = refl;
+  bodies = λ e keeps. keeps;
   others = refl;
+}
+
+-- ---- what is known of runs
+
+-- whatever bytes it holds
+pub known_over : (e : Executor) (messages : List InputMessage) (bytes : List ℕ) (vm : MachineState) → KnowsRuns e messages vm → KnowsRuns e messages (with_bytes bytes vm)
+known_over e messages bytes vm k = record { keeps = k.keeps; cached = k.cached; behind = k.behind }
+
+cached_behind : (e : Executor) (first : InputMessage) (more : List InputMessage) → AreCached e (first ∷ more) → AreCached (reads_message e first) more
+cached_behind e (CarriesInput new) more cached = cached
+cached_behind e (CarriesRequest request) more cached = cached
+cached_behind e (CarriesArrival ty arrival) more cached = cached
+cached_behind e (CarriesOutcome number value) more cached = cached.1
+
+-- what is cached was cached before
+cached_before : (e : Executor) (first : InputMessage) (n : ℕ) (value : NonEmptyValue) → (reads_message e first).cached n ≡ Some value → e.cached n ≡ Some value
+cached_before e (CarriesInput new) n value is = is
+cached_before e (CarriesRequest request) n value is = is
+cached_before e (CarriesArrival ty arrival) n value is = is
+cached_before e (CarriesOutcome number told) n value is = by_test (n == number) is
+  where
+    by_test : (b : Bool) → ◌≡◌ {A = Option NonEmptyValue} (if b then None else e.cached n) (Some value) → e.cached n ≡ Some value
+    by_test true none = absurd cc
+    by_test false before = before
+
+expected_first : (e : Executor) (first : InputMessage) (more : List InputMessage) (vm : MachineState) → KnowsRuns e (first ∷ more) vm → IsExpected first vm
+expected_first e (CarriesInput new) more vm k = tt
+expected_first e (CarriesRequest request) more vm k = tt
+expected_first e (CarriesArrival ty arrival) more vm k = tt
+expected_first e (CarriesOutcome number value) more vm k = (k.keeps.cached number ∙ k.cached.0, k.behind number value k.cached.0)
+
+known_behind : (given : Invocation) (e : Executor) (first : InputMessage) (more : List InputMessage) (old new : MachineState) → KnowsRuns e (first ∷ more) old → Kept given first old new
+    → KnowsRuns (reads_message e first) more new
+known_behind given e first more old new k kept = record {
+  keeps = kept.bodies e k.keeps;
+  cached = cached_behind e first more k.cached;
+  behind = λ n value is. kept.replaying ∙ k.behind n value (cached_before e first n value is);
 }
 
 well_after : (b : Bool) (left : ℕ) → has_failed (if b then phases.WaitingReplayEntries left else phases.Active) ≡ false
@@ -160,12 +217,14 @@ pub record Took (given : Invocation) (messages : List InputMessage) (coming : Li
   pub bytes : new.decoder ++ coming ≡ input_bytes (map piece_of still)
   pub fit : AllByRecursion MessageFits still
   pub waited : AreWaitedFor still new.phase
+  pub executor : Executor
+  pub known : KnowsRuns executor still new
   pub kept : AreKept given some old new
 
-pub took_none : (given : Invocation) (messages : List InputMessage) (bytes coming : List ℕ) (old : MachineState) → has_failed old.phase ≡ false → AllByRecursion MessageFits messages
-    → AreWaitedFor messages old.phase → bytes ++ coming ≡ input_bytes (map piece_of messages) → Took given messages coming old (with_bytes bytes old)
-took_none given messages bytes coming old well fit waited is =
-    record { some = []; still = messages; parts = refl; well = well; bytes = is; fit = fit; waited = waited; kept = none_kept given bytes old }
+pub took_none : (given : Invocation) (messages : List InputMessage) (bytes coming : List ℕ) (old : MachineState) (e : Executor) → has_failed old.phase ≡ false → AllByRecursion MessageFits messages
+    → AreWaitedFor messages old.phase → KnowsRuns e messages old → bytes ++ coming ≡ input_bytes (map piece_of messages) → Took given messages coming old (with_bytes bytes old)
+took_none given messages bytes coming old e well fit waited known is =
+    record { some = []; still = messages; parts = refl; well = well; bytes = is; fit = fit; waited = waited; executor = e; known = known_over e messages bytes old known; kept = none_kept given bytes old }
 
 -- more bytes have come
 pub took_bytes : (given : Invocation) (messages : List InputMessage) (cut coming : List ℕ) (old new : MachineState) → Took given messages (cut ++ coming) old new → Took given messages coming old (with_input cut new)
@@ -177,12 +236,17 @@ took_bytes given messages cut coming old new k = record {
   bytes = append_assoc new.decoder cut coming ∙ k.bytes;
   fit = k.fit;
   waited = k.waited;
+  executor = k.executor;
+  known = known_over k.executor k.still (new.decoder ++ cut) new k.known;
   kept = record {
     phase = k.kept.phase;
     output = k.kept.output;
     commands = k.kept.commands;
     gathers = k.kept.gathers;
     sees = k.kept.sees;
+    replaying = k.kept.replaying;
+    runs = k.kept.runs;
+    bodies = k.kept.bodies;
     others = ap (with_bytes (new.decoder ++ cut)) k.kept.others;
   };
 }
@@ -193,12 +257,14 @@ module _ (keeps : MessagesAreKept) (given : Invocation) (messages : List InputMe
       let found = found_in between.decoder coming next.rest (message raw) k.still k.fit k.bytes next.consumes in
       let fit = subst (AllByRecursion MessageFits) found.2 k.fit in
       let waited = subst (λ (still : List InputMessage). AreWaitedFor still between.phase) found.2 k.waited in
+      let known = subst (λ (still : List InputMessage). KnowsRuns k.executor still between) found.2 k.known in
       let same : raw ≡ raw_of found.0 = same_message raw (raw_of found.0) found.3 in
-      by_kept found.0 found.1 found.2 fit waited (keeps given found.0 between new fit.0 waited.0 (subst (λ (one : RawMessage). TakesNext one between new) same next))
+      by_kept found.0 found.1 found.2 fit waited known
+      (keeps given found.0 between new fit.0 waited.0 (expected_first k.executor found.0 found.1 between known) (subst (λ (one : RawMessage). TakesNext one between new) same next))
     where
       by_kept : (first : InputMessage) (more : List InputMessage) → k.still ≡ first ∷ more → AllByRecursion MessageFits (first ∷ more) → AreWaitedFor (first ∷ more) between.phase
-          → Kept given first between new ⊎ Unkept between new → Took given messages coming old new ⊎ FailsForMemory old new
-      by_kept first more is fit waited (inl kept) =
+          → KnowsRuns k.executor (first ∷ more) between → Kept given first between new ⊎ Unkept between new → Took given messages coming old new ⊎ FailsForMemory old new
+      by_kept first more is fit waited known (inl kept) =
           let front_is = same_found (message (raw_of first), new.decoder ++ coming) (message (raw_of first), input_bytes (map piece_of more))
           (sym (extended coming between.decoder new.decoder (message (raw_of first)) kept.bytes) ∙ ap item_at (k.bytes ∙ ap (λ (still : List InputMessage). input_bytes (map piece_of still)) is)
           ∙ front first fit.0 (input_bytes (map piece_of more))) in
@@ -210,9 +276,11 @@ module _ (keeps : MessagesAreKept) (given : Invocation) (messages : List InputMe
             bytes = ap (λ (x : Item × List ℕ). x.1) front_is;
             fit = fit.1;
             waited = subst (λ (p : Phase). AreWaitedFor more p) (sym kept.phase) waited.1;
+            executor = reads_message k.executor first;
+            known = known_behind given k.executor first more between new known kept;
             kept = one_more given k.some first old between new k.kept waited.0 kept;
           })
-      by_kept first more is fit waited (inr unkept) = inr (memory_over old between new k.kept.output (unkept_fails between new k.well unkept))
+      by_kept first more is fit waited known (inr unkept) = inr (memory_over old between new k.kept.output (unkept_fails between new k.well unkept))
 
   pub took_each : (start new : MachineState) (raws : List RawMessage) → Took given messages coming old start → TakesEach raws start new → Took given messages coming old new ⊎ FailsForMemory old new
   took_each start new [] k is = inl (subst (λ (vm : MachineState). Took given messages coming old vm) (sym is) k)
@@ -282,6 +350,6 @@ first_taken given messages coming old new (inl (k, whole)) = inl (record { some 
 first_taken given messages coming old new (inr failed) = inr failed
 
 pub inputs_are_kept : MessagesAreKept → InputsAreKept
-inputs_are_kept keeps given messages cuts coming old new well none fit waited bytes fed =
+inputs_are_kept keeps given messages cuts coming old new e well none fit waited known bytes fed =
     first_taken given messages coming old new
-    (took_cuts keeps given messages cuts coming old old new (took_none given messages old.decoder (bytes_of cuts ++ coming) old well fit waited bytes, none) fed)
+    (took_cuts keeps given messages cuts coming old old new (took_none given messages old.decoder (bytes_of cuts ++ coming) old e well fit waited known bytes, none) fed)

@@ -1,4 +1,5 @@
 pub mod Arrivals
+pub mod Acknowledging
 pub mod Sorted
 pub mod Beginning
 pub mod Memory

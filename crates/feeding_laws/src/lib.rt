@@ -1,6 +1,6 @@
 //! What a machine that is fed the frames of an attempt's input keeps of them. Each function does nothing: its contract is the law.
 //!
-//! Acknowledgements of outcomes are outside these laws, since no run is executed.
+//! An acknowledgement of a run's outcome is fed only where that outcome was kept, and behind the journal; else the machine fails.
 #![tactic(auto)]
 
 ghost use Rattle.feeding_laws.specs.Arrivals.{ArrivalsReadBack};
@@ -38,7 +38,8 @@ pub fn starts_are_kept()
 }
 
 /// Of the messages of its input, in any cut of their bytes, a machine keeps what the abstract machine keeps of those that have come
-/// whole, and the bytes of the others; or it fails for want of memory.
+/// whole, and the bytes of the others; or it fails for want of memory. What it keeps of runs stays what the bodies of the attempt are,
+/// where each outcome that is acknowledged was kept.
 pub fn inputs_are_kept()
     ensures { InputsAreKept }
 {

@@ -2,7 +2,7 @@
 //! the store. The functions do nothing: their contracts are the laws.
 #![tactic(auto)]
 
-ghost use Rattle.machine_laws.specs.Laws.{ArrivalsComeAsAsked, JournalsStand, MachinesBegin, MachinesKeepOn, MachinesStayLive, RecordsGiveIds, RecordsHaveTextKeys};
+ghost use Rattle.machine_laws.specs.Laws.{ArrivalsComeAsAsked, MachinesBegin, MachinesStayLive, RecordsGiveIds, RecordsHaveTextKeys};
 
 /// For an invocation id the store lets in invocation ids alone.
 pub fn records_give_ids()
@@ -27,14 +27,4 @@ pub fn machines_begin()
 /// It stays so as it is handed its input and reads it.
 pub fn machines_stay_live()
     ensures { MachinesStayLive }
-{}
-
-/// Where it has read its journal, its machine stands in the run.
-pub fn journals_stand()
-    ensures { JournalsStand }
-{}
-
-/// Its turns keep its invocation in the run.
-pub fn machines_keep_on()
-    ensures { MachinesKeepOn }
 {}

@@ -1,5 +1,5 @@
 -- Each frame is read as what it was meant as.
-use Rattle.std.proofs.Common.{◌≡◌, ◌<◌, ◌-◌, ◌^◌, ℕ, arith, Bool, true, false, List, [], length, Option, Some, None, refl, sym, ap, ◌∙◌, subst}
+use Rattle.std.proofs.Common.{◌≡◌, ◌<◌, ◌-◌, ◌^◌, ℕ, arith, Bool, true, false, List, [], ◌++◌, length, Option, Some, None, refl, sym, ap, ◌∙◌, subst}
 use Rattle.std.specs.Prelude.{if◌then◌else◌}
 use Rattle.protocol_table.specs.declared.table.RecordType.{RecordType}
 use Rattle.protocol_table.specs.declared.table.RecordType.TheVariants as records
@@ -12,11 +12,13 @@ use Rattle.protocol_wire.specs.declared.check.Fault.{Fault}
 use Rattle.protocol_wire.specs.declared.record.TheConstants.{LEVELS}
 use Rattle.protocol_wire.proofs.Holds.{Reads}
 use Rattle.protocol_types.specs.declared.version.Version.{Version}
-use Rattle.protocol_types.specs.declared.feature.Feature.TheVariants.{AwaitTree as TellsTrees}
+use Rattle.protocol_types.specs.declared.message_type.MessageType.TheVariants as types
+use Rattle.protocol_types.specs.declared.feature.Feature.TheVariants.{Acknowledgement, AwaitTree as TellsTrees}
 use Rattle.protocol_types.specs.Version.{version_number}
-use Rattle.protocol_types.specs.Feature.{lacks_feature}
-use Rattle.protocol_types.proofs.Types.{is_named}
+use Rattle.protocol_types.specs.Feature.{has_feature, lacks_feature}
+use Rattle.protocol_types.proofs.Types.{is_named, named_is_wire}
 use Rattle.journal_model.specs.declared.notification.NotificationId.{NotificationId}
+use Rattle.journal_model.specs.declared.value.NonEmptyValue.{NonEmptyValue}
 use Rattle.journal_model.specs.AwaitTree.{AwaitTree}
 use Rattle.journal_model.specs.Request.{Request}
 use Rattle.journal_model.specs.Event.{Frame}
@@ -28,6 +30,7 @@ use Rattle.protocol_records.specs.OutputCommand.{output_command_of}
 use Rattle.protocol_records.specs.Suspension.{suspension_of, suspension_parts}
 use Rattle.protocol_records.specs.SuspensionV6.{suspension_v6_of, suspension_v6_parts}
 use Rattle.protocol_records.specs.AwaitingOn.{awaiting_on_of, awaiting_on_parts}
+use Rattle.protocol_records.specs.Choice.{ChoiceFits}
 use Rattle.protocol_records.specs.ReadBack.{suspension_reads, suspension_v6_reads, awaiting_on_reads, end_reads}
 use Rattle.protocol_commands.specs.Fields.{get_lazy_state_command_of, get_lazy_state_keys_command_of, get_eager_state_keys_command_of, set_state_command_of, clear_state_command_of, clear_all_state_command_of, get_promise_command_of, peek_promise_command_of, run_command_of}
 use Rattle.protocol_commands.specs.GetEagerStateCommand.{get_eager_state_command_of}
@@ -39,22 +42,32 @@ use Rattle.protocol_calls.specs.GetInvocationOutputCommand.{get_invocation_outpu
 use Rattle.protocol_calls.specs.CompleteAwakeableCommand.{complete_awakeable_command_of}
 use Rattle.protocol_controls.specs.declared.error.ErrorMessage.{ErrorMessage}
 use Rattle.protocol_controls.specs.Error.{error_of, error_parts, ErrorFits}
-use Rattle.protocol_controls.specs.ReadBack.{error_reads}
+use Rattle.protocol_controls.specs.Choices.{proposal_choice}
+use Rattle.protocol_controls.specs.ProposeRunCompletion.{propose_run_completion_of, propose_run_completion_parts, ProposeRunCompletionFits}
+use Rattle.protocol_controls.specs.declared.propose_run_completion.ProposeRunCompletionMessage.{ProposeRunCompletionMessage}
+use Rattle.protocol_controls.specs.ReadBack.{error_reads, propose_run_completion_reads}
+use Rattle.protocol_messages.specs.Carried.{proposed_record}
 use Rattle.protocol_stream.specs.Records.{future_record, awaiting_on_record}
+use Rattle.protocol_stream.specs.Item.{message, item_at}
+use Rattle.protocol_stream.proofs.Fronts.{item_at-spelled}
 use Rattle.protocol_stream.proofs.Frames.{item_at-frame_bytes}
 use Rattle.protocol_stream.proofs.RecordSpellings.{awaiting_on_spelled}
 use Rattle.protocol_spellings.specs.Requests.{request_of_output, request_of_get_lazy_state, request_of_get_eager_state, request_of_get_lazy_state_keys, request_of_get_eager_state_keys, request_of_set_state, request_of_clear_state, request_of_clear_all_state, request_of_get_promise, request_of_peek_promise, request_of_complete_promise, request_of_sleep, request_of_call, request_of_one_way_call, request_of_send_signal, request_of_run, request_of_attach_invocation, request_of_get_invocation_output, request_of_complete_awakeable}
 use Rattle.protocol_spellings.proofs.Notifications.{suspensions_spelled}
+use Rattle.protocol_spellings.proofs.Told.{output_told}
 use Rattle.vm_commands.specs.Recorded.{unless_wrong, request_read}
-use Rattle.store_frames.specs.Meaning.{unless_faulty, read_as, command_or_broken, error_frame, suspension_frame, frame_of}
-use Rattle.store_frames.specs.Requests.{suspension_of_tree, suspension_of_lists}
+use Rattle.store_frames.specs.Meaning.{unless_faulty, read_as, command_or_broken, error_frame, suspension_frame, outcome_or_broken, frame_of}
+use Rattle.store_frames.specs.Requests.{suspension_of_tree, suspension_of_lists, outcome_told, proposal_told}
 use Rattle.store_frames.proofs.Payloads.{lists_payload as lists_spelled}
 use Rattle.vm_start.specs.Failure.{told_error}
+use Rattle.vm_proposals.specs.Proposing.{proposal, proposal_message}
 use Rattle.vm_waiting.specs.Suspending.{listed, lists_payload}
+use Rattle.request_laws.specs.Calls.{IsTypedValue}
 use Rattle.request_laws.specs.Fitting.{RequestFits}
+use Rattle.request_laws.proofs.Records.{output_fits}
 use Rattle.request_laws.proofs.Requests.{payload_read}
 use Rattle.handle_laws.specs.Trees.{TreeFits}
-use Rattle.sending_laws.specs.Sent.{Sent, Asks, Awaits, Suspends, Fails, Ends, sent_type, sent_payload, sent_message, SentFits, suspension_told, frame_meant}
+use Rattle.sending_laws.specs.Sent.{Sent, Asks, Proposes, Awaits, Suspends, Fails, Ends, sent_payload, sent_frame, sent_message, SentFits, suspension_told, frame_meant}
 use Rattle.sending_laws.specs.Reading.{FramesAreRead, ErrorsAreMeant}
 use Rattle.handle_laws.proofs.Fitting.{future_fits}
 use Rattle.sending_laws.proofs.Fitting.{completions_listed, signals_listed, names_listed}
@@ -147,11 +160,40 @@ error_frame_read version error h short =
     let is = error_read error h short in
     read_sound records.Error (λ fs. error_frame version (error_of LEVELS fs)) (payload_of (error_parts error)) is.sound ∙ ap (error_frame version) (sym is.value)
 
+-- ---- outcomes
+
+outcome_fits : (value : NonEmptyValue) → IsTypedValue value → ChoiceFits proposal_choice (LEVELS - 1) (Some (proposed_record value))
+outcome_fits (NonEmptyValue.Success bytes) h = tt
+outcome_fits (NonEmptyValue.Failure failure) h = output_fits (NonEmptyValue.Failure failure) h
+
+outcome_back : (value : NonEmptyValue) → outcome_told (proposed_record value) ≡ value
+outcome_back (NonEmptyValue.Success bytes) = refl
+outcome_back (NonEmptyValue.Failure failure) = output_told (NonEmptyValue.Failure failure)
+
+-- whether an acknowledgement is asked for stands in the header, not in the payload
+proposal_read : (asks : Bool) (n : ℕ) (value : NonEmptyValue) → n < 2 ^ 32 → IsTypedValue value → length (payload_of (propose_run_completion_parts (proposal n value))) < 2 ^ 32
+    → read_as records.ProposeRunCompletion (λ fs. outcome_or_broken asks (proposal_told (propose_run_completion_of LEVELS fs))) (payload_of (propose_run_completion_parts (proposal n value))) ≡ Frame.RunOutcome n value asks
+proposal_read asks n value small typed short =
+    let payload = payload_of (propose_run_completion_parts (proposal n value)) in
+    let is = spelled_read records.ProposeRunCompletion propose_run_completion_of propose_run_completion_parts ProposeRunCompletionFits propose_run_completion_reads (proposal n value) payload
+    (record { level = omega arith; result_completion_id = small; result = outcome_fits value typed }) refl short in
+    read_sound records.ProposeRunCompletion (λ fs. outcome_or_broken asks (proposal_told (propose_run_completion_of LEVELS fs))) payload is.sound
+    ∙ ap (λ (one : ProposeRunCompletionMessage). outcome_or_broken asks (proposal_told one)) (sym is.value)
+    ∙ ap (λ (told : NonEmptyValue). Frame.RunOutcome n told asks) (outcome_back value)
+
+proposal_front : (version : Version) (n : ℕ) (value : NonEmptyValue) (rest : List ℕ) → length (payload_of (propose_run_completion_parts (proposal n value))) < 2 ^ 32
+    → item_at (sent_frame version (Proposes n value) ++ rest) ≡ Some (message (sent_message version (Proposes n value)), rest)
+proposal_front version n value rest short =
+    item_at-spelled (proposal_message version (proposal n value)) rest (record { ty = named_is_wire types.ProposeRunCompletion refl; flag = refl; len = refl; fits = short })
+
+-- ---- all
+
 end_sound : payload_fault LEVELS records.End [] ≡ None
 end_sound = (end_reads LEVELS (record {}) (record { level = omega arith }) (omega arith)).sound
 
 pub read_as_meant : (version : Version) (sent : Sent) → SentFits version sent → frame_of (version_number version) (sent_message version sent) ≡ frame_meant version sent
 read_as_meant version (Asks request) h = request_read_as version request h.told
+read_as_meant version (Proposes n value) h = proposal_read (has_feature (version_number version) Acknowledgement) n value h.told.0 h.told.1 h.short
 read_as_meant version (Awaits tree) h = read_sound records.AwaitingOn (λ fs. Frame.AwaitingOn) (awaiting_on_payload tree false) (awaiting_read tree h.told h.short)
 read_as_meant version (Suspends tree) h = suspension_read (lacks_feature (version_number version) TellsTrees) tree h.told h.short
 read_as_meant version (Fails error) h = error_frame_read (version_number version) error h.told h.short
@@ -161,18 +203,16 @@ named : (request : Request) → is_named (request_type request) ≡ true
 named (Request.Output value name) = refl
 named _ = refl
 
-pub sent_named : (sent : Sent) → is_named (sent_type sent) ≡ true
-sent_named (Asks request) = named request
-sent_named (Awaits tree) = refl
-sent_named (Suspends tree) = refl
-sent_named (Fails error) = refl
-sent_named Ends = refl
+front_is : (version : Version) (sent : Sent) (rest : List ℕ) → SentFits version sent → item_at (sent_frame version sent ++ rest) ≡ Some (message (sent_message version sent), rest)
+front_is version (Asks request) rest h = item_at-frame_bytes (request_type request) (request_payload request) rest (named request) h.short
+front_is version (Proposes n value) rest h = proposal_front version n value rest h.short
+front_is version (Awaits tree) rest h = item_at-frame_bytes types.AwaitingOn (sent_payload version (Awaits tree)) rest refl h.short
+front_is version (Suspends tree) rest h = item_at-frame_bytes types.Suspension (sent_payload version (Suspends tree)) rest refl h.short
+front_is version (Fails error) rest h = item_at-frame_bytes types.Error (sent_payload version (Fails error)) rest refl h.short
+front_is version Ends rest h = item_at-frame_bytes types.End [] rest refl h.short
 
 pub frames_are_read : FramesAreRead
-frames_are_read version sent rest h = record {
-  front = item_at-frame_bytes (sent_type sent) (sent_payload version sent) rest (sent_named sent) h.short;
-  frame = read_as_meant version sent h;
-}
+frames_are_read version sent rest h = record { front = front_is version sent rest h; frame = read_as_meant version sent h }
 
 pub errors_are_meant : ErrorsAreMeant
 errors_are_meant version error h = record {

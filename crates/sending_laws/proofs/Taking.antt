@@ -8,9 +8,9 @@ use Rattle.journal_model.specs.Notification.{Text, Arrival}
 use Rattle.journal_model.specs.Run.{Handler, Invocation}
 use Rattle.journal_model.specs.Request.{Request, completions_asked}
 use Rattle.journal_model.specs.Event.{Event, Frame}
-use Rattle.journal_model.specs.Journal.{recorded_requests, version_of}
+use Rattle.journal_model.specs.Journal.{entries_of, open_request, recorded_requests, version_of}
 use Rattle.journal_model.specs.Attempt.{is_input_closed}
-use Rattle.journal_model.specs.Cause.{Cause, Tests, those_that_hold, is_of_frame, causes_of, open_tests, live_tests, frame_tests, adding_tests, entry_tests, tests_of, UnknownInvocation, InvocationClosed, AttemptNotLive, BadCompletion, KeyNotText, InputNotClosed, BrokenPayload, NumbersUsedUp, PayloadTooLong, do_ascend, last_completion, keys_of}
+use Rattle.journal_model.specs.Cause.{Cause, Tests, those_that_hold, is_of_frame, causes_of, open_tests, live_tests, frame_tests, adding_tests, entry_tests, tests_of, UnknownInvocation, InvocationClosed, AttemptNotLive, BadCompletion, KeyNotText, InputNotClosed, BrokenPayload, NumbersUsedUp, PayloadTooLong, do_ascend, last_completion, is_run, keys_of}
 use Rattle.journal_model.specs.Cause as cause
 use Rattle.run_laws.proofs.Ascending.{next_ascends}
 use Rattle.turn_laws.specs.Sending.{SendsOneOfRun}
@@ -23,7 +23,7 @@ use Rattle.store_refusals.specs.Refused.{refusal_of, is_circumstance, IsRefused}
 use Rattle.store_steps.specs.declared.frame.LiveFacts.{LiveFacts}
 use Rattle.store_steps.specs.declared.frame.PreparedFrame.{PreparedFrame}
 use Rattle.store_steps.specs.Taken.{IsLive, Takes, lies_in_frame}
-use Rattle.sending_laws.specs.Sent.{Sent, Asks, Awaits, Suspends, Fails, Ends, is_recorded, frame_meant}
+use Rattle.sending_laws.specs.Sent.{Sent, Asks, Proposes, Awaits, Suspends, Fails, Ends, is_recorded, frame_meant}
 use Rattle.sending_laws.specs.Taking.{IsSentOfRun, NoneLieInFrames}
 
 -- ---- tests
@@ -65,6 +65,9 @@ causes_none next given arrivals version (Asks request) id events h number =
     let of_run = subst (λ (frame : Frame). SendsOneOfRun next given arrivals (is_input_closed events id) (recorded_requests events id) frame) same h.of_run in
     subst (λ (frame : Frame). list_any is_of_frame (causes_of events (Event.Take id number frame)) ≡ false) (sym same)
     (command_none events id number request h.of_store.1 (next_ascends next given arrivals (recorded_requests events id) request of_run))
+causes_none next given arrivals version (Proposes n value) id events h number =
+    none_of (tests_of events (Event.Take id number (frame_meant version (Proposes n value))))
+    (inr refl, (inr refl, (inr refl, (inl (not_true (is_run (open_request (entries_of events id) n)) h.opened), (inr refl, (inr refl, tt))))))
 causes_none next given arrivals version (Awaits tree) id events h number =
     none_of (tests_of events (Event.Take id number Frame.AwaitingOn)) (inr refl, (inr refl, (inr refl, (inr refl, (inr refl, tt)))))
 causes_none next given arrivals version (Suspends tree) id events h number =

@@ -26,7 +26,7 @@ use Rattle.vm_start.specs.Failure.{told_error}
 use Rattle.request_laws.specs.Fitting.{RequestFits}
 use Rattle.sending_laws.specs.Sent.{Asks, Awaits, Suspends, Fails, Ends, sent_stream, AllFit, is_recorded, suspension_told, frame_meant}
 use Rattle.sending_laws.specs.Writing.{Sends}
-use Rattle.sending_laws.specs.Turning.{AnswersSend, leaves_over, StaysSend, SuspensionsSend, EndsSend, FailuresSend, StopsSend, TurnsSend}
+use Rattle.sending_laws.specs.Turning.{AnswersSend, ProposalsSend, leaves_over, StaysSend, SuspensionsSend, EndsSend, FailuresSend, StopsSend, TurnsSend}
 use Rattle.sending_laws.proofs.Streams.{streams_join}
 use Rattle.sending_laws.proofs.Telling.{suspensions_tell}
 use Rattle.sending_laws.proofs.Writing.{frames_are_written}
@@ -55,6 +55,11 @@ answers_send is_closed m after answer more old new written frames fit recorded =
 
 nothing : (old : Written) → Sends [] old old
 nothing old = record { version = refl; bytes = sym (append-nil old.bytes) }
+
+proposals_send : ProposalsSend
+proposals_send n value done old new opens small typed writes =
+    let one = frames_are_written.proposals n value done old new opens small typed writes in
+    record { fit = (one.fits, tt); written = one.sends; meant = refl }
 
 -- ---- what is waited for
 
@@ -132,6 +137,7 @@ stops_send more behind old new fit recorded behind_fit sends =
 pub turns_send : TurnsSend
 turns_send = record {
   answers = answers_send;
+  proposals = proposals_send;
   stays = stays_send;
   suspensions = suspensions_send;
   ends = ends_send;

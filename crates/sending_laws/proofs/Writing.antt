@@ -13,8 +13,8 @@ use Rattle.protocol_stream.proofs.Spellings.{spelled-frame_bytes}
 use Rattle.vm_context.specs.Output.{Written, with_frame}
 use Rattle.vm_calls.specs.declared.active.Active.{Active}
 use Rattle.vm_start.specs.Failure.{told_error}
-use Rattle.sending_laws.specs.Sent.{Sent, Asks, Awaits, Suspends, Fails, Ends, sent_frame, sent_stream}
-use Rattle.sending_laws.specs.Writing.{Sends, CommandsAreWritten, AwaitsAreWritten, SuspensionsAreWritten, ErrorsAreWritten, EndsAreWritten, FramesAreWritten}
+use Rattle.sending_laws.specs.Sent.{Sent, Asks, Proposes, Awaits, Suspends, Fails, Ends, sent_frame, sent_stream}
+use Rattle.sending_laws.specs.Writing.{Sends, CommandsAreWritten, ProposalsAreWritten, AwaitsAreWritten, SuspensionsAreWritten, ErrorsAreWritten, EndsAreWritten, FramesAreWritten}
 
 stream_of : (version : Version) (requests : List Request) → flat_map request_frame requests ≡ sent_stream version (map Asks requests)
 stream_of version [] = refl
@@ -33,6 +33,10 @@ sends_one sent old new opens is =
       version = ap (λ (w : Written). w.version) whole;
       bytes = ap (λ (w : Written). w.bytes) whole ∙ ap (λ (s : List ℕ). old.bytes ++ s) (sym (append-nil (sent_frame old.version sent)));
     }
+
+proposals_written : ProposalsAreWritten
+proposals_written n value done old new opens small typed writes =
+    record { fits = record { told = (small, typed); short = writes.0 opens }; sends = sends_one (Proposes n value) old new opens writes.1 }
 
 awaits_written : AwaitsAreWritten
 awaits_written ids done old new opens fits tells =
@@ -63,4 +67,4 @@ ends_written : EndsAreWritten
 ends_written done old new opens writes = record { fits = record { told = tt; short = writes.0 opens }; sends = sends_one Ends old new opens writes.1 }
 
 pub frames_are_written : FramesAreWritten
-frames_are_written = record { commands = commands_written; awaits = awaits_written; suspensions = suspensions_written; errors = errors_written; ends = ends_written }
+frames_are_written = record { commands = commands_written; proposals = proposals_written; awaits = awaits_written; suspensions = suspensions_written; errors = errors_written; ends = ends_written }

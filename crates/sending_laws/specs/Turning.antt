@@ -1,10 +1,14 @@
--- What one turn sends is a list of such frames: by the relation of the call that it made, what the abstract machine's reply sends.
-use Rattle.std.specs.Prelude.{◌≡◌, Bool, true, false, List, [], ◌++◌, map, Option, Some, Ok}
+-- What one turn sends is a list of such frames: by the relation of the call that it made, what the abstract machine's reply sends; or the
+-- outcome of a run that it has executed.
+use Rattle.std.specs.Prelude.{◌≡◌, ◌<◌, ◌^◌, ℕ, Bool, true, false, List, [], ◌∷◌, ◌++◌, map, Option, Some, Ok}
 use Rattle.std.specs.List.{AllByRecursion}
 use Rattle.protocol_types.specs.declared.message_type.MessageType.TheVariants as types
+use Rattle.protocol_types.specs.declared.feature.Feature.TheVariants.{Acknowledgement}
+use Rattle.protocol_types.specs.Feature.{has_feature}
 use Rattle.protocol_types.specs.Version.{version_number}
 use Rattle.journal_model.specs.declared.notification.NotificationId.{NotificationId}
 use Rattle.journal_model.specs.declared.notification.NotificationId.TheVariants.{CompletionId}
+use Rattle.journal_model.specs.declared.value.NonEmptyValue.{NonEmptyValue}
 use Rattle.journal_model.specs.declared.call.Answer.{Answer}
 use Rattle.journal_model.specs.AwaitTree.{AwaitTree, Single, Pending, is_awake, map_leaves}
 use Rattle.journal_model.specs.Event.{Frame}
@@ -23,9 +27,11 @@ use Rattle.vm_waiting.specs.declared.waits_for.WaitsFor.{WaitsFor}
 use Rattle.vm_waiting.specs.declared.waits_for.WaitsFor.TheVariants.{Future, Child}
 use Rattle.vm_start.specs.Failing as failing
 use Rattle.protocol_errors.specs.declared.error.Error.{Error}
+use Rattle.vm_proposals.specs.Proposing.{proposal, WritesProposal}
+use Rattle.request_laws.specs.Calls.{IsTypedValue}
 use Rattle.request_laws.specs.Fitting.{RequestFits}
 use Rattle.handle_laws.specs.Trees.{TreeFits}
-use Rattle.sending_laws.specs.Sent.{Sent, Asks, AllFit, is_recorded, frame_meant}
+use Rattle.sending_laws.specs.Sent.{Sent, Asks, Proposes, AllFit, is_recorded, frame_meant}
 use Rattle.sending_laws.specs.Writing.{Sends}
 
 -- frames that fit are behind what was written, and the frames that they are meant as are what such a reply sends
@@ -62,6 +68,17 @@ EndsSend = (is_closed : Bool) (done : Unit {0}) (m after : Machine) (old new : W
 abbrev pub FailuresSend : Type 0
 FailuresSend = (is_closed : Bool) (m : Machine) (fault : Fault) (error : Error) (old new : Written) → old.is_closed ≡ false → failing.Writes error old new → TurnSends is_closed m (FailedBy fault) old new
 
+-- a turn that has executed the body of a run: it proposes the outcome for the run's completion, and asks for an acknowledgement from the
+-- version on that has them
+pub record ProposalSends (n : ℕ) (value : NonEmptyValue) (old new : Written) : Type 0 where
+  pub fit : AllFit old.version (Proposes n value ∷ [])
+  pub written : Sends (Proposes n value ∷ []) old new
+  pub meant : map (frame_meant old.version) (Proposes n value ∷ []) ≡ Frame.RunOutcome n value (has_feature (version_number old.version) Acknowledgement) ∷ []
+
+abbrev pub ProposalsSend : Type 0
+ProposalsSend = (n : ℕ) (value : NonEmptyValue) (done : Unit {0}) (old new : Written) → old.is_closed ≡ false → n < 2 ^ 32 → IsTypedValue value
+    → WritesProposal (proposal n value) old (Ok done) new → ProposalSends n value old new
+
 -- a call that was stopped midway: its requests that were written by then, and behind them what is sent then, which is its error or nothing
 pub record StopSends (more : List Request) (behind : List Sent) (old new : Written) : Type 0 where
   pub fit : AllFit old.version (map Asks more ++ behind)
@@ -74,6 +91,7 @@ StopsSend = (more : List Request) (behind : List Sent) (old new : Written) → A
 
 pub record TurnsSend : Type 0 where
   pub answers : AnswersSend
+  pub proposals : ProposalsSend
   pub stays : StaysSend
   pub suspensions : SuspensionsSend
   pub ends : EndsSend

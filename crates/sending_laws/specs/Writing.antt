@@ -1,7 +1,8 @@
 -- What is written is what is sent, and what a turn sends.
-use Rattle.std.specs.Prelude.{◌≡◌, true, false, List, [], ◌∷◌, ◌++◌, map, Ok}
+use Rattle.std.specs.Prelude.{◌≡◌, ◌<◌, ◌^◌, ℕ, true, false, List, [], ◌∷◌, ◌++◌, map, Ok}
 use Rattle.protocol_types.specs.declared.message_type.MessageType.TheVariants as types
 use Rattle.journal_model.specs.declared.notification.NotificationId.{NotificationId}
+use Rattle.journal_model.specs.declared.value.NonEmptyValue.{NonEmptyValue}
 use Rattle.journal_model.specs.AwaitTree.{AwaitTree}
 use Rattle.journal_model.specs.Request.{Request}
 use Rattle.protocol_errors.specs.declared.error.Error.{Error}
@@ -11,8 +12,10 @@ use Rattle.vm_calls.specs.Active.{writes_frames}
 use Rattle.vm_waiting.specs.Suspending.{Writes, IsSuspended, TellsIf}
 use Rattle.vm_start.specs.Failure.{told_error}
 use Rattle.vm_start.specs.Failing as failing
+use Rattle.vm_proposals.specs.Proposing.{proposal, WritesProposal}
+use Rattle.request_laws.specs.Calls.{IsTypedValue}
 use Rattle.handle_laws.specs.Trees.{TreeFits}
-use Rattle.sending_laws.specs.Sent.{Sent, Asks, Awaits, Suspends, Fails, Ends, sent_stream, SentFits}
+use Rattle.sending_laws.specs.Sent.{Sent, Asks, Proposes, Awaits, Suspends, Fails, Ends, sent_stream, SentFits}
 
 -- these frames are behind what was written, and no other
 pub record Sends (coming : List Sent) (old new : Written) : Type 0 where
@@ -26,6 +29,11 @@ pub record SendsOne (sent : Sent) (old new : Written) : Type 0 where
 
 abbrev pub CommandsAreWritten : Type 0
 CommandsAreWritten = (requests : List Request) (old : Written) → Sends (map Asks requests) old (writes_frames requests old)
+
+-- of an outcome whose completion and texts are as their types say
+abbrev pub ProposalsAreWritten : Type 0
+ProposalsAreWritten = (n : ℕ) (value : NonEmptyValue) (done : Unit {0}) (old new : Written) → old.is_closed ≡ false → n < 2 ^ 32 → IsTypedValue value
+    → WritesProposal (proposal n value) old (Ok done) new → SendsOne (Proposes n value) old new
 
 abbrev pub AwaitsAreWritten : Type 0
 AwaitsAreWritten = (ids : AwaitTree NotificationId) (done : Unit {0}) (old new : Active) → old.output.is_closed ≡ false → TreeFits ids → TellsIf true ids old (Ok done) new
@@ -43,6 +51,7 @@ EndsAreWritten = (done : Unit {0}) (old new : Written) → old.is_closed ≡ fal
 -- what each relation of a machine's calls writes, while frames can be written, is such a frame
 pub record FramesAreWritten : Type 0 where
   pub commands : CommandsAreWritten
+  pub proposals : ProposalsAreWritten
   pub awaits : AwaitsAreWritten
   pub suspensions : SuspensionsAreWritten
   pub errors : ErrorsAreWritten

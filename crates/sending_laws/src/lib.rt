@@ -32,19 +32,21 @@ pub fn errors_are_meant()
     ensures { ErrorsAreMeant }
 {}
 
-/// What is written of calls, of awaits, at a suspension, of errors and at the end are such frames.
+/// What is written of calls, of outcomes, of awaits, at a suspension, of errors and at the end are such frames.
 pub fn frames_are_written()
     ensures { FramesAreWritten }
 {}
 
-/// What one turn writes, by the relation of its call, is a list of such frames, and they are what the abstract machine's reply sends. Of a
-/// call that stops midway they are the requests that were written by then, and what is sent behind them.
+/// What one turn writes, by the relation of its call, is a list of such frames, and they are what the abstract machine's reply sends; of an
+/// outcome that is proposed it is that frame. Of a call that stops midway they are the requests that were written by then, and what is sent
+/// behind them.
 pub fn turns_send()
     ensures { TurnsSend }
 {}
 
 /// A frame of the run that asks for what a store records, by keys that are text, is refused for no cause that lies in the frame: its
-/// payload can be read, its type is accepted, its completions ascend, its input is closed where it suspends, and its keys are text.
+/// payload can be read, its type is accepted, its completions ascend, its input is closed where it suspends, its keys are text, and a run
+/// whose outcome it proposes is open.
 pub fn none_lie_in_frames()
     ensures { NoneLieInFrames }
 {}

@@ -16,10 +16,12 @@ use Rattle.beginning_laws.proofs.Messages.{all_in_front}
 use Rattle.beginning_laws.proofs.Passed.{front, nothing_at, some_is_none, starts_read_back}
 use Rattle.turning_laws.specs.Attempts.{IsUnasked, FeedsUnless, output_of, Attempt, Finish}
 use Rattle.turning_laws.specs.Serving.{kind_where, IsFedBy, Serves}
-use Rattle.turning_laws.specs.Keeping.{attempt_started, LacksMemory, BeginsServing}
+use Rattle.turning_laws.specs.Bodies.{AreCached, Executor, executor_over, KeepsBodies, no_runs, reads_message, Runs}
+use Rattle.turning_laws.specs.Keeping.{attempt_started, HasNoBodies, LacksMemory, BeginsServing}
 use Rattle.turning_laws.specs.Machine.{Written, MachineState, IsFed, IsNew, BeginsAs}
+use Rattle.beginning_laws.specs.Standing.{IsEntry}
 use Rattle.turning_laws.specs.Reading.{FailsForMemory, raw_of, MessageFits, bytes_of, start_told, CanBegin, IsRunOf, kind_of, HasStarted, HoldsStart, ReadsOn, StartsAreRead}
-use Rattle.turning_laws.specs.Words.{item_at, message, Version, version_content_type, input_bytes, Bytes, Handler, Invocation, InputMessage, CarriesInput, piece_of, AttemptStart, ShowsStart, attempt_begun, VMOptions}
+use Rattle.turning_laws.specs.Words.{item_at, message, Version, version_content_type, input_bytes, Bytes, Handler, Invocation, InputMessage, CarriesInput, CarriesRequest, CarriesArrival, CarriesOutcome, piece_of, Machine, machine_at_start, AttemptStart, ShowsStart, attempt_begun, VMOptions}
 
 -- ---- the version
 
@@ -31,6 +33,20 @@ begins_new : (version : Version) (options : VMOptions) (vm : MachineState) (nego
 begins_new version options vm (Ok other) negotiates begins =
     subst (λ (v : Version). IsNew v options vm) (same_version version other (sym negotiates.0 ∙ content_types_read_back version)) begins
 begins_new version options vm (Err refused) negotiates begins = absurd begins
+
+-- ---- the bodies of runs
+
+-- a journal acknowledges nothing
+entries_cached : (e : Executor) (messages : List InputMessage) → AllByRecursion IsEntry messages → AreCached e messages
+entries_cached e [] all = tt
+entries_cached e (CarriesInput new ∷ messages) all = absurd all.0
+entries_cached e (CarriesRequest request ∷ messages) all = entries_cached (reads_message e (CarriesRequest request)) messages all.1
+entries_cached e (CarriesArrival type arrival ∷ messages) all = entries_cached (reads_message e (CarriesArrival type arrival)) messages all.1
+entries_cached e (CarriesOutcome number value ∷ messages) all = absurd all.0
+
+-- where no run was called, there are no bodies
+none_kept : (m : Machine) → KeepsBodies no_runs (executor_over m)
+none_kept m = record { left = refl; executing = λ body. refl; cached = λ completion. refl }
 
 -- ---- the bytes
 
@@ -60,8 +76,11 @@ module _ {H : Type 0} (function : H → Handler) (next : Handler) (version : Ver
   abbrev messages : List InputMessage
   messages = CarriesInput start.new ∷ start.journal
 
+  abbrev first : Executor
+  first = executor_over (machine_at_start start.shown [] [])
+
   abbrev Outcome : Type 0
-  Outcome = (output_of fed ≡ []) × (Serves function next version options (attempt_started start) false fed ⊎ LacksMemory fed)
+  Outcome = (output_of fed ≡ []) × ((Serves function next version options (attempt_started start) false fed × HasNoBodies function next version options start fed) ⊎ LacksMemory fed)
 
   fresh : IsFresh new.vm.state.version start.given.options.signal_delivery new.vm.state.active
   fresh =
@@ -73,7 +92,7 @@ module _ {H : Type 0} (function : H → Handler) (next : Handler) (version : Ver
 
   holds : HoldsStart start (kind_where version options false) messages (bytes_of (start.frame ∷ []) ++ input_bytes (map piece_of messages)) new.vm.state
   holds = record {
-    awaits = record { kind_is = is_kind; waits = record { phase = is_new.phase; active = fresh } };
+    awaits = record { kind_is = is_kind; waits = record { phase = is_new.phase; active = fresh }; runs = is_new.runs };
     bytes = ap (λ (held : List ℕ). held ++ (start.frame ++ input_bytes (map piece_of messages))) is_new.decoder;
     whole = ap item_at is_new.decoder ∙ nothing_at;
   }
@@ -98,28 +117,39 @@ module _ {H : Type 0} (function : H → Handler) (next : Handler) (version : Ver
   serves : ReadsOn start (start_told start shows) (kind_where version options false) [] messages (input_bytes (map piece_of messages)) fed.vm.state → Outcome
   serves on = (
     output_is written,
-    inl (record {
-      handler = ap (λ (a : Attempt H). function a.handler) does.1 ∙ ap function unasked.handler_is ∙ is_next;
-      going = ap (λ (a : Attempt H). a.over) does.1 ∙ unasked.over;
-      cancellation = ap (λ (a : Attempt H). a.cancellation) does.1 ∙ unasked.cancellation;
-      kind = on.started.kind_is;
-      of_run = of_run;
-      fed = by;
-      started = refl;
-      bytes = none_held;
-      whole = on.whole;
-      stands = inl (record {
-        input = ap (λ (a : Attempt H). a.input) does.1 ∙ unasked.input;
-        answers = ap (λ (a : Attempt H). a.answers) does.1 ∙ unasked.answers;
-        calls = refl;
-        machine = refl;
-        shows = shows;
-        started = subst (λ (read : List InputMessage). HasStarted start (start_told start shows) (kind_where version options false) read fed.vm.state) none_read on.started;
-        unwritten = output_is written;
-      });
-    }),
+    inl (
+      record {
+        handler = ap (λ (a : Attempt H). function a.handler) does.1 ∙ ap function unasked.handler_is ∙ is_next;
+        going = ap (λ (a : Attempt H). a.over) does.1 ∙ unasked.over;
+        cancellation = ap (λ (a : Attempt H). a.cancellation) does.1 ∙ unasked.cancellation;
+        kind = on.started.kind_is;
+        of_run = of_run;
+        fed = by;
+        started = refl;
+        bytes = none_held;
+        whole = on.whole;
+        stands = inl (record {
+          input = ap (λ (a : Attempt H). a.input) does.1 ∙ unasked.input;
+          answers = ap (λ (a : Attempt H). a.answers) does.1 ∙ unasked.answers;
+          calls = refl;
+          machine = refl;
+          shows = shows;
+          started = subst (λ (read : List InputMessage). HasStarted start (start_told start shows) (kind_where version options false) read fed.vm.state) none_read on.started;
+          unwritten = output_is written;
+        });
+      },
+      none,
+    ),
   )
     where
+      none : HasNoBodies function next version options start fed
+      none lives = record {
+        executor = first;
+        lives = lives;
+        keeps = subst (λ (runs : Runs). KeepsBodies runs first) (sym on.started.runs) (none_kept (machine_at_start start.shown [] []));
+        behind = inl refl;
+      }
+
       written : fed.vm.state.active.output.bytes ≡ []
       written = ap (λ (w : Written). w.bytes) on.started.output
 
@@ -147,7 +177,8 @@ module _ {H : Type 0} (function : H → Handler) (next : Handler) (version : Ver
   begun (inr (inr failed)) = lacks failed
 
   all_begun : Outcome
-  all_begun = begun (starts start shows (kind_where version options false) messages (start.frame ∷ []) (input_bytes (map piece_of messages)) new.vm.state fed.vm.state can by holds
+  all_begun = begun (starts start shows (kind_where version options false) messages (start.frame ∷ []) (input_bytes (map piece_of messages)) new.vm.state fed.vm.state first can by
+      (record { keeps = none_kept (machine_at_start start.shown [] []); cached = entries_cached first start.journal by.journal }) holds
       (new.vm.state, refl, does.0))
 
 pub feeds_new : {H : Type 0} (over : Option Finish) (bytes : Bytes) (before after : Attempt H) → before.over ≡ over → before.over ≡ None → FeedsUnless over bytes before after

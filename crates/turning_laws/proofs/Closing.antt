@@ -4,6 +4,7 @@ use Rattle.std.specs.List.{AllByRecursion}
 use Rattle.vm_start.specs.Phases.{kept_error}
 use Rattle.turning_laws.specs.Serving.{kind_where, HasNotRead, HasRead, Serves}
 use Rattle.turning_laws.specs.Keeping.{early_error, StaysClosed, ClosesEarly, ClosesServing, WritesNothing}
+use Rattle.turning_laws.proofs.Bodies.{bodies_stay}
 use Rattle.turning_laws.proofs.Notes.{TellsNotes, cause_tells, fails_with, waits_more}
 use Rattle.turning_laws.proofs.Over.{serves_by, waits_same}
 use Rattle.turning_laws.proofs.Phases.{stage}
@@ -52,6 +53,7 @@ module _ {H : Type 0} (function : H → Handler) (next : Handler) (version : Ver
       journal = journal;
       serves = serves_by function next version options live live is_closed true before after does.1 s closed_kind s.of_run s.fed s.started
           (ap (λ (vm : MachineState). vm.decoder) same ∙ s.bytes) (ap (λ (vm : MachineState). item_at vm.decoder) same ∙ s.whole) stands;
+      bodies = bodies_stay function next version options before after (ap (λ (vm : MachineState). vm.runs) same);
       nothing = nothing;
     }
 
@@ -68,6 +70,7 @@ module _ {H : Type 0} (function : H → Handler) (next : Handler) (version : Ver
         start_is = n.started.start_is;
         commands = n.started.commands;
         gathers = n.started.gathers;
+        runs = n.started.runs;
         output = n.started.output;
       });
       unwritten = nothing ∙ n.unwritten;
@@ -80,6 +83,8 @@ module _ {H : Type 0} (function : H → Handler) (next : Handler) (version : Ver
       answers = ap (λ (a : Attempt H). a.answers) does.1 ∙ r.answers;
       driven = subst (λ (vm : MachineState). IsDriven live.start.given live.machine vm) (sym same)
           (closed_driven live.start.given live.machine before.vm.state r.driven);
+      shows = r.shows;
+      start_is = ap (λ (vm : MachineState). vm.start) same ∙ r.start_is;
       numbers = r.numbers;
     }
 
@@ -131,5 +136,5 @@ module _ {H : Type 0} (function : H → Handler) (next : Handler) (version : Ver
   stood (inr r) = inl (stays r.journal r.driven.phase (inr (stays_read r.journal r.driven.phase r)))
 
 pub closes_keep : {H : Type 0} (function : H → Handler) (next : Handler) (version : Version) (options : VMOptions) → ClosesServing function next version options
-closes_keep function next version options id events live is_closed before after l s closes =
+closes_keep function next version options live is_closed before after s closes =
     stood function next version options live is_closed before after s (closes_new before.over before after refl s.going closes) s.stands

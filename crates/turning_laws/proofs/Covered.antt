@@ -1,4 +1,4 @@
--- A call that is carried out asks for what a store records, and what it awaits can be told.
+-- A call asks for what a store records, and of one that is carried out what it awaits can be told.
 use Rattle.std.proofs.Common.{◌≡◌, ◌-◌, ℕ, zero, suc, Bool, true, false, ◌&&◌, if◌then◌else◌, [], ◌∷◌, Some, refl}
 use Rattle.protocol_wire.specs.declared.record.TheConstants.{LEVELS}
 use Rattle.journal_model.specs.declared.call.Call.{Call}
@@ -11,9 +11,9 @@ use Rattle.journal_model.specs.Run.{name_or_empty}
 use Rattle.journal_model.specs.State.{knows_key, knows_all_keys, known_value, known_keys}
 use Rattle.attempt_model.specs.Requests.{Commands, read_value, read_keys, fresh_value, fresh_keys}
 use Rattle.turning_laws.specs.Sending.{is_recorded}
-use Rattle.vm_attempt.specs.Covered.{asks_of_store, is_nested_within, are_nested_within, is_covered}
+use Rattle.vm_attempt.specs.Covered.{is_nested_within, are_nested_within, is_covered}
 use Rattle.turning_laws.specs.Serving.{IsOfStore, AwaitsWithin}
-use Rattle.turning_laws.specs.Words.{ImplicitCancellationOption, IsWithin, AreWithin}
+use Rattle.turning_laws.specs.Words.{IsWithin, AreWithin}
 
 -- ---- what it asks for
 
@@ -33,29 +33,24 @@ either_stored true one other e f = e
 either_stored false one other e f = f
 
 -- what is told by its kind is so, whatever was asked and recorded before
-pub stored : (call : Call) → asks_of_store call ≡ true → IsOfStore call
-stored (Call.StateGet key name options) e = λ start done left completion. (
+pub stored : (call : Call) → IsOfStore call
+stored (Call.StateGet key name options) = λ start done left completion. (
   value_stored left (fresh_value start done completion key (name_or_empty name)) completion key (name_or_empty name)
       (either_stored (knows_key start done key) (Request.GetEagerState key (known_value start done key) (name_or_empty name)) (Request.GetLazyState key completion (name_or_empty name)) refl refl),
   tt,
 )
-stored (Call.StateGetKeys name) e = λ start done left completion. (
+stored (Call.StateGetKeys name) = λ start done left completion. (
   keys_stored left (fresh_keys start done completion (name_or_empty name)) completion (name_or_empty name)
       (either_stored (knows_all_keys start done) (Request.GetEagerStateKeys (known_keys start done) (name_or_empty name)) (Request.GetLazyStateKeys completion (name_or_empty name)) refl refl),
   tt,
 )
-stored (Call.Run name) e = cc
-stored Call.Awakeable e = λ start done left completion. tt
-stored (Call.Signal name) e = λ start done left completion. tt
-stored (Call.IsCompleted handle) e = λ start done left completion. tt
-stored (Call.Take handle) e = λ start done left completion. tt
-stored (Call.Await tree) e = λ start done left completion. tt
-stored Call.End e = λ start done left completion. tt
-stored _ e = λ start done left completion. (refl, tt)
-
-pub covered_stored : (cancellation : ImplicitCancellationOption) (call : Call) → is_covered cancellation call ≡ true → IsOfStore call
-covered_stored cancellation (Call.Await tree) e = λ start done left completion. tt
-covered_stored cancellation call e = stored call e
+stored Call.Awakeable = λ start done left completion. tt
+stored (Call.Signal name) = λ start done left completion. tt
+stored (Call.IsCompleted handle) = λ start done left completion. tt
+stored (Call.Take handle) = λ start done left completion. tt
+stored (Call.Await tree) = λ start done left completion. tt
+stored Call.End = λ start done left completion. tt
+stored _ = λ start done left completion. (refl, tt)
 
 -- ---- what it awaits
 

@@ -1,5 +1,5 @@
 -- A call is not carried out: for which cause, and what is told of it.
-use Rattle.std.proofs.Common.{◌≡◌, ◌⊎◌, inl, inr, ◌∙◌, ℕ, ◌==◌, true, false, true≢false, List, [], ◌∷◌, ◌++◌, map, Option, Result, Ok, Err, IfOk, refl, sym, ap, subst}
+use Rattle.std.proofs.Common.{Bool, ◌≡◌, ◌⊎◌, inl, inr, ◌∙◌, ℕ, ◌==◌, false, List, [], ◌∷◌, ◌++◌, map, Option, Result, Ok, Err, IfOk, refl, sym, ap, subst}
 use Rattle.std.specs.List.{AllByRecursion}
 use Rattle.std.specs.declared.alloc.AllocError.{AllocError}
 use Rattle.journal_model.specs.Notification.{Bytes}
@@ -13,29 +13,31 @@ use Rattle.vm_types.specs.declared.options.JournalMismatchRetryBehavior.{Journal
 use Rattle.vm_types.specs.declared.options.JournalReplay.{JournalReplay}
 use Rattle.vm_types.specs.declared.options.JournalReplay.TheVariants.{Enabled, Disabled}
 use Rattle.handle_laws.proofs.Fitting.{all_append}
-use Rattle.turning_laws.specs.Attempts.{is_covered}
 use Rattle.turning_laws.proofs.Reading.{turns_send}
-use Rattle.turning_laws.proofs.Notes.{TellsNotes, notes_follow, cause_tells, fails_with}
+use Rattle.turning_laws.proofs.Quiet.{commands_quiet}
+use Rattle.turning_laws.proofs.Notes.{TellsNotes, note_turn, cause_tells, fails_with}
+use Rattle.turning_laws.specs.Bodies.{outcomes_in}
 use Rattle.turning_laws.specs.Machine.phases
 use Rattle.turning_laws.specs.Keeping.{FailsWith, TellsBy}
-use Rattle.turning_laws.specs.Machine.{writes_frames, MachineState, Written, TellsCause, out_of_memory, told_error, Fails, Cause, ByFault, NoNumber, TooLong, NoReplay, NoRuns, NoMemory, HasPut, requests_passed_on, FailsWhen}
+use Rattle.turning_laws.specs.Machine.{writes_frames, MachineState, Written, TellsCause, out_of_memory, told_error, Fails, Cause, ByFault, NoNumber, TooLong, NoReplay, NoMemory, HasPut, requests_passed_on, FailsWhen}
 use Rattle.turning_laws.specs.Reading.{Kind}
 use Rattle.turning_laws.specs.Sending.{Sent, Asks, Fails as SentFails, sent_stream, AllFit, frame_meant}
 use Rattle.turning_laws.specs.Sending.{IsOfStore as IsSentOfStore}
-use Rattle.turning_laws.specs.Words.{internal, unsupported_feature, journal_mismatch, Error, Version, Answer, Call, Event, Frame, answers_of, Text, Request, Handler, arrivals_carried, requests_carried, FollowsSo, IsNote, LiveAttempt, VMOptions, Refusal, ImplicitCancellationOption, Commands, RepliesAsRun}
-use Rattle.turning_laws.specs.Turning.{IsOwnCause, IsToldAs, FailsBy}
+use Rattle.turning_laws.specs.Words.{internal, unsupported_feature, journal_mismatch, Error, Version, Answer, Call, Frame, answers_of, Request, Handler, arrivals_carried, requests_carried, IsNote, LiveAttempt, VMOptions, Refusal, Commands, RepliesAsRun}
+use Rattle.turning_laws.specs.Turning.{IsTurnOf, IsOwnCause, IsToldAs, FailsBy}
 use Rattle.turning_laws.proofs.Now.{Now, compares, call_of, reply_at}
 use Rattle.turning_laws.proofs.Midway.{PassesOn, passes_on, no_front, none_written}
 use Rattle.turning_laws.proofs.Stored.{notes_of_store}
 use Rattle.turning_laws.proofs.Sending.{passed_of_store, of_output, opened, passed_may, passed_fit, passed_recorded}
 
 -- what a failing turn has told, and why
-pub record FailsSo (next : Handler) (version : Version) (id : Text) (events : List Event) (live : LiveAttempt) (answers : List Answer) (vm new : MachineState) (error : Error) : Type 0 where
+pub record FailsSo (next : Handler) (version : Version) (is_closed : Bool) (live : LiveAttempt) (answers : List Answer) (vm new : MachineState) (error : Error) : Type 0 where
   pub coming : List Sent
   pub fit : AllFit version coming
   pub of_store : AllByRecursion IsSentOfStore coming
   pub bytes : new.active.output.bytes ≡ vm.active.output.bytes ++ sent_stream version coming
-  pub follows : FollowsSo next live.start.given id events (live.coming ++ map (frame_meant version) coming)
+  pub makes : IsTurnOf next is_closed live (map (frame_meant version) coming)
+  pub quiet : outcomes_in (map (frame_meant version) coming) ≡ []
   pub kept : Error
   pub phase : new.phase ≡ phases.Failed kept
   pub by : FailsBy next version live (next live.start.given.input answers) vm new error coming
@@ -66,7 +68,7 @@ module _ (next : Handler) (version : Version) (asked : JournalMismatchRetryBehav
   Told cause = IsToldAs version live call old new more cause kept (map Asks more ++ notes) ⊎ (kept ≡ out_of_memory)
 
   abbrev CauseTold : Cause → Type 0
-  CauseTold cause = CauseTells version invocation left new.active.journal (slots_of new.active.results) call cause error
+  CauseTold cause = CauseTells version invocation left new.active.journal (slots_of new.active.results) old.runs call cause error
 
   abbrev TellsFrame : Type 0
   TellsFrame = FailsWith error old.active.output kept × (map Asks more ++ notes ≡ map Asks more ++ SentFails (told_error kept) ∷ [])
@@ -109,19 +111,14 @@ module _ (next : Handler) (version : Version) (asked : JournalMismatchRetryBehav
   told_as NoNumber own told = number_told told
   told_as TooLong own told = length_told told
   told_as NoReplay own told = absurd own
-  told_as NoRuns own told = absurd own
   told_as NoMemory own told = absurd told
 
 -- ---- such a cause
 
--- a run is not carried out
-run_uncovered : (cancellation : ImplicitCancellationOption) (name : Text) → is_covered cancellation (Call.Run name) ≡ true → ⊥
-run_uncovered cancellation name e = true≢false (sym e)
-
 never_replayed : (replay : JournalReplay) → replay ≡ Enabled → replay ≡ Disabled → ⊥
 never_replayed replay on off = cc
 
-module _ (next : Handler) (version : Version) (options : VMOptions) (id : Text) (events : List Event) (live : LiveAttempt) (vm : MachineState) (n : Now next version options id events live vm)
+module _ (next : Handler) (version : Version) (options : VMOptions) (is_closed : Bool) (live : LiveAttempt) (vm : MachineState) (n : Now next version options is_closed live vm)
     (replays : options.journal_replay ≡ Enabled) where
   own_fault : (fault : Fault) → RepliesAsRun next live.start.given (requests_carried live.read) (arrivals_carried live.read) live.calls (FailedBy fault)
       → IsOwnCause next live.start.given (arrivals_carried live.read) live.calls (ByFault fault)
@@ -139,8 +136,6 @@ module _ (next : Handler) (version : Version) (options : VMOptions) (id : Text) 
   own far NoNumber when = tt
   own far TooLong when = tt
   own far NoReplay when = never_replayed options.journal_replay replays (sym (ap (λ (k : Kind). k.options.journal_replay) n.kind) ∙ when.1)
-  own far NoRuns when =
-      run_uncovered options.implicit_cancellation when.0 (subst (λ (call : Call). is_covered options.implicit_cancellation call ≡ true) when.1 n.covered)
   own far NoMemory when = tt
 
   module _ (error : Error) (new : MachineState) (far : HasPut live.start.given live.machine (call_of next live n.at) vm) (notes : List Sent) where
@@ -151,7 +146,7 @@ module _ (next : Handler) (version : Version) (options : VMOptions) (id : Text) 
     for_memory lacks = record { far = far; cause = NoMemory; own = tt; when = tt; told = lacks }
 
     by_told : (cause : Cause) → FailsWhen live.start.given live.machine (call_of next live n.at) vm far cause → (invocation : Bytes) (told : Result Error AllocError)
-        → IfOk told (λ e. CauseTells vm.version invocation far.put.left new.active.journal (slots_of new.active.results) (call_of next live n.at) cause e)
+        → IfOk told (λ e. CauseTells vm.version invocation far.put.left new.active.journal (slots_of new.active.results) vm.runs (call_of next live n.at) cause e)
         → (kept : Error) (between : Written) → TellsCause vm.version vm.options.journal_mismatch_retry_behavior told (writes_frames far.more vm.active.output) kept between → TellsBy kept notes → error ≡ kept → By
     by_told cause when invocation (Err refused) told kept between tells sends same = for_memory (same ∙ tells.0)
     by_told cause when invocation (Ok e) told kept between tells sends same =
@@ -178,43 +173,48 @@ module _ (next : Handler) (version : Version) (options : VMOptions) (id : Text) 
 
   module _ (far : HasPut live.start.given live.machine (call_of next live n.at) vm) where
     -- the run goes on with the others
-    passed_follow : (notes : List Frame) → AllByRecursion IsNote notes → FollowsSo next live.start.given id events (live.coming ++ (map Frame.Command far.more ++ notes))
+    passed_follow : (notes : List Frame) → AllByRecursion IsNote notes → IsTurnOf next is_closed live (map Frame.Command far.more ++ notes)
     passed_follow notes all = by_reply (passes_on (compares vm) live.start.given live.machine (call_of next live n.at))
       where
         by_reply : PassesOn (reply_at next live vm n.at) (requests_passed_on live.start.given live.machine (call_of next live n.at))
-            → FollowsSo next live.start.given id events (live.coming ++ (map Frame.Command far.more ++ notes))
+            → IsTurnOf next is_closed live (map Frame.Command far.more ++ notes)
         by_reply (inl none) =
-            subst (λ (more : List Request). FollowsSo next live.start.given id events (live.coming ++ (map Frame.Command more ++ notes)))
-            (sym (none_written live.start.given live.machine (call_of next live n.at) vm far (no_front far.front far.behind (sym far.parts ∙ none)))) (notes_follow next live.start.given id events live.coming notes n.follows all)
+            subst (λ (more : List Request). IsTurnOf next is_closed live (map Frame.Command more ++ notes))
+            (sym (none_written live.start.given live.machine (call_of next live n.at) vm far (no_front far.front far.behind (sym far.parts ∙ none)))) (note_turn next is_closed live notes all)
         by_reply (inr (inl mismatch)) = absurd (subst (RepliesAsRun next live.start.given (requests_carried live.read) (arrivals_carried live.read) live.calls) mismatch n.as_run)
         by_reply (inr (inr answers)) =
-            n.keeps.stops far.put far.more notes (stops_midway live.start.given live.machine (call_of next live n.at) vm far Answer.Cancelled answers.0 answers.1) far.written all
+            n.makes.stops far.put far.more notes (stops_midway live.start.given live.machine (call_of next live n.at) vm far Answer.Cancelled answers.0 answers.1) far.written all
 
     all_of_store : (notes : List Sent) → AllByRecursion IsNote (map (frame_meant version) notes) → AllByRecursion IsSentOfStore (map Asks far.more ++ notes)
-    all_of_store notes all = all_append IsSentOfStore (map Asks far.more) notes (passed_of_store far.more (passed_may next version options id events live vm n far)) (notes_of_store version notes all)
+    all_of_store notes all = all_append IsSentOfStore (map Asks far.more) notes (passed_of_store far.more (passed_may next version options is_closed live vm n far)) (notes_of_store version notes all)
 
   pub fails_so : (answers : List Answer) → answers ≡ answers_of n.at.stands.steps → (error : Error) (new : MachineState)
       → Fails live.start.given live.machine (call_of next live n.at) vm error new
-      → FailsSo next version id events live answers vm new error
+      → FailsSo next version is_closed live answers vm new error
   fails_so answers same error new f =
-      let of_version = of_output next version options id events live vm n in
-      let told : TellsNotes f.fails.told (writes_frames f.far.more vm.active.output) f.fails.before =
-      cause_tells vm.version vm.options.journal_mismatch_retry_behavior f.told (writes_frames f.far.more vm.active.output) f.fails.told f.fails.before (opened next version options id events live vm n)
-      f.fails.tells in
+      let of_version = of_output next version options is_closed live vm n in
       let notes : AllByRecursion IsNote (map (frame_meant version) told.coming) = subst (λ (v : Version). AllByRecursion IsNote (map (frame_meant v) told.coming)) of_version told.notes in
-      let stop = turns_send.stops f.far.more told.coming vm.active.output f.fails.before (passed_fit next version options id events live vm n f.far) (passed_recorded next version options id events live vm n f.far) told.fit told.written in
+      let stop = turns_send.stops f.far.more told.coming vm.active.output f.fails.before (passed_fit next version options is_closed live vm n f.far) (passed_recorded next version options is_closed live vm n f.far) told.fit told.written in
       record {
         coming = map Asks f.far.more ++ told.coming;
         fit = subst (λ (v : Version). AllFit v (map Asks f.far.more ++ told.coming)) of_version stop.fit;
         of_store = all_of_store f.far told.coming notes;
         bytes = ap (λ (o : Written). o.bytes) f.fails.output ∙ stop.written.bytes
             ∙ ap (λ (v : Version). vm.active.output.bytes ++ sent_stream v (map Asks f.far.more ++ told.coming)) of_version;
-        follows =
-            subst (λ (frames : List Frame). FollowsSo next live.start.given id events (live.coming ++ frames))
-            (sym (subst (λ (v : Version). map (frame_meant v) (map Asks f.far.more ++ told.coming) ≡ map Frame.Command f.far.more ++ map (frame_meant v) told.coming) of_version stop.meant))
-            (passed_follow f.far (map (frame_meant version) told.coming) notes);
+        makes = subst (λ (frames : List Frame). IsTurnOf next is_closed live frames) (sym (meant of_version stop.meant)) (passed_follow f.far (map (frame_meant version) told.coming) notes);
+        quiet = ap outcomes_in (meant of_version stop.meant) ∙ commands_quiet f.far.more (map (frame_meant version) told.coming)
+            ∙ subst (λ (v : Version). outcomes_in (map (frame_meant v) told.coming) ≡ []) of_version told.quiet;
         kept = f.fails.told;
         phase = f.fails.phase_is;
         by = subst (λ (call : Call). FailsBy next version live call vm new error (map Asks f.far.more ++ told.coming)) (sym (ap (λ (some : List Answer). next live.start.given.input some) same))
             (by_cause error new f told.coming told.tells);
       }
+    where
+      told : TellsNotes f.fails.told (writes_frames f.far.more vm.active.output) f.fails.before
+      told =
+          cause_tells vm.version vm.options.journal_mismatch_retry_behavior f.told (writes_frames f.far.more vm.active.output) f.fails.told f.fails.before (opened next version options is_closed live vm n)
+          f.fails.tells
+
+      meant : vm.active.output.version ≡ version → map (frame_meant vm.active.output.version) (map Asks f.far.more ++ told.coming) ≡ map Frame.Command f.far.more ++ map (frame_meant vm.active.output.version) told.coming
+          → map (frame_meant version) (map Asks f.far.more ++ told.coming) ≡ map Frame.Command f.far.more ++ map (frame_meant version) told.coming
+      meant of_version is = subst (λ (v : Version). map (frame_meant v) (map Asks f.far.more ++ told.coming) ≡ map Frame.Command f.far.more ++ map (frame_meant v) told.coming) of_version is

@@ -5,11 +5,12 @@ use Rattle.journal_model.specs.AwaitTree.{AwaitTree, is_awake}
 use Rattle.journal_model.specs.Delivery.{known_result, known_results, results_for, value_or_void, deliveries, or_else}
 use Rattle.journal_model.specs.Notification.{same_id}
 use Rattle.journal_model.specs.Options.{replaces}
-use Rattle.journal_model.specs.Value.{as_taken}
+use Rattle.journal_model.specs.Value.{as_taken, result_of_value}
 use Rattle.journal_model.specs.Waiting.{pruned}
 use Rattle.journal_model.specs.declared.notification.NotificationId.TheVariants.{CompletionId}
 use Rattle.journal_model.specs.declared.notification.NotificationResult.{NotificationResult}
 use Rattle.journal_model.specs.declared.options.SignalDelivery.{SignalDelivery}
+use Rattle.journal_model.specs.declared.value.NonEmptyValue.{NonEmptyValue}
 use Rattle.journal_model.specs.declared.value.Value.{Value}
 use Rattle.attempt_model.specs.Children.{Child, child_value, child_with_value, ChildrenState, AreIds, IsUnknown, IsNoId, children_state, ChildrenOutcome, AllKnown, FirstUnknown, outcome_by, children_outcome}
 use Rattle.attempt_model.specs.Results.{Ready, slot_of, waiting_for, handle_state, Resolution, Awake, Asleep, ready_after, resolution_of, first_of}
@@ -36,12 +37,17 @@ arrival_text : (id : NotificationId) (result : NotificationResult) → ArrivalFi
 arrival_text id (NotificationResult.InvocationId text) fits = fits.fits.result
 arrival_text id _ fits = tt
 
+-- an outcome is no id
+outcome_text : (value : NonEmptyValue) → IsTextResult (result_of_value value)
+outcome_text (NonEmptyValue.Success bytes) = tt
+outcome_text (NonEmptyValue.Failure failure) = tt
+
 pub messages_text : (messages : List InputMessage) → AllByRecursion MessageFits messages → AreText (arrivals_carried messages)
 messages_text [] all = tt
 messages_text (CarriesInput new ∷ messages) all = messages_text messages all.1
 messages_text (CarriesRequest request ∷ messages) all = messages_text messages all.1
 messages_text (CarriesArrival ty arrival ∷ messages) all = (arrival_text arrival.id arrival.result all.0.0, messages_text messages all.1)
-messages_text (CarriesOutcome number value ∷ messages) all = absurd all.0
+messages_text (CarriesOutcome number value ∷ messages) all = (outcome_text value, messages_text messages all.1)
 
 -- a read of the state has no id
 known_text : (n : ℕ) (requests : List Request) → AreText (known_result n requests)

@@ -1,16 +1,51 @@
--- A turn that fails tells an internal error, or what is not supported.
-use Rattle.std.proofs.Common.{◌≡◌, ◌⊎◌, inl, inr, ◌∙◌, List, ap}
+-- A turn that fails tells an internal error, or what is not supported, or what the body says that it has executed.
+use Rattle.std.proofs.Common.{◌≡◌, ◌⊎◌, inl, inr, ◌∙◌, ℕ, ◌==◌, ◌&&◌, if◌then◌else◌, Bool, true, false, List, refl, sym, ap, subst}
+use Rattle.std.specs.Duration.{as_nanos}
+use Rattle.protocol_types.specs.Feature.{has_feature}
+use Rattle.protocol_types.specs.declared.feature.Feature.TheVariants as features
 use Rattle.attempt_model.specs.Machine.{Mismatch, UncompletedInReplay, EndInReplay, KeysNotText, ChildNotId, Refused}
 use Rattle.vm_refusals.specs.Refusals.{refusal_code}
+use Rattle.vm_refusals.specs.declared.retries.RetryPolicy.{RetryPolicy}
+use Rattle.vm_retries.specs.Ending.{Ending, ending_by}
+use Rattle.vm_retries.specs.Retrying.{AfterFailure, after_failure, FailsAsTerminal, one_more, Pauses as PausesThen, Tried, TriedAgain as TriesAgain}
+use Rattle.vm_start.specs.Failure.{asked_behavior, failed_with}
+use Rattle.vm_types.specs.declared.options.JournalMismatchRetryBehavior.{JournalMismatchRetryBehavior}
 use Rattle.turning_laws.specs.Attempts.{Turn}
+use Rattle.turning_laws.specs.Bodies.{about, ending, NonEmptyValue, Outcome, Pause, pausing, Retry, run_told, RunExitResult, RunOutcome, with_delay}
 use Rattle.turning_laws.specs.Keeping.{FailsWith}
-use Rattle.turning_laws.specs.Machine.{MachineState, Written, Cause, ByFault, NoNumber, TooLong, NoReplay, NoRuns, NoMemory}
+use Rattle.turning_laws.specs.Machine.{MachineState, Written, Cause, ByFault, NoNumber, TooLong, NoReplay, NoMemory}
+use Rattle.turning_laws.specs.Running.{BodyCause, BodyFailsWhen, BodyToldAs, IsLong, Lacks, LacksMemory, Pauses, TriedAgain}
 use Rattle.turning_laws.specs.Sending.{Sent}
-use Rattle.turning_laws.specs.Words.{internal, unsupported_feature, Error, Version, Call, Request, Handler, arrivals_carried, LiveAttempt, VMOptions}
-use Rattle.turning_laws.specs.Turning.{IsOwnCause, IsToldAs, FailsBy, TurnServes, TurnsMatch}
+use Rattle.turning_laws.specs.Words.{internal, unsupported_feature, journal_mismatch, Error, Version, version_number, Call, Request, Handler, arrivals_carried, LiveAttempt, VMOptions}
+use Rattle.turning_laws.specs.Turning.{FailsByBody, tried_by, IsBodyCode, IsOwnCause, IsToldAs, FailsBy, TurnServes, TurnsMatch}
 use Rattle.turning_laws.proofs.Failing.{refused_code, either_code}
 
-abbrev IsOwnCode : Error → Type 0
+-- the behaviour that is asked for changes no code
+failed_code : (version : Version) (asked : JournalMismatchRetryBehavior) (error : Error) → (failed_with (version_number version) asked error).code.0 ≡ error.code.0
+failed_code version asked error = by_test ((error.code.0 == journal_mismatch) && has_feature (version_number version) features.ErrorBehavior)
+  where
+    by_test : (b : Bool) → (if b then record error { behavior = asked_behavior asked } else error).code.0 ≡ error.code.0
+    by_test true = refl
+    by_test false = refl
+
+-- the error of a body that has ended without an outcome is its own
+abbrev HasError : Error → Ending → Type 0
+HasError own (Outcome value) = ⊥
+HasError own (Retry delay error) = own ≡ error
+HasError own (Pause error) = own ≡ error
+
+of_failure : (error own : Error) (after : AfterFailure) → HasError own (ending_by error after) → own ≡ error
+of_failure error own (TriesAgain interval) has = has
+of_failure error own FailsAsTerminal has = absurd has
+of_failure error own PausesThen has = has
+
+ended_code : (policy : RetryPolicy) (before : Tried) (exit : RunExitResult) (own : Error) → HasError own (ending policy before exit) → IsBodyCode exit own.code.0
+ended_code policy before (RunExitResult.Success bytes) own has = absurd has
+ended_code policy before (RunExitResult.TerminalFailure failure) own has = absurd has
+ended_code policy before (RunExitResult.RetryableFailure duration error) own has =
+    ap (λ (e : Error). e.code.0) (of_failure error own (after_failure policy (one_more (as_nanos duration) before)) has)
+
+abbrev pub IsOwnCode : Error → Type 0
 IsOwnCode error = (error.code.0 ≡ internal) ⊎ (error.code.0 ≡ unsupported_feature)
 
 -- an error that stands for one of these is one, also where that is too long
@@ -32,18 +67,47 @@ module _ (next : Handler) (version : Version) (live : LiveAttempt) (call : Call)
   by_cause NoNumber own tells = as_told tells.0 old.active.output error (inl (either_code new _ tells.0 tells.1)) tells.2
   by_cause TooLong own tells = as_told tells.0 old.active.output error (inl (either_code new _ tells.0 tells.1)) tells.2
   by_cause NoReplay own tells = absurd own
-  by_cause NoRuns own tells = absurd own
   by_cause NoMemory own tells = inl (ap (λ (e : Error). e.code.0) tells)
 
-own_code : (next : Handler) (version : Version) (live : LiveAttempt) (call : Call) (old new : MachineState) (error : Error) (sent : List Sent) → FailsBy next version live call old new error sent → IsOwnCode error
+pub own_code : (next : Handler) (version : Version) (live : LiveAttempt) (call : Call) (old new : MachineState) (error : Error) (sent : List Sent) → FailsBy next version live call old new error sent → IsOwnCode error
 own_code next version live call old new error sent by = by_cause next version live call old new by.far.more error sent by.cause by.own by.told
 
+-- what a body that fails its attempt may tell
+abbrev pub IsCode : RunOutcome → ℕ → Type 0
+IsCode ran code = (code ≡ internal) ⊎ ((code ≡ unsupported_feature) ⊎ IsBodyCode ran.result code)
+
+-- a body that fails its attempt tells its own code, what is not supported, or an internal error
+pub body_code : (next : Handler) (live : LiveAttempt) (proposed : List (ℕ × NonEmptyValue)) (version : Version) (options : VMOptions) (ran : RunOutcome) (vm : MachineState) (error : Error) (sent : List Sent)
+    → FailsByBody next live proposed version options ran vm error sent → IsCode ran error.code.0
+body_code next live proposed version options ran vm error sent by = by_why by.cause by.when by.told
+  where
+    by_told : (told : Error) → IsCode ran told.code.0 → FailsWith told vm.active.output error → IsCode ran error.code.0
+    by_told told own (inl same) = subst (λ (e : Error). IsCode ran e.code.0) (sym same) own
+    by_told told own (inr long) = inl (ap (λ (e : Error). e.code.0) long.1)
+
+    of_body : (own told : Error) → told.code.0 ≡ own.code.0 → HasError own (ending ran.policy (tried_by live by.shows) ran.result) → IsBodyCode ran.result told.code.0
+    of_body own told same has = subst (λ (code : ℕ). IsBodyCode ran.result code) (sym same) (ended_code ran.policy (tried_by live by.shows) ran.result own has)
+
+    by_why : (why : BodyCause) → BodyFailsWhen version options ran (tried_by live by.shows) vm by.run why → BodyToldAs version options ran (tried_by live by.shows) vm by.run why error sent → IsCode ran error.code.0
+    by_why (Lacks feature) when told = by_told told.0 (inr (inl (ap (λ (e : Error). e.code.0) told.1.plain))) told.2
+    by_why (TriedAgain own delay) when told =
+        by_told told.0 (inr (inr (of_body own told.0 (ap (λ (e : Error). e.code.0) told.1 ∙ failed_code version options.journal_mismatch_retry_behavior (about (run_told by.run) (with_delay delay own)))
+        (subst (HasError own) (sym when.1) refl)))) told.2
+    by_why (Pauses own) when told =
+        by_told told.0 (inr (inr (of_body own told.0 (ap (λ (e : Error). e.code.0) told.1 ∙ failed_code version options.journal_mismatch_retry_behavior (about (run_told by.run) (pausing own)))
+        (subst (HasError own) (sym when.1) refl)))) told.2
+    by_why (IsLong value) when told = by_told told.0 (inl (ap (λ (e : Error). e.code.0) told.1.about ∙ ap (λ (e : Error). e.code.0) told.1.causes.plain)) told.2
+    by_why LacksMemory when told = inl (ap (λ (e : Error). e.code.0) told)
+
 pub turns_match : {H : Type 0} (function : H → Handler) (next : Handler) (version : Version) (options : VMOptions) → TurnServes function next version options → TurnsMatch function next version options
-turns_match function next version options keeps id events live before error after queued f l s turns =
-    elim (keeps id events live before (Turn.Failed error) after queued f l s turns).behind.0 [
-      | inl by ↦ own_code next version live _ before.vm.state after.vm.state error _ by
-      | inr uncovered ↦ elim uncovered.1 [
-        | inl plain ↦ inr (ap (λ (e : Error). e.code.0) plain)
-        | inr lacks ↦ inl (ap (λ (e : Error). e.code.0) lacks)
+turns_match function next version options keeps is_closed live before proposed ran error after queued b s turns =
+    elim (keeps is_closed live before proposed ran (Turn.Failed error) after queued b s turns).behind.0 [
+      | inl by ↦ elim (own_code next version live _ before.vm.state after.vm.state error _ by) [ inl is ↦ inl is | inr is ↦ inr (inl is) ]
+      | inr others ↦ elim others [
+        | inl by ↦ body_code next live proposed version options ran before.vm.state error _ by
+        | inr uncovered ↦ elim uncovered.1 [
+          | inl plain ↦ inr (inl (ap (λ (e : Error). e.code.0) plain))
+          | inr lacks ↦ inl (ap (λ (e : Error). e.code.0) lacks)
+        ]
       ]
     ]

@@ -20,7 +20,7 @@ messages_append m (CarriesOutcome number value ∷ some) more = messages_append 
 -- ---- behind the journal
 
 module _ (live : LiveAttempt) (r : HasReadJournal live) where
-  -- what is not read are arrivals
+  -- what is not read are arrivals, as notifications or as acknowledgements
   module _ (is : IsInputOf live.start (live.read ++ live.unread)) where
     later_is : r.later ++ live.unread ≡ is.later
     later_is =
@@ -57,6 +57,7 @@ fed_same live some still parts = ap (λ (rest : List InputMessage). live.read ++
 some_may : (more : List InputMessage) → AllByRecursion MayCome more → AllByRecursion IsArrival more × AllByRecursion MessageFits more
 some_may [] all = (tt, tt)
 some_may (CarriesArrival ty arrival ∷ more) all = let rest = some_may more all.1 in ((tt, rest.0), (all.0, rest.1))
+some_may (CarriesOutcome number value ∷ more) all = let rest = some_may more all.1 in ((tt, rest.0), (all.0, rest.1))
 some_may (_ ∷ more) all = absurd all.0
 
 -- more messages are on their way

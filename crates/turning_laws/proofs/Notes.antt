@@ -2,9 +2,7 @@
 use Rattle.std.proofs.Common.{◌≡◌, ◌⊎◌, inl, inr, ◌∙◌, ℕ, ◌==◌, ◌&&◌, if◌then◌else◌, Bool, false, List, [], ◌∷◌, ◌++◌, append-nil, append_assoc, map, Option, Result, Ok, Err, refl, sym, ap, subst}
 use Rattle.std.specs.List.{AllByRecursion}
 use Rattle.std.specs.declared.alloc.AllocError.{AllocError}
-use Rattle.journal_model.specs.Headline.{arrivals_handed}
-use Rattle.turn_laws.proofs.Sending.{sends-append}
-use Rattle.turn_laws.proofs.Turning.{writes_send}
+use Rattle.turn_laws.specs.Turning.{nothing}
 use Rattle.protocol_types.specs.Feature.{has_feature}
 use Rattle.protocol_types.specs.declared.feature.Feature.TheVariants as features
 use Rattle.vm_start.specs.Failure.{asked_behavior, failed_with}
@@ -13,19 +11,27 @@ use Rattle.vm_types.specs.declared.options.JournalMismatchRetryBehavior.{Journal
 use Rattle.sending_laws.specs.Writing.{Sends}
 use Rattle.sending_laws.proofs.Writing.{frames_are_written}
 use Rattle.turning_laws.specs.Attempts.{output_of, Attempt}
-use Rattle.turning_laws.specs.Keeping.{NotesFollow, FailsWith, TellsBy}
+use Rattle.turning_laws.specs.Bodies.{outcomes_in}
+use Rattle.turning_laws.specs.Keeping.{FailsWith, TellsBy}
 use Rattle.turning_laws.specs.Machine.phases
 use Rattle.turning_laws.specs.Machine.{Written, FailsNow, FailsAs, TellsCause, Tells, Writes, out_of_memory, told_error, MachineState, HasFailed}
+use Rattle.turning_laws.specs.Turning.{IsTurnOf}
 use Rattle.turning_laws.specs.Sending.{Sent, Fails, sent_stream, AllFit, frame_meant}
-use Rattle.turning_laws.specs.Words.{journal_mismatch, Error, version_number, Version, is_input_closed, recorded_requests, requests_sent, IsNote, notes}
+use Rattle.turning_laws.specs.Words.{journal_mismatch, Error, version_number, Version, Frame, Handler, IsNote, LiveAttempt, notes}
 
-pub notes_follow : NotesFollow
-notes_follow next given id events coming frames f all = record {
-  accepted = f.accepted;
-  holds = f.holds;
-  flies = λ attempt live.
-      sends-append next given (arrivals_handed events id) (is_input_closed events id) (recorded_requests events id) coming frames (f.flies attempt live)
-      (writes_send next given (arrivals_handed events id) (is_input_closed events id) (recorded_requests events id ++ requests_sent coming) frames (notes frames all));
+-- a turn that sends nothing
+pub no_turn : (next : Handler) (is_closed : Bool) (live : LiveAttempt) → IsTurnOf next is_closed live []
+no_turn next is_closed live = record { some = []; still = live.unread; parts = refl; bytes = refl; whole = λ suspension e. cc; writes = nothing }
+
+-- and one that sends notes alone
+pub note_turn : (next : Handler) (is_closed : Bool) (live : LiveAttempt) (frames : List Frame) → AllByRecursion IsNote frames → IsTurnOf next is_closed live frames
+note_turn next is_closed live frames all = record {
+  some = [];
+  still = live.unread;
+  parts = refl;
+  bytes = refl;
+  whole = λ suspension e. absurd (subst (AllByRecursion IsNote) e all).0;
+  writes = notes frames all;
 }
 
 -- ---- what a machine tells that fails
@@ -43,6 +49,7 @@ pub record TellsNotes (told : Error) (old new : Written) : Type 0 where
   pub fit : AllFit old.version coming
   pub written : Sends coming old new
   pub notes : AllByRecursion IsNote (map (frame_meant old.version) coming)
+  pub quiet : outcomes_in (map (frame_meant old.version) coming) ≡ []
   pub tells : TellsBy told coming
 
 tells_none : (told : Error) (old new : Written) → told ≡ out_of_memory → new ≡ old → TellsNotes told old new
@@ -51,13 +58,14 @@ tells_none told old new lacks same = record {
   fit = tt;
   written = record { version = ap (λ (w : Written). w.version) same; bytes = ap (λ (w : Written). w.bytes) same ∙ sym (append-nil old.bytes) };
   notes = tt;
+  quiet = refl;
   tells = inr (lacks, refl);
 }
 
 tells_one : (error : Error) (old new : Written) → old.is_closed ≡ false → Writes error old new → TellsNotes error old new
 tells_one error old new opens writes =
     let one = frames_are_written.errors error old new opens writes in
-    record { coming = Fails (told_error error) ∷ []; fit = (one.fits, tt); written = one.sends; notes = (tt, tt); tells = inl refl }
+    record { coming = Fails (told_error error) ∷ []; fit = (one.fits, tt); written = one.sends; notes = (tt, tt); quiet = refl; tells = inl refl }
 
 tells_of : (error : Error) (old : Written) (told : Error) (new : Written) → old.is_closed ≡ false → Tells error old told new → TellsNotes told old new
 tells_of error old told new opens (inl tells) = tells_one told old new opens (subst (λ (e : Error). Writes e old new) (sym tells.0) tells.1)

@@ -1,20 +1,19 @@
 -- What is known of a machine of whose attempt the input was read, at a turn.
-use Rattle.std.proofs.Common.{◌≡◌, ◌∙◌, suc, Bool, true, List, map, length, sym, ap, subst}
-use Rattle.state_laws.proofs.States.{starts_text}
+use Rattle.std.proofs.Common.{ℕ, ◌≡◌, ◌∙◌, suc, Bool, true, List, map, length, sym, ap, subst}
 use Rattle.attempt_calls.proofs.Simulating.{simulates}
-use Rattle.attempt_laws.proofs.Coming.{kinds_by_asking}
+use Rattle.position_laws.proofs.Turning.{machine_turns}
 use Rattle.vm_commands.specs.HeaderEquality.{same_header}
 use Rattle.vm_commands.proofs.Comparing.{compares_reflexively}
 use Rattle.turning_laws.specs.Serving.{IsOfStore, IsFedBy, AwaitsWithin, HasNumbers, kind_where, HasRead, Serves}
-use Rattle.turning_laws.specs.Keeping.{IsLiveAt}
-use Rattle.turning_laws.proofs.Covered.{covered_stored, covered_within}
+use Rattle.turning_laws.specs.Bodies.{Executor, IsReplayed, NonEmptyValue, ReplaysStand, StandsReplayed}
+use Rattle.turning_laws.proofs.Covered.{stored, covered_within}
 use Rattle.turning_laws.proofs.Messages.{unread_fit}
 use Rattle.turning_laws.proofs.Reading.{no_arrival_is_held}
 use Rattle.turning_laws.specs.Attempts.{Attempt, is_covered}
 use Rattle.turning_laws.specs.Machine.{checks_off, MachineState, IsDriven}
 use Rattle.turning_laws.specs.Reading.{kind_of}
-use Rattle.turning_laws.specs.Words.{version_number, Version, Answer, Call, item_at, arrivals_within, input_left, is_input_closed, Event, answers_of, Text, Request, Handler, Invocation, Progress, piece_of, arrivals_carried, requests_carried, FollowsSo, Reply, reply_to, IsInRun, LiveAttempt, run_options, VMOptions, ImplicitCancellationOption, starting_state, Queued, AreOfKind, Fits, next_call, RepliesAsRun, AsksByText, StandsWithJournal, JournalsStand, KeepsOn, MachinesKeepOn, HasTextKeys, IsTypedCall}
-use Rattle.turning_laws.proofs.Texts.{shown_text, HasTextKey, typed_key, asks_on}
+use Rattle.turning_laws.specs.Words.{version_number, Version, Answer, Call, item_at, arrivals_within, answers_of, Request, Handler, Invocation, Progress, piece_of, arrivals_carried, requests_carried, Reply, reply_to, IsInRun, LiveAttempt, run_options, VMOptions, ImplicitCancellationOption, Queued, AreOfKind, Fits, next_call, RepliesAsRun, AsksByText, MakesTurns, IsTypedCall}
+use Rattle.turning_laws.proofs.Texts.{HasTextKey, typed_key, asks_on}
 
 -- what its requests are compared by
 abbrev pub compares : MachineState → Call → Request → Request → Bool
@@ -27,12 +26,11 @@ call_of next live at = next_call next live.start.given at.stands.steps
 abbrev pub reply_at : (next : Handler) (live : LiveAttempt) (vm : MachineState) → IsInRun next live.start.given live.read live.unread live.calls live.machine → Reply
 reply_at next live vm at = reply_to (compares vm) live.start.given live.machine (call_of next live at)
 
-pub record Now (next : Handler) (version : Version) (options : VMOptions) (id : Text) (events : List Event) (live : LiveAttempt) (vm : MachineState) : Type 0 where
+pub record Now (next : Handler) (version : Version) (options : VMOptions) (is_closed : Bool) (live : LiveAttempt) (vm : MachineState) : Type 0 where
   pub at : IsInRun next live.start.given live.read live.unread live.calls live.machine
-  pub keeps : KeepsOn (compares vm) next (run_options options) options.fallback_random_seed id events live at
+  pub makes : MakesTurns (compares vm) next live.start.given is_closed live.held live.read live.unread live.calls live.machine at
   pub whole : arrivals_within (map piece_of live.unread) (length live.held) ≡ 0
-  pub follows : FollowsSo next live.start.given id events live.coming
-  pub kind : kind_of vm ≡ kind_where version options (is_input_closed events id)
+  pub kind : kind_of vm ≡ kind_where version options is_closed
   pub driven : IsDriven live.start.given live.machine vm
   pub numbers : HasNumbers live.machine
   pub typed : IsTypedCall (call_of next live at)
@@ -45,30 +43,27 @@ pub record Now (next : Handler) (version : Version) (options : VMOptions) (id : 
   pub of_version : live.start.given.version ≡ version_number version
   -- its messages fit
   pub fed : IsFedBy live
+  pub fits : Fits next live.start.given (requests_carried live.read) (arrivals_carried live.read)
+  pub kinds : AreOfKind next live.start.given (arrivals_carried live.read) live.calls
   pub as_run : RepliesAsRun next live.start.given (requests_carried live.read) (arrivals_carried live.read) live.calls (reply_at next live vm at)
 
 -- ---- where the input was read
 
-module _ {H : Type 0} (function : H → Handler) (next : Handler) (version : Version) (options : VMOptions) (stand : JournalsStand) (keep_on : MachinesKeepOn) (id : Text) (events : List Event) (live : LiveAttempt)
-    (before : Attempt H) (queued : options.signal_delivery ≡ Queued) (f : FollowsSo next live.start.given id events live.coming)
-    (l : IsLiveAt function next version options id events live) (s : Serves function next version options live (is_input_closed events id) before)
+module _ {H : Type 0} (function : H → Handler) (next : Handler) (version : Version) (options : VMOptions) (stand : ReplaysStand) (is_closed : Bool) (live : LiveAttempt) (before : Attempt H)
+    (queued : options.signal_delivery ≡ Queued) (proposed : List (ℕ × NonEmptyValue)) (e : Executor) (l : IsReplayed next live proposed e)
+    (s : Serves function next version options live is_closed before)
     (r : HasRead function next version options live before) where
-  stands : StandsWithJournal next (run_options options) live
-  stands = stand next (run_options options) options.fallback_random_seed id events live f.accepted l r.journal
-
-  starts : HasTextKeys live.start.given.start.entries
-  starts =
-      subst (λ (given : Invocation). HasTextKeys given.start.entries) (sym l.begun.given_is)
-      (shown_text live.start.new.state (starting_state events id) (starts_text events id f.accepted))
+  stands : StandsReplayed next live
+  stands = stand next live proposed e l r.journal
 
   fits : Fits next live.start.given (requests_carried live.read) (arrivals_carried live.read)
-  fits = stands.fits queued
+  fits = stands.fits (ap (λ (given : Invocation). given.options.signal_delivery) s.of_run.given_is ∙ queued)
 
   by_text : AsksByText next live.start.given (arrivals_carried live.read) live.calls
-  by_text = stands.by_text r.numbers.texts
+  by_text = stands.by_text
 
   kinds : AreOfKind next live.start.given (arrivals_carried live.read) live.calls
-  kinds = kinds_by_asking next live.start.given (arrivals_carried live.read) live.calls (stands.asked by_text)
+  kinds = stands.kinds
 
   abbrev asked : Call
   asked = function before.handler live.start.given.input before.answers
@@ -84,27 +79,28 @@ module _ {H : Type 0} (function : H → Handler) (next : Handler) (version : Ver
       sym (ap (λ (cancellation : ImplicitCancellationOption). is_covered cancellation asked) s.cancellation
       ∙ ap (λ (call : Call). is_covered options.implicit_cancellation call) (called stands.at)) ∙ covered
 
-  pub now : IsTypedCall asked → is_covered before.cancellation asked ≡ true → Now next version options id events live before.vm.state
+  pub now : IsTypedCall asked → is_covered before.cancellation asked ≡ true → Now next version options is_closed live before.vm.state
   now typed covered = record {
     at = stands.at;
-    keeps = keep_on (compares before.vm.state) next (run_options options) options.fallback_random_seed id events live
-        (compares_reflexively (checks_off before.vm.state.options.non_determinism_checks)) f l s.started fits kinds stands.at;
-    whole = no_arrival_is_held live.unread live.held (input_left events id) (unread_fit live r.journal s.fed) l.reads.bytes
+    makes = machine_turns (compares before.vm.state) next live.start.given is_closed live.held live.read live.unread live.calls live.machine
+        (compares_reflexively (checks_off before.vm.state.options.non_determinism_checks)) fits kinds stands.at;
+    whole = no_arrival_is_held live.unread live.held l.rest (unread_fit live r.journal s.fed) l.bytes
         (ap item_at (sym s.bytes) ∙ s.whole);
-    follows = f;
     kind = s.kind;
     driven = r.driven;
     numbers = r.numbers;
     typed = subst IsTypedCall (called stands.at) typed;
-    by_text = asks_on next live.start.given starts (arrivals_carried live.read) live.calls
+    by_text = asks_on next live.start.given l.start.keys (arrivals_carried live.read) live.calls
         (subst (λ (p : Progress). HasTextKey (next live.start.given.input (answers_of p.steps))) (sym stands.at.stands.going)
         (typed_key (call_of next live stands.at) (subst IsTypedCall (called stands.at) typed))) by_text;
     covered = covered_call covered;
-    recorded = covered_stored options.implicit_cancellation (call_of next live stands.at) (covered_call covered);
+    recorded = stored (call_of next live stands.at);
     within = covered_within (run_options options) (call_of next live stands.at) (covered_call covered);
     of_options = ap (λ (given : Invocation). given.options) s.of_run.given_is;
     of_version = ap (λ (given : Invocation). given.version) s.of_run.given_is ∙ s.of_run.version_is;
     fed = s.fed;
+    fits = fits;
+    kinds = kinds;
     as_run = simulates (compares before.vm.state) next live.start.given (requests_carried live.read) (arrivals_carried live.read) live.calls live.machine
         (compares_reflexively (checks_off before.vm.state.options.non_determinism_checks)) fits kinds stands.at.stands;
   }

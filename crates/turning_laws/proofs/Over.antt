@@ -4,6 +4,7 @@ use Rattle.std.specs.declared.alloc.AllocError.{AllocError}
 use Rattle.beginning_laws.proofs.Passed.{failed_fed}
 use Rattle.vm_attempt.specs.declared.turn.Finish.TheVariants as finishes
 use Rattle.turning_laws.specs.Attempts.{FeedsUnless, ClosesUnless, output_of, OnlyTaken, OnlyMoves, Shows, LetsGo, TakesOutput, again, TurnsWhere, TurnsUnless, Attempt, Finish, Turn}
+use Rattle.turning_laws.specs.Bodies.{RunOutcome}
 use Rattle.turning_laws.specs.Reading.{IsRunOf, kind_of}
 use Rattle.turning_laws.specs.Serving.{IsOver, finished, machine_failed, kind_where, HasNotRead, HasRead, IsFedBy, Serves}
 use Rattle.turning_laws.specs.Keeping.{IsLast, WritesNothing, OversStay}
@@ -57,13 +58,13 @@ module _ {H : Type 0} where
       let same : after.vm.state ≡ input_closed before.vm.state = subst (λ (b : Bool). ClosesWhere b (input_closed before.vm.state) after.vm.state) (ap is_waiting failed) does.0 in
       stays_failed error before after does.1 failed (ap (λ (vm : MachineState). vm.phase) same) (ap (λ (vm : MachineState). vm.active.output.bytes) same)
 
-  module _ (function : H → Handler) where
-    failed_turn : (ready : Result Bool Error) (error : Error) (before : Attempt H) (turn : Turn) (after : Attempt H) → IsReady (phases.Failed error) ready → TurnsWhere function ready before turn after
+  module _ (function : H → Handler) (ran : RunOutcome) where
+    failed_turn : (ready : Result Bool Error) (error : Error) (before : Attempt H) (turn : Turn) (after : Attempt H) → IsReady (phases.Failed error) ready → TurnsWhere function ran ready before turn after
         → IsLast turn × (after ≡ before)
     failed_turn (Ok ready) error before turn after is turns = absurd is
     failed_turn (Err answer) error before turn after is turns = (subst IsLast (sym turns.0) tt, turns.1)
 
-    turned : (over : Option Finish) (before : Attempt H) (turn : Turn) (after : Attempt H) → before.over ≡ over → IsOver before → TurnsUnless function over before turn after → IsLast turn × (after ≡ before)
+    turned : (over : Option Finish) (before : Attempt H) (turn : Turn) (after : Attempt H) → before.over ≡ over → IsOver before → TurnsUnless function ran over before turn after → IsLast turn × (after ≡ before)
     turned (Some finish) before turn after is o turns = (subst IsLast (sym turns.0) (again_last finish), turns.1)
     turned None before turn after is (finished finish some) turns = never finish before is some
     turned None before turn after is (machine_failed error failed) turns =
@@ -99,7 +100,7 @@ pub overs_stay : {H : Type 0} (function : H → Handler) → OversStay function
 overs_stay function before over = record {
   fed = λ bytes after feeds. fed before.over bytes before after refl over feeds;
   closed = λ after closes. closed before.over before after refl over closes;
-  turned = λ turn after turns. turned function before.over before turn after refl over turns;
+  turned = λ ran turn after turns. turned function ran before.over before turn after refl over turns;
   taken = λ max result after takes. moved before after over (moves_of max before result after takes);
   shown = λ max result after shows. moved before after over (shown_moves max before result after shows);
   let_go = λ count after lets. moved before after over (let_go_moves count before after lets);

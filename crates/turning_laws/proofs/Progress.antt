@@ -1,73 +1,92 @@
 -- Turns one after the other, with the journal read and the input closed.
-use Rattle.std.proofs.Common.{◌≡◌, ◌⊎◌, inl, inr, ◌∙◌, ◌+◌, arith, ℕ, suc, Bool, true, false, true≢false, List, [], ◌∷◌, ◌++◌, length, map, sym, ap, subst}
-use Rattle.turning_laws.specs.Serving.{Serves, IsOver}
-use Rattle.turning_laws.specs.Keeping.{IsLiveAt}
+use Rattle.std.proofs.Common.{◌≡◌, ◌⊎◌, inl, inr, ◌∙◌, ◌+◌, arith, ℕ, suc, Bool, true, false, true≢false, List, [], ◌∷◌, ◌++◌, length, length-append, map, Option, sym, ap, subst}
+use Rattle.turning_laws.specs.Bodies.{NonEmptyValue}
+use Rattle.turning_laws.specs.Serving.{HasBodies, Serves, IsOver}
 use Rattle.turning_laws.proofs.Over.{overs_stay}
 use Rattle.turning_laws.specs.Attempts.turns
 use Rattle.turning_laws.specs.Attempts.{Attempt, Turn}
 use Rattle.turning_laws.specs.Sending.{Sent, frame_meant}
-use Rattle.turning_laws.specs.Words.{Version, is_input_closed, Event, Text, Handler, FollowsSo, LiveAttempt, HasReadJournal, after_turn, VMOptions, Queued}
-use Rattle.turning_laws.specs.Turning.{turns_answered, TurnsBehind, TurnKeeps, TurnServes, TurnsEach, AnswersEach, TurnsAnswer}
+use Rattle.turning_laws.specs.Words.{Version, Input, Handler, LiveAttempt, HasReadJournal, after_turn, VMOptions, Queued}
+use Rattle.turning_laws.specs.Turning.{turns_answered, GoesOnWith, TurnsBehind, TurnKeeps, TurnServes, TurnsEach, AnswersEach, TurnsAnswer}
 
-module _ {H : Type 0} (function : H → Handler) (next : Handler) (version : Version) (options : VMOptions) (id : Text) (events : List Event) where
+module _ {H : Type 0} (function : H → Handler) (next : Handler) (version : Version) (options : VMOptions) where
   -- one that is over stays so
   over_each : (some : List Turn) (before after : Attempt H) → IsOver before → TurnsEach function next version options some before after → IsOver after
   over_each [] before after over same = subst IsOver (sym same) over
   over_each (turn ∷ more) before after over each =
-      over_each more each.0 after (subst IsOver (sym ((overs_stay function before over).turned turn each.0 each.1).1) over) each.2
+      over_each more each.1 after (subst IsOver (sym ((overs_stay function before over).turned each.0 turn each.1 each.2).1) over) each.3
 
   -- where it was the live attempt that waits, its journal was not read or more could come
-  never_waits : (live : LiveAttempt) (before : Attempt H) → HasReadJournal live → is_input_closed events id ≡ true → {A : Type 0} → {B : Type 0}
-      → (HasReadJournal live → ⊥) ⊎ ((is_input_closed events id ≡ false) × B) → A
-  never_waits live before journal closed (inl unread) = absurd (unread journal)
-  never_waits live before journal closed (inr waits) = absurd (true≢false (sym closed ∙ waits.0))
+  never_waits : (live : LiveAttempt) (before : Attempt H) → HasReadJournal live → {A : Type 0} → {B : Type 0}
+      → (HasReadJournal live → ⊥) ⊎ ((true ≡ false) × B) → A
+  never_waits live before journal (inl unread) = absurd (unread journal)
+  never_waits live before journal (inr waits) = absurd (true≢false waits.0)
 
-  one_more : (n k m : ℕ) → m ≡ suc n → m + k ≡ n + suc k
-  one_more n k m e = omega (arith, e)
+  -- one more is answered, or one more body is executed
+  one_more : (n p k m : ℕ) → m ≡ suc n → (m + p) + k ≡ (n + p) + suc k
+  one_more n p k m e = omega (arith, e)
 
-  module _ (keeps : TurnServes function next version options) (queued : options.signal_delivery ≡ Queued) (closed : is_input_closed events id ≡ true) where
-    progress : (some : List Turn) (live : LiveAttempt) (before after : Attempt H) → FollowsSo next live.start.given id events live.coming → IsLiveAt function next version options id events live
-        → HasReadJournal live → Serves function next version options live (is_input_closed events id) before → TurnsEach function next version options some before after
-        → IsOver after ⊎ AnswersEach function next version options id events live before some after
-    progress [] live before after f l journal s same = inr (record {
+  one_ran : (n p q k m : ℕ) → m ≡ n → q ≡ p + 1 → (m + q) + k ≡ (n + p) + suc k
+  one_ran n p q k m e f = omega (arith, e, f)
+
+  one_longer : (proposed : List (ℕ × NonEmptyValue)) (one : ℕ × NonEmptyValue) → length (proposed ++ one ∷ []) ≡ length proposed + 1
+  one_longer proposed one = length-append proposed (one ∷ [])
+
+  module _ (keeps : TurnServes function next version options) (queued : options.signal_delivery ≡ Queued) where
+    progress : (some : List Turn) (live : LiveAttempt) (before : Attempt H) (proposed : List (ℕ × NonEmptyValue)) (after : Attempt H) → HasBodies next live proposed before → HasReadJournal live → Serves function next version options live true before
+        → TurnsEach function next version options some before after → IsOver after ⊎ AnswersEach function next version options true live before proposed some after
+    progress [] live before proposed after b journal s same = inr (record {
       now = live;
-      follows = f;
-      goes_on = record { lives = l; serves = subst (Serves function next version options live (is_input_closed events id)) (sym same) s };
-      answered = ap (λ (a : Attempt H). turns_answered a.input live.calls) same ∙ and_none (turns_answered before.input live.calls);
+      now_proposed = proposed;
+      goes_on = subst (GoesOnWith function next version options true live proposed) (sym same) (record { bodies = b; serves = s });
+      answered = ap (λ (a : Attempt H). turns_answered a.input live.calls + length proposed) same ∙ and_none (turns_answered before.input live.calls + length proposed);
     })
       where
         and_none : (n : ℕ) → n ≡ n + 0
         and_none n = omega arith
-    progress (turn ∷ more) live before after f l journal s each =
-        by_turn turn kept.sent kept.follows kept.behind (λ now. progress more now each.0 after)
+    progress (turn ∷ more) live before proposed after b journal s each =
+        by_turn turn kept.sent kept.behind (λ now. progress more now each.1)
       where
-        kept : TurnKeeps function next version options id events live before turn each.0
-        kept = keeps id events live before turn each.0 queued f l s each.1
+        kept : TurnKeeps function next version options true live before proposed each.0 turn each.1
+        kept = keeps true live before proposed each.0 turn each.1 queued b s each.2
 
-        by_turn : (turn' : Turn) (sent : List Sent) → FollowsSo next live.start.given id events (live.coming ++ map (frame_meant version) sent)
-            → TurnsBehind function next version options id events live before sent turn' each.0
-            → ((now : LiveAttempt) → FollowsSo next now.start.given id events now.coming → IsLiveAt function next version options id events now → HasReadJournal now
-            → Serves function next version options now (is_input_closed events id) each.0 → TurnsEach function next version options more each.0 after
-            → IsOver after ⊎ AnswersEach function next version options id events now each.0 more after)
-            → IsOver after ⊎ AnswersEach function next version options id events live before (turn ∷ more) after
-        by_turn turns.Answered sent follows behind later =
-            go (later (after_turn live (map (frame_meant version) sent) behind.0 behind.1) follows behind.3.lives (record { later = journal.later; parts = journal.parts }) behind.3.serves each.2)
+        by_turn : (turn' : Turn) (sent : List Sent) → TurnsBehind function next version options true live before proposed each.0 sent turn' each.1
+            → ((now : LiveAttempt) (now_proposed : List (ℕ × NonEmptyValue)) (after' : Attempt H) → HasBodies next now now_proposed each.1 → HasReadJournal now
+            → Serves function next version options now true each.1 → TurnsEach function next version options more each.1 after'
+            → IsOver after' ⊎ AnswersEach function next version options true now each.1 now_proposed more after')
+            → IsOver after ⊎ AnswersEach function next version options true live before proposed (turn ∷ more) after
+        by_turn turns.Answered sent behind later =
+            go (later (after_turn live (map (frame_meant version) sent) behind.0 behind.1) proposed after behind.3.bodies (record { later = journal.later; parts = journal.parts }) behind.3.serves each.3)
           where
-            go : IsOver after ⊎ AnswersEach function next version options id events (after_turn live (map (frame_meant version) sent) behind.0 behind.1) each.0 more after
-                → IsOver after ⊎ AnswersEach function next version options id events live before (turn ∷ more) after
+            go : IsOver after ⊎ AnswersEach function next version options true (after_turn live (map (frame_meant version) sent) behind.0 behind.1) each.1 proposed more after
+                → IsOver after ⊎ AnswersEach function next version options true live before proposed (turn ∷ more) after
             go (inl over) = inl over
             go (inr a) = inr (record {
               now = a.now;
-              follows = a.follows;
+              now_proposed = a.now_proposed;
               goes_on = a.goes_on;
-              answered = a.answered ∙ one_more (turns_answered before.input live.calls) (length more) (turns_answered each.0.input behind.0) behind.2;
+              answered = a.answered ∙ one_more (turns_answered before.input live.calls) (length proposed) (length more) (turns_answered each.1.input behind.0) behind.2;
             })
-        by_turn turns.Waiting sent follows behind later = never_waits live before journal closed behind.0
-        by_turn turns.Suspended sent follows behind later = inl (over_each more each.0 after behind.2 each.2)
-        by_turn turns.Ended sent follows behind later = inl (over_each more each.0 after behind.1 each.2)
-        by_turn (turns.Failed error) sent follows behind later = inl (over_each more each.0 after behind.1 each.2)
+        by_turn turns.RanBody sent behind later =
+            go (later (after_turn live (map (frame_meant version) sent) live.calls behind.machine) (proposed ++ (behind.body.completion, behind.value) ∷ []) after behind.goes_on.bodies
+            (record { later = journal.later; parts = journal.parts }) behind.goes_on.serves each.3)
+          where
+            go : IsOver after ⊎ AnswersEach function next version options true (after_turn live (map (frame_meant version) sent) live.calls behind.machine) each.1
+                (proposed ++ (behind.body.completion, behind.value) ∷ []) more after
+                → IsOver after ⊎ AnswersEach function next version options true live before proposed (turn ∷ more) after
+            go (inl over) = inl over
+            go (inr a) = inr (record {
+              now = a.now;
+              now_proposed = a.now_proposed;
+              goes_on = a.goes_on;
+              answered = a.answered ∙ one_ran (turns_answered before.input live.calls) (length proposed) (length (proposed ++ (behind.body.completion, behind.value) ∷ [])) (length more)
+                  (turns_answered each.1.input live.calls) (ap (λ (input : Option Input). turns_answered input live.calls) behind.input) (one_longer proposed (behind.body.completion, behind.value));
+            })
+        by_turn turns.Waiting sent behind later = never_waits live before journal behind.0
+        by_turn turns.Suspended sent behind later = inl (over_each more each.1 after behind.2 each.3)
+        by_turn turns.Ended sent behind later = inl (over_each more each.1 after behind.1 each.3)
+        by_turn (turns.Failed error) sent behind later = inl (over_each more each.1 after behind.1 each.3)
 
 pub turns_answer : {H : Type 0} (function : H → Handler) (next : Handler) (version : Version) (options : VMOptions) → TurnServes function next version options → TurnsAnswer function next version options
-turns_answer function next version options keeps id events live some before after queued f l journal closed s each =
-    progress function next version options id events keeps queued closed some live before after f l journal
-    (subst (λ (b : Bool). Serves function next version options live b before) (sym closed) s) each
+turns_answer function next version options keeps live some before proposed after queued b journal s each =
+    progress function next version options keeps queued some live before proposed after b journal s each

@@ -47,19 +47,36 @@ module _ (P : Request → Type 0) (same : Request → Request → Bool) where
             all_append P first.0 others.0 first.2 others.2,
           )
 
+  -- behind the journal nothing is left to match
+  one_put_left : (request : Request) (left : Commands) (written : List Request) (p : PutState) → put_one same request left written ≡ Some p → left ≡ [] → p.left ≡ []
+  one_put_left request [] written p e none = ap (λ (q : PutState). q.left) (sym (the_put (record { left = []; written = written ++ request ∷ [] }) p e))
+  one_put_left request (command ∷ left) written p e none = cc
+
+  all_put_left : (requests : List Request) (old new : PutState) → put_all same requests old ≡ Some new → old.left ≡ [] → new.left ≡ []
+  all_put_left [] old new e none = ap (λ (q : PutState). q.left) (sym (the_put old new e)) ∙ none
+  all_put_left (request ∷ requests) old new e none = by_one (put_one same request old.left old.written) refl e (λ between. all_put_left requests between new)
+    where
+      by_one : (o : Option PutState) → put_one same request old.left old.written ≡ o → option_and_then (put_all same requests) o ≡ Some new
+          → ((between : PutState) → put_all same requests between ≡ Some new → between.left ≡ [] → new.left ≡ []) → new.left ≡ []
+      by_one None is e others = cc
+      by_one (Some between) is e later = later between e (one_put_left request old.left old.written between is none)
+
 -- ---- a call
 
--- what is behind it: such requests were written, the numbers of the call were taken, and ids of children are text
+-- what is behind it: such requests were written, the numbers of the call were taken, and ids of children are text; it replays no more where it
+-- did not before
 pub record Grown (P : Request → Type 0) (call : Call) (m after : Machine) : Type 0 where
   pub more : List Request
   pub written : after.written ≡ m.written ++ more
   pub all : AllByRecursion P more
+  pub left : m.left ≡ [] → after.left ≡ []
   pub completions : after.completions ≡ m.completions + completions_of call
   pub signals : after.signals ≡ m.signals + signals_of call
   pub ids : AreTaken after.children
 
--- where it waits, nothing was
+-- where it waits, nothing was, behind the journal
 pub record Stayed (m after : Machine) : Type 0 where
+  pub left : after.left ≡ []
   pub written : after.written ≡ m.written
   pub completions : after.completions ≡ m.completions
   pub signals : after.signals ≡ m.signals
@@ -86,12 +103,13 @@ module _ (P : Request → Type 0) (same : Request → Request → Bool) (given :
   abbrev After : Reply → Type 0
   After reply = Grows P call m reply
 
-  quiet : (after : Machine) → (completions_of call ≡ 0) × (signals_of call ≡ 0) → after.written ≡ m.written → after.completions ≡ m.completions → after.signals ≡ m.signals
+  quiet : (after : Machine) → (completions_of call ≡ 0) × (signals_of call ≡ 0) → after.written ≡ m.written → after.left ≡ m.left → after.completions ≡ m.completions → after.signals ≡ m.signals
       → AreTaken after.children → Grown P call m after
-  quiet after none written completions signals ids = record {
+  quiet after none written left completions signals ids = record {
     more = [];
     written = written ∙ sym (append-nil m.written);
     all = tt;
+    left = λ behind. left ∙ behind;
     completions = completions ∙ and_none m.completions (completions_of call) none.0;
     signals = signals ∙ and_none m.signals (signals_of call) none.1;
     ids = ids;
@@ -113,6 +131,7 @@ module _ (P : Request → Type 0) (same : Request → Request → Bool) (given :
         more = puts.0;
         written = puts.1;
         all = puts.2;
+        left = all_put_left P same requests (record { left = m.left; written = m.written }) p e;
         completions = refl;
         signals = refl;
         ids = made_ids (child_of given.options.implicit_cancellation m.completions call) ids;
@@ -128,18 +147,19 @@ module _ (P : Request → Type 0) (same : Request → Request → Bool) (given :
           more = puts.0;
           written = puts.1;
           all = puts.2;
+          left = all_put_left P same requests (record { left = m.left; written = m.written }) p e;
           completions = and_none m.completions (completions_of call) none.0;
           signals = and_none m.signals (signals_of call) none.1;
           ids = tt;
         }
 
-    unknown : (child : ℕ) (queue : List Arrival) (ready : Ready) (commands : Commands) → After (reply_where_unknown child (record m { queue = queue; ready = ready }) commands)
-    unknown child queue ready [] = record { written = refl; completions = refl; signals = refl; children = refl }
-    unknown child queue ready (command ∷ commands) = tt
+    unknown : (child : ℕ) (queue : List Arrival) (ready : Ready) (commands : Commands) → m.left ≡ commands → After (reply_where_unknown child (record m { queue = queue; ready = ready }) commands)
+    unknown child queue ready [] is = record { left = is; written = refl; completions = refl; signals = refl; children = refl }
+    unknown child queue ready (command ∷ commands) is = tt
 
-    asleep : (tree : AwaitTree ℕ) (ready : Ready) (commands : Commands) → After (reply_where_asleep tree (record m { queue = []; ready = ready }) commands)
-    asleep tree ready [] = record { written = refl; completions = refl; signals = refl; children = refl }
-    asleep tree ready (command ∷ commands) = tt
+    asleep : (tree : AwaitTree ℕ) (ready : Ready) (commands : Commands) → m.left ≡ commands → After (reply_where_asleep tree (record m { queue = []; ready = ready }) commands)
+    asleep tree ready [] is = record { left = is; written = refl; completions = refl; signals = refl; children = refl }
+    asleep tree ready (command ∷ commands) is = tt
 
     -- the requests of a cancellation are such, where what is known of the children is text
     module _ (cancels : (ready : Ready) → AreReadyText ready → AllByRecursion P (cancel_requests_for ready m.children)) where
@@ -147,17 +167,17 @@ module _ (P : Request → Type 0) (same : Request → Request → Bool) (given :
       children queue ready (AllKnown line waiting) text =
           cancelled line waiting (cancel_requests_for waiting m.children) (put_all same (cancel_requests_for waiting m.children) (record { left = m.left; written = m.written })) refl
           (cancels waiting text)
-      children queue ready (FirstUnknown child waiting) text = unknown child [] waiting m.left
+      children queue ready (FirstUnknown child waiting) text = unknown child [] waiting m.left refl
       children queue ready OneIsNoId text = tt
 
       awake : (queue : List Arrival) (ready : Ready) (ends : Bool) → ResolvesText (Awake queue ready) → After (reply_where_awake same given (record m { queue = queue; ready = ready }) ends)
-      awake queue ready false text = quiet (record m { queue = queue; ready = ready }) none refl refl refl ids
+      awake queue ready false text = quiet (record m { queue = queue; ready = ready }) none refl refl refl refl ids
       awake queue ready true text =
           children queue ready (children_outcome given.options.signal_delivery m.children queue ready) (found_text given.options.signal_delivery m.children queue ready text.0 text.1)
 
       awaited : (resolution : Resolution) → ResolvesText resolution → After (reply_to_await same given m resolution)
       awaited (Awake queue ready) text = awake queue ready (is_cancelled given (record m { queue = queue; ready = ready })) text
-      awaited (Asleep tree ready) text = asleep tree ready m.left
+      awaited (Asleep tree ready) text = asleep tree ready m.left refl
 
     taken : (handle : ℕ) (result : NotificationResult) (are_text may : Bool) → IsTextResult result → After (reply_where_taken m handle result are_text may)
     taken handle result false may text = tt
@@ -166,13 +186,14 @@ module _ (P : Request → Type 0) (same : Request → Request → Bool) (given :
       more = [];
       written = sym (append-nil m.written);
       all = tt;
+      left = λ behind. behind;
       completions = and_none m.completions (completions_of call) none.0;
       signals = and_none m.signals (signals_of call) none.1;
       ids = taken_text (slot_of m.slots handle) (as_taken result) m.children text ids;
     }
 
     asked : (handle : ℕ) (waits : Option NotificationResult) → WaitsText waits → After (reply_to_take m handle waits)
-    asked handle None text = quiet m none refl refl refl ids
+    asked handle None text = quiet m none refl refl refl refl ids
     asked handle (Some result) text = taken handle result (are_keys_text result) (list_all (may_take (slot_of m.slots handle) (as_taken result)) m.children) text
 
     ended : (commands : Commands) → After (reply_to_end m commands)
@@ -196,7 +217,7 @@ module _ (P : Request → Type 0) (same : Request → Request → Bool) (given :
     by_work ToEnd is unrefused = ended (none_taken call (λ e. let wrong : ToEnd ≡ ToMake = sym is ∙ e in cc)) a.ids m.left
     by_work (ToTake handle) is unrefused =
         asked (none_taken call (λ e. let wrong : ToTake handle ≡ ToMake = sym is ∙ e in cc)) a.ids handle (waiting_for m.slots m.ready handle) (waiting_text m.slots m.ready handle a.ready)
-    by_work (ToLook handle) is unrefused = quiet m (none_taken call (λ e. let wrong : ToLook handle ≡ ToMake = sym is ∙ e in cc)) refl refl refl a.ids
+    by_work (ToLook handle) is unrefused = quiet m (none_taken call (λ e. let wrong : ToLook handle ≡ ToMake = sym is ∙ e in cc)) refl refl refl refl a.ids
     by_work ToMake is unrefused =
         made (requests_by m.start m.done m.left m.completions call)
         (put_all same (requests_by m.start m.done m.left m.completions call) (record { left = m.left; written = m.written })) refl (a.makes unrefused) a.ids

@@ -18,8 +18,9 @@ use Rattle.handle_laws.specs.Machines.{Leaves}
 use Rattle.handle_laws.proofs.Children.{awaited_trees_fit}
 use Rattle.handle_laws.proofs.Machines.{machines_fit}
 use Rattle.vm_awaits.specs.Views.{AsyncResults, slots_of}
-use Rattle.vm_waiting.specs.Suspending.{tells_awaiting, TellsIf}
-use Rattle.vm_waiting.specs.WaitsFor.{awaited_ids, waits_for_any, waits_as}
+use Rattle.vm_outcomes.specs.Carrying.{tells_waiting}
+use Rattle.vm_waiting.specs.Suspending.{TellsIf}
+use Rattle.vm_waiting.specs.WaitsFor.{awaited_ids, waits_as}
 use Rattle.vm_waiting.specs.declared.waits_for.WaitsFor.{WaitsFor}
 use Rattle.vm_waiting.specs.declared.waits_for.WaitsFor.TheVariants.{Future, Child}
 use Rattle.beginning_laws.proofs.Messages.{all_in_front}
@@ -29,7 +30,7 @@ use Rattle.turning_laws.specs.Machine.{MachineState, Fits, Active, Written, with
 use Rattle.turning_laws.specs.Reading.{Kind, MessageFits}
 use Rattle.turning_laws.specs.Sending.{Sent, Asks, sent_stream, AllFit, is_recorded, frame_meant, IsOfStore, TurnSends}
 use Rattle.turning_laws.specs.Serving.{AwaitsWithin, HasNumbers}
-use Rattle.turning_laws.specs.Words.{LEVELS, version_number, Version, Answer, Call, is_input_closed, awaited_tree, AwaitTree, NotificationId, keys_of, Event, completions_of, signals_of, Text, Request, Handler, Invocation, RunOptions, Machine, Reply, Answered, Finished, reply_to, LiveAttempt, run_options, VMOptions, IsWithin, SlotsFit, TreeFits, refusal_of, Slots, slot_of, requests_by, SendsReply, AnswersNext, RepliesAsRun, requests_carried, arrivals_carried, are_by_text}
+use Rattle.turning_laws.specs.Words.{LEVELS, version_number, Version, Answer, Call, awaited_tree, AwaitTree, NotificationId, keys_of, completions_of, signals_of, Request, Handler, Invocation, RunOptions, Machine, Reply, Answered, Finished, reply_to, LiveAttempt, run_options, VMOptions, IsWithin, SlotsFit, TreeFits, refusal_of, Slots, slot_of, requests_by, SendsReply, AnswersNext, RepliesAsRun, requests_carried, arrivals_carried, are_by_text}
 use Rattle.turning_laws.proofs.Now.{Now, compares, call_of, reply_at}
 use Rattle.turning_laws.proofs.Texts.{reply_text}
 use Rattle.turning_laws.proofs.Ids.{AreText, AreReadyText, AreTaken, messages_text, line_text, ready_text, values_text}
@@ -106,7 +107,7 @@ tells_results : (told : Bool) (ids : AwaitTree NotificationId) (old new : Active
 tells_results true ids old new tells = ap (λ (active : Active). active.results) tells.1
 tells_results false ids old new same = ap (λ (active : Active). active.results) same
 
-module _ (next : Handler) (version : Version) (options : VMOptions) (id : Text) (events : List Event) (live : LiveAttempt) (vm : MachineState) (n : Now next version options id events live vm) where
+module _ (next : Handler) (version : Version) (options : VMOptions) (is_closed : Bool) (live : LiveAttempt) (vm : MachineState) (n : Now next version options is_closed live vm) where
   abbrev call : Call
   call = call_of next live n.at
 
@@ -123,22 +124,22 @@ module _ (next : Handler) (version : Version) (options : VMOptions) (id : Text) 
   opened = n.driven.sees.opened
 
   -- frames of the reply are behind what the machine had written
-  pub record SendsFor (is_closed : Bool) (reply : Reply) (new : Written) : Type 0 where
+  pub record SendsFor (closed : Bool) (reply : Reply) (new : Written) : Type 0 where
     pub coming : List Sent
     pub fit : AllFit version coming
     pub bytes : new.bytes ≡ vm.active.output.bytes ++ sent_stream version coming
     pub version_is : new.version ≡ version
-    pub sends : SendsReply live.start.given.version is_closed live.machine reply (map (frame_meant version) coming)
+    pub sends : SendsReply live.start.given.version closed live.machine reply (map (frame_meant version) coming)
 
-  pub sends_for : (is_closed : Bool) (reply : Reply) (old new : Written) → old.version ≡ version → old.bytes ≡ vm.active.output.bytes → TurnSends is_closed live.machine reply old new → SendsFor is_closed reply new
-  sends_for is_closed reply old new of_version same t = record {
+  pub sends_for : (closed : Bool) (reply : Reply) (old new : Written) → old.version ≡ version → old.bytes ≡ vm.active.output.bytes → TurnSends closed live.machine reply old new → SendsFor closed reply new
+  sends_for closed reply old new of_version same t = record {
     coming = t.coming;
     fit = subst (λ (v : Version). AllFit v t.coming) of_version t.fit;
     bytes = t.written.bytes ∙ ap (λ (bytes : List ℕ). bytes ++ sent_stream old.version t.coming) same ∙ ap (λ (v : Version). vm.active.output.bytes ++ sent_stream v t.coming) of_version;
     version_is = t.written.version ∙ of_version;
     sends =
-        subst (λ (v : ℕ). SendsReply v is_closed live.machine reply (map (frame_meant version) t.coming)) (sym n.of_version)
-        (subst (λ (v : Version). SendsReply (version_number v) is_closed live.machine reply (map (frame_meant v) t.coming)) of_version t.sends);
+        subst (λ (v : ℕ). SendsReply v closed live.machine reply (map (frame_meant version) t.coming)) (sym n.of_version)
+        (subst (λ (v : Version). SendsReply (version_number v) closed live.machine reply (map (frame_meant v) t.coming)) of_version t.sends);
   }
 
   -- ---- what is known of what it may write
@@ -175,7 +176,8 @@ module _ (next : Handler) (version : Version) (options : VMOptions) (id : Text) 
 
   pub record AnswersSo (whole : Machine) (new : MachineState) : Type 0 where
     pub numbers : HasNumbers whole
-    pub sends : SendsFor (is_input_closed events id) (reply_at next live vm n.at) new.active.output
+    pub left : live.machine.left ≡ [] → whole.left ≡ []
+    pub sends : SendsFor is_closed (reply_at next live vm n.at) new.active.output
 
   module _ (answer : Answer) (new : MachineState) (a : Answers given live.machine (call_of next live n.at) vm answer new) where
     completions_left : live.machine.completions + completions_of call ≤ 2 ^ 32
@@ -216,9 +218,10 @@ module _ (next : Handler) (version : Version) (options : VMOptions) (id : Text) 
         texts = reply_text next given (requests_carried live.read) (arrivals_carried live.read) live.calls n.by_text (Answered answer a.machine) next_one;
         ids = grown.ids;
       };
-      sends = subst (λ (some : Reply). SendsFor (is_input_closed events id) some new.active.output) (sym a.replies)
-          (sends_for (is_input_closed events id) (Answered answer a.machine) vm.active.output new.active.output of_output refl
-          (turns_send.answers (is_input_closed events id) live.machine a.machine answer a.more vm.active.output new.active.output a.written a.frames (sent_fit a.more may a.fit) (sent_recorded a.more may)));
+      left = grown.left;
+      sends = subst (λ (some : Reply). SendsFor is_closed some new.active.output) (sym a.replies)
+          (sends_for is_closed (Answered answer a.machine) vm.active.output new.active.output of_output refl
+          (turns_send.answers is_closed live.machine a.machine answer a.more vm.active.output new.active.output a.written a.frames (sent_fit a.more may a.fit) (sent_recorded a.more may)));
     }
 
   -- ---- it waits
@@ -228,6 +231,7 @@ module _ (next : Handler) (version : Version) (options : VMOptions) (id : Text) 
     pub fits : (active : Active) → slots_of active.results ≡ after.slots → TreeFits (awaited_ids active waits)
     pub asleep : is_awake (leaves_over after.slots waits) (λ leaf. Pending) ≡ false
     pub numbers : HasNumbers after
+    pub left : after.left ≡ []
 
   module _ (waits : WaitsFor) (after : Machine) (e : reply_at next live vm n.at ≡ waits_as waits after) where
     asked : (awaited : AwaitTree ℕ) × (call_of next live n.at ≡ Call.Await awaited)
@@ -269,17 +273,18 @@ module _ (next : Handler) (version : Version) (options : VMOptions) (id : Text) 
         fits = λ active same. subst (λ (slots : Slots). TreeFits (only_leaves (slot_of slots) (tree_of left))) (sym (same ∙ is_left.slots)) (record { leaves = fit.0; levels = fit.1 });
         asleep = is_left.asleep;
         numbers = numbers (Future left) after e is_left.slots;
+        left = (stayed (Future left) after e).left;
       }
   is_told (Child child) after e =
       let is_left = awaited_trees_fit.children (compares vm) given live.machine after (asked (Child child) after e).0 child n.driven.sees.made (replies (Child child) after e) in
-      record { fits = λ active same. is_left.fits n.numbers.completions; asleep = refl; numbers = numbers (Child child) after e is_left.slots }
+      record { fits = λ active same. is_left.fits n.numbers.completions; asleep = refl; numbers = numbers (Child child) after e is_left.slots; left = (stayed (Child child) after e).left }
 
-  pub waits_send : (new : MachineState) → (w : Waits given live.machine (call_of next live n.at) vm new) → SendsFor (is_input_closed events id) (reply_at next live vm n.at) new.active.output
-  waits_send new w =
-      let told = tells_awaiting vm.version vm.options.awaiting_on_policy false (waits_for_any w.waits) in
+  pub waits_send : (new : MachineState) → (w : Waits given live.machine (call_of next live n.at) vm new) → vm.is_input_closed ≡ false → SendsFor is_closed (reply_at next live vm n.at) new.active.output
+  waits_send new w is_open =
+      let told = tells_waiting vm w.waits in
       let slots : slots_of w.resolved.results ≡ w.machine.slots =
       sym (ap slots_of (tells_results told (awaited_ids w.resolved w.waits) w.resolved new.active w.tells)) ∙ ap (λ (r : AsyncResults). r.slots) w.driven.sees.results in
-      let still_open : is_input_closed events id ≡ false = sym (ap (λ (k : Kind). k.is_input_closed) n.kind) ∙ w.is_open in
+      let still_open : is_closed ≡ false = sym (ap (λ (k : Kind). k.is_input_closed) n.kind) ∙ is_open in
       subst (λ (b : Bool). SendsFor b (reply_at next live vm n.at) new.active.output) (sym still_open)
       (subst (λ (some : Reply). SendsFor false some new.active.output) (sym w.replies)
       (sends_for false (waits_as w.waits w.machine) w.resolved.output new.active.output (ap (λ (o : Written). o.version) w.unwritten ∙ of_output) (ap (λ (o : Written). o.bytes) w.unwritten)
@@ -288,11 +293,11 @@ module _ (next : Handler) (version : Version) (options : VMOptions) (id : Text) 
 
   -- ---- it is suspended
 
-  pub suspends_send : (new : MachineState) → (p : Suspends given live.machine (call_of next live n.at) vm new) → SendsFor (is_input_closed events id) (reply_at next live vm n.at) new.active.output
+  pub suspends_send : (new : MachineState) → (p : Suspends given live.machine (call_of next live n.at) vm new) → SendsFor is_closed (reply_at next live vm n.at) new.active.output
   suspends_send new p =
       let is = is_told p.waits p.machine p.replies in
       let slots : slots_of p.resolved.results ≡ p.machine.slots = ap (λ (r : AsyncResults). r.slots) p.sees.results in
-      let closed : is_input_closed events id ≡ true = sym (ap (λ (k : Kind). k.is_input_closed) n.kind) ∙ p.is_closed in
+      let closed : is_closed ≡ true = sym (ap (λ (k : Kind). k.is_input_closed) n.kind) ∙ p.is_closed in
       subst (λ (b : Bool). SendsFor b (reply_at next live vm n.at) new.active.output) (sym closed)
       (subst (λ (some : Reply). SendsFor true some new.active.output) (sym p.replies)
       (sends_for true (waits_as p.waits p.machine) p.resolved.output new.active.output (ap (λ (o : Written). o.version) p.unwritten ∙ of_output) (ap (λ (o : Written). o.bytes) p.unwritten)
@@ -300,13 +305,13 @@ module _ (next : Handler) (version : Version) (options : VMOptions) (id : Text) 
 
   -- ---- it ends
 
-  pub ends_send : (new : MachineState) → (e : Ends given live.machine (call_of next live n.at) vm new) → SendsFor (is_input_closed events id) (reply_at next live vm n.at) new.active.output
+  pub ends_send : (new : MachineState) → (e : Ends given live.machine (call_of next live n.at) vm new) → SendsFor is_closed (reply_at next live vm n.at) new.active.output
   ends_send new e =
       let frame = with_frame (frame_bytes types.End []) vm.active.output in
       let sends =
-      sends_for (is_input_closed events id) (Finished live.machine) vm.active.output frame of_output refl
-      (turns_send.ends (is_input_closed events id) tt live.machine live.machine vm.active.output frame opened (λ o. omega arith, refl)) in
-      subst (λ (some : Reply). SendsFor (is_input_closed events id) some new.active.output) (sym e.replies) (record {
+      sends_for is_closed (Finished live.machine) vm.active.output frame of_output refl
+      (turns_send.ends is_closed tt live.machine live.machine vm.active.output frame opened (λ o. omega arith, refl)) in
+      subst (λ (some : Reply). SendsFor is_closed some new.active.output) (sym e.replies) (record {
         coming = sends.coming;
         fit = sends.fit;
         bytes = ap (λ (o : Written). o.bytes) e.output ∙ sends.bytes;

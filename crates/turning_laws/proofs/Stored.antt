@@ -3,7 +3,7 @@ use Rattle.std.proofs.Common.{◌≡◌, ◌∙◌, inl, inr, ℕ, Bool, true, f
 use Rattle.std.specs.List.{AllByRecursion, list_all}
 use Rattle.std.specs.Str.{is_utf8}
 use Rattle.attempt_laws.proofs.Coming.{all-back}
-use Rattle.turning_laws.specs.Sending.{Sent, Asks, Awaits, Suspends, Fails, Ends, is_recorded, frame_meant, IsOfStore}
+use Rattle.turning_laws.specs.Sending.{Sent, Asks, Proposes, Awaits, Suspends, Fails, Ends, is_recorded, frame_meant, IsOfStore}
 use Rattle.turning_laws.specs.Words.{Version, AwaitTree, Frame, Request, NotificationId, keys_of, are_by_text, IsNote, Machine, Reply, Answered, AwaitsTree, AwaitsChild, Finished, FailedBy, SendsWaiting, SendsReply}
 use Rattle.turning_laws.proofs.Texts.{HasTexts}
 
@@ -19,6 +19,7 @@ recorded_of false request h = absurd h
 accepted_of : (version : Version) (coming : List Sent) → AllByRecursion IsAccepted (map (frame_meant version) coming) → AllByRecursion IsOfStore coming
 accepted_of version [] all = tt
 accepted_of version (Asks request ∷ coming) all = (recorded_of (is_recorded request) request all.0, accepted_of version coming all.1)
+accepted_of version (Proposes completion value ∷ coming) all = (tt, accepted_of version coming all.1)
 accepted_of version (Awaits tree ∷ coming) all = (tt, accepted_of version coming all.1)
 accepted_of version (Suspends tree ∷ coming) all = (tt, accepted_of version coming all.1)
 accepted_of version (Fails error ∷ coming) all = (tt, accepted_of version coming all.1)

@@ -4,8 +4,9 @@ use Rattle.std.specs.declared.alloc.AllocError.{AllocError}
 use Rattle.protocol_records.specs.declared.start.StartMessage.{StartMessage}
 use Rattle.vm_machine.specs.Gathering.{Gathers as GathersAll}
 use Rattle.turning_laws.specs.Serving.{kind_where, HasNotRead, HasRead, Serves}
-use Rattle.turning_laws.specs.Keeping.{TakesServing}
+use Rattle.turning_laws.specs.Keeping.{BodiesStay, TakesServing}
 use Rattle.turning_laws.proofs.Beginning.{nothing_held, nothing_more}
+use Rattle.turning_laws.proofs.Bodies.{bodies_stay}
 use Rattle.turning_laws.proofs.Over.{moves_of, shown_moves, let_go_moves}
 use Rattle.turning_laws.specs.Attempts.{taken_of, output_of, OnlyMoves, Shows, LetsGo, TakesOutput, Attempt}
 use Rattle.turning_laws.specs.Machine.{Sees, Active, MachineState, CoreVM, IsDriven}
@@ -44,6 +45,7 @@ started_written start told kind read bytes vm none h = record {
   start_is = h.start_is;
   commands = h.commands;
   gathers = gathers_written start.given (gathered_all read (machine_at_start start.shown [] [])) bytes vm.active h.gathers;
+  runs = h.runs;
   output = λ i. record (h.output i) { bytes = none i };
 }
 
@@ -72,6 +74,8 @@ module _ {H : Type 0} (function : H → Handler) (next : Handler) (version : Ver
       answers = ap (λ (a : Attempt H). a.answers) moves.others ∙ r.answers;
       driven = subst (λ (vm : MachineState). IsDriven live.start.given live.machine vm) (sym (ap (λ (vm : CoreVM). vm.state) moves.machine))
           (driven_written live.start.given live.machine after.vm.state.active.output.bytes before.vm.state r.driven);
+      shows = r.shows;
+      start_is = ap (λ (vm : CoreVM). vm.state.start) moves.machine ∙ r.start_is;
       numbers = r.numbers;
     }
 
@@ -95,6 +99,9 @@ module _ {H : Type 0} (function : H → Handler) (next : Handler) (version : Ver
       stands (inl n) = inl (not_read live is_closed before after moves (none n.unwritten) n)
       stands (inr r) = inr (has_read live is_closed before after moves r)
 
+  bodies : (before after : Attempt H) → OnlyMoves before after → BodiesStay function next version options before after
+  bodies before after moves = bodies_stay function next version options before after (ap (λ (vm : CoreVM). vm.state.runs) moves.machine)
+
   taken_none : (max : ℕ) (before : Attempt H) (result : Result Bytes AllocError) (after : Attempt H) → TakesOutput max before result after → output_of before ≡ [] → output_of after ≡ []
   taken_none max before (Ok bytes) after takes none = takes.rest ∙ none_left max (output_of before) none
   taken_none max before (Err refused) after takes none = takes.same ∙ none
@@ -110,7 +117,7 @@ module _ {H : Type 0} (function : H → Handler) (next : Handler) (version : Ver
 
   pub takes_keep : TakesServing function next version options
   takes_keep live is_closed before after s = record {
-    taken = λ max result takes. moved live is_closed before after (moves_of max before result after takes) (taken_none max before result after takes) s;
-    shown = λ max result shows. moved live is_closed before after (shown_moves max before result after shows) (shown_none max before result after shows) s;
-    let_go = λ count lets. moved live is_closed before after (let_go_moves count before after lets) (let_go_none count before after lets) s;
+    taken = λ max result takes. (moved live is_closed before after (moves_of max before result after takes) (taken_none max before result after takes) s, bodies before after (moves_of max before result after takes));
+    shown = λ max result shows. (moved live is_closed before after (shown_moves max before result after shows) (shown_none max before result after shows) s, bodies before after (shown_moves max before result after shows));
+    let_go = λ count lets. (moved live is_closed before after (let_go_moves count before after lets) (let_go_none count before after lets) s, bodies before after (let_go_moves count before after lets));
   }

@@ -1,27 +1,23 @@
 -- What an attempt keeps as it begins, as it is fed and closed, as what it has written is taken, and behind its end.
-use Rattle.std.specs.Prelude.{◌≡◌, ◌⊎◌, ℕ, Bool, true, false, List, [], ◌∷◌, ◌++◌, map, Result, Ok}
+use Rattle.std.specs.Prelude.{◌≡◌, ◌⊎◌, ◌≤◌, ℕ, Bool, true, false, List, [], ◌∷◌, ◌++◌, map, Result, Ok}
 use Rattle.std.specs.List.{AllByRecursion}
 use Rattle.std.specs.declared.alloc.AllocError.{AllocError}
 use Rattle.protocol_errors.specs.Fixed.{fixed_code, fixed_text}
 use Rattle.protocol_errors.specs.declared.fixed.FixedError.TheVariants.{InputClosedWhileWaitingEntries}
 use Rattle.vm_attempt.specs.Attempt.{ClosesInput}
 use Rattle.turning_laws.specs.Attempts.{IsBegun, Feeds, output_of, Shows, LetsGo, TakesOutput, Turns, Attempt, Turn}
+use Rattle.turning_laws.specs.Bodies.{asked_by, ComesAsAsked, IsBehind, NonEmptyValue, executor_over, count_proposed, IsReplayed, RunOutcome}
 use Rattle.turning_laws.specs.Machine.phases
 use Rattle.turning_laws.specs.Machine.{Written, IsTooLong, out_of_memory, told_error}
 use Rattle.turning_laws.specs.Reading.{CanBegin, IsRunOf}
 use Rattle.turning_laws.specs.Sending.{Sent, Fails, sent_stream, AllFit, frame_meant}
-use Rattle.turning_laws.specs.Serving.{IsFedBy, Serves, IsOver}
-use Rattle.turning_laws.specs.Words.{plain_error, internal, Error, Version, Bytes, Text, Handler, Invocation, Event, Frame, IsAccepted, InputMessage, FollowsSo, IsNote, AttemptStart, ShowsStart, LiveAttempt, IsLiveMachine, HasReadJournal, attempt_begun, handed_bytes, after_reading, run_options, VMOptions}
+use Rattle.turning_laws.specs.Serving.{IsFedBy, Serves, HasBodies, IsOver}
+use Rattle.turning_laws.specs.Words.{arrivals_carried, input_bytes, piece_of, plain_error, internal, Error, Version, Bytes, Handler, Invocation, Frame, InputMessage, IsNote, AttemptStart, ShowsStart, LiveAttempt, machine_at_start, HasReadJournal, attempt_begun, handed_bytes, after_reading, VMOptions}
 pub use Rattle.beginning_laws.specs.Reading.{MayCome}
 
 -- as it is begun, once it has read its start frame
 abbrev pub attempt_started : AttemptStart → LiveAttempt
 attempt_started start = record (attempt_begun start) { bytes = [] }
-
--- a frame that says nothing of requests is of the run whatever is on its way
-abbrev pub NotesFollow : Type 0
-NotesFollow = (next : Handler) (given : Invocation) (id : Text) (events : List Event) (coming notes : List Frame) → FollowsSo next given id events coming → AllByRecursion IsNote notes
-    → FollowsSo next given id events (coming ++ notes)
 
 -- what a machine fails with by an error, behind what it has written: that error, or, where its frame would be too long, one that says so
 abbrev pub FailsWith : Error → Written → (told : Error) → Type 0
@@ -38,6 +34,7 @@ early_error = plain_error (fixed_code InputClosedWhileWaitingEntries) (fixed_tex
 -- a turn of an attempt that is over
 abbrev pub IsLast : Turn → Type 0
 IsLast Turn.Answered = ⊥
+IsLast Turn.RanBody = ⊥
 IsLast Turn.Waiting = ⊥
 IsLast _ = Unit {0}
 
@@ -51,17 +48,39 @@ module _ {H : Type 0} where
   LacksMemory a = a.vm.state.phase ≡ phases.Failed out_of_memory
 
 module _ {H : Type 0} (function : H → Handler) (next : Handler) (version : Version) (options : VMOptions) where
-  -- the live attempt, with its machine
-  abbrev pub IsLiveAt : Text → List Event → LiveAttempt → Type 0
-  IsLiveAt id events live = IsLiveMachine next (run_options options) options.fallback_random_seed id events live
+  -- its bodies are those of another attempt
+  abbrev pub BodiesStay : (before after : Attempt H) → Type 0
+  BodiesStay before after = (live : LiveAttempt) (proposed : List (ℕ × NonEmptyValue)) → HasBodies next live proposed before → HasBodies next live proposed after
+
+  -- no attempt executes a run twice: of no completion it proposes two outcomes
+  abbrev pub ProposesOnce : Type 0
+  ProposesOnce = (live : LiveAttempt) (proposed : List (ℕ × NonEmptyValue)) (a : Attempt H) → HasBodies next live proposed a
+      → (n : ℕ) → count_proposed n proposed ≤ 1
 
   -- ---- its begin
+
+  -- where it is live, no body is to be executed
+  abbrev pub HasNoBodies : AttemptStart → Attempt H → Type 0
+  HasNoBodies start a = IsReplayed next (attempt_started start) [] (executor_over (machine_at_start start.shown [] []))
+      → HasBodies next (attempt_started start) [] a
 
   -- a new attempt that is fed its start frame serves the live attempt that has read that frame, or has failed for want of memory
   abbrev pub BeginsServing : Type 0
   BeginsServing = (start : AttemptStart) (shows : ShowsStart start) (handler : H) (new fed : Attempt H) → function handler ≡ next → IsRunOf start version options → CanBegin start shows
       → IsFedBy (attempt_begun start) → IsBegun version options handler (Ok new) → Feeds start.frame new fed
-      → (output_of fed ≡ []) × (Serves function next version options (attempt_started start) false fed ⊎ LacksMemory fed)
+      → (output_of fed ≡ []) × ((Serves function next version options (attempt_started start) false fed × HasNoBodies start fed) ⊎ LacksMemory fed)
+
+  -- ---- what is to come to it
+
+  -- more that it has asked for may be to come, whatever is on its way from it, and it may be handed the next bytes of what is
+  pub record TakesIn (live : LiveAttempt) (proposed : List (ℕ × NonEmptyValue)) (a : Attempt H) : Type 0 where
+    pub brings : (more : List InputMessage) (coming : List Frame) → AllByRecursion (IsBehind live.start.given.version proposed) more
+        → ComesAsAsked (arrivals_carried live.start.journal) proposed (asked_by live) (arrivals_carried (live.read ++ (live.unread ++ more)))
+        → HasBodies next (record live { unread = live.unread ++ more; coming = coming }) proposed a
+    pub is_handed : (bytes rest : Bytes) → (live.held ++ bytes) ++ rest ≡ input_bytes (map piece_of live.unread) → HasBodies next (handed_bytes live bytes) proposed a
+
+  abbrev pub InputsCome : Type 0
+  InputsCome = (live : LiveAttempt) (proposed : List (ℕ × NonEmptyValue)) (a : Attempt H) → HasBodies next live proposed a → TakesIn live proposed a
 
   -- ---- events that do nothing to it
 
@@ -73,22 +92,25 @@ module _ {H : Type 0} (function : H → Handler) (next : Handler) (version : Ver
   -- ---- its input
 
   -- it has read messages of which it holds all bytes, and is live with those
-  pub record ServesOn (id : Text) (events : List Event) (live : LiveAttempt) (is_closed : Bool) (bytes : Bytes) (after : Attempt H) : Type 0 where
+  pub record ServesOn (live : LiveAttempt) (proposed : List (ℕ × NonEmptyValue)) (is_closed : Bool) (bytes : Bytes) (after : Attempt H) : Type 0 where
     pub some : List InputMessage
     pub still : List InputMessage
     pub kept : Bytes
-    pub lives : IsLiveAt id events (after_reading (handed_bytes live bytes) some still kept)
+    pub parts : live.unread ≡ some ++ still
+    pub held : live.held ++ bytes ≡ input_bytes (map piece_of some) ++ kept
+    pub bodies : HasBodies next (after_reading (handed_bytes live bytes) some still kept) proposed after
     pub serves : Serves function next version options (after_reading (handed_bytes live bytes) some still kept) is_closed after
 
   abbrev pub FeedsServing : Type 0
-  FeedsServing = (id : Text) (events : List Event) (live : LiveAttempt) (is_closed : Bool) (bytes : Bytes) (before after : Attempt H) → IsAccepted events → IsLiveAt id events (handed_bytes live bytes)
+  FeedsServing = (live : LiveAttempt) (proposed : List (ℕ × NonEmptyValue)) (is_closed : Bool) (bytes : Bytes) (before after : Attempt H) → HasBodies next (handed_bytes live bytes) proposed before
       → Serves function next version options live is_closed before → Feeds bytes before after
-      → WritesNothing before after × (ServesOn id events live is_closed bytes after ⊎ LacksMemory after)
+      → WritesNothing before after × (ServesOn live proposed is_closed bytes after ⊎ LacksMemory after)
 
   -- it goes on with its journal read
   pub record StaysClosed (live : LiveAttempt) (before after : Attempt H) : Type 0 where
     pub journal : HasReadJournal live
     pub serves : Serves function next version options live true after
+    pub bodies : BodiesStay before after
     pub nothing : WritesNothing before after
 
   -- its journal was not read: it fails with that, or for want of memory, and tells so where there is memory for it
@@ -104,17 +126,16 @@ module _ {H : Type 0} (function : H → Handler) (next : Handler) (version : Ver
     pub tells : TellsBy error sent
 
   abbrev pub ClosesServing : Type 0
-  ClosesServing = (id : Text) (events : List Event) (live : LiveAttempt) (is_closed : Bool) (before after : Attempt H) → IsLiveAt id events live
-      → Serves function next version options live is_closed before → ClosesInput before after
+  ClosesServing = (live : LiveAttempt) (is_closed : Bool) (before after : Attempt H) → Serves function next version options live is_closed before → ClosesInput before after
       → StaysClosed live before after ⊎ ClosesEarly live before after
 
   -- ---- its output
 
   -- handed out, shown, or let go
   pub record StaysBehind (live : LiveAttempt) (is_closed : Bool) (before after : Attempt H) : Type 0 where
-    pub taken : (max : ℕ) (result : Result Bytes AllocError) → TakesOutput max before result after → Serves function next version options live is_closed after
-    pub shown : (max : ℕ) (result : Result Bytes AllocError) → Shows max before result after → Serves function next version options live is_closed after
-    pub let_go : (count : ℕ) → LetsGo count before after → Serves function next version options live is_closed after
+    pub taken : (max : ℕ) (result : Result Bytes AllocError) → TakesOutput max before result after → Serves function next version options live is_closed after × BodiesStay before after
+    pub shown : (max : ℕ) (result : Result Bytes AllocError) → Shows max before result after → Serves function next version options live is_closed after × BodiesStay before after
+    pub let_go : (count : ℕ) → LetsGo count before after → Serves function next version options live is_closed after × BodiesStay before after
 
   abbrev pub TakesServing : Type 0
   TakesServing = (live : LiveAttempt) (is_closed : Bool) (before after : Attempt H) → Serves function next version options live is_closed before → StaysBehind live is_closed before after
@@ -126,7 +147,7 @@ module _ {H : Type 0} (function : H → Handler) where
   pub record StaysOver (before : Attempt H) : Type 0 where
     pub fed : (bytes : Bytes) (after : Attempt H) → Feeds bytes before after → IsOver after × WritesNothing before after
     pub closed : (after : Attempt H) → ClosesInput before after → IsOver after × WritesNothing before after
-    pub turned : (turn : Turn) (after : Attempt H) → Turns function before turn after → IsLast turn × (after ≡ before)
+    pub turned : (ran : RunOutcome) (turn : Turn) (after : Attempt H) → Turns function ran before turn after → IsLast turn × (after ≡ before)
     pub taken : (max : ℕ) (result : Result Bytes AllocError) (after : Attempt H) → TakesOutput max before result after → IsOver after
     pub shown : (max : ℕ) (result : Result Bytes AllocError) (after : Attempt H) → Shows max before result after → IsOver after
     pub let_go : (count : ℕ) (after : Attempt H) → LetsGo count before after → IsOver after

@@ -1,9 +1,12 @@
 pub mod Serving
 pub mod Keeping
+pub mod Running
 pub mod Turning
+pub mod Telling
 pub mod Laws
 pub mod Words
 pub mod Machine
 pub mod Reading
 pub mod Attempts
+pub mod Bodies
 pub mod Sending

@@ -3,7 +3,9 @@ use Rattle.std.specs.Prelude.{◌≡◌, ◌⊎◌, ◌≤◌, ◌-◌, ◌^◌,
 use Rattle.std.specs.List.{AllByRecursion}
 use Rattle.attempt_model.specs.Requests.{Commands, requests_by}
 use Rattle.vm_ephemeral.specs.Reads.{no_reads}
+use Rattle.vm_start.specs.Starts.{without_state}
 use Rattle.turning_laws.specs.Attempts.{output_of, Attempt, Finish}
+use Rattle.turning_laws.specs.Bodies.{NonEmptyValue, Executor, KeepsBodies, IsReplayed}
 use Rattle.turning_laws.specs.Machine.phases
 use Rattle.turning_laws.specs.Machine.{IsDriven}
 use Rattle.turning_laws.specs.Reading.{IsInputOf, IsRunOf, Kind, kind_of, start_told, HasStarted}
@@ -60,6 +62,9 @@ module _ {H : Type 0} (function : H → Handler) (next : Handler) (version : Ver
     pub input : a.input ≡ Some live.start.given.input
     pub answers : a.answers ≡ answers_of (run next live.start.given (arrivals_carried live.read) live.calls).steps
     pub driven : IsDriven live.start.given live.machine a.vm.state
+    -- it knows what the start frame has told, but for the state
+    pub shows : ShowsStart live.start
+    pub start_is : a.vm.state.start ≡ Some (without_state (start_told live.start shows))
     pub numbers : HasNumbers live.machine
 
   -- the attempt is the live one, and not over: the run is that of its handler, it holds these bytes, and no whole message among them
@@ -74,6 +79,15 @@ module _ {H : Type 0} (function : H → Handler) (next : Handler) (version : Ver
     pub bytes : a.vm.state.decoder ≡ live.held
     pub whole : item_at a.vm.state.decoder ≡ None
     pub stands : HasNotRead live is_closed a ⊎ HasRead live a
+
+module _ {H : Type 0} (next : Handler) where
+  -- The attempt has proposed these outcomes, replays its journal with the bodies of its runs, and its machine keeps these. It has proposed
+  -- behind its journal alone.
+  pub record HasBodies (live : LiveAttempt) (proposed : List (ℕ × NonEmptyValue)) (a : Attempt H) : Type 0 where
+    pub executor : Executor
+    pub lives : IsReplayed next live proposed executor
+    pub keeps : KeepsBodies a.vm.state.runs executor
+    pub behind : (proposed ≡ []) ⊎ (live.machine.left ≡ [])
 
 -- ---- behind its end
 

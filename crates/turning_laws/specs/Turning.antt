@@ -1,22 +1,20 @@
--- What each turn of an attempt comes to: the run goes on by one answer, waits, has ended, or the attempt has failed for a cause.
-use Rattle.std.specs.Prelude.{◌≡◌, ◌⊎◌, ◌+◌, ℕ, suc, true, false, List, [], ◌∷◌, ◌++◌, map, length, Option, Some, None}
+-- What each turn of an attempt comes to: the run goes on by one answer, waits, has ended, a body of a run is executed, or the attempt has
+-- failed for a cause.
+use Rattle.std.specs.Prelude.{Bool, ◌≡◌, ◌⊎◌, ◌+◌, ℕ, suc, true, false, List, [], ◌∷◌, ◌++◌, map, length, Option, Some, None}
 use Rattle.std.specs.List.{AllByRecursion}
 use Rattle.journal_model.specs.Event.{Suspension, Frame}
-use Rattle.journal_model.specs.Run.{Handler, Invocation, Ending, Waits, RefusedCall, Ended, run, run_requests}
+use Rattle.journal_model.specs.Run.{Handler, Invocation, Ending, RefusedCall, Ended, run}
 use Rattle.waking_laws.specs.Suspended.{WaitsAll}
 use Rattle.vm_awaits.specs.Views.{slots_of}
 use Rattle.vm_outcomes.specs.Causes.{CauseTells}
 use Rattle.turning_laws.specs.Attempts.{output_of, Turns, Attempt, Turn, is_covered, not_carried_out}
-use Rattle.turning_laws.specs.Serving.{Serves, IsOver}
-use Rattle.turning_laws.specs.Keeping.{FailsWith, IsLiveAt}
-use Rattle.turning_laws.specs.Machine.{MachineState, out_of_memory, told_error, Cause, ByFault, NoReplay, NoRuns, NoMemory, HasPut, FailsWhen}
+use Rattle.turning_laws.specs.Bodies.{asked_by, NonEmptyValue, Body, outcomes_in, outcome_frame, RunOutcome}
+use Rattle.turning_laws.specs.Serving.{Serves, HasBodies, IsOver}
+use Rattle.turning_laws.specs.Keeping.{FailsWith}
+use Rattle.turning_laws.specs.Machine.{MachineState, out_of_memory, told_error, Cause, ByFault, NoReplay, NoMemory, HasPut, FailsWhen}
+pub use Rattle.turning_laws.specs.Running.{RunComesTo, WaitsForOthers, ExecutesFirst, tried_by, OutcomeIs, FailsByBody, IsBodyCode}
 use Rattle.turning_laws.specs.Sending.{Sent, Asks, Fails, sent_stream, AllFit, frame_meant, IsOfStore}
-use Rattle.turning_laws.specs.Words.{internal, unsupported_feature, Error, Version, Call, Input, NotificationId, AwaitTree, Text, Arrival, Request, Event, is_input_closed, arrivals_carried, requests_carried, FollowsSo, Machine, Refused, LiveAttempt, HasReadJournal, after_turn, VMOptions, Queued}
-
--- the run over these arrivals comes to this with one more call, with exactly these requests
-pub record RunComesTo (next : Handler) (given : Invocation) (arrivals : List Arrival) (calls : ℕ) (requests : List Request) (ending : Ending) : Type 0 where
-  pub over : (run next given arrivals (suc calls)).ending ≡ ending
-  pub exactly : run_requests next given arrivals (suc calls) ≡ requests
+use Rattle.turning_laws.specs.Words.{internal, unsupported_feature, Error, Version, version_number, Call, Input, Arrival, Request, arrivals_carried, requests_carried, Machine, Refused, ShowsStart, LiveAttempt, HasReadJournal, after_turn, VMOptions, Queued, TurnsOfRun, requests_sent}
 
 -- of a handler that wrote the journal, over the arrivals that were asked for, the run itself refuses the call, or there is no number or
 -- no room for what it makes, or no memory
@@ -24,7 +22,6 @@ abbrev pub IsOwnCause : Handler → Invocation → List Arrival → ℕ → Caus
 IsOwnCause next given arrivals calls (ByFault (Refused refusal)) = (run next given arrivals (suc calls)).ending ≡ RefusedCall refusal
 IsOwnCause next given arrivals calls (ByFault fault) = ⊥
 IsOwnCause next given arrivals calls NoReplay = ⊥
-IsOwnCause next given arrivals calls NoRuns = ⊥
 IsOwnCause next given arrivals calls cause = Unit {0}
 
 -- what the machine fails with for this cause in a call, where it was the one before and is the other behind, and has written these requests of
@@ -32,7 +29,7 @@ IsOwnCause next given arrivals calls cause = Unit {0}
 abbrev pub IsToldAs : Version → LiveAttempt → Call → (old new : MachineState) → (more : List Request) → Cause → Error → List Sent → Type 0
 IsToldAs version live call old new more NoMemory error sent = error ≡ out_of_memory
 IsToldAs version live call old new more cause error sent =
-    (told : Error) × CauseTells version live.start.given.input.invocation_id live.machine.left new.active.journal (slots_of new.active.results) call cause told
+    (told : Error) × CauseTells version live.start.given.input.invocation_id live.machine.left new.active.journal (slots_of new.active.results) old.runs call cause told
     × FailsWith told old.active.output error × (sent ≡ map Asks more ++ Fails (told_error error) ∷ [])
 
 -- there is a cause for which the machine does not carry out this call, and this error tells it
@@ -55,11 +52,26 @@ abbrev pub turns_answered : Option Input → (calls : ℕ) → ℕ
 turns_answered None calls = calls
 turns_answered (Some input) calls = suc calls
 
-module _ {H : Type 0} (function : H → Handler) (next : Handler) (version : Version) (options : VMOptions) (id : Text) (events : List Event) where
-  -- the live attempt goes on
-  pub record GoesOnWith (live : LiveAttempt) (after : Attempt H) : Type 0 where
-    pub lives : IsLiveAt function next version options id events live
-    pub serves : Serves function next version options live (is_input_closed events id) after
+-- a turn that the attempt may make, where it holds no more whole messages than it has read: what it sends is of the run over these
+abbrev pub IsTurnOf : Handler → (is_closed : Bool) → LiveAttempt → List Frame → Type 0
+IsTurnOf next is_closed live sent = TurnsOfRun next live.start.given is_closed live.held live.read live.unread (asked_by live) live.held sent
+
+-- but for the one that proposes how a body has ended, the frames of a turn propose no outcome
+abbrev pub ProposesAs : Turn → List Frame → Type 0
+ProposesAs Turn.RanBody frames = Unit {0}
+ProposesAs turn frames = outcomes_in frames ≡ []
+
+module _ {H : Type 0} (function : H → Handler) (next : Handler) (version : Version) (options : VMOptions) (is_closed : Bool) where
+  -- the live attempt goes on, which has proposed these outcomes
+  pub record GoesOnWith (live : LiveAttempt) (proposed : List (ℕ × NonEmptyValue)) (after : Attempt H) : Type 0 where
+    pub bodies : HasBodies next live proposed after
+    pub serves : Serves function next version options live is_closed after
+
+  -- it does so behind a turn that has sent these frames, answered so many calls by then, with this machine, which has written what was sent
+  pub record GoesOnBehind (live : LiveAttempt) (sent : List Frame) (calls : ℕ) (machine : Machine) (proposed : List (ℕ × NonEmptyValue)) (after : Attempt H) : Type 0 where
+    pub bodies : HasBodies next (after_turn live sent calls machine) proposed after
+    pub serves : Serves function next version options (after_turn live sent calls machine) is_closed after
+    pub written : machine.written ≡ live.machine.written ++ requests_sent sent
 
   module _ (live : LiveAttempt) (before : Attempt H) where
     abbrev pub RunComes : Ending → Type 0
@@ -69,7 +81,7 @@ module _ {H : Type 0} (function : H → Handler) (next : Handler) (version : Ver
     abbrev pub FailsFor : Error → List Sent → (after : Attempt H) → Type 0
     FailsFor error sent after = FailsBy next version live (next live.start.given.input before.answers) before.vm.state after.vm.state error sent
 
-    -- that call is none that is carried out: it asks for a run, or awaits what no frame can tell
+    -- that call is none that is carried out: it awaits what no frame can tell
     abbrev pub IsUncovered : Type 0
     IsUncovered = is_covered options.implicit_cancellation (next live.start.given.input before.answers) ≡ false
 
@@ -77,63 +89,88 @@ module _ {H : Type 0} (function : H → Handler) (next : Handler) (version : Ver
     abbrev pub FailsUncovered : Error → Type 0
     FailsUncovered error = (error ≡ not_carried_out) ⊎ (error ≡ out_of_memory)
 
-    -- it waits while its journal was not read, or while the run waits and more of its input can come
-    abbrev pub MayWait : Type 0
-    MayWait = (HasReadJournal live → ⊥) ⊎ ((is_input_closed events id ≡ false) × ((tree : AwaitTree (Option NotificationId)) × RunComes (Waits tree)))
+    -- it has proposed these outcomes, and where it executes the body of a run, that ends so
+    module _ (proposed : List (ℕ × NonEmptyValue)) (ran : RunOutcome) where
+      -- the run waits for arrivals alone: for no body that is to be executed
+      abbrev pub RunWaits : Type 0
+      RunWaits = WaitsForOthers next live.start.given (arrivals_carried live.read) live.calls (requests_carried live.read ++ live.machine.written) proposed
 
-    -- where it goes on it is live behind the turn, one answer later where it was answered; else it is over, and what it has written or answered
-    -- tells why
-    abbrev pub TurnsBehind : List Sent → Turn → (after : Attempt H) → Type 0
-    TurnsBehind sent Turn.Answered after =
-        (calls : ℕ) × (machine : Machine) × (turns_answered after.input calls ≡ suc (turns_answered before.input live.calls))
-        × GoesOnWith (after_turn live (map (frame_meant version) sent) calls machine) after
-    TurnsBehind sent Turn.Waiting after =
-        MayWait × ((machine : Machine) × GoesOnWith (after_turn live (map (frame_meant version) sent) live.calls machine) after × (after.input ≡ before.input))
-    TurnsBehind sent Turn.Suspended after =
-        (is_input_closed events id ≡ true) × ((tree : AwaitTree (Option NotificationId)) × RunComes (Waits tree)) × IsOver after × SuspendsWith next live (map (frame_meant version) sent)
-    TurnsBehind sent Turn.Ended after = RunComes Ended × IsOver after × (map (frame_meant version) sent ≡ Frame.End ∷ [])
-    TurnsBehind sent (Turn.Failed error) after = (FailsFor error sent after ⊎ (IsUncovered × FailsUncovered error)) × IsOver after
+      -- it waits while its journal was not read, or while the run waits and more of its input can come
+      abbrev pub MayWait : Type 0
+      MayWait = (HasReadJournal live → ⊥) ⊎ ((is_closed ≡ false) × RunWaits)
 
-    -- what a turn has written are frames of the run, which the store reads as what they are meant as
-    pub record TurnKeeps (turn : Turn) (after : Attempt H) : Type 0 where
-      pub sent : List Sent
-      pub fit : AllFit version sent
-      -- requests among them are such as the store records, and their keys are text
-      pub of_store : AllByRecursion IsOfStore sent
-      pub output : output_of after ≡ output_of before ++ sent_stream version sent
-      pub follows : FollowsSo next live.start.given id events (live.coming ++ map (frame_meant version) sent)
-      pub behind : TurnsBehind sent turn after
+      -- the body that is to be executed first has ended with an outcome, and that is proposed, of a run of which none was
+      pub record RunsOne (sent : List Sent) (after : Attempt H) : Type 0 where
+        pub body : Body
+        pub first : ExecutesFirst next live.start.given (arrivals_carried live.read) live.calls (requests_carried live.read ++ live.machine.written) proposed body
+        pub value : NonEmptyValue
+        pub shows : ShowsStart live.start
+        pub outcome : OutcomeIs ran (tried_by live shows) value
+        pub sends : map (frame_meant version) sent ≡ outcome_frame (version_number version) body.completion value ∷ []
+        pub machine : Machine
+        pub goes_on : GoesOnBehind live (map (frame_meant version) sent) live.calls machine (proposed ++ (body.completion, value) ∷ []) after
+        pub input : after.input ≡ before.input
+
+      -- the body that is to be executed first has ended without an outcome that is written
+      abbrev pub FailsForBody : Error → List Sent → Type 0
+      FailsForBody error sent = FailsByBody next live proposed version options ran before.vm.state error sent
+
+      -- where it goes on it is live behind the turn, one answer later where it was answered; else it is over, and what it has written or answered
+      -- tells why
+      abbrev pub TurnsBehind : List Sent → Turn → (after : Attempt H) → Type 0
+      TurnsBehind sent Turn.Answered after =
+          (calls : ℕ) × (machine : Machine) × (turns_answered after.input calls ≡ suc (turns_answered before.input live.calls))
+          × GoesOnBehind live (map (frame_meant version) sent) calls machine proposed after
+      TurnsBehind sent Turn.RanBody after = RunsOne sent after
+      TurnsBehind sent Turn.Waiting after =
+          MayWait × ((machine : Machine) × GoesOnBehind live (map (frame_meant version) sent) live.calls machine proposed after × (after.input ≡ before.input))
+      TurnsBehind sent Turn.Suspended after =
+          (is_closed ≡ true) × RunWaits × IsOver after × SuspendsWith next live (map (frame_meant version) sent)
+      TurnsBehind sent Turn.Ended after = RunComes Ended × IsOver after × (map (frame_meant version) sent ≡ Frame.End ∷ [])
+      TurnsBehind sent (Turn.Failed error) after = (FailsFor error sent after ⊎ (FailsForBody error sent ⊎ (IsUncovered × FailsUncovered error))) × IsOver after
+
+      -- what a turn has written are frames of the run, which the store reads as what they are meant as
+      pub record TurnKeeps (turn : Turn) (after : Attempt H) : Type 0 where
+        pub sent : List Sent
+        pub fit : AllFit version sent
+        -- requests among them are such as the store records, and their keys are text
+        pub of_store : AllByRecursion IsOfStore sent
+        pub output : output_of after ≡ output_of before ++ sent_stream version sent
+        pub makes : IsTurnOf next is_closed live (map (frame_meant version) sent)
+        pub proposes : ProposesAs turn (map (frame_meant version) sent)
+        pub behind : TurnsBehind sent turn after
 
 module _ {H : Type 0} (function : H → Handler) (next : Handler) (version : Version) (options : VMOptions) where
   abbrev pub TurnServes : Type 0
-  TurnServes = (id : Text) (events : List Event) (live : LiveAttempt) (before : Attempt H) (turn : Turn) (after : Attempt H) → options.signal_delivery ≡ Queued
-      → FollowsSo next live.start.given id events live.coming → IsLiveAt function next version options id events live
-      → Serves function next version options live (is_input_closed events id) before → Turns function before turn after
-      → TurnKeeps function next version options id events live before turn after
+  TurnServes = (is_closed : Bool) (live : LiveAttempt) (before : Attempt H) (proposed : List (ℕ × NonEmptyValue)) (ran : RunOutcome) (turn : Turn) (after : Attempt H)
+      → options.signal_delivery ≡ Queued → HasBodies next live proposed before
+      → Serves function next version options live (is_closed) before → Turns function ran before turn after
+      → TurnKeeps function next version options is_closed live before proposed ran turn after
 
-  -- an attempt whose turn fails is told of an internal error, or of what is not supported; so never that its journal does not match
+  -- an attempt whose turn fails is told of an internal error, of what is not supported, or by the body that it has executed: so where the body
+  -- does not say so, never that its journal does not match
   abbrev pub TurnsMatch : Type 0
-  TurnsMatch = (id : Text) (events : List Event) (live : LiveAttempt) (before : Attempt H) (error : Error) (after : Attempt H) → options.signal_delivery ≡ Queued
-      → FollowsSo next live.start.given id events live.coming → IsLiveAt function next version options id events live
-      → Serves function next version options live (is_input_closed events id) before → Turns function before (Turn.Failed error) after
-      → (error.code.0 ≡ internal) ⊎ (error.code.0 ≡ unsupported_feature)
+  TurnsMatch = (is_closed : Bool) (live : LiveAttempt) (before : Attempt H) (proposed : List (ℕ × NonEmptyValue)) (ran : RunOutcome) (error : Error) (after : Attempt H)
+      → options.signal_delivery ≡ Queued → HasBodies next live proposed before
+      → Serves function next version options live (is_closed) before → Turns function ran before (Turn.Failed error) after
+      → (error.code.0 ≡ internal) ⊎ ((error.code.0 ≡ unsupported_feature) ⊎ IsBodyCode ran.result error.code.0)
 
   -- ---- turns one after the other, the first first
 
+  -- each with how a body ends, where it executes one
   abbrev pub TurnsEach : List Turn → (before after : Attempt H) → Type 0
   TurnsEach [] before after = after ≡ before
-  TurnsEach (turn ∷ turns) before after = (between : Attempt H) × Turns function before turn between × TurnsEach turns between after
+  TurnsEach (turn ∷ turns) before after = (ran : RunOutcome) × (between : Attempt H) × Turns function ran before turn between × TurnsEach turns between after
 
-  -- the attempt is live after all of them, each of which has answered something
-  pub record AnswersEach (id : Text) (events : List Event) (live : LiveAttempt) (before : Attempt H) (turns : List Turn) (after : Attempt H) : Type 0 where
+  -- the attempt is live after all of them, each of which has answered something, or has executed a body
+  pub record AnswersEach (is_closed : Bool) (live : LiveAttempt) (before : Attempt H) (proposed : List (ℕ × NonEmptyValue)) (turns : List Turn) (after : Attempt H) : Type 0 where
     pub now : LiveAttempt
-    pub follows : FollowsSo next now.start.given id events now.coming
-    pub goes_on : GoesOnWith function next version options id events now after
-    pub answered : turns_answered after.input now.calls ≡ turns_answered before.input live.calls + length turns
+    pub now_proposed : List (ℕ × NonEmptyValue)
+    pub goes_on : GoesOnWith function next version options is_closed now now_proposed after
+    pub answered : turns_answered after.input now.calls + length now_proposed ≡ (turns_answered before.input live.calls + length proposed) + length turns
 
-  -- with the whole journal fed and the input closed each turn answers, or the attempt is over
+  -- with the whole journal fed and the input closed each turn answers or executes a body, or the attempt is over
   abbrev pub TurnsAnswer : Type 0
-  TurnsAnswer = (id : Text) (events : List Event) (live : LiveAttempt) (turns : List Turn) (before after : Attempt H) → options.signal_delivery ≡ Queued
-      → FollowsSo next live.start.given id events live.coming → IsLiveAt function next version options id events live → HasReadJournal live → is_input_closed events id ≡ true
+  TurnsAnswer = (live : LiveAttempt) (turns : List Turn) (before : Attempt H) (proposed : List (ℕ × NonEmptyValue)) (after : Attempt H) → options.signal_delivery ≡ Queued → HasBodies next live proposed before → HasReadJournal live
       → Serves function next version options live true before → TurnsEach turns before after
-      → IsOver after ⊎ AnswersEach id events live before turns after
+      → IsOver after ⊎ AnswersEach true live before proposed turns after

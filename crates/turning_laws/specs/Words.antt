@@ -1,18 +1,18 @@
 -- The words that the laws of an attempt name: its invocation and run, its live attempt, its abstract machine.
 pub use Rattle.attempt_model.specs.Attempts.{with_entry, with_entries}
-pub use Rattle.attempt_model.specs.Machine.{Machine, machine_at_start, with_arrival, Reply, reply_to, Answered, AwaitsTree, Finished, AwaitsChild, FailedBy, Refused}
+pub use Rattle.attempt_model.specs.Machine.{Machine, machine_at_start, with_arrival, next_slot, Reply, reply_to, Answered, AwaitsTree, Finished, AwaitsChild, FailedBy, Refused}
 pub use Rattle.attempt_model.specs.Requests.{Commands, PutState, put_one, put_all, requests_by}
 pub use Rattle.attempt_model.specs.Results.{Slots, slot_of}
 pub use Rattle.attempt_model.specs.Standing.{RequestsStand, RepliesAsRun, AreOfKind, Fits, next_call, AnswersNext}
 pub use Rattle.handle_laws.specs.Trees.{IsWithin, AreWithin, SlotsFit, TreeFits}
 pub use Rattle.input_laws.specs.Message.{InputMessage, CarriesInput, piece_of, arrivals_carried, CarriesRequest, CarriesArrival, CarriesOutcome, requests_carried}
-pub use Rattle.journal_model.specs.Attempt.{input_bytes, input_left, is_input_closed, arrivals_within}
+pub use Rattle.journal_model.specs.Attempt.{input_bytes, arrivals_within}
 pub use Rattle.journal_model.specs.Await.{awaited_tree, child_of}
 pub use Rattle.journal_model.specs.AwaitTree.{AwaitTree}
-pub use Rattle.journal_model.specs.Cause.{IsAccepted, keys_of}
-pub use Rattle.journal_model.specs.Event.{Event, Frame}
+pub use Rattle.journal_model.specs.Cause.{keys_of}
+pub use Rattle.journal_model.specs.Event.{Frame}
 pub use Rattle.journal_model.specs.History.{answers_of, Step, requests_of, completions_of, signals_of, next_completion}
-pub use Rattle.journal_model.specs.Journal.{Entry, Recorded, Arrived, completion, recorded_requests, starting_state}
+pub use Rattle.journal_model.specs.Journal.{Entry, Recorded, Arrived, completion}
 pub use Rattle.journal_model.specs.Notification.{Bytes, Text, Arrival}
 pub use Rattle.journal_model.specs.Refusal.{Refusal, refusal_of}
 pub use Rattle.journal_model.specs.Request.{Request}
@@ -26,11 +26,11 @@ pub use Rattle.journal_model.specs.declared.options.ImplicitCancellationOption.{
 pub use Rattle.journal_model.specs.declared.options.RunOptions.{RunOptions}
 pub use Rattle.journal_model.specs.declared.options.SignalDelivery.TheVariants.{Queued}
 pub use Rattle.machine_laws.specs.Asking.{are_by_text, AsksByText}
-pub use Rattle.machine_laws.specs.Laws.{StandsWithJournal, JournalsStand, KeepsOn, MachinesKeepOn}
-pub use Rattle.machine_laws.specs.Living.{attempt_begun, LiveAttempt, HasReadJournal, handed_bytes, after_reading, IsLiveMachine, after_turn}
+pub use Rattle.machine_laws.specs.Living.{attempt_begun, LiveAttempt, HasReadJournal, handed_bytes, after_reading, after_turn}
 pub use Rattle.position_laws.specs.Beginning.{AttemptStart, ShowsStart}
 pub use Rattle.position_laws.specs.Reading.{entries_carried, with_messages, IsMachineAt, IsInRun}
 pub use Rattle.position_laws.specs.Replies.{SendsReply, SendsWaiting, goes_on}
+pub use Rattle.position_laws.specs.Turning.{MakesTurns}
 pub use Rattle.protocol_errors.specs.Code.{internal, unsupported_feature, journal_mismatch}
 pub use Rattle.protocol_errors.specs.Error.{plain_error}
 pub use Rattle.protocol_errors.specs.declared.error.Error.{Error}
@@ -41,7 +41,8 @@ pub use Rattle.protocol_wire.specs.declared.record.TheConstants.{LEVELS}
 pub use Rattle.request_laws.specs.Calls.{IsTypedCall}
 pub use Rattle.request_laws.specs.Making.{IsTextId}
 pub use Rattle.state_laws.specs.Keys.{HasTextKeys}
-pub use Rattle.turn_laws.specs.Sending.{requests_sent, FollowsSo}
+pub use Rattle.turn_laws.specs.Live.{TurnsOfRun}
+pub use Rattle.turn_laws.specs.Sending.{requests_sent}
 pub use Rattle.turn_laws.specs.Turning.{IsNote, notes}
 pub use Rattle.vm_feeding.specs.Handles.{id_of}
 pub use Rattle.vm_types.specs.Options.{run_options}

@@ -1,6 +1,5 @@
--- The laws are proved in `Living` and `Turning`.
+-- The laws are proved in `Living`.
 use Rattle.executor_laws.proofs.Living.{executor_begins, executor_stays}
-use Rattle.executor_laws.proofs.Turning.{executor_turns}
 use Rattle.executor_laws.proofs.executors_live.Goals as goal
 
 pub returns-clause-begins : goal.returns-clause-begins
@@ -8,6 +7,3 @@ returns-clause-begins c = executor_begins
 
 pub returns-clause-stays : goal.returns-clause-stays
 returns-clause-stays c = executor_stays
-
-pub returns-clause-turns : goal.returns-clause-turns
-returns-clause-turns c = executor_turns

@@ -1,0 +1,22 @@
+//! An attempt that replays a journal, whoever feeds it: a host, a bench that replays recorded handlers, or a store. What is known of it
+//! between turns speaks of the journal, of what has come behind it, and of what the attempt has asked for, and of no store: so these laws
+//! hold of any bytes of such a journal, in any cut, and any turns between them. The live attempt of a store is an instance, and stays one
+//! where it is stopped or overtaken. The functions do nothing: their contracts are the laws.
+#![tactic(auto)]
+
+ghost use Rattle.replay_laws.specs.Laws.{LivesReplay, LivesStay, ReplaysBegin, ReplaysStand, ReplaysStay, ReplaysTurn};
+
+/// An attempt replays as it begins, as more is to come that it has asked for, as it is handed the next bytes, and as it reads; a turn leaves
+/// it so, also one that executes the body of a run and proposes its outcome.
+pub fn attempts_replay()
+    ensures begins { ReplaysBegin }
+    ensures stays { ReplaysStay }
+    ensures stands { ReplaysStand }
+    ensures turns { ReplaysTurn }
+{}
+
+/// So does the live attempt of a store; and where it replays as it reads and behind a turn, it is the live one still.
+pub fn live_attempts_replay()
+    ensures replays { LivesReplay }
+    ensures stays { LivesStay }
+{}
