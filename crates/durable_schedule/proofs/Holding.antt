@@ -1,5 +1,5 @@
 -- Calls on an attempt that is held, or is not.
-use Rattle.std.proofs.Common.{◌≡◌, refl, subst, ℕ, List, Option, Some, None}
+use Rattle.std.proofs.Common.{◌≡◌, refl, subst, ℕ, Bool, true, false, List, Option, Some, None}
 use Rattle.std.specs.Borrow.{MutBor}
 use Rattle.std.specs.Option.{option_copied_mut, option_map}
 use Rattle.sqlite_trees.specs.declared.store.Store.{Ghosts}
@@ -10,7 +10,7 @@ use Rattle.schedule_model.specs.declared.event.Refusal.TheVariants as refusal
 use Rattle.schedule_model.specs.declared.held.HeldAttempt.{HeldAttempt}
 use Rattle.schedule_model.specs.Held.{held_of, with_attempt}
 use Rattle.schedule_model.specs.Lends.{held_as}
-use Rattle.schedule_model.specs.Schedule.{IfHeld}
+use Rattle.schedule_model.specs.Schedule.{IfHeld, UnlessMismatch}
 use Rattle.schedule_model.specs.Attempts.{Attempt}
 use Rattle.store_calls.specs.Standing.{Standing}
 use Rattle.store_calls.proofs.Taking.{same_stays}
@@ -22,6 +22,18 @@ use Rattle.durable_schedule.specs.Scheduled.{LeadsMoved}
 -- what is done to one that is held
 abbrev Changes : Type 0 → Type 1
 Changes H = HeldAttempt H → Standing → Reply → Standing → Attempt H → Type 0
+
+-- a turn, by whether its outcome tells a mismatch
+module _ {H S : Type 0} (g : Ghosts S) (Change : Changes H) (one : Option (HeldAttempt H)) (held : List (HeldAttempt H)) where
+  pub mismatches : (is_mismatch : Bool) → is_mismatch ≡ true → (store : Stored S)
+      → Leads g (λ (s t : Standing). UnlessMismatch is_mismatch Change one s held (reply.Refused refusal.JournalMismatchOutcome) t held) store store
+  mismatches true is store clean s standing = (s, standing, (refl, same_stays s, refl))
+  mismatches false is store clean s standing = absurd cc
+
+  pub unless_mismatch : (is_mismatch : Bool) → is_mismatch ≡ false → (more : List (HeldAttempt H)) (answer : Reply) (old new : Stored S)
+      → Leads g (λ (s t : Standing). IfHeld Change one s held answer t more) old new → Leads g (λ (s t : Standing). UnlessMismatch is_mismatch Change one s held answer t more) old new
+  unless_mismatch true is more answer old new it = absurd cc
+  unless_mismatch false is more answer old new it = it
 
 module _ {H S : Type 0} (g : Ghosts S) (Change : Changes H) (id : Text) (n : ℕ) (held : List (HeldAttempt H)) (told : Option (MutBor (Attempt H)))
     (found : option_map (held_as id n) (option_copied_mut told) ≡ held_of held id n) where

@@ -4,7 +4,7 @@ use Rattle.std.specs.Prelude.{IfErr}
 use Rattle.store_refusals.specs.declared.refusal.Refusal.{Refusal}
 use Rattle.schedule_model.specs.declared.event.Reply.TheVariants as reply
 use Rattle.schedule_model.specs.Schedule.{RepliesCount, RepliesDone, RepliesPlace}
-use Rattle.durable_schedule.specs.Scheduled.{IsDoneIfHeld, IsOfHeld, reply_to}
+use Rattle.durable_schedule.specs.Scheduled.{IsDoneIfHeld, IsTakenUp, reply_to}
 
 pub replies_done : (Did : Result (Unit {0}) Refusal → Type 0) (told : Result (Unit {0}) Refusal) → Did told → RepliesDone Did (reply_to (λ _. reply.Done) told)
 replies_done Did (Ok done) it = it
@@ -15,10 +15,10 @@ pub is_done : (told : Result (Unit {0}) Refusal) → IfErr told (λ why. ⊥) �
 is_done (Ok done) never = tt
 is_done (Err why) never = absurd never
 
--- what the store told is not that nobody holds the attempt
-pub not_unheld : (told : Result (Unit {0}) Refusal) → IsOfHeld (reply_to (λ _. reply.Done) told)
-not_unheld (Ok done) = tt
-not_unheld (Err why) = tt
+-- what the store told is no refusal before it was asked
+pub told_taken_up : (told : Result (Unit {0}) Refusal) → IsTakenUp (reply_to (λ _. reply.Done) told)
+told_taken_up (Ok done) = tt
+told_taken_up (Err why) = tt
 
 pub replies_place : (Did : Result ℕ Refusal → Type 0) (told : Result ℕ Refusal) → Did told → RepliesPlace Did (reply_to (λ place. reply.Placed place) told)
 replies_place Did (Ok place) it = it

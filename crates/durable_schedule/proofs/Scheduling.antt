@@ -21,7 +21,7 @@ use Rattle.store_calls.specs.Standing.{Standing}
 use Rattle.schedule_model.specs.Schedule.{Scheduled, Does, Applies}
 use Rattle.schedule_model.specs.Fitting.{FitsEvent}
 use Rattle.durable_schedule.specs.declared.scheduler.Scheduler.{Scheduler}
-use Rattle.durable_schedule.specs.Scheduled.{IsScheduled, IsWritten, OutlastsEvent, AppliesWith, CommitsNothing, IsOfHeld, LastsBy, LeadsBy, Performs, SparesUnheld, TakesLive, reply_to}
+use Rattle.durable_schedule.specs.Scheduled.{IsScheduled, IsWritten, OutlastsEvent, AppliesWith, CommitsNothing, IsTakenUp, LastsBy, LeadsBy, Performs, Spares, SparesWhere, TakesLive, reply_to}
 use Rattle.journal_store.specs.Attempts.{BeginsSome}
 use Rattle.journal_store.proofs.Enduring.{always_endures, endures_so, quiet_endures}
 
@@ -52,12 +52,17 @@ same_quiet g store = record { clean = omega arith; shield = λ it. it; counts = 
 
 -- ---- an event
 
--- what is not answered so asks nothing
-pub spares_held : {H S : Type 0} (answer : Reply) (old new : Scheduler H S) → IsOfHeld answer → SparesUnheld answer old new
-spares_held answer old new held is = absurd (subst IsOfHeld is held)
+-- where it is refused before the store is asked, all is as it was
+pub record SparesAtOnce {H S : Type 0} (answer : Reply) (old new : Scheduler H S) : Type 0 where
+  pub unheld : SparesWhere refusal.AttemptNotHeld answer old new
+  pub mismatch : SparesWhere refusal.JournalMismatchOutcome answer old new
 
-abbrev unheld : Reply
-unheld = reply.Refused refusal.AttemptNotHeld
+-- what was not refused so asks nothing
+pub spares_taken_up : {H S : Type 0} (answer : Reply) (old new : Scheduler H S) → IsTakenUp answer → SparesAtOnce answer old new
+spares_taken_up answer old new taken = record { unheld = λ is. absurd (subst IsTakenUp is taken); mismatch = λ is. absurd (subst IsTakenUp is taken) }
+
+pub spares_all : {H S : Type 0} (g : Ghosts S) (one : Event H) (answer : Reply) (old new : Scheduler H S) → SparesAtOnce answer old new → CommitsNothing g one old.store new.store → Spares g one answer old new
+spares_all g one answer old new refused nothing = record { unheld = refused.unheld; mismatch = refused.mismatch; quiet = nothing }
 
 module _ {H S : Type 0} (g : Ghosts S) (function : H → Handler) where
   -- it was applied to what the scheduler stood for
@@ -74,7 +79,7 @@ module _ {H S : Type 0} (g : Ghosts S) (function : H → Handler) where
 
   module _ (one : Event H) (old : Scheduler H S) where
     -- nothing of it is written
-    pub performs_quiet : (answer : Reply) (new : Scheduler H S) → (IsWritten one answer → ⊥) → new.options ≡ old.options → FitsEvent one → TakesLive one answer old.store → SparesUnheld answer old new
+    pub performs_quiet : (answer : Reply) (new : Scheduler H S) → (IsWritten one answer → ⊥) → new.options ≡ old.options → FitsEvent one → TakesLive one answer old.store → SparesAtOnce answer old new
         → CommitsNothing g one old.store new.store → IsQuiet g old.store new.store → LeadsBy g function one answer old new → Performs g function one answer old new
     performs_quiet answer new never options fits live spares nothing quiet does = record {
       does = does;
@@ -82,14 +87,25 @@ module _ {H S : Type 0} (g : Ghosts S) (function : H → Handler) where
       options = options;
       fits = fits;
       live = live;
-      spares = record { unheld = spares; quiet = nothing };
+      spares = spares_all g one answer old new spares nothing;
       crash = quiet_endures g (AppliesWith function old.options one old.held) old.store new.store quiet;
     }
 
+    -- all is as it was
+    performs_nothing : (answer : Reply) → (IsWritten one answer → ⊥) → FitsEvent one → TakesLive one answer old.store → CommitsNothing g one old.store old.store → LeadsBy g function one answer old old
+        → Performs g function one answer old old
+    performs_nothing answer never fits live nothing does =
+        performs_quiet answer old never refl fits live (record { unheld = λ is. refl; mismatch = λ is. refl }) nothing (same_quiet g old.store) does
+
     -- nobody holds the attempt that it names
-    pub performs_unheld : (IsWritten one unheld → ⊥) → FitsEvent one → TakesLive one unheld old.store → CommitsNothing g one old.store old.store → LeadsBy g function one unheld old old
-        → Performs g function one unheld old old
-    performs_unheld never fits live nothing does = performs_quiet unheld old never refl fits live (λ is. refl) nothing (same_quiet g old.store) does
+    pub performs_unheld : (IsWritten one (reply.Refused refusal.AttemptNotHeld) → ⊥) → FitsEvent one → TakesLive one (reply.Refused refusal.AttemptNotHeld) old.store → CommitsNothing g one old.store old.store
+        → LeadsBy g function one (reply.Refused refusal.AttemptNotHeld) old old → Performs g function one (reply.Refused refusal.AttemptNotHeld) old old
+    performs_unheld never fits live nothing does = performs_nothing (reply.Refused refusal.AttemptNotHeld) never fits live nothing does
+
+    -- the outcome of a turn tells a mismatch
+    pub performs_mismatch : (IsWritten one (reply.Refused refusal.JournalMismatchOutcome) → ⊥) → FitsEvent one → TakesLive one (reply.Refused refusal.JournalMismatchOutcome) old.store → CommitsNothing g one old.store old.store
+        → LeadsBy g function one (reply.Refused refusal.JournalMismatchOutcome) old old → Performs g function one (reply.Refused refusal.JournalMismatchOutcome) old old
+    performs_mismatch never fits live nothing does = performs_nothing (reply.Refused refusal.JournalMismatchOutcome) never fits live nothing does
 
     -- where a crash comes into it
     pub crashes : (P : Standing → Standing → Type 0) (store : Stored S) → ((s t : Standing) → P s t → AppliesWith function old.options one old.held s t) → EnduresAlways g P old.store store
@@ -98,7 +114,7 @@ module _ {H S : Type 0} (g : Ghosts S) (function : H → Handler) where
 
     -- the store alone does it, and tells what it did
     module _ {A : Type 0} (store : Stored S) (says : A → Reply) (Did : Result A Refusal → Standing → Standing → Type 0)
-        (so : (told : Result A Refusal) (s t : Standing) → Did told s t → Does function old.options one s old.held (reply_to says told) t old.held) (held : (done : A) → IsOfHeld (says done)) where
+        (so : (told : Result A Refusal) (s t : Standing) → Did told s t → Does function old.options one s old.held (reply_to says told) t old.held) (taken : (done : A) → IsTakenUp (says done)) where
       abbrev new : Scheduler H S
       new = record old { store = store }
 
@@ -107,9 +123,9 @@ module _ {H S : Type 0} (g : Ghosts S) (function : H → Handler) where
           let it = does clean s is in
           (it.0, it.1, so told s it.0 it.2)
 
-      pub stored_spares : (told : Result A Refusal) → SparesUnheld (reply_to says told) old new
-      stored_spares (Ok done) = spares_held (says done) old new (held done)
-      stored_spares (Err why) = spares_held (reply.Refused (refusal.Store why)) old new tt
+      pub stored_spares : (told : Result A Refusal) → SparesAtOnce (reply_to says told) old new
+      stored_spares (Ok done) = spares_taken_up (says done) old new (taken done)
+      stored_spares (Err why) = spares_taken_up (reply.Refused (refusal.Store why)) old new tt
 
       module _ (never : (why : Refusal) → IsWritten one (reply.Refused (refusal.Store why)) → ⊥)
           (outlasts : (answer : Reply) (t : Standing) (database : State) → Outlasts t.events database → OutlastsEvent one answer t database) where
@@ -127,7 +143,7 @@ module _ {H S : Type 0} (g : Ghosts S) (function : H → Handler) where
           options = refl;
           fits = fits;
           live = live (reply_to says told);
-          spares = record { unheld = stored_spares told; quiet = nothing };
+          spares = spares_all g one (reply_to says told) old new (stored_spares told) nothing;
           crash = crash;
         }
 

@@ -20,6 +20,7 @@ use Rattle.schedule_model.specs.declared.event.Event as scheduled
 use Rattle.schedule_model.specs.declared.event.Event.TheVariants as event
 use Rattle.schedule_model.specs.declared.event.Reply.{Reply}
 use Rattle.schedule_model.specs.declared.event.Reply.TheVariants as reply
+use Rattle.schedule_model.specs.declared.event.Refusal as own
 use Rattle.schedule_model.specs.declared.event.Refusal.TheVariants as refusal
 use Rattle.schedule_model.specs.declared.held.HeldAttempt.{HeldAttempt}
 use Rattle.store_calls.specs.Frames.{Rests}
@@ -84,20 +85,21 @@ TakesLive (event.Stop id attempt) answer store = IsLive id attempt store → IsD
 TakesLive (event.Move id attempt count) answer store = IsLive id attempt store → IsMovedIfHeld answer
 TakesLive _ answer store = Unit {0}
 
--- ---- an attempt that nobody holds
+-- ---- an event that is refused before the store is asked
 
--- the answer is not that nobody holds the attempt
-abbrev pub IsOfHeld : Reply → Type 0
-IsOfHeld (reply.Refused refusal.AttemptNotHeld) = ⊥
-IsOfHeld _ = Unit {0}
+-- it is not: somebody holds the attempt that it names, if it names one, and the outcome of a turn tells no mismatch
+abbrev pub IsTakenUp : Reply → Type 0
+IsTakenUp (reply.Refused refusal.AttemptNotHeld) = ⊥
+IsTakenUp (reply.Refused refusal.JournalMismatchOutcome) = ⊥
+IsTakenUp _ = Unit {0}
 
 -- where it is, all is as it was
-abbrev pub SparesUnheld : {H S : Type 0} → Reply → Scheduler H S → Scheduler H S → Type 0
-SparesUnheld answer old new = answer ≡ reply.Refused refusal.AttemptNotHeld → new ≡ old
+abbrev pub SparesWhere : {H S : Type 0} → own.Refusal → Reply → Scheduler H S → Scheduler H S → Type 0
+SparesWhere why answer old new = answer ≡ reply.Refused why → new ≡ old
 
 -- a turn leaves the store as it was; bytes that are handed out, an input that is closed and a stop commit nothing
 abbrev pub CommitsNothing : {H S : Type 0} → Ghosts S → scheduled.Event H → Stored S → Stored S → Type 0
-CommitsNothing g (event.Turn id attempt) old new = new ≡ old
+CommitsNothing g (event.Turn id attempt outcome) old new = new ≡ old
 CommitsNothing g (event.Feed id attempt count) old new = IsQuiet g old new
 CommitsNothing g (event.Close id attempt) old new = IsQuiet g old new
 CommitsNothing g (event.Stop id attempt) old new = IsQuiet g old new
@@ -105,7 +107,8 @@ CommitsNothing g _ old new = Unit {0}
 
 -- so it is whatever the store stands for, and whatever the disk returned
 pub record Spares {H S : Type 0} (g : Ghosts S) (one : scheduled.Event H) (answer : Reply) (old new : Scheduler H S) : Type 0 where
-  pub unheld : SparesUnheld answer old new
+  pub unheld : SparesWhere refusal.AttemptNotHeld answer old new
+  pub mismatch : SparesWhere refusal.JournalMismatchOutcome answer old new
   pub quiet : CommitsNothing g one old.store new.store
 
 -- ---- what lasts of that

@@ -4,7 +4,7 @@ ghost use Rattle.journal_store.specs.Stands.{Endures, Leads};
 ghost use Rattle.schedule_model.specs.Attempts.{has_stopped, IsMadeAndFed};
 ghost use Rattle.schedule_model.specs.Lends.{held_as};
 ghost use Rattle.schedule_model.specs.Schedule.{MovesOne};
-ghost use Rattle.durable_schedule.specs.Scheduled.{HasTakenFrames, IsLive, IsMovedIfHeld, IsOfHeld, LeadsMoved, MovesSome};
+ghost use Rattle.durable_schedule.specs.Scheduled.{HasTakenFrames, IsLive, IsMovedIfHeld, IsTakenUp, LeadsMoved, MovesSome};
 
 use bytes::{ByteStr, Bytes};
 use journal_model::Handler;
@@ -61,7 +61,7 @@ pub(crate) fn take_in<H: Handler, S: Alter + Drop>(
 ) -> Reply
     ensures does { Leads S.Store (λ s t. MovesOne count (held_as invocation.now number attempt.old) s result t attempt.new) store.old store.new }
     ensures settled { HasTakenFrames result → LeadsMoved S.Store invocation.now number result (λ s t. MovesOne count (held_as invocation.now number attempt.old) s result t attempt.new) store.old store.new }
-    ensures held { IsOfHeld result }
+    ensures held { IsTakenUp result }
     ensures live { IsLive invocation.now number store.old → IsMovedIfHeld result }
     ensures crash { Endures S.Store (MovesSome count (held_as invocation.now number attempt.old)) store.old store.new }
 {

@@ -6,8 +6,8 @@ mod replies;
 mod scheduler;
 
 pub use schedule_model::{
-    Attempt, Event, HeldAttempt, HeldAttempts, OutsideSignal, Refusal, Reply, Turn,
-    attempts_are_held, schedules_grow,
+    Attempt, Event, HeldAttempt, HeldAttempts, OutsideSignal, Refusal, Reply, RetryPolicy,
+    RunExitResult, RunOutcome, Turn, attempts_are_held, schedules_grow,
 };
 pub use scheduler::Scheduler;
 

@@ -13,7 +13,7 @@ ghost use Rattle.journal_store.specs.Attempts.{BeginsSome};
 ghost use Rattle.journal_store.specs.Stands.{Endures, EnduresAlways, IsQuiet, Leads, Settles};
 ghost use Rattle.schedule_model.specs.Schedule.{BeginDoes, Applies, Scheduled};
 ghost use Rattle.schedule_model.specs.Fitting.{FitsEvent};
-ghost use Rattle.durable_schedule.specs.Scheduled.{AppliesWith, HasBegun, IsOfHeld, IsScheduled, IsWritten, OutlastsEvent, Performs, Spares, SparesUnheld, TakesLive, TellsAlways, TellsOf};
+ghost use Rattle.durable_schedule.specs.Scheduled.{AppliesWith, HasBegun, IsScheduled, IsTakenUp, IsWritten, OutlastsEvent, Performs, Spares, TakesLive, TellsAlways, TellsOf};
 
 use crate::held::{make, take_in};
 use crate::replies::{done, placed, ticked};
@@ -21,8 +21,8 @@ use bytes::ByteStr;
 use journal_model::{Handler, NewInvocation, NonEmptyValue, NotificationResult};
 use journal_store::Store;
 use schedule_model::{
-    Event, HeldAttempt, HeldAttempts, OutsideSignal, Refusal, Reply, invocation_fits, result_fits,
-    signal_fits,
+    Event, HeldAttempt, HeldAttempts, OutsideSignal, Refusal, Reply, RunOutcome, invocation_fits,
+    result_fits, signal_fits, tells_mismatch,
 };
 use sqlite::Alter;
 use std::alloc::Global;
@@ -118,7 +118,7 @@ impl<H: Handler + Drop, S: Alter + Drop> Scheduler<H, S> {
         ensures options { self.new.options ≡ self.old.options }
         ensures settled { HasBegun result → Settles S.Store (λ s t. BeginDoes self.old.options invocation handler now s self.old.held result t self.new.held) self.old.store self.new.store }
         ensures moment { now < 2 ^ 64 }
-        ensures held { IsOfHeld result }
+        ensures held { IsTakenUp result }
         ensures crash { EnduresAlways S.Store (BeginsSome invocation now) self.old.store self.new.store }
     {
         let begun = match self.store.begin(&invocation, now) {
@@ -179,13 +179,20 @@ impl<H: Handler + Drop, S: Alter + Drop> Scheduler<H, S> {
         }
     }
 
-    /// An attempt makes a turn.
-    fn turn(&mut self, invocation: &ByteStr, number: u32) -> Reply
-        ensures { Performs S.Store H.next_call (Event.Turn invocation.now number) result self.old self.new }
+    /// An attempt makes a turn, unless the outcome tells a mismatch.
+    fn turn(&mut self, invocation: &ByteStr, number: u32, outcome: RunOutcome) -> Reply
+        ensures { Performs S.Store H.next_call (Event.Turn invocation.now number outcome) result self.old self.new }
     {
+        if tells_mismatch(&outcome) {
+            drop(outcome);
+            return Reply::Refused(Refusal::JournalMismatchOutcome);
+        }
         match self.held.get_mut(invocation, number) {
-            None => Reply::Refused(Refusal::AttemptNotHeld),
-            Some(attempt) => Reply::Turned(attempt.turn()),
+            None => {
+                drop(outcome);
+                Reply::Refused(Refusal::AttemptNotHeld)
+            }
+            Some(attempt) => Reply::Turned(attempt.turn(outcome)),
         }
     }
 
@@ -234,7 +241,8 @@ impl<H: Handler + Drop, S: Alter + Drop> Scheduler<H, S> {
             Event::Turn {
                 invocation,
                 attempt,
-            } => self.turn(&invocation, attempt),
+                outcome,
+            } => self.turn(&invocation, attempt, outcome),
             Event::Move {
                 invocation,
                 attempt,
@@ -256,7 +264,7 @@ impl<H: Handler + Drop, S: Alter + Drop> Scheduler<H, S> {
         ensures fits { FitsEvent event }
         // A stop of a live attempt that is held is never refused, nor are its bytes but for want of memory, whatever the store stands for.
         ensures live { TakesLive event result self.old.store }
-        // Where nobody holds the attempt that it names (X2), all is as it was; a turn leaves the store as it was; and bytes that are handed
+        // Where it is refused before the store is asked (X1, X2), all is as it was; a turn leaves the store as it was; and bytes that are handed
         // out, an input that is closed and a stop commit nothing: this too whatever the store stands for, and whatever the disk returned.
         ensures spares { Spares S.Store event result self.old self.new }
         ensures crash { Endures S.Store (AppliesWith H.next_call self.old.options event self.old.held) self.old.store self.new.store }
@@ -265,13 +273,13 @@ impl<H: Handler + Drop, S: Alter + Drop> Scheduler<H, S> {
     }
 
     /// One turn of an attempt: what `apply` does for `Event::Turn`, for a caller that keeps the id.
-    pub fn take_turn(&mut self, invocation: &ByteStr, attempt: u32) -> Reply
-        ensures does { HasCleanDisk (state S.Store self.new.store.connection) → (old : Scheduled H) → IsScheduled S.Store old self.old → (new : Scheduled H) × IsScheduled S.Store new self.new × Applies H.next_call self.old.options (Event.Turn invocation.now attempt) result old new }
-        ensures unheld { SparesUnheld result self.old self.new }
+    pub fn take_turn(&mut self, invocation: &ByteStr, attempt: u32, outcome: RunOutcome) -> Reply
+        ensures does { HasCleanDisk (state S.Store self.new.store.connection) → (old : Scheduled H) → IsScheduled S.Store old self.old → (new : Scheduled H) × IsScheduled S.Store new self.new × Applies H.next_call self.old.options (Event.Turn invocation.now attempt outcome) result old new }
+        ensures spares { Spares S.Store (Event.Turn invocation.now attempt outcome) result self.old self.new }
         ensures store { self.new.store ≡ self.old.store }
         ensures options { self.new.options ≡ self.old.options }
     {
-        self.turn(invocation, attempt)
+        self.turn(invocation, attempt, outcome)
     }
 
     /// The recorded requests and arrivals of an invocation, by place.

@@ -156,7 +156,11 @@ module _ (id : Text) (events : List Event) where
       (holds-tail (tail_of (tail_of (tail_of (tail_of tests)))) (holds-tail (tail_of (tail_of (tail_of tests))) (holds-tail (tail_of (tail_of tests)) (holds-tail (tail_of tests) (holds-tail tests own)))))) few
   added_few (Event.Take other attempt (Frame.RunOutcome n value is_acknowledged)) causes fits few =
       few_if all (bytes_eq other id || false) (entries_of_event (starting_state events id) all (Event.Take other attempt (Frame.RunOutcome n value is_acknowledged)))
-      (λ e. absurd (fits ((bytes_eq-Decides other id).0 (or_false (bytes_eq other id) e)))) few
+      (λ e. let same : other ≡ id = (bytes_eq-Decides other id).0 (or_false (bytes_eq other id) e) in
+      let own : causes_of events (Event.Take id attempt (Frame.RunOutcome n value is_acknowledged)) ≡ [] = subst (λ (x : Text). causes_of events (Event.Take x attempt (Frame.RunOutcome n value is_acknowledged)) ≡ []) same causes in
+      let tests = tests_of events (Event.Take id attempt (Frame.RunOutcome n value is_acknowledged)) in
+      holds-head (tail_of (tail_of (tail_of (tail_of tests))))
+      (holds-tail (tail_of (tail_of (tail_of tests))) (holds-tail (tail_of (tail_of tests)) (holds-tail (tail_of tests) (holds-tail tests own))))) few
   added_few (Event.Take other attempt frame) causes fits few = few_if all (bytes_eq other id || false) [] (λ e. refl) few
   added_few event causes fits few = few_if all (is_of id event || false) [] (λ e. refl) few
 

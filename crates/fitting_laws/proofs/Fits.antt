@@ -10,12 +10,13 @@ use Rattle.journal_model.specs.declared.notification.NotificationResult.{Notific
 use Rattle.journal_model.specs.Notification.{Bytes, Text, Arrival}
 use Rattle.journal_model.specs.Request.{Request, SignalKey}
 use Rattle.journal_model.specs.State.{StateMap, value_at, state_keys, state_after}
+use Rattle.journal_model.specs.Value.{result_of_value}
 use Rattle.journal_model.specs.Delivery.{value_or_void}
 use Rattle.journal_model.specs.Spelling.{varint, varint_groups, input_payload, request_payload, notification_payload}
 use Rattle.journal_model.specs.declared.value.NonEmptyValue.{NonEmptyValue}
 use Rattle.journal_model.specs.Event.{Event, Frame}
-use Rattle.journal_model.specs.Journal.{Entry, Recorded, Arrived, is_of, is_open, begins, invoked_by, invocation_begun, starting_state, entries_of, entries_of_event, requests_in, arrivals_in, recorded_arrivals, completion, id_of_signal, asks_for, request_asking, is_awaited, open_request, sleeps_in, by_moment, sorted_by_moment, is_over, slept, read_answer}
-use Rattle.journal_model.specs.Cause.{causes_of, tests_of, own_tests, entry_payload, is_too_long, IsAccepted}
+use Rattle.journal_model.specs.Journal.{Entry, Recorded, Arrived, is_of, is_open, begins, invoked_by, invocation_begun, starting_state, entries_of, requests_in, arrivals_in, recorded_arrivals, completion, id_of_signal, asks_for, request_asking, is_awaited, open_request, sleeps_in, by_moment, sorted_by_moment, is_over, slept, read_answer}
+use Rattle.journal_model.specs.Cause.{causes_of, tests_of, own_tests, is_run, entry_payload, is_too_long, IsAccepted}
 use Rattle.journal_laws.proofs.ObjectState.{tail_of, holds-head, holds-tail, begun_before, find-passes, not-false, open_when_accepted, requests_in-append}
 use Rattle.input_laws.specs.Message.{InputMessage, CarriesInput, CarriesRequest, CarriesArrival, CarriesOutcome, arrivals_carried, IsBroughtBy}
 use Rattle.input_laws.proofs.Events.{added_by, entries_now, entries_first, unborn_open}
@@ -314,6 +315,10 @@ signal_asked : (all : List Entry) (key : SignalKey) → IsAsked all (id_of_signa
 signal_asked all (SignalKey.ByIndex n) = tt
 signal_asked all (SignalKey.ByName name) = tt
 
+run_some : (o : Option Request) → is_run o ≡ true → is_some o ≡ true
+run_some None e = absurd (true≢false (sym e))
+run_some (Some request) e = refl
+
 either : (b : Bool) → (b || false) ≡ false → b ≡ false
 either true e = e
 either false e = refl
@@ -348,6 +353,23 @@ module _ (id : Text) (events : List Event) where
 
   cancelled : ArrivalCome all cancellation
   cancelled = record { fits = record { fits = record { level = omega arith; id = omega arith; result = record { level = omega arith } }; short = omega arith }; asked = tt }
+
+  -- the outcome of a run that is open
+  run_ended : (attempt n : ℕ) (value : NonEmptyValue) (told : Bool) → causes_of events (Event.Take id attempt (Frame.RunOutcome n value told)) ≡ [] → ResultFits (completion n (result_of_value value))
+      → ArrivalCome all (completion n (result_of_value value))
+  run_ended attempt n value told causes fits =
+      let tests = own_tests events (Event.Take id attempt (Frame.RunOutcome n value told)) in
+      let own = holds-tail tests (own_passes events (Event.Take id attempt (Frame.RunOutcome n value told)) id causes) in
+      let opened : not (is_run (open_request all n)) ≡ false = holds-head (tail_of tests) own in
+      let long : (is_too_long (notification_payload (completion n (result_of_value value))) || false) ≡ false =
+      holds-head (tail_of (tail_of (tail_of tests))) (holds-tail (tail_of (tail_of tests)) (holds-tail (tail_of tests) own)) in
+      record {
+        fits = record {
+          fits = fits;
+          short = not_long (length (notification_payload (completion n (result_of_value value)))) (either (is_too_long (notification_payload (completion n (result_of_value value)))) long);
+        };
+        asked = open_asks all n (run_some (open_request all n) (not-false (is_run (open_request all n)) opened));
+      }
 
   own_command : (attempt : ℕ) (request : Request) → causes_of events (Event.Take id attempt (Frame.Command request)) ≡ [] → RequestFits request
       → let added = Recorded request ∷ map Arrived (read_answer (state_after (requests_in all) (starting_state events id)) request) in AllByRecursion (EntryFits (all ++ added)) added
@@ -384,8 +406,10 @@ module _ (id : Text) (events : List Event) where
       (own_command attempt request (subst (λ (x : Text). causes_of events (Event.Take x attempt (Frame.Command request)) ≡ []) same causes) (fits same)))
   added_fit (Event.Take other attempt (Frame.RunOutcome n value is_acknowledged)) causes fits before =
       if_adds (EntryFits (all ++ added_by events id (Event.Take other attempt (Frame.RunOutcome n value is_acknowledged)))) (bytes_eq other id || false)
-      (entries_of_event (starting_state events id) all (Event.Take other attempt (Frame.RunOutcome n value is_acknowledged)))
-      (λ e. absurd (fits ((bytes_eq-Decides other id).0 (or_false (bytes_eq other id) e))))
+      (Arrived (completion n (result_of_value value)) ∷ [])
+      (λ e. let same : other ≡ id = (bytes_eq-Decides other id).0 (or_false (bytes_eq other id) e) in
+      entries_more all (added_by events id (Event.Take other attempt (Frame.RunOutcome n value is_acknowledged))) (Arrived (completion n (result_of_value value)) ∷ [])
+      (run_ended attempt n value is_acknowledged (subst (λ (x : Text). causes_of events (Event.Take x attempt (Frame.RunOutcome n value is_acknowledged)) ≡ []) same causes) (fits same), tt))
   added_fit (Event.Take other attempt frame) causes fits before = if_adds (EntryFits (all ++ added_by events id (Event.Take other attempt frame))) (bytes_eq other id || false) [] (λ e. tt)
   added_fit event causes fits before = if_adds (EntryFits (all ++ added_by events id event)) (is_of id event || false) [] (λ e. tt)
 
@@ -412,9 +436,11 @@ arrivals_come among (Arrived arrival ∷ entries) fit = (fit.0, arrivals_come am
 pub recorded_come : (id : Text) (events : List Event) → IsAccepted events → AllFit id events → AllByRecursion (ArrivalCome (entries_of events id)) (recorded_arrivals events id)
 recorded_come id events accepted fits = arrivals_come (entries_of events id) (entries_of events id) (entries_fit id events accepted fits)
 
-no_outcome : (entries : List Entry) (id : Text) (event : Event) (number : ℕ) (value : NonEmptyValue) → AcceptedFits id event → IsBroughtBy entries id event (CarriesOutcome number value) → ⊥
-no_outcome entries id (Event.Take other attempt (Frame.RunOutcome taken outcome true)) number value fits brought = fits ((bytes_eq-Decides other id).0 brought.0)
-no_outcome entries id event number value fits brought = absurd brought
+-- an outcome that is acknowledged was taken, so its number can be told
+outcome_small : (entries : List Entry) (id : Text) (event : Event) (number : ℕ) (value : NonEmptyValue) → AcceptedFits id event → IsBroughtBy entries id event (CarriesOutcome number value) → number < 2 ^ 32
+outcome_small entries id (Event.Take other attempt (Frame.RunOutcome taken outcome true)) number value fits brought =
+    subst (λ (n : ℕ). n < 2 ^ 32) brought.1 (fits ((bytes_eq-Decides other id).0 brought.0)).id
+outcome_small entries id event number value fits brought = absurd brought
 
 no_request : (entries : List Entry) (id : Text) (event : Event) (request : Request) → IsBroughtBy entries id event (CarriesRequest request) → ⊥
 no_request entries id event request brought = absurd brought
@@ -429,7 +455,7 @@ come entries id event (CarriesArrival ty arrival ∷ more) fits brought arrivals
   (arrivals.0.fits, subst IsNotificationType (sym brought.0) (of_asked entries arrival.id arrivals.0.asked)),
   come entries id event more fits brought.1 arrivals.1,
 )
-come entries id event (CarriesOutcome number value ∷ more) fits brought arrivals = absurd (no_outcome entries id event number value fits brought.0)
+come entries id event (CarriesOutcome number value ∷ more) fits brought arrivals = (outcome_small entries id event number value fits brought.0, come entries id event more fits brought.1 arrivals.1)
 come entries id event (CarriesRequest request ∷ more) fits brought arrivals = absurd (no_request entries id event request brought.0)
 come entries id event (CarriesInput new ∷ more) fits brought arrivals = absurd (no_input entries id event new brought.0)
 

@@ -1,3 +1,4 @@
 pub mod Fits
 pub mod Beginnings
 pub mod Handing
+pub mod Outcomes

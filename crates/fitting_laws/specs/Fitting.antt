@@ -4,13 +4,14 @@ use Rattle.std.specs.List.{AllByRecursion}
 use Rattle.journal_model.specs.Notification.{Text}
 use Rattle.journal_model.specs.Event.{Event, Frame}
 use Rattle.journal_model.specs.Journal.{completion}
+use Rattle.journal_model.specs.Value.{result_of_value}
 use Rattle.request_laws.specs.Fitting.{RequestFits}
 use Rattle.schedule_model.specs.Fitting.{InvocationFits, ResultFits, signal_arrival}
 
--- of a frame that was taken; no run is executed, so none has an outcome
+-- of a frame that was taken
 abbrev pub FrameFits : Frame → Type 0
 FrameFits (Frame.Command request) = RequestFits request
-FrameFits (Frame.RunOutcome completion value is_acknowledged) = ⊥
+FrameFits (Frame.RunOutcome n value is_acknowledged) = ResultFits (completion n (result_of_value value))
 FrameFits _ = Unit {0}
 
 -- of an accepted event, if it is one of this invocation

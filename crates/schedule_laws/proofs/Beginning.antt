@@ -19,15 +19,18 @@ use Rattle.turn_laws.specs.Sending.{FollowsSo}
 use Rattle.turn_laws.proofs.Keeping.{one_event}
 use Rattle.turn_laws.proofs.Schedules.{begins_of_run}
 use Rattle.position_laws.specs.Beginning.{AttemptStart, start_after}
-use Rattle.machine_laws.specs.Living.{IsLiveMachine, attempt_begun}
+use Rattle.machine_laws.specs.Living.{attempt_begun}
 use Rattle.vm_types.specs.Options.{run_options}
 use Rattle.vm_types.specs.declared.options.VMOptions.{VMOptions}
 use Rattle.vm_start.specs.Failing.{out_of_memory}
 use Rattle.turning_laws.specs.Attempts.{Feeds, output_of}
 use Rattle.turning_laws.specs.Reading.{IsRunOf}
 use Rattle.turning_laws.specs.Sending.{frame_meant}
-use Rattle.turning_laws.specs.Keeping.{LacksMemory, attempt_started}
-use Rattle.turning_laws.specs.Serving.{Serves, IsOver, machine_failed}
+use Rattle.executor_laws.specs.Living.{IsLiveExecutor}
+use Rattle.turning_laws.specs.Bodies.{executor_over}
+use Rattle.turning_laws.specs.Keeping.{LacksMemory, HasNoBodies, attempt_started}
+use Rattle.turning_laws.specs.Serving.{HasBodies, Serves, IsOver, machine_failed}
+use Rattle.turning_laws.specs.Words.{machine_at_start}
 use Rattle.store_calls.specs.declared.begun.BegunAttempt.{BegunAttempt}
 use Rattle.store_calls.specs.Standing.{Standing, Adds}
 use Rattle.store_calls.specs.Calls.{Begins}
@@ -43,6 +46,7 @@ use Rattle.fitting_laws.specs.Laws.{CanStart, IsFedWell}
 use Rattle.fitting_laws.proofs.Beginnings.{can_start, fed_begun}
 use Rattle.schedule_laws.proofs.Following.{same_held}
 use Rattle.schedule_laws.proofs.Others.{into, other_on}
+use Rattle.schedule_laws.proofs.Outcomes.{none_fly}
 use Rattle.schedule_laws.proofs.Serving.{ServingLaws}
 use Rattle.schedule_laws.proofs.Taking.{version_begun}
 
@@ -66,6 +70,7 @@ module _ {H : Type 0} (function : H → Handler) (next : Handler) (options : VMO
             fit = tt;
             of_store = tt;
             follows = record { accepted = s.accepted; holds = h.holds; flies = λ attempt live. tt };
+            outcomes = λ number live. none_fly id s.events;
             numbered = λ number above. refl;
             flies = λ number waits one live is_out found. some_none (sym found);
           }
@@ -89,6 +94,7 @@ module _ {H : Type 0} (function : H → Handler) (next : Handler) (options : VMO
         fit = tt;
         of_store = tt;
         follows = begins_of_run next (given_of options id (Event.Invoke one ∷ s.events) one) id (Event.Invoke one) s.events accepted e;
+        outcomes = λ number live. none_fly id (Event.Invoke one ∷ s.events);
         numbered = λ number above. unheld number;
         flies = λ number waits other live is_out found. some_none (sym found ∙ unheld number);
       }))
@@ -154,6 +160,7 @@ module _ {H : Type 0} (function : H → Handler) (next : Handler) (options : VMO
         fit = tt;
         of_store = tt;
         follows = follows_anew (map (frame_meant f.version) f.coming) f.follows;
+        outcomes = λ m live. none_fly id (beginning ∷ s.events);
         numbered = numbered;
         flies = flies;
       }
@@ -173,11 +180,11 @@ module _ {H : Type 0} (function : H → Handler) (next : Handler) (options : VMO
         speaks_version : new.version ≡ version_number answer.version
         speaks_version = sym (version_begun s.events id new is) ∙ sym speaks
 
-        lives_first : IsLiveMachine next (run_options options) options.fallback_random_seed id (beginning ∷ s.events) (attempt_begun start)
+        lives_first : IsLiveExecutor next (run_options options) options.fallback_random_seed id (beginning ∷ s.events) (attempt_begun start) [] (executor_over (machine_at_start start.shown [] []))
         lives_first = laws.live_begins next (run_options options) options.fallback_random_seed id now s.events new accepted is f.follows.holds
 
         starts : CanStart start
-        starts = can_start next (run_options options) options.fallback_random_seed id now s.events new accepted is f.typed moment lives_first.begun
+        starts = can_start next (run_options options) options.fallback_random_seed id now s.events new accepted is f.typed moment lives_first.is_live.begun
 
         is_run : IsRunOf start answer.version options
         is_run = record { state = starting_state s.events id; given_is = refl; version_is = speaks_version; replays = in_line.replays }
@@ -185,20 +192,34 @@ module _ {H : Type 0} (function : H → Handler) (next : Handler) (options : VMO
         fed_well : IsFedWell start
         fed_well = fed_begun (run_options options) options.fallback_random_seed id now s.events new accepted is f.typed
 
-        has_begun : (output_of h.attempt ≡ []) × (Serves function next answer.version options (attempt_started start) false h.attempt ⊎ LacksMemory h.attempt)
+        abbrev ServesFirst : Type 0
+        ServesFirst = Serves function next answer.version options (attempt_started start) false h.attempt × HasNoBodies function next answer.version options start h.attempt
+
+        has_begun : (output_of h.attempt ≡ []) × (ServesFirst ⊎ LacksMemory h.attempt)
         has_begun =
             laws.begins answer.version start starts.shows handler h.fresh.made h.attempt brings is_run starts.can
             fed_well
             h.fresh.begun (subst (λ (bytes : Bytes). Feeds bytes h.fresh.made h.attempt) told h.fresh.fed)
 
-        begun_stands : Serves function next answer.version options (attempt_started start) false h.attempt ⊎ LacksMemory h.attempt
-            → IsOver h.attempt ⊎ IsServed function next options id (beginning ∷ s.events) new answer.version [] h.attempt
+        lives_started : IsLiveExecutor next (run_options options) options.fallback_random_seed id (beginning ∷ s.events) (attempt_started start) [] (executor_over (machine_at_start start.shown [] []))
+        lives_started =
+            (laws.stays next (run_options options) options.fallback_random_seed id (beginning ∷ s.events) (attempt_begun start) [] (executor_over (machine_at_start start.shown [] [])) accepted lives_first).reads_start
+            (sym (append-nil start.frame))
+
+        bodies_first : HasNoBodies function next answer.version options start h.attempt → HasBodies next (attempt_started start) [] h.attempt
+        bodies_first none =
+            none (laws.replays next (run_options options) options.fallback_random_seed id (beginning ∷ s.events) (attempt_started start) [] (executor_over (machine_at_start start.shown [] [])) accepted lives_started)
+
+        begun_stands : ServesFirst ⊎ LacksMemory h.attempt → IsOver h.attempt ⊎ IsServed function next options id (beginning ∷ s.events) new answer.version [] h.attempt
         begun_stands (inl serves) = inr (record {
           live = attempt_started start;
+          proposed = [];
           new_is = refl;
           coming_are = refl;
-          lives = (laws.stays next (run_options options) options.fallback_random_seed id (beginning ∷ s.events) (attempt_begun start) accepted lives_first).reads_start (sym (append-nil start.frame));
-          serves = subst (λ (b : Bool). Serves function next answer.version options (attempt_started start) b h.attempt) (sym opened_now) serves;
+          bodies = bodies_first serves.1;
+          lives = (laws.lives next (run_options options) options.fallback_random_seed id (beginning ∷ s.events) (attempt_started start) [] (executor_over (machine_at_start start.shown [] [])) accepted lives_started).again
+              (bodies_first serves.1).executor (bodies_first serves.1).lives;
+          serves = subst (λ (b : Bool). Serves function next answer.version options (attempt_started start) b h.attempt) (sym opened_now) serves.0;
         })
         begun_stands (inr lacks) = inl (machine_failed out_of_memory lacks)
 

@@ -25,8 +25,9 @@ use Rattle.schedule_model.specs.declared.held.HeldAttempt.{HeldAttempt}
 use Rattle.schedule_model.specs.Held.{held_of}
 use Rattle.schedule_model.proofs.Holding.{some_none}
 use Rattle.fitting_laws.specs.Fitting.{AcceptedFits, AllFit}
-use Rattle.schedule_laws.specs.Following.{given_of, IsServed, Flies, FollowsBegun, FollowsWhere, FollowsIn}
+use Rattle.schedule_laws.specs.Following.{given_of, IsServed, Flies, FollowsBegun, FollowsWhere, FollowsIn, OutcomesFly}
 use Rattle.fitting_laws.proofs.Fits.{may_come}
+use Rattle.schedule_laws.proofs.Outcomes.{fly_on}
 use Rattle.schedule_laws.proofs.Serving.{ServingLaws}
 
 -- an event that begins neither the invocation nor an attempt of it, hands it nothing and closes nothing of it
@@ -49,16 +50,23 @@ module _ {H : Type 0} (function : H → Handler) (next : Handler) (options : VMO
   pub served_on : (new : NewInvocation) (version : Version) (coming left : List Sent) (attempt : Attempt H) → AllFit id events → PassesOn id event (map (frame_meant version) coming) (map (frame_meant version) left)
       → IsServed function next options id events new version coming attempt → IsServed function next options id (event ∷ events) new version left attempt
   served_on new version coming left attempt typed passes s =
-      let some = (laws.stays next (run_options options) options.fallback_random_seed id events s.live accepted s.lives).brings event (map (frame_meant version) left) plain.old plain.going plain.asks
-      (subst (λ (frames : List Frame). PassesOn id event frames (map (frame_meant version) left)) (sym s.coming_are) passes) in
+      let some = (laws.stays next (run_options options) options.fallback_random_seed id events s.live s.proposed s.bodies.executor accepted s.lives).brings event (map (frame_meant version) left)
+      (causes, accepted) plain.old plain.going plain.asks (subst (λ (frames : List Frame). PassesOn id event frames (map (frame_meant version) left)) (sym s.coming_are) passes) in
       record {
         live = record s.live { unread = s.live.unread ++ some.0; coming = map (frame_meant version) left };
+        proposed = s.proposed;
         new_is = s.new_is;
         coming_are = refl;
+        bodies = record {
+          executor = s.bodies.executor;
+          lives = laws.replays next (run_options options) options.fallback_random_seed id (event ∷ events) (record s.live { unread = s.live.unread ++ some.0; coming = map (frame_meant version) left }) s.proposed s.bodies.executor (causes, accepted) some.2;
+          keeps = s.bodies.keeps;
+          behind = s.bodies.behind;
+        };
         lives = some.2;
         serves = subst (λ (b : Bool). Serves function next version options (record s.live { unread = s.live.unread ++ some.0; coming = map (frame_meant version) left }) b attempt) (sym closed_same)
             (laws.events version s.live (is_input_closed events id) attempt some.0 (map (frame_meant version) left) s.serves
-            (may_come next (run_options options) options.fallback_random_seed id event events (record s.live { unread = s.live.unread ++ some.0; coming = map (frame_meant version) left }) s.live.unread some.0 refl (causes, accepted) (fits, typed) some.2 some.1));
+            (may_come next (run_options options) options.fallback_random_seed id event events (record s.live { unread = s.live.unread ++ some.0; coming = map (frame_meant version) left }) s.live.unread some.0 refl (causes, accepted) (fits, typed) some.2.is_live some.1));
       }
 
   attempts_same : attempts_begun (event ∷ events) id ≡ attempts_begun events id
@@ -83,10 +91,18 @@ module _ {H : Type 0} (function : H → Handler) (next : Handler) (options : VMO
     of_store = g.of_store;
     follows = subst (λ (given : Invocation). FollowsSo next given id (event ∷ events) (map (frame_meant f.version) g.left)) (given_same new)
         (one_event next (given_of options id events new) id event events (map (frame_meant f.version) f.coming) (map (frame_meant f.version) g.left) causes g.passes f.follows);
+    outcomes = λ n live. outcomes_by_end (is_of id event && ends_live event) refl n live;
     numbered = λ n above. f.numbered n (subst (λ (k : ℕ). k < n) attempts_same above);
     flies = λ n now one live is found. by_end (is_of id event && ends_live event) refl n now one live is found;
   }
     where
+      outcomes_by_end : (b : Bool) → (is_of id event && ends_live event) ≡ b → (n : ℕ) → live_attempt (event ∷ events) id ≡ Some n → OutcomesFly id (event ∷ events) (map (frame_meant f.version) g.left)
+      outcomes_by_end true e n live = some_none (sym live ∙ none_live event events id plain.going e)
+      outcomes_by_end false e n live =
+          let before : live_attempt events id ≡ Some n = sym (live_now event events id plain.going e) ∙ live in
+          fly_on next (given_of options id events new) id event events (map (frame_meant f.version) f.coming) (map (frame_meant f.version) g.left) n (causes, accepted) plain.old plain.going g.passes f.follows before
+          (f.outcomes n before)
+
       by_end : (b : Bool) → (is_of id event && ends_live event) ≡ b → (n : ℕ) (now : Bytes) (one : HeldAttempt H) → live_attempt (event ∷ events) id ≡ Some n → after ≡ Some now → held_of held id n ≡ Some one
           → Flies function next options id (event ∷ events) new f.version g.left now one.attempt
       by_end true e n now one live is found = some_none (sym live ∙ none_live event events id plain.going e)

@@ -16,7 +16,7 @@ use Rattle.schedule_model.specs.First.{with_first}
 use Rattle.schedule_model.specs.Held.{is_held, held_of}
 use Rattle.schedule_model.proofs.Holding.{some_is, some_none, held_with, held_other_number}
 use Rattle.fitting_laws.specs.Fitting.{AllFit}
-use Rattle.schedule_laws.specs.Following.{given_of, Flies, FollowsBegun, FollowsWhere}
+use Rattle.schedule_laws.specs.Following.{given_of, Flies, FollowsBegun, FollowsWhere, OutcomesFly}
 
 module _ {H : Type 0} (function : H → Handler) (next : Handler) (options : VMOptions) (id : Text) where
   -- what is held of the live attempt, and of those beyond, is all that counts
@@ -31,6 +31,7 @@ module _ {H : Type 0} (function : H → Handler) (next : Handler) (options : VMO
     fit = f.fit;
     of_store = f.of_store;
     follows = f.follows;
+    outcomes = f.outcomes;
     numbered = λ n above. unheld n (f.numbered n above);
     flies = λ n waits one live_is is found. f.flies n waits one live_is is (live n one live_is found);
   }
@@ -48,15 +49,16 @@ module _ {H : Type 0} (function : H → Handler) (next : Handler) (options : VMO
       pub fit : sent.AllFit version coming
       pub of_store : AllByRecursion IsOfStore coming
       pub follows : FollowsSo next (given_of options id events new) id events (map (frame_meant version) coming)
+      pub outcomes : OutcomesFly id events (map (frame_meant version) coming)
       pub output_is : output ≡ Some waits
       pub flies : Flies function next options id events new version coming waits one.attempt
 
     -- what was on its way still is
     pub flown_still : (before : List Event) (was : Option Bytes) (f : FollowsBegun function next options id before was held new) (output : Option Bytes) (waits : Bytes) (one : HeldAttempt H)
-        → FollowsSo next (given_of options id events new) id events (map (frame_meant f.version) f.coming) → output ≡ Some waits
+        → FollowsSo next (given_of options id events new) id events (map (frame_meant f.version) f.coming) → OutcomesFly id events (map (frame_meant f.version) f.coming) → output ≡ Some waits
         → Flies function next options id events new f.version f.coming waits one.attempt → IsFlown output waits one
-    flown_still before was f output waits one follows output_is flies =
-        record { version = f.version; coming = f.coming; fit = f.fit; of_store = f.of_store; follows = follows; output_is = output_is; flies = flies }
+    flown_still before was f output waits one follows outcomes output_is flies =
+        record { version = f.version; coming = f.coming; fit = f.fit; of_store = f.of_store; follows = follows; outcomes = outcomes; output_is = output_is; flies = flies }
 
     -- it has changed
     pub flown : (output : Option Bytes) (waits : Bytes) (number : ℕ) (h g : HeldAttempt H) → AllFit id events → ((n : ℕ) → attempts_begun events id < n → held_of held id n ≡ None)
@@ -69,6 +71,7 @@ module _ {H : Type 0} (function : H → Handler) (next : Handler) (options : VMO
       fit = it.fit;
       of_store = it.of_store;
       follows = it.follows;
+      outcomes = λ n live_is. it.outcomes;
       numbered = λ n above.
           let none : held_of held id n ≡ None = numbered n above in
           held_other_number id number n held h g found same_number (λ e. some_none (sym found ∙ ap (λ (m : ℕ). held_of held id m) (sym e) ∙ none)) ∙ none;

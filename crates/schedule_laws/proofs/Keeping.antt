@@ -29,11 +29,11 @@ use Rattle.schedule_laws.proofs.Others.{into, stands_still, other_on}
 use Rattle.schedule_laws.proofs.Schedules.{with_same, some_none, found_is, held_is, held_with, held_other_invocation}
 use Rattle.schedule_laws.proofs.Serving.{ServingLaws}
 use Rattle.schedule_laws.proofs.Taking.{took_each}
-use Rattle.schedule_laws.specs.Attempts.{Feeds, ClosesInput, Gathers, Turns, Attempt, Turn}
+use Rattle.schedule_laws.specs.Attempts.{Feeds, ClosesInput, Gathers, Turns, Attempt, Turn, RunOutcome}
 use Rattle.schedule_laws.specs.Schedules.event
 use Rattle.schedule_laws.specs.Schedules.reply
 use Rattle.schedule_laws.specs.Schedules.refusal
-use Rattle.schedule_laws.specs.Schedules.{Event, Reply, HeldAttempt, with_first, is_held, held_of, with_attempt, RepliesDone, RepliesPlace, RepliesCount, BeginDoes, IfHeld, FeedsOne, ClosesOne, StopsOne, TurnsOne, MovesOne, Does, Brings, FitsEvent}
+use Rattle.schedule_laws.specs.Schedules.{Event, Reply, HeldAttempt, with_first, is_held, held_of, with_attempt, RepliesDone, RepliesPlace, RepliesCount, BeginDoes, IfHeld, UnlessMismatch, tells_mismatch, FeedsOne, ClosesOne, StopsOne, TurnsOne, MovesOne, Does, Brings, FitsEvent}
 
 never : (b : Bool) → (b && false) ≡ false
 never true = refl
@@ -175,9 +175,9 @@ module _ {H : Type 0} (function : H → Handler) (next : Handler) (options : VMO
         by_live None is = not_live None is (λ m so. some_none (sym so))
         by_live (Some m) is = by_number m is (m == one.number) refl
 
-    turned_begun : (turn : Turn) → ReplaysInLine options → Turns function one.attempt turn changed → Changed
-    turned_begun turn in_line turns =
-        if_live (λ waits live is. turned function next options id laws s.events (s.outputs id) held new one.number one waits live is there f turn changed s.accepted in_line turns)
+    turned_begun : (ran : RunOutcome) (turn : Turn) → ReplaysInLine options → Turns function ran one.attempt turn changed → Changed
+    turned_begun ran turn in_line turns =
+        if_live (λ waits live is. turned function next options id laws s.events (s.outputs id) held new one.number one waits live is there f ran turn changed s.accepted in_line turns)
 
     gathered_begun : Gathers one.attempt changed → Changed
     gathered_begun gathers =
@@ -282,11 +282,11 @@ module _ {H : Type 0} (function : H → Handler) (next : Handler) (options : VMO
   kept_close one (reply.Refused (refusal.Store why)) s t held changed there d f = unchanged one changed s t held there d.1 d.0.stays f
   kept_close one _ s t held changed there d f = absurd d
 
-  kept_turn : (one : HeldAttempt H) (answer : Reply) (s t : Standing) (held : List (HeldAttempt H)) (changed : Attempt H) → ReplaysInLine options
-      → held_of held one.invocation one.number ≡ Some one → TurnsOne function one s answer t changed → In s held → In t (with_attempt held one changed)
-  kept_turn one (reply.Turned turn) s t held changed in_line there d f =
-      by_invocation one changed s t held there (λ same. changed_own one changed s t held d.1 (λ own new g. turned_begun one changed s held own new g turn in_line d.0) f) (λ far. stands_still function next options id s t held d.1 f)
-  kept_turn one _ s t held changed in_line there d f = absurd d
+  kept_turn : (ran : RunOutcome) (one : HeldAttempt H) (answer : Reply) (s t : Standing) (held : List (HeldAttempt H)) (changed : Attempt H) → ReplaysInLine options
+      → held_of held one.invocation one.number ≡ Some one → TurnsOne function ran one s answer t changed → In s held → In t (with_attempt held one changed)
+  kept_turn ran one (reply.Turned turn) s t held changed in_line there d f =
+      by_invocation one changed s t held there (λ same. changed_own one changed s t held d.1 (λ own new g. turned_begun one changed s held own new g ran turn in_line d.0) f) (λ far. stands_still function next options id s t held d.1 f)
+  kept_turn ran one _ s t held changed in_line there d f = absurd d
 
   kept_move : (count : ℕ) (one : HeldAttempt H) (answer : Reply) (s t : Standing) (held : List (HeldAttempt H)) (changed : Attempt H) → held_of held one.invocation one.number ≡ Some one
       → MovesOne count one s answer t changed → In s held → In t (with_attempt held one changed)
@@ -317,6 +317,13 @@ module _ {H : Type 0} (function : H → Handler) (next : Handler) (options : VMO
           subst (λ (hs : List (HeldAttempt H)). In t hs) (sym d.2)
           (own one d.0 (ap (λ (i : Text). held_of held i one.number) is.0 ∙ ap (λ (m : ℕ). held_of held other m) is.1 ∙ there) is.0 is.1 d.2 d.1 f)
 
+  -- a turn that is refused at once changes nothing
+  kept_unless : (is_mismatch : Bool) (ran : RunOutcome) (other : Text) (n : ℕ) (answer : Reply) (s t : Standing) (held more : List (HeldAttempt H)) → ReplaysInLine options
+      → UnlessMismatch is_mismatch (TurnsOne function ran) (held_of held other n) s held answer t more → In s held → In t more
+  kept_unless true ran other n answer s t held more in_line d f = same_state s t held more d.1 d.2 f
+  kept_unless false ran other n answer s t held more in_line d f =
+      kept_held (TurnsOne function ran) other n answer s t held more (λ one changed there i m is c g. kept_turn ran one answer s t held changed in_line there c g) d f
+
   -- what an event does keeps the invocation in its run
   pub keeps : (one : Event H) (answer : Reply) (s t : Standing) (held more : List (HeldAttempt H)) → ReplaysInLine options → FitsEvent one → Brings function id next one
       → Does function options one s held answer t more → In s held → In t more
@@ -330,9 +337,7 @@ module _ {H : Type 0} (function : H → Handler) (next : Handler) (options : VMO
       kept_held (FeedsOne count) other n answer s t held more (λ one changed there i m is c g. kept_feed count one answer s t held changed there c g) d f
   keeps (event.Close other n) answer s t held more in_line fits brings d f =
       kept_held ClosesOne other n answer s t held more (λ one changed there i m is c g. kept_close one answer s t held changed there c g) d f
-  keeps (event.Turn other n) answer s t held more in_line fits brings d f =
-      kept_held (TurnsOne function) other n answer s t held more
-      (λ one changed there i m is c g. kept_turn one answer s t held changed in_line there c g) d f
+  keeps (event.Turn other n ran) answer s t held more in_line fits brings d f = kept_unless (tells_mismatch ran) ran other n answer s t held more in_line d f
   keeps (event.Move other n count) answer s t held more in_line fits brings d f =
       kept_held (MovesOne count) other n answer s t held more (λ one changed there i m is c g. kept_move count one answer s t held changed there c g) d f
   keeps (event.Stop other n) answer s t held more in_line fits brings d f =

@@ -1,4 +1,5 @@
 pub mod Serving
+pub mod Outcomes
 pub mod Following
 pub mod Events
 pub mod Others

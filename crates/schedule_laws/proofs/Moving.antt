@@ -21,12 +21,13 @@ use Rattle.store_calls.specs.Standing.{Standing, Leaves}
 use Rattle.store_calls.specs.Calls.{PutsBehind}
 use Rattle.store_calls.specs.Frames.{LeavesRefused, RefusesFrame, Rests}
 use Rattle.store_calls.proofs.Live.{live_when}
-use Rattle.schedule_laws.specs.Following.{given_of, Flies, FollowsBegun, FollowsWhere, Follows}
+use Rattle.schedule_laws.specs.Following.{given_of, Flies, FollowsBegun, FollowsWhere, Follows, OutcomesFly}
 use Rattle.schedule_laws.proofs.Acting.{advanced}
 use Rattle.schedule_laws.proofs.Events.{IsPlain, where_on}
 use Rattle.fitting_laws.proofs.Fits.{apart}
 use Rattle.schedule_laws.proofs.Following.{same_held}
 use Rattle.schedule_laws.proofs.Others.{into, stands_still, other_on}
+use Rattle.schedule_laws.proofs.Outcomes.{first_open}
 use Rattle.schedule_laws.proofs.Schedules.{some_none, held_other_invocation}
 use Rattle.turning_laws.proofs.Reading.{none_lie_in_frames}
 use Rattle.schedule_laws.proofs.Serving.{ServingLaws}
@@ -78,6 +79,8 @@ module _ {H : Type 0} (function : H → Handler) (next : Handler) (options : VMO
           let not_in = none_lie_in_frames next (given_of options id s.events new) (arrivals_handed s.events id) f.version it.first id s.events (record {
             of_store = (subst (λ (frames : List Sent). AllByRecursion IsOfStore frames) it.frames f.of_store).0;
             of_run = sends.0;
+            opened = first_open id s.events (frame_meant f.version it.first) (map (frame_meant f.version) it.others) s.accepted
+                (subst (λ (frames : List Sent). OutcomesFly id s.events (map (frame_meant f.version) frames)) it.frames (f.outcomes n live));
           }) in
           lies_not (causes_of s.events (Event.Take id n r.frame)) why
           (ap (λ (frame : Frame). list_any is_of_frame (causes_of s.events (Event.Take id n frame))) it.frame_is ∙ not_in.causes n) r.cause

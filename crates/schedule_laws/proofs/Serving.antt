@@ -2,8 +2,9 @@
 use Rattle.journal_model.specs.Run.{Handler}
 use Rattle.protocol_types.specs.declared.version.Version.{Version}
 use Rattle.vm_types.specs.declared.options.VMOptions.{VMOptions}
-use Rattle.machine_laws.specs.Laws.{MachinesBegin, MachinesStayLive}
-use Rattle.turning_laws.specs.Keeping.{NotesFollow, BeginsServing, StaysServing, FeedsServing, ClosesServing, TakesServing, OversStay}
+use Rattle.executor_laws.specs.Living.{ExecutorsBegin, ExecutorsStayLive}
+use Rattle.replay_laws.specs.Laws.{LivesReplay, LivesStay}
+use Rattle.turning_laws.specs.Keeping.{BeginsServing, StaysServing, FeedsServing, ClosesServing, TakesServing, OversStay}
 use Rattle.turning_laws.specs.Laws.{OfEach}
 use Rattle.turning_laws.specs.Turning.{TurnServes}
 
@@ -15,14 +16,15 @@ pub record ServingLaws {H : Type 0} (function : H → Handler) (next : Handler) 
   pub takes : (version : Version) → TakesServing function next version options
   pub turns : (version : Version) → TurnServes function next version options
   pub over : OversStay function
-  pub notes : NotesFollow
-  pub live_begins : MachinesBegin
-  pub stays : MachinesStayLive
+  pub live_begins : ExecutorsBegin
+  pub stays : ExecutorsStayLive
+  pub replays : LivesReplay
+  pub lives : LivesStay
 
 pub serving_laws : {H : Type 0} (function : H → Handler) (next : Handler) (options : VMOptions) → OfEach (BeginsServing function) → OfEach (StaysServing function) → OfEach (FeedsServing function)
-    → OfEach (ClosesServing function) → OfEach (TakesServing function) → OfEach (TurnServes function) → OversStay function → NotesFollow → MachinesBegin → MachinesStayLive
+    → OfEach (ClosesServing function) → OfEach (TakesServing function) → OfEach (TurnServes function) → OversStay function → ExecutorsBegin → ExecutorsStayLive → LivesReplay → LivesStay
     → ServingLaws function next options
-serving_laws function next options begins events feeds closes takes turns over notes live_begins stays = record {
+serving_laws function next options begins events feeds closes takes turns over live_begins stays replays lives = record {
   begins = λ version. begins next version options;
   events = λ version. events next version options;
   feeds = λ version. feeds next version options;
@@ -30,7 +32,8 @@ serving_laws function next options begins events feeds closes takes turns over n
   takes = λ version. takes next version options;
   turns = λ version. turns next version options;
   over = over;
-  notes = notes;
   live_begins = live_begins;
   stays = stays;
+  replays = replays;
+  lives = lives;
 }

@@ -15,7 +15,7 @@ use Rattle.input_laws.proofs.Events.{itself}
 use Rattle.turning_laws.proofs.Reading.{streams_are_read}
 use Rattle.turning_laws.specs.Attempts.{output_of}
 use Rattle.turning_laws.specs.Sending.sent
-use Rattle.turning_laws.specs.Sending.{Sent, Asks, Awaits, Suspends, Fails, Ends, is_recorded, sent_stream, sent_message, frame_meant, IsOfStore}
+use Rattle.turning_laws.specs.Sending.{Sent, Asks, Proposes, Awaits, Suspends, Fails, Ends, is_recorded, sent_stream, sent_message, frame_meant, IsOfStore}
 use Rattle.vm_types.specs.declared.options.VMOptions.{VMOptions}
 use Rattle.store_frames.specs.Meaning.{frame_of}
 use Rattle.store_steps.specs.declared.frame.FrameReply.{FrameReply}
@@ -30,6 +30,7 @@ use Rattle.fitting_laws.specs.Fitting.{FrameFits}
 use Rattle.schedule_laws.specs.Following.{Flies, FollowsWhere, FollowsIn, Follows}
 use Rattle.schedule_laws.proofs.Events.{IsPlain, begun_on}
 use Rattle.fitting_laws.proofs.Fits.{apart, not_same}
+use Rattle.fitting_laws.proofs.Outcomes.{outcome_fits}
 use Rattle.schedule_laws.proofs.Others.{into, stands_still, other_on}
 use Rattle.schedule_laws.proofs.Serving.{ServingLaws}
 
@@ -44,6 +45,7 @@ meant_fits version (Asks request) fits = by_kind (is_recorded request)
     by_kind : (b : Bool) → FrameFits (if b then Frame.Command request else Frame.NotAccepted)
     by_kind true = fits.told
     by_kind false = tt
+meant_fits version (Proposes n value) fits = outcome_fits n value fits.told.0 fits.told.1
 meant_fits version (Awaits tree) fits = tt
 meant_fits version (Suspends tree) fits = tt
 meant_fits version (Fails error) fits = tt

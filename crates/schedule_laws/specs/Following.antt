@@ -3,8 +3,8 @@ use Rattle.std.specs.Prelude.{◌≡◌, ◌⊎◌, ℕ, ◌<◌, List, ◌++◌
 use Rattle.std.specs.List.{AllByRecursion}
 use Rattle.journal_model.specs.declared.invocation.NewInvocation.{NewInvocation}
 use Rattle.journal_model.specs.declared.options.SignalDelivery.TheVariants.{Queued}
-use Rattle.journal_model.specs.Notification.{Bytes, Text}
-use Rattle.journal_model.specs.Event.{Event}
+use Rattle.journal_model.specs.Notification.{Arrival, Bytes, Text}
+use Rattle.journal_model.specs.Event.{Event, Frame}
 use Rattle.journal_model.specs.Journal.{invocation_begun, starting_state}
 use Rattle.journal_model.specs.Attempt.{attempts_begun, live_attempt, is_input_closed}
 use Rattle.journal_model.specs.Run.{Handler, Invocation}
@@ -18,10 +18,12 @@ use Rattle.vm_types.specs.Options.{run_options}
 use Rattle.vm_types.specs.declared.options.VMOptions.{VMOptions}
 use Rattle.vm_types.specs.declared.options.JournalReplay.TheVariants.{Enabled}
 use Rattle.turning_laws.specs.Attempts.{output_of, Attempt}
+use Rattle.executor_laws.specs.Flying.{OutcomesStand}
+use Rattle.executor_laws.specs.Living.{IsLiveExecutor}
+use Rattle.turning_laws.specs.Bodies.{NonEmptyValue}
 use Rattle.turning_laws.specs.Sending.sent
 use Rattle.turning_laws.specs.Sending.{Sent, sent_stream, frame_meant, IsOfStore}
-use Rattle.turning_laws.specs.Keeping.{IsLiveAt}
-use Rattle.turning_laws.specs.Serving.{IsOver, Serves}
+use Rattle.turning_laws.specs.Serving.{HasBodies, IsOver, Serves}
 use Rattle.store_calls.specs.Standing.{Standing}
 use Rattle.schedule_model.specs.declared.held.HeldAttempt.{HeldAttempt}
 use Rattle.schedule_model.specs.Held.{held_of}
@@ -50,13 +52,21 @@ HoldsOf next options id events = (new : NewInvocation) → invocation_begun even
 
 -- ---- between the events of a schedule
 
+-- the outcomes of runs among these frames on their way stand as those that an attempt has proposed
+pub record OutcomesFly (id : Text) (events : List Event) (coming : List Frame) : Type 0 where
+  pub journal : List Arrival
+  pub proposed : List (ℕ × NonEmptyValue)
+  pub stand : OutcomesStand events id journal proposed coming
+
 module _ {H : Type 0} (function : H → Handler) (next : Handler) (options : VMOptions) (id : Text) where
-  -- the attempt is the live one, whose frames on their way these are
+  -- the attempt is the live one, with the bodies of its runs, and these are its frames on their way
   pub record IsServed (events : List Event) (new : NewInvocation) (version : Version) (coming : List Sent) (attempt : Attempt H) : Type 0 where
     pub live : LiveAttempt
+    pub proposed : List (ℕ × NonEmptyValue)
     pub new_is : live.start.new ≡ new
     pub coming_are : live.coming ≡ map (frame_meant version) coming
-    pub lives : IsLiveAt function next version options id events live
+    pub bodies : HasBodies next live proposed attempt
+    pub lives : IsLiveExecutor next (run_options options) options.fallback_random_seed id events live proposed bodies.executor
     pub serves : Serves function next version options live (is_input_closed events id) attempt
 
   -- what the store has of its output, and what it has not handed out, are the bytes of the frames on their way; it is the live one, or over
@@ -66,7 +76,7 @@ module _ {H : Type 0} (function : H → Handler) (next : Handler) (options : VMO
     pub stands : IsOver attempt ⊎ IsServed events new version coming attempt
 
   -- an invocation that was begun: what is recorded of it and what is on its way is of the run, attempts beyond those that were begun are not
-  -- held, and the live one flies, if it is held
+  -- held, the outcomes on their way are those of the live one, and it flies, if it is held
   pub record FollowsBegun (events : List Event) (output : Option Bytes) (held : List (HeldAttempt H)) (new : NewInvocation) : Type 0 where
     pub version : Version
     pub coming : List Sent
@@ -74,6 +84,7 @@ module _ {H : Type 0} (function : H → Handler) (next : Handler) (options : VMO
     pub fit : sent.AllFit version coming
     pub of_store : AllByRecursion IsOfStore coming
     pub follows : FollowsSo next (given_of options id events new) id events (map (frame_meant version) coming)
+    pub outcomes : (number : ℕ) → live_attempt events id ≡ Some number → OutcomesFly id events (map (frame_meant version) coming)
     pub numbered : (number : ℕ) → attempts_begun events id < number → held_of held id number ≡ None
     pub flies : (number : ℕ) (waits : Bytes) (one : HeldAttempt H) → live_attempt events id ≡ Some number → output ≡ Some waits → held_of held id number ≡ Some one
         → Flies events new version coming waits one.attempt

@@ -2,7 +2,8 @@
 pub use Rattle.schedule_model.specs.First.{with_first}
 pub use Rattle.schedule_model.specs.Fitting.{FitsEvent}
 pub use Rattle.schedule_model.specs.Held.{is_held, held_of, with_attempt}
-pub use Rattle.schedule_model.specs.Schedule.{RepliesDone, RepliesPlace, RepliesCount, BeginDoes, IfHeld, FeedsOne, ClosesOne, StopsOne, TurnsOne, MovesOne, Does, Brings, Scheduled, AppliesAll, Applies}
+pub use Rattle.schedule_model.specs.Outcomes.{tells_mismatch}
+pub use Rattle.schedule_model.specs.Schedule.{RepliesDone, RepliesPlace, RepliesCount, BeginDoes, IfHeld, UnlessMismatch, FeedsOne, ClosesOne, StopsOne, TurnsOne, MovesOne, Does, Brings, Scheduled, AppliesAll, Applies}
 pub use Rattle.schedule_model.specs.declared.event.Event as scheduled
 pub use Rattle.schedule_model.specs.declared.event.Event.TheVariants as event
 pub use Rattle.schedule_model.specs.declared.event.Event.{Event}

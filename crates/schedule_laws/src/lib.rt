@@ -7,13 +7,13 @@
 ghost use Rattle.schedule_laws.specs.Isolation.{AllAnswerAlone, AllKeepState, AllReplyAlike, AllStandAlone};
 ghost use Rattle.schedule_laws.specs.Laws.{FollowsHolds, FramesAreTaken, HoldsFollows, HoldsHeadline, HoldsNeverLate, HoldsWakesExactly, KeptByEach, LeavesHolds, NoneRefused};
 
+use executor_laws::executors_live;
 pub use fitting_laws::inputs_are_handed_out;
 use journal_laws::invocations_isolated;
 use journal_model::Handler;
-use machine_laws::{machines_begin, machines_stay_live};
+use replay_laws::live_attempts_replay;
 use turning_laws::{
-    attempts_begin, closes_keep, events_keep, feeds_keep, notes_follow, overs_stay, takes_keep,
-    turns_keep,
+    attempts_begin, closes_keep, events_keep, feeds_keep, overs_stay, takes_keep, turns_keep,
 };
 
 /// Each event keeps an invocation in its run, whatever is stopped, overtaken or refused, and no frame of it is refused for a cause that
@@ -24,8 +24,8 @@ pub fn schedules_keep<H: Handler>()
     ensures holds { FollowsHolds H.next_call }
     ensures frames { NoneRefused H.next_call }
 {
-    machines_begin();
-    machines_stay_live();
+    executors_live();
+    live_attempts_replay();
     attempts_begin::<H>();
     events_keep::<H>();
     feeds_keep::<H>();
@@ -33,7 +33,6 @@ pub fn schedules_keep<H: Handler>()
     takes_keep::<H>();
     turns_keep::<H>();
     overs_stay::<H>();
-    notes_follow();
 }
 
 /// So a schedule leaves, of each invocation whose begins all bring one function, what the next one needs.

@@ -5,6 +5,7 @@ use Rattle.journal_model.specs.Notification.{Text}
 use Rattle.journal_model.specs.Run.{Handler}
 use Rattle.vm_types.specs.declared.options.VMOptions.{VMOptions}
 use Rattle.vm_attempt.specs.declared.attempt.Attempt.{Attempt}
+use Rattle.vm_attempt.specs.declared.run_outcome.RunOutcome.{RunOutcome}
 use Rattle.schedule_model.specs.declared.event.Event.{Event}
 use Rattle.schedule_model.specs.declared.event.Reply.{Reply}
 use Rattle.schedule_model.specs.declared.held.HeldAttempt.{HeldAttempt}
@@ -36,7 +37,7 @@ module _ (H : Type 0) where
 
 module _ {H : Type 0} (function : H → Handler) where
   abbrev pub TurnsReach : Type 0
-  TurnsReach = Reaches (TurnsOne function)
+  TurnsReach = (outcome : RunOutcome) → Reaches (TurnsOne function outcome)
 
   -- one more event behind a schedule's
   abbrev pub SchedulesGrow : Type 0

@@ -4,6 +4,7 @@ pub mod Schedule
 pub mod Fitting
 pub mod Laws
 pub mod Names
+pub mod Outcomes
 pub mod Attempts
 pub mod Coding
 pub mod Places

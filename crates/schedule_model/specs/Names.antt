@@ -2,8 +2,9 @@
 use Rattle.std.specs.Prelude.{ℕ, List, codes}
 use Rattle.store_refusals.specs.Names as store
 use Rattle.schedule_model.specs.declared.event.Refusal.{Refusal}
-use Rattle.schedule_model.specs.declared.event.Refusal.TheVariants.{Store, AttemptNotHeld}
+use Rattle.schedule_model.specs.declared.event.Refusal.TheVariants.{Store, JournalMismatchOutcome, AttemptNotHeld}
 
 abbrev pub name_of : Refusal → List ℕ
 name_of (Store refusal) = store.name_of refusal
+name_of JournalMismatchOutcome = codes "X1"
 name_of AttemptNotHeld = codes "X2"

@@ -1,5 +1,5 @@
 -- What each event answers and leaves, and what a list of events does one after another.
-use Rattle.std.specs.Prelude.{◌≡◌, ◌⊎◌, ℕ, min, false, List, [], ◌∷◌, ◌++◌, length, take, Option, Some, None, Result, Ok, Err}
+use Rattle.std.specs.Prelude.{◌≡◌, ◌⊎◌, ℕ, min, Bool, true, false, List, [], ◌∷◌, ◌++◌, length, take, Option, Some, None, Result, Ok, Err}
 use Rattle.journal_model.specs.Notification.{Bytes, Text}
 use Rattle.journal_model.specs.Run.{Handler}
 use Rattle.store_refusals.specs.declared.refusal.Refusal.{Refusal}
@@ -9,10 +9,12 @@ use Rattle.vm_attempt.specs.declared.attempt.Attempt.{Attempt}
 use Rattle.vm_attempt.specs.Attempt as attempts
 use Rattle.vm_attempt.specs.Output.{output_of, Gathers, Advances}
 use Rattle.vm_attempt.specs.Turning.{Turns}
+use Rattle.vm_attempt.specs.declared.run_outcome.RunOutcome.{RunOutcome}
 use Rattle.schedule_model.specs.declared.event.Event.{Event}
 use Rattle.schedule_model.specs.declared.event.Event.TheVariants as event
 use Rattle.schedule_model.specs.declared.event.Reply.{Reply}
 use Rattle.schedule_model.specs.declared.event.Reply.TheVariants as reply
+use Rattle.schedule_model.specs.declared.event.Refusal as own
 use Rattle.schedule_model.specs.declared.event.Refusal.TheVariants as refusal
 use Rattle.schedule_model.specs.declared.held.HeldAttempt.{HeldAttempt}
 use Rattle.store_steps.specs.declared.frame.FrameReply.{FrameReply}
@@ -21,6 +23,7 @@ use Rattle.store_calls.specs.Standing.{Standing, Stays}
 use Rattle.store_calls.specs.Calls.{Invokes, Completes, Signals, Cancels, Ticks, Begins, BeginsAttempt, HandsOut, ClosesInput, Stops}
 use Rattle.store_calls.specs.Frames.{Accepts}
 use Rattle.schedule_model.specs.Held.{held_of, with_attempt}
+use Rattle.schedule_model.specs.Outcomes.{tells_mismatch}
 
 -- ---- replies of the store's calls
 
@@ -84,10 +87,10 @@ module _ {H : Type 0} where
   abbrev pub StopsOne : HeldAttempt H → Standing → Reply → Standing → Attempt H → Type 0
   StopsOne one old answer new changed = RepliesDone (λ result. Stops one.invocation one.number result old new) answer × (changed ≡ one.attempt)
 
-  -- it makes a turn, and the store is not asked
-  abbrev pub TurnsOne : (H → Handler) → HeldAttempt H → Standing → Reply → Standing → Attempt H → Type 0
-  TurnsOne function one old (reply.Turned turn) new changed = Turns function one.attempt turn changed × Stays old new
-  TurnsOne function one old _ new changed = ⊥
+  -- it makes a turn, whose body ends with this outcome if it executes one, and the store is not asked
+  abbrev pub TurnsOne : (H → Handler) → RunOutcome → HeldAttempt H → Standing → Reply → Standing → Attempt H → Type 0
+  TurnsOne function outcome one old (reply.Turned turn) new changed = Turns function outcome one.attempt turn changed × Stays old new
+  TurnsOne function outcome one old _ new changed = ⊥
 
   -- the next bytes go from it to the store, so many at most, and whole frames are taken; bytes that the store refuses stay first in line
   abbrev pub MovesOne : ℕ → HeldAttempt H → Standing → Reply → Standing → Attempt H → Type 0
@@ -98,11 +101,21 @@ module _ {H : Type 0} where
       Accepts one.invocation one.number (take (min count (length (output_of one.attempt))) (output_of one.attempt)) (Err why) old new × Gathers one.attempt changed
   MovesOne count one old _ new changed = ⊥
 
+  -- an event is refused before anything is asked, and nothing changes
+  abbrev pub RefusesAtOnce : own.Refusal → Standing → List (HeldAttempt H) → Reply → Standing → List (HeldAttempt H) → Type 0
+  RefusesAtOnce why old held answer new more = (answer ≡ reply.Refused why) × Stays old new × (more ≡ held)
+
   -- the attempt that is held is changed in its place; one that is not held is refused before the store is asked
   abbrev pub IfHeld : (HeldAttempt H → Standing → Reply → Standing → Attempt H → Type 0) → Option (HeldAttempt H)
       → Standing → List (HeldAttempt H) → Reply → Standing → List (HeldAttempt H) → Type 0
-  IfHeld Does None old held answer new more = (answer ≡ reply.Refused refusal.AttemptNotHeld) × Stays old new × (more ≡ held)
+  IfHeld Does None old held answer new more = RefusesAtOnce refusal.AttemptNotHeld old held answer new more
   IfHeld Does (Some one) old held answer new more = (changed : Attempt H) × Does one old answer new changed × (more ≡ with_attempt held one changed)
+
+  -- a turn whose outcome tells a mismatch is refused, whoever is held
+  abbrev pub UnlessMismatch : (is_mismatch : Bool) → (HeldAttempt H → Standing → Reply → Standing → Attempt H → Type 0) → Option (HeldAttempt H)
+      → Standing → List (HeldAttempt H) → Reply → Standing → List (HeldAttempt H) → Type 0
+  UnlessMismatch true Does one old held answer new more = RefusesAtOnce refusal.JournalMismatchOutcome old held answer new more
+  UnlessMismatch false Does one old held answer new more = IfHeld Does one old held answer new more
 
   -- ---- events
 
@@ -118,7 +131,8 @@ module _ {H : Type 0} where
   Does function options (event.Begin id handler now) old held answer new more = BeginDoes options id handler now old held answer new more
   Does function options (event.Feed id number count) old held answer new more = IfHeld (FeedsOne count) (held_of held id number) old held answer new more
   Does function options (event.Close id number) old held answer new more = IfHeld ClosesOne (held_of held id number) old held answer new more
-  Does function options (event.Turn id number) old held answer new more = IfHeld (TurnsOne function) (held_of held id number) old held answer new more
+  Does function options (event.Turn id number outcome) old held answer new more =
+      UnlessMismatch (tells_mismatch outcome) (TurnsOne function outcome) (held_of held id number) old held answer new more
   Does function options (event.Move id number count) old held answer new more = IfHeld (MovesOne count) (held_of held id number) old held answer new more
   Does function options (event.Stop id number) old held answer new more = IfHeld StopsOne (held_of held id number) old held answer new more
 

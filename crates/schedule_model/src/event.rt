@@ -5,7 +5,7 @@ ghost use Rattle.schedule_model.specs.Names.{name_of};
 use crate::signal::OutsideSignal;
 use bytes::ByteStr;
 use journal_model::{NewInvocation, NotificationResult};
-use vm_attempt::Turn;
+use vm_attempt::{RunOutcome, Turn};
 
 /// What may happen next.
 #[derive(Debug, Drop)]
@@ -47,10 +47,11 @@ pub enum Event<H> {
         invocation: ByteStr,
         attempt: u32,
     },
-    /// An attempt makes one turn.
+    /// An attempt makes one turn. Where it executes the body of a run, the body ends with this outcome.
     Turn {
         invocation: ByteStr,
         attempt: u32,
+        outcome: RunOutcome,
     },
     /// The next bytes of its output are moved to the store, at most so many.
     Move {
@@ -70,6 +71,11 @@ pub enum Event<H> {
 pub enum Refusal {
     /// The store refuses it.
     Store(store_refusals::Refusal),
+    /// X1: a turn's outcome is a failure that is tried again, and its code is that of a journal that does not match.
+    ///
+    /// A machine fails with that code where its handler does not do what the journal says, and may be told to close the invocation for it.
+    /// No run has such an end.
+    JournalMismatchOutcome,
     /// X2: the scheduler does not hold this attempt.
     AttemptNotHeld,
 }
@@ -81,6 +87,7 @@ impl Refusal {
     {
         match self {
             Refusal::Store(refusal) => refusal.name(),
+            Refusal::JournalMismatchOutcome => "X1",
             Refusal::AttemptNotHeld => "X2",
         }
     }

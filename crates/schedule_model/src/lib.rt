@@ -7,6 +7,7 @@ mod event;
 mod fitting;
 mod held;
 mod laws;
+mod outcome;
 mod places;
 mod signal;
 
@@ -15,6 +16,7 @@ pub use event::{Event, Refusal, Reply};
 pub use fitting::{invocation_fits, result_fits, signal_fits};
 pub use held::HeldAttempt;
 pub use laws::{attempts_are_held, schedules_grow};
+pub use outcome::tells_mismatch;
 pub use signal::OutsideSignal;
 pub use store_arrivals::SignalKey;
-pub use vm_attempt::{Attempt, Turn};
+pub use vm_attempt::{Attempt, RetryPolicy, RunExitResult, RunOutcome, Turn};

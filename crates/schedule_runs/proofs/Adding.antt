@@ -16,13 +16,13 @@ use Rattle.store_calls.specs.Standing.{Standing, Stays}
 use Rattle.store_calls.specs.Calls.{Cancels, Completes, Invokes, Signals, Stops, Ticks}
 use Rattle.store_calls.specs.Frames.{LeavesRefused, Rests, TakesEach}
 use Rattle.store_calls.proofs.Taking.{bytes_stay}
-use Rattle.schedule_laws.specs.Attempts.{Attempt}
+use Rattle.schedule_laws.specs.Attempts.{RunOutcome, Attempt}
 use Rattle.schedule_laws.proofs.Schedules.{found_is, held_is}
 use Rattle.schedule_laws.specs.Schedules.scheduled
 use Rattle.schedule_laws.specs.Schedules.event
 use Rattle.schedule_laws.specs.Schedules.reply
 use Rattle.schedule_laws.specs.Schedules.refusal
-use Rattle.schedule_laws.specs.Schedules.{Reply, HeldAttempt, held_of, RepliesDone, RepliesPlace, RepliesCount, BeginDoes, FeedsOne, ClosesOne, StopsOne, TurnsOne, MovesOne, IfHeld, Does, Scheduled, AppliesAll}
+use Rattle.schedule_laws.specs.Schedules.{Reply, HeldAttempt, held_of, RepliesDone, RepliesPlace, RepliesCount, BeginDoes, FeedsOne, ClosesOne, StopsOne, TurnsOne, MovesOne, IfHeld, UnlessMismatch, tells_mismatch, Does, Scheduled, AppliesAll}
 use Rattle.schedule_runs.specs.Front.{AreAcceptedOf, IsAcceptedOf, stop_for}
 
 -- these were accepted of the event, and put in front
@@ -113,9 +113,10 @@ module _ {H : Type 0} (function : H → Handler) (options : VMOptions) where
   close_adds one s t (reply.Refused (refusal.Store why)) changed it = ([], refl, it.0.stays.events)
   close_adds one s t _ changed it = absurd it
 
-  turn_adds : (one : HeldAttempt H) (s t : Standing) (answer : Reply) (changed : Attempt H) → TurnsOne function one s answer t changed → Adds {H = H} (event.Turn one.invocation one.number) answer s t
-  turn_adds one s t (reply.Turned turn) changed it = ([], refl, it.1.events)
-  turn_adds one s t _ changed it = absurd it
+  turn_adds : (outcome : RunOutcome) (one : HeldAttempt H) (s t : Standing) (answer : Reply) (changed : Attempt H) → TurnsOne function outcome one s answer t changed
+      → Adds {H = H} (event.Turn one.invocation one.number outcome) answer s t
+  turn_adds outcome one s t (reply.Turned turn) changed it = ([], refl, it.1.events)
+  turn_adds outcome one s t _ changed it = absurd it
 
   move_adds : (count : ℕ) (one : HeldAttempt H) (s t : Standing) (answer : Reply) (changed : Attempt H) → MovesOne count one s answer t changed
       → Adds {H = H} (event.Move one.invocation one.number count) answer s t
@@ -149,6 +150,13 @@ module _ {H : Type 0} (function : H → Handler) (options : VMOptions) where
           let same = held_is id n one (found_is id n held one is) in
           subst (λ (other : ℕ). Adds (Named id other) answer s t) same.1 (subst (λ (other : Text). Adds (Named other one.number) answer s t) same.0 (each one it.0 it.1))
 
+  -- a turn that is refused at once adds nothing
+  turned_adds : (outcome : RunOutcome) (is_mismatch : Bool) (id : Text) (n : ℕ) (s t : Standing) (held more : List (HeldAttempt H)) (answer : Reply)
+      → UnlessMismatch is_mismatch (TurnsOne function outcome) (held_of held id n) s held answer t more → Adds {H = H} (event.Turn id n outcome) answer s t
+  turned_adds outcome true id n s t held more answer it = subst (λ (r : Reply). Adds {H = H} (event.Turn id n outcome) r s t) (sym it.0) ([], refl, it.1.events)
+  turned_adds outcome false id n s t held more answer it =
+      held_adds (λ id n. event.Turn id n outcome) (TurnsOne function outcome) id n s t held more answer (λ stays. ([], refl, stays.events)) (λ one. turn_adds outcome one s t answer) it
+
   pub does_add : (one : scheduled.Event H) (s t : Standing) (held more : List (HeldAttempt H)) (answer : Reply) → Does function options one s held answer t more → Adds one answer s t
   does_add (event.Invoke one) s t held more answer it = invoke_adds one answer s t it.0
   does_add (event.Result id n value) s t held more answer it = complete_adds id n value answer s t it.0
@@ -160,8 +168,7 @@ module _ {H : Type 0} (function : H → Handler) (options : VMOptions) where
       held_adds (λ id n. event.Feed id n count) (FeedsOne count) id n s t held more answer (λ stays. ([], refl, stays.events)) (λ one. feed_adds count one s t answer) it
   does_add (event.Close id n) s t held more answer it =
       held_adds (λ id n. event.Close id n) ClosesOne id n s t held more answer (λ stays. ([], refl, stays.events)) (λ one. close_adds one s t answer) it
-  does_add (event.Turn id n) s t held more answer it =
-      held_adds (λ id n. event.Turn id n) (TurnsOne function) id n s t held more answer (λ stays. ([], refl, stays.events)) (λ one. turn_adds one s t answer) it
+  does_add (event.Turn id n outcome) s t held more answer it = turned_adds outcome (tells_mismatch outcome) id n s t held more answer it
   does_add (event.Move id n count) s t held more answer it =
       held_adds (λ id n. event.Move id n count) (MovesOne count) id n s t held more answer (λ stays. ([], refl, stays.events)) (λ one. move_adds count one s t answer) it
   does_add (event.Stop id n) s t held more answer it =

@@ -87,6 +87,11 @@ module _ {H : Type 0} (count : ℕ) (s t : Standing) where
   unheld_kept None held more it = same_kept s t it.1.events
   unheld_kept (Some one) held more it = absurd it.1
 
+  -- it tells of no mismatch, which lies in the outcome of a turn
+  pub move_matches : (o : Option (HeldAttempt H)) (held more : List (HeldAttempt H)) → IfHeld (MovesOne count) o s held (reply.Refused refusal.JournalMismatchOutcome) t more → ⊥
+  move_matches None held more it = let e : reply.Refused refusal.JournalMismatchOutcome ≡ reply.Refused refusal.AttemptNotHeld = it.0 in cc
+  move_matches (Some one) held more it = it.1
+
 module _ (database : State) (clean : HasCleanDisk database) where
   -- bytes of an attempt that is not live are refused, and no others but for a circumstance
   bytes_late : (live : Bool) (id : Text) (n : ℕ) (bytes : Bytes) (why : Refusal) (replies : List FrameReply) (other : Option Refusal) (s to t : Standing) → IsCertain why

@@ -80,7 +80,7 @@ module _ {H : Type 0} where
   next_more : (P Q : Type 0) → (P → Q) → (one : Asked H) (answer : Reply) → LastsNext P one answer → LastsNext Q one answer
   next_more P Q f (event.Feed id attempt count) answer it = f it
   next_more P Q f (event.Close id attempt) answer it = f it
-  next_more P Q f (event.Turn id attempt) answer it = f it
+  next_more P Q f (event.Turn id attempt outcome) answer it = f it
   next_more P Q f (event.Stop id attempt) answer it = f it
   next_more P Q f _ answer it = by_more P Q f answer it
 

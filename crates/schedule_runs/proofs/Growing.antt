@@ -12,13 +12,13 @@ use Rattle.journal_model.specs.Journal.{invocation_of}
 use Rattle.journal_model.specs.Attempt.{is_live}
 use Rattle.vm_types.specs.declared.options.VMOptions.{VMOptions}
 use Rattle.store_refusals.specs.declared.refusal.Refusal.{Refusal}
-use Rattle.schedule_laws.specs.Attempts.{Attempt, output_of}
+use Rattle.schedule_laws.specs.Attempts.{Attempt, RunOutcome, output_of}
 use Rattle.schedule_laws.proofs.Schedules.{found_is, held_is}
 use Rattle.schedule_laws.specs.Schedules.scheduled
 use Rattle.schedule_laws.specs.Schedules.event
 use Rattle.schedule_laws.specs.Schedules.reply
 use Rattle.schedule_laws.specs.Schedules.refusal
-use Rattle.schedule_laws.specs.Schedules.{Reply, HeldAttempt, held_of, RepliesDone, RepliesPlace, RepliesCount, BeginDoes, FeedsOne, ClosesOne, StopsOne, TurnsOne, MovesOne, IfHeld, Does, Scheduled, AppliesAll}
+use Rattle.schedule_laws.specs.Schedules.{Reply, HeldAttempt, held_of, RepliesDone, RepliesPlace, RepliesCount, BeginDoes, FeedsOne, ClosesOne, StopsOne, TurnsOne, MovesOne, IfHeld, UnlessMismatch, tells_mismatch, Does, Scheduled, AppliesAll}
 use Rattle.store_steps.specs.declared.frame.FrameReply.{FrameReply}
 use Rattle.store_steps.specs.Taken.{lies_in_frame}
 use Rattle.store_calls.specs.Standing.{Standing, Stays, Refuses}
@@ -155,9 +155,9 @@ module _ {H : Type 0} (function : H → Handler) (options : VMOptions) where
   close_grows one s t (reply.Refused (refusal.Store why)) changed it = refuses_grows (Event.CloseInput one.invocation one.number) why s t it.0
   close_grows one s t _ changed it = absurd it
 
-  turn_grows : (one : HeldAttempt H) (s t : Standing) (answer : Reply) (changed : Attempt H) → TurnsOne function one s answer t changed → GrowsBy (Some one.invocation, false) s t
-  turn_grows one s t (reply.Turned turn) changed it = same_grows (Some one.invocation, false) s t it.1.events
-  turn_grows one s t _ changed it = absurd it
+  turn_grows : (outcome : RunOutcome) (one : HeldAttempt H) (s t : Standing) (answer : Reply) (changed : Attempt H) → TurnsOne function outcome one s answer t changed → GrowsBy (Some one.invocation, false) s t
+  turn_grows outcome one s t (reply.Turned turn) changed it = same_grows (Some one.invocation, false) s t it.1.events
+  turn_grows outcome one s t _ changed it = absurd it
 
   move_grows : (count : ℕ) (one : HeldAttempt H) (s t : Standing) (answer : Reply) (changed : Attempt H) → MovesOne count one s answer t changed → GrowsBy (Some one.invocation, false) s t
   move_grows count one s t (reply.Moved bytes frames why) changed it = accepts_grow one.invocation one.number (take bytes (output_of one.attempt)) (it.0, why) s t it.3
@@ -173,6 +173,11 @@ module _ {H : Type 0} (function : H → Handler) (options : VMOptions) where
       by_held None is it = same_grows (Some id, does) s t it.1.events
       by_held (Some one) is it = subst (λ (other : Text). GrowsBy (Some other, does) s t) (held_is id n one (found_is id n held one is)).0 (each one it.0 it.1)
 
+  turned_grows : (outcome : RunOutcome) (is_mismatch : Bool) (id : Text) (n : ℕ) (s t : Standing) (held more : List (HeldAttempt H)) (answer : Reply)
+      → UnlessMismatch is_mismatch (TurnsOne function outcome) (held_of held id n) s held answer t more → GrowsBy (Some id, false) s t
+  turned_grows outcome true id n s t held more answer it = same_grows (Some id, false) s t it.1.events
+  turned_grows outcome false id n s t held more answer it = held_grows false (TurnsOne function outcome) id n s t held more answer (λ one. turn_grows outcome one s t answer) it
+
   pub does_grow : (one : scheduled.Event H) (s t : Standing) (held more : List (HeldAttempt H)) (answer : Reply) → Does function options one s held answer t more → GrowsBy (kind_named one) s t
   does_grow (event.Invoke one) s t held more answer it = done_grows (λ result. Invokes one result s t) (Some one.id, false) answer s t (invoke_grows one s t) it.0
   does_grow (event.Result id n value) s t held more answer it = place_grows (λ result. Completes id n value result s t) (Some id, false) answer s t (complete_grows id n value s t) it.0
@@ -182,7 +187,7 @@ module _ {H : Type 0} (function : H → Handler) (options : VMOptions) where
   does_grow (event.Begin id handler now) s t held more answer it = begin_grows id handler now s t held more answer it
   does_grow (event.Feed id n count) s t held more answer it = held_grows true (FeedsOne count) id n s t held more answer (λ one. feed_grows count one s t answer) it
   does_grow (event.Close id n) s t held more answer it = held_grows false ClosesOne id n s t held more answer (λ one. close_grows one s t answer) it
-  does_grow (event.Turn id n) s t held more answer it = held_grows false (TurnsOne function) id n s t held more answer (λ one. turn_grows one s t answer) it
+  does_grow (event.Turn id n outcome) s t held more answer it = turned_grows outcome (tells_mismatch outcome) id n s t held more answer it
   does_grow (event.Move id n count) s t held more answer it = held_grows false (MovesOne count) id n s t held more answer (λ one. move_grows count one s t answer) it
   does_grow (event.Stop id n) s t held more answer it =
       held_grows false StopsOne id n s t held more answer (λ one changed it. done_grows (λ result. Stops one.invocation one.number result s t) (Some one.invocation, false) answer s t (stop_grows one.invocation one.number s t) it.0) it

@@ -25,7 +25,7 @@ use Rattle.schedule_laws.specs.Schedules.scheduled
 use Rattle.schedule_laws.specs.Schedules.event
 use Rattle.schedule_laws.specs.Schedules.reply
 use Rattle.schedule_laws.specs.Schedules.refusal
-use Rattle.schedule_laws.specs.Schedules.{Reply, HeldAttempt, held_of, BeginDoes, FeedsOne, ClosesOne, StopsOne, TurnsOne, MovesOne, IfHeld, Scheduled, Applies}
+use Rattle.schedule_laws.specs.Schedules.{Reply, HeldAttempt, held_of, BeginDoes, FeedsOne, ClosesOne, StopsOne, TurnsOne, MovesOne, IfHeld, UnlessMismatch, tells_mismatch, Scheduled, Applies}
 use Rattle.schedule_runs.specs.Runs.{AppliesEach}
 use Rattle.schedule_runs.specs.Handed.{AreOfInput, HandsEach, HandsOne, IsHandedInput, handed_to, start_frame, while_last}
 use Rattle.schedule_runs.proofs.Growing.{GrowsBy, IsOfKind, Kind, does_grow, does_hand}
@@ -184,6 +184,11 @@ module _ (id : Text) where
           by_held None is it = ap (λ (hs : List (HeldAttempt H)). held_of hs id n) it.2 ∙ none
           by_held (Some one) is it = ap (λ (hs : List (HeldAttempt H)). held_of hs id n) it.2 ∙ changed_unheld other k held one it.0 is none
 
+      unless_unheld : (is_mismatch : Bool) (Change : HeldAttempt H → Standing → Reply → Standing → Attempt H → Type 0) (other : Text) (k : ℕ) (held more : List (HeldAttempt H)) (s t : Standing) (answer : Reply)
+          → UnlessMismatch is_mismatch Change (held_of held other k) s held answer t more → held_of held id n ≡ None → held_of more id n ≡ None
+      unless_unheld true Change other k held more s t answer it none = ap (λ (hs : List (HeldAttempt H)). held_of hs id n) it.2 ∙ none
+      unless_unheld false Change other k held more s t answer it none = if_unheld Change other k held more s t answer it none
+
       same_unheld : (held more : List (HeldAttempt H)) → more ≡ held → held_of held id n ≡ None → held_of more id n ≡ None
       same_unheld held more same none = ap (λ (hs : List (HeldAttempt H)). held_of hs id n) same ∙ none
 
@@ -330,9 +335,10 @@ module _ (id : Text) where
         step (event.Close other k) answer bytes old new before it at =
             quiet_step (event.Close other k) answer old new before it.0 (Some other, false) refl (does_grow function options (event.Close other k) old.standing new.standing old.held new.held answer it.0)
             (if_unheld ClosesOne other k old.held new.held old.standing new.standing answer it.0) at
-        step (event.Turn other k) answer bytes old new before it at =
-            quiet_step (event.Turn other k) answer old new before it.0 (Some other, false) refl (does_grow function options (event.Turn other k) old.standing new.standing old.held new.held answer it.0)
-            (if_unheld (TurnsOne function) other k old.held new.held old.standing new.standing answer it.0) at
+        step (event.Turn other k outcome) answer bytes old new before it at =
+            quiet_step (event.Turn other k outcome) answer old new before it.0 (Some other, false) refl
+            (does_grow function options (event.Turn other k outcome) old.standing new.standing old.held new.held answer it.0)
+            (unless_unheld (tells_mismatch outcome) (TurnsOne function outcome) other k old.held new.held old.standing new.standing answer it.0) at
         step (event.Move other k count) answer bytes old new before it at =
             quiet_step (event.Move other k count) answer old new before it.0 (Some other, false) refl
             (does_grow function options (event.Move other k count) old.standing new.standing old.held new.held answer it.0)

@@ -1,5 +1,5 @@
 -- Events of which nothing is written: what the tables keep, they keep with such an event too.
-use Rattle.std.proofs.Common.{◌≡◌, refl, sym, subst, true, ℕ, List, [], ◌∷◌, Option, Some, None}
+use Rattle.std.proofs.Common.{◌≡◌, refl, sym, subst, Bool, true, false, ℕ, List, [], ◌∷◌, Option, Some, None}
 use Rattle.sqlite_trees.specs.Tree.{Trees}
 use Rattle.sqlite.specs.State.{State, HasCleanDisk}
 use Rattle.journal_model.specs.Notification.{Text}
@@ -12,10 +12,10 @@ use Rattle.journal_store.proofs.Quiet.{none_written}
 use Rattle.journal_store.proofs.Standing.{landed}
 use Rattle.store_calls.specs.Standing.{Standing}
 use Rattle.store_calls.specs.Calls.{Stops}
-use Rattle.schedule_laws.specs.Attempts.{Attempt}
+use Rattle.schedule_laws.specs.Attempts.{Attempt, RunOutcome}
 use Rattle.schedule_laws.specs.Schedules.reply
 use Rattle.schedule_laws.specs.Schedules.refusal
-use Rattle.schedule_laws.specs.Schedules.{Reply, HeldAttempt, RepliesDone, IfHeld, FeedsOne, ClosesOne, StopsOne, TurnsOne}
+use Rattle.schedule_laws.specs.Schedules.{Reply, HeldAttempt, RepliesDone, IfHeld, UnlessMismatch, FeedsOne, ClosesOne, StopsOne, TurnsOne}
 
 -- whatever tables keep of one, they keep of the other
 abbrev pub KeepsAsWell : Standing → Standing → Type 0
@@ -70,9 +70,9 @@ module _ (database : State) (clean : HasCleanDisk database) where
       close_kept one (reply.Refused (refusal.Store why)) changed it = same_kept s t it.0.stays.events
       close_kept one _ changed it = absurd it
 
-      turn_kept : (function : H → Handler) (one : HeldAttempt H) (answer : Reply) (changed : Attempt H) → TurnsOne function one s answer t changed → KeepsAsWell s t
-      turn_kept function one (reply.Turned turn) changed it = same_kept s t it.1.events
-      turn_kept function one _ changed it = absurd it
+      turn_kept : (function : H → Handler) (outcome : RunOutcome) (one : HeldAttempt H) (answer : Reply) (changed : Attempt H) → TurnsOne function outcome one s answer t changed → KeepsAsWell s t
+      turn_kept function outcome one (reply.Turned turn) changed it = same_kept s t it.1.events
+      turn_kept function outcome one _ changed it = absurd it
 
       module _ (found : Option (HeldAttempt H)) (held more : List (HeldAttempt H)) (answer : Reply) where
         if_held : (Change : HeldAttempt H → Standing → Reply → Standing → Attempt H → Type 0) → ((one : HeldAttempt H) (changed : Attempt H) → Change one s answer t changed → KeepsAsWell s t)
@@ -92,5 +92,7 @@ module _ (database : State) (clean : HasCleanDisk database) where
         pub ended_kept : IfHeld StopsOne found s held answer t more → KeepsAsWell s t
         ended_kept = if_held StopsOne (λ one changed it. stop_kept one.invocation one.number answer it.0)
 
-        pub turned_kept : (function : H → Handler) → IfHeld (TurnsOne function) found s held answer t more → KeepsAsWell s t
-        turned_kept function = if_held (TurnsOne function) (λ one. turn_kept function one answer)
+        -- one that is refused at once too
+        pub turned_kept : (function : H → Handler) (outcome : RunOutcome) (is_mismatch : Bool) → UnlessMismatch is_mismatch (TurnsOne function outcome) found s held answer t more → KeepsAsWell s t
+        turned_kept function outcome true it = same_kept s t it.1.events
+        turned_kept function outcome false it = if_held (TurnsOne function outcome) (λ one. turn_kept function outcome one answer) it

@@ -14,13 +14,13 @@ use Rattle.schedule_laws.proofs.Schedules.{schedules_grow}
 use Rattle.schedule_laws.specs.Schedules.event
 use Rattle.schedule_laws.specs.Schedules.reply
 use Rattle.schedule_laws.specs.Schedules.refusal
-use Rattle.schedule_laws.specs.Schedules.{Event, Reply, HeldAttempt, Scheduled, held_of, Applies, AppliesAll}
+use Rattle.schedule_laws.specs.Schedules.{Event, Reply, HeldAttempt, Scheduled, held_of, tells_mismatch, Applies, AppliesAll}
 use Rattle.durable_schedule.specs.declared.scheduler.Scheduler.{Scheduler}
 use Rattle.durable_schedule.specs.Scheduled.{AppliesWith, IsScheduled, IsWritten, OutlastsEvent, Spares}
 use Rattle.schedule_runs.specs.Runs.{AreCertain, IsCertain, LastsNext, LastsBehind, at_first}
 use Rattle.schedule_runs.proofs.Quieting.{KeepsAsWell, fed_kept, shut_kept, turned_kept, ended_kept}
 use Rattle.schedule_runs.proofs.Refusing.{rest_lasts}
-use Rattle.schedule_runs.proofs.Crashing.{IsUnwritten, invoke_unwritten, complete_unwritten, signal_unwritten, cancel_unwritten, tick_unwritten, begin_unwritten, refused_unwritten, moved_unwritten, unheld_kept, move_replies}
+use Rattle.schedule_runs.proofs.Crashing.{IsUnwritten, invoke_unwritten, complete_unwritten, signal_unwritten, cancel_unwritten, tick_unwritten, begin_unwritten, refused_unwritten, moved_unwritten, unheld_kept, move_replies, move_matches}
 use Rattle.schedule_runs.proofs.Running.{LeadsFirst}
 
 module _ {H : Type 0} (function : H → Handler) (options : VMOptions) where
@@ -98,6 +98,8 @@ module _ {H : Type 0} (function : H → Handler) (options : VMOptions) where
             same_carries (event.Move id n count) (reply.Refused refusal.AttemptNotHeld) old new (ap (λ (scheduler : Scheduler H S). scheduler.store) (spares.unheld refl))
                 (λ before behind. unheld_kept count before.standing behind.standing (held_of before.held id n) before.held behind.held),
           ))
+      by_move id n count (reply.Refused refusal.JournalMismatchOutcome) spares lives from to applies =
+          absurd (move_matches count from.standing to.standing (held_of from.held id n) from.held to.held applies)
       by_move id n count (reply.Refused (refusal.Store why)) spares lives from to applies =
           refused_lasts (event.Move id n count) why (λ it. it) (refused_unwritten (state g new.store.connection) clean function options id n count why) lives
       by_move id n count (reply.Moved bytes zero why) spares lives from to applies =
@@ -149,11 +151,11 @@ module _ {H : Type 0} (function : H → Handler) (options : VMOptions) where
             quiet_carries (event.Close id n) answer old new clean spares.quiet
                 (λ before behind. shut_kept (state g new.store.connection) clean before.standing behind.standing (held_of before.held id n) before.held behind.held answer),
           ))
-      by_event (event.Turn id n) answer spares lives from to applies =
+      by_event (event.Turn id n outcome) answer spares lives from to applies =
           inl (λ it. (
             it,
-            same_carries (event.Turn id n) answer old new spares.quiet
-                (λ before behind. turned_kept (state g new.store.connection) clean before.standing behind.standing (held_of before.held id n) before.held behind.held answer function),
+            same_carries (event.Turn id n outcome) answer old new spares.quiet
+                (λ before behind. turned_kept (state g new.store.connection) clean before.standing behind.standing (held_of before.held id n) before.held behind.held answer function outcome (tells_mismatch outcome)),
           ))
       by_event (event.Move id n count) answer spares lives from to applies = by_move id n count answer spares lives from to applies
       by_event (event.Stop id n) answer spares lives from to applies =

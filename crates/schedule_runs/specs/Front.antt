@@ -52,7 +52,7 @@ IsAcceptedOf (event.Begin id handler now) (reply.Refused why) accepted =
     (accepted ≡ []) ⊎ ((why ≡ refusal.Store OutOfMemory) × (accepted ≡ Event.Begin id now ∷ []))
 IsAcceptedOf (event.Feed id attempt count) (reply.Fed bytes) accepted = accepted ≡ Event.HandOut id attempt count ∷ []
 IsAcceptedOf (event.Close id attempt) reply.Done accepted = accepted ≡ Event.CloseInput id attempt ∷ []
-IsAcceptedOf (event.Turn id attempt) (reply.Turned turn) accepted = accepted ≡ []
+IsAcceptedOf (event.Turn id attempt outcome) (reply.Turned turn) accepted = accepted ≡ []
 IsAcceptedOf (event.Move id attempt count) (reply.Moved bytes frames why) accepted =
     (taken : List Frame) × (length taken ≡ frames) × (accepted ≡ stop_for id attempt why ++ map (Event.Take id attempt) taken)
 IsAcceptedOf (event.Stop id attempt) reply.Done accepted = accepted ≡ Event.Stop id attempt ∷ []

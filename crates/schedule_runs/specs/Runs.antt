@@ -52,7 +52,7 @@ invocation_named (event.Tick now) = None
 invocation_named (event.Begin id handler now) = Some id
 invocation_named (event.Feed id attempt count) = Some id
 invocation_named (event.Close id attempt) = Some id
-invocation_named (event.Turn id attempt) = Some id
+invocation_named (event.Turn id attempt outcome) = Some id
 invocation_named (event.Move id attempt count) = Some id
 invocation_named (event.Stop id attempt) = Some id
 
@@ -172,7 +172,7 @@ LastsBy Before _ = Unit {0}
 abbrev pub LastsNext : {H : Type 0} → Type 0 → scheduled.Event H → Reply → Type 0
 LastsNext Before (event.Feed id attempt count) answer = Before
 LastsNext Before (event.Close id attempt) answer = Before
-LastsNext Before (event.Turn id attempt) answer = Before
+LastsNext Before (event.Turn id attempt outcome) answer = Before
 LastsNext Before (event.Stop id attempt) answer = Before
 LastsNext Before _ answer = LastsBy Before answer
 

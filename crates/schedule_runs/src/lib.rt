@@ -18,8 +18,8 @@ pub use durable_schedule::{
     Answer, AttachInvocationTarget, AwaitedFuture, Call, EntryKind, Event, Failure, Handler,
     Header, HeldAttempt, Input, LastError, Moment, NewInvocation, NonEmptyValue,
     NotificationHandle, NotificationResult, OutsideSignal, PayloadOptions, RecordedEntry, Refusal,
-    Reply, Scheduler, Sequence, StateMode, StateRow, Target, TerminalFailure, Turn,
-    UnresolvedFuture, VMOptions, Value,
+    Reply, RetryPolicy, RunExitResult, RunOutcome, Scheduler, Sequence, StateMode, StateRow,
+    Target, TerminalFailure, Turn, UnresolvedFuture, VMOptions, Value,
 };
 pub use front::run_new_schedule;
 pub use journal_store::Store;

@@ -11,7 +11,8 @@ returns-clause-begins g c = λ next options id s holds. holds_follows g.H.Handle
 pub returns-clause-each : goal.returns-clause-each
 returns-clause-each g c = λ next options id one answer old new held more covered fits brings does follows.
     keeps g.H.Handler.next_call next options id
-    (serving_laws g.H.Handler.next_call next options c.attempts_begin.ensures c.events_keep.ensures c.feeds_keep.ensures c.closes_keep.ensures c.takes_keep.ensures c.turns_keep.ensures c.overs_stay.ensures c.notes_follow.ensures c.machines_begin.ensures c.machines_stay_live.ensures)
+    (serving_laws g.H.Handler.next_call next options c.attempts_begin.ensures c.events_keep.ensures c.feeds_keep.ensures c.closes_keep.ensures c.takes_keep.ensures c.turns_keep.ensures c.overs_stay.ensures c.executors_live.ensures.begins c.executors_live.ensures.stays
+    c.live_attempts_replay.ensures.replays c.live_attempts_replay.ensures.stays)
     one answer old new held more covered fits brings does follows
 
 pub returns-clause-holds : goal.returns-clause-holds
@@ -20,5 +21,6 @@ returns-clause-holds g c = λ next options id s held follows. follows_holds g.H.
 pub returns-clause-frames : goal.returns-clause-frames
 returns-clause-frames g c = λ next options old new held count bytes frames why one changed covered there moves follows.
     frames_taken g.H.Handler.next_call next options
-    (serving_laws g.H.Handler.next_call next options c.attempts_begin.ensures c.events_keep.ensures c.feeds_keep.ensures c.closes_keep.ensures c.takes_keep.ensures c.turns_keep.ensures c.overs_stay.ensures c.notes_follow.ensures c.machines_begin.ensures c.machines_stay_live.ensures)
+    (serving_laws g.H.Handler.next_call next options c.attempts_begin.ensures c.events_keep.ensures c.feeds_keep.ensures c.closes_keep.ensures c.takes_keep.ensures c.turns_keep.ensures c.overs_stay.ensures c.executors_live.ensures.begins c.executors_live.ensures.stays
+    c.live_attempts_replay.ensures.replays c.live_attempts_replay.ensures.stays)
     old new held count bytes frames why one changed there moves follows

@@ -16,4 +16,4 @@ pub returns-clause-moves : goal.returns-clause-moves
 returns-clause-moves g c = λ count. reaches (MovesOne count)
 
 pub returns-clause-turns : goal.returns-clause-turns
-returns-clause-turns g c = reaches (TurnsOne g.H.Handler.next_call)
+returns-clause-turns g c = λ outcome. reaches (TurnsOne g.H.Handler.next_call outcome)

@@ -2,7 +2,7 @@ use Rattle.std.proofs.Common.{refl}
 use Rattle.schedule_model.specs.declared.event.Event.TheVariants as event
 use Rattle.schedule_model.specs.Schedule.{FeedsOne}
 use Rattle.durable_schedule.proofs.Holding.{misses, finds}
-use Rattle.durable_schedule.proofs.Scheduling.{performs_quiet, performs_unheld, same_quiet, spares_held}
+use Rattle.durable_schedule.proofs.Scheduling.{performs_quiet, performs_unheld, same_quiet, spares_taken_up}
 use Rattle.durable_schedule.proofs.scheduler.Scheduler.feed.Goals as goal
 
 pub returns-in_default : goal.returns-in_default
@@ -14,7 +14,7 @@ returns-in_default g c =
 pub returns-in-Ok : goal.returns-in-Ok
 returns-in-Ok g c =
     let old = c.args.self.now in
-    performs_quiet g.S.Store g.H.Handler.next_call (event.Feed c.args.invocation.now c.args.number c.args.count) old _ _ (λ never. never) refl tt tt (spares_held _ _ _ tt)
+    performs_quiet g.S.Store g.H.Handler.next_call (event.Feed c.args.invocation.now c.args.number c.args.count) old _ _ (λ never. never) refl tt tt (spares_taken_up _ _ _ tt)
     c.next_input.ensures.crash c.next_input.ensures.crash
     (finds g.S.Store (FeedsOne c.args.count) c.args.invocation.now c.args.number old.held c.get_mut.result c.get_mut.ensures.found c.in-Some.attempt c.in-Some.is old.store c.next_input.new.self c.feed.new.self _
     (λ clean s is. let it = c.in-Ok.ensures.does clean s is in (it.0, it.1, (c.in-Ok.bytes, c.len-len.ensures.value, it.2, c.feed.ensures))))
@@ -23,7 +23,7 @@ pub returns-in-Err : goal.returns-in-Err
 returns-in-Err g c =
     let old = c.args.self.now in
     let attempt = c.in-Some.attempt in
-    performs_quiet g.S.Store g.H.Handler.next_call (event.Feed c.args.invocation.now c.args.number c.args.count) old _ _ (λ never. never) refl tt tt (spares_held _ _ _ tt)
+    performs_quiet g.S.Store g.H.Handler.next_call (event.Feed c.args.invocation.now c.args.number c.args.count) old _ _ (λ never. never) refl tt tt (spares_taken_up _ _ _ tt)
     c.next_input.ensures.crash c.next_input.ensures.crash
     (finds g.S.Store (FeedsOne c.args.count) c.args.invocation.now c.args.number old.held c.get_mut.result c.get_mut.ensures.found attempt c.in-Some.is old.store c.next_input.new.self attempt.now _
     (λ clean s is. let it = c.in-Err.ensures.does clean s is in (it.0, it.1, (it.2, refl))))

@@ -1,6 +1,6 @@
 use Rattle.journal_store.specs.Attempts.{BeginsSome}
 use Rattle.schedule_model.specs.declared.event.Event.TheVariants as event
-use Rattle.durable_schedule.proofs.Scheduling.{begins_with, crashes, spares_held}
+use Rattle.durable_schedule.proofs.Scheduling.{begins_with, crashes, spares_all, spares_taken_up}
 use Rattle.durable_schedule.proofs.scheduler.Scheduler.perform.Goals as goal
 
 pub returns-in-Begin : goal.returns-in-Begin
@@ -14,7 +14,7 @@ returns-in-Begin g c =
       options = did.ensures.options;
       fits = did.ensures.moment;
       live = tt;
-      spares = record { unheld = spares_held did.result old did.new.self did.ensures.held; quiet = tt };
+      spares = spares_all _ _ _ _ _ (spares_taken_up did.result old did.new.self did.ensures.held) tt;
       crash = crashes g.S.Store g.H.Handler.next_call (event.Begin it.invocation it.handler it.now) old (BeginsSome it.invocation it.now) did.new.self.store
           (λ s t one. begins_with g.H.Handler.next_call old.options it.invocation it.handler it.now old.held s t one) did.ensures.crash;
     })

@@ -2,7 +2,7 @@ use Rattle.std.proofs.Common.{refl}
 use Rattle.schedule_model.specs.declared.event.Event.TheVariants as event
 use Rattle.schedule_model.specs.Schedule.{MovesOne}
 use Rattle.durable_schedule.proofs.Holding.{misses, finds, finds_lasting, finds_crashed}
-use Rattle.durable_schedule.proofs.Scheduling.{performs_unheld, spares_held}
+use Rattle.durable_schedule.proofs.Scheduling.{performs_unheld, spares_all, spares_taken_up}
 use Rattle.durable_schedule.proofs.scheduler.Scheduler.transfer.Goals as goal
 
 pub returns-in-None : goal.returns-in-None
@@ -26,6 +26,6 @@ returns-in-Some g c =
       options = refl;
       fits = tt;
       live = taken.ensures.live;
-      spares = record { unheld = spares_held _ _ _ taken.ensures.held; quiet = tt };
+      spares = spares_all _ _ _ _ _ (spares_taken_up _ _ _ taken.ensures.held) tt;
       crash = finds_crashed g.S.Store Moves id n old.held there.result there.ensures.found attempt c.in-Some.is old.store taken.new.store taken.ensures.crash;
     }
