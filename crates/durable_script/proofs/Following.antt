@@ -1,5 +1,5 @@
 -- Lines are a schedule, so each invocation is in the run of the handler that they name.
-use Rattle.std.proofs.Common.{◌≡◌, ℕ, suc, zero, ◌+◌, List, [], ◌∷◌, ◌++◌, append_assoc, append-nil, length, length-append, arith, refl, sym, ap, subst, ◌∙◌, inl, inr}
+use Rattle.std.proofs.Common.{◌≡◌, ℕ, suc, zero, ◌+◌, true, Option, IsSome, List, [], ◌∷◌, ◌++◌, append_assoc, append-nil, length, length-append, arith, refl, sym, ap, subst, ◌∙◌, inl, inr}
 use Rattle.std.specs.List.{AllByRecursion}
 use Rattle.built_in_handlers.specs.declared.built_in.BuiltIn.{BuiltIn}
 use Rattle.built_in_handlers.specs.BuiltIn.{function_of}
@@ -8,14 +8,14 @@ use Rattle.journal_model.specs.Run.{Handler}
 use Rattle.vm_types.specs.Options.{default_options}
 use Rattle.schedule_runs.proofs.Running.{each_more}
 use Rattle.schedule_runs.proofs.Schedules.{schedules_grow}
-use Rattle.schedule_runs.specs.Attempts.{Answered}
 use Rattle.schedule_runs.specs.Passed.{LeavesHolds, ReplaysInLine}
 use Rattle.schedule_runs.specs.Schedules.event
-use Rattle.schedule_runs.specs.Schedules.{FitsEvent, Event, Reply, Turned, Scheduled, AppliesAll, Brings}
+use Rattle.schedule_runs.specs.Schedules.{FitsEvent, Event, Reply, Scheduled, AppliesAll, Brings}
 use Rattle.script_lines.specs.declared.line.Line.{Line}
 use Rattle.script_lines.specs.declared.line.Line.TheVariants.{Invoke, Result, Signal, Cancel, Tick, Begin, Feed, Close, Turn, Move, Stop, Due, Show, State}
-use Rattle.durable_script.specs.Line.{brought, new_invocation, signal_key, AppliesOne, AnsweredTurns, AreOfLine, DoesEvent, DoesLine}
-use Rattle.durable_script.specs.Printed.{printed}
+use Rattle.script_lines.specs.declared.outcome.LineOutcome.{LineOutcome}
+use Rattle.durable_script.specs.Line.{brought, new_invocation, signal_key, goes_on, turn_of, AppliesOne, TurnsGoOn, EndsTurns, AreTurns, AreOfLine, DoesEvent, DoesLine}
+use Rattle.durable_script.specs.Printed.{printed, refused_memory}
 use Rattle.durable_script.specs.Run.{DoneLine, AllBring, AreFirst, AreOfLines, DoesAll, DoesFirst, LinesFollow}
 
 -- ---- events one after another
@@ -60,8 +60,8 @@ module _ (AreOf AreMore : List (Event BuiltIn) → List Reply → Type 0) (AreBr
 abbrev pub IsOfLines : List DoneLine → Scheduled BuiltIn → Scheduled BuiltIn → Type 0
 IsOfLines done start end = IsSchedule (AreOfLines done) (λ id next. AllBring id next done) start end
 
--- so many turns of an attempt behind the events of these lines, each of them answered
-record TurnsBehind (before : List DoneLine) (id : Text) (n turns : ℕ) (events : List (Event BuiltIn)) (replies : List Reply) : Type 0 where
+-- so many turns of an attempt behind the events of these lines, behind each of which there is another to make
+record TurnsBehind (before : List DoneLine) (id : Text) (n : ℕ) (outcome : Option LineOutcome) (turns : ℕ) (events : List (Event BuiltIn)) (replies : List Reply) : Type 0 where
   first : List (Event BuiltIn)
   own : List (Event BuiltIn)
   told : List Reply
@@ -69,8 +69,8 @@ record TurnsBehind (before : List DoneLine) (id : Text) (n turns : ℕ) (events 
   events_are : events ≡ first ++ own
   replies_are : replies ≡ told ++ answers
   of_lines : AreOfLines before first told
-  are_turns : AllByRecursion (λ one. one ≡ event.Turn id n) own
-  answered : AllByRecursion (λ answer. answer ≡ Turned Answered) answers
+  are_turns : AllByRecursion (λ one. one ≡ turn_of id n outcome) own
+  gone_on : AllByRecursion (λ answer. goes_on answer ≡ true) answers
   as_many : length own ≡ turns
   so_many : length answers ≡ turns
 
@@ -79,61 +79,93 @@ module _ (before : List DoneLine) (number : ℕ) (text : List ℕ) where
   abbrev done_line : Line → DoneLine
   done_line line = record { number = number; line = line; text = text }
 
-  module _ (id : Text) (n turns : ℕ) (events : List (Event BuiltIn)) (replies : List Reply) (it : TurnsBehind before id n turns events replies) where
-    -- one more turn behind these
-    more_events : events ++ event.Turn id n ∷ [] ≡ it.first ++ (it.own ++ event.Turn id n ∷ [])
-    more_events = ap (λ (es : List (Event BuiltIn)). es ++ event.Turn id n ∷ []) it.events_are ∙ append_assoc it.first it.own (event.Turn id n ∷ [])
+  module _ (id : Text) (n : ℕ) (outcome : Option LineOutcome) (turns : ℕ) (events : List (Event BuiltIn)) (replies : List Reply) (it : TurnsBehind before id n outcome turns events replies) where
+    -- a turn with this outcome
+    abbrev turn : Event BuiltIn
+    turn = turn_of id n outcome
+
+    -- one more behind these
+    more_events : events ++ turn ∷ [] ≡ it.first ++ (it.own ++ turn ∷ [])
+    more_events = ap (λ (es : List (Event BuiltIn)). es ++ turn ∷ []) it.events_are ∙ append_assoc it.first it.own (turn ∷ [])
 
     more_replies : (answer : Reply) → replies ++ answer ∷ [] ≡ it.told ++ (it.answers ++ answer ∷ [])
     more_replies answer = ap (λ (rs : List Reply). rs ++ answer ∷ []) it.replies_are ∙ append_assoc it.told it.answers (answer ∷ [])
 
-    -- one that is answered
-    turn_more : TurnsBehind before id n (suc turns) (events ++ event.Turn id n ∷ []) (replies ++ Turned Answered ∷ [])
-    turn_more = record {
+    more_turns : AllByRecursion (λ one. one ≡ turn) (it.own ++ turn ∷ [])
+    more_turns = each_more (λ (one : Event BuiltIn). one ≡ turn) it.own turn it.are_turns refl
+
+    -- one behind which there is another
+    turn_more : (answer : Reply) → goes_on answer ≡ true → TurnsBehind before id n outcome (suc turns) (events ++ turn ∷ []) (replies ++ answer ∷ [])
+    turn_more answer was = record {
       first = it.first;
-      own = it.own ++ event.Turn id n ∷ [];
+      own = it.own ++ turn ∷ [];
       told = it.told;
-      answers = it.answers ++ Turned Answered ∷ [];
+      answers = it.answers ++ answer ∷ [];
       events_are = more_events;
-      replies_are = more_replies (Turned Answered);
+      replies_are = more_replies answer;
       of_lines = it.of_lines;
-      are_turns = each_more (λ (one : Event BuiltIn). one ≡ event.Turn id n) it.own (event.Turn id n) it.are_turns refl;
-      answered = each_more (λ (answer : Reply). answer ≡ Turned Answered) it.answers (Turned Answered) it.answered refl;
-      as_many = omega (arith, it.as_many, length-append it.own (event.Turn id n ∷ []));
-      so_many = omega (arith, it.so_many, length-append it.answers (Turned Answered ∷ []));
+      are_turns = more_turns;
+      gone_on = each_more (λ (one : Reply). goes_on one ≡ true) it.answers answer it.gone_on was;
+      as_many = omega (arith, it.as_many, length-append it.own (turn ∷ []));
+      so_many = omega (arith, it.so_many, length-append it.answers (answer ∷ []));
     }
 
-    -- the last one
-    turn_last : (count taken : ℕ) (last : Reply) → taken ≡ turns + 1 → text ≡ printed taken last ++ 10 ∷ []
-        → AreOfLines (done_line (Turn id n count) ∷ before) (events ++ event.Turn id n ∷ []) (replies ++ last ∷ [])
-    turn_last count taken last taken_are text_is =
-        let many : length (it.answers ++ last ∷ []) ≡ taken = omega (arith, it.so_many, taken_are, length-append it.answers (last ∷ [])) in (
-          it.first,
-          it.own ++ event.Turn id n ∷ [],
-          it.told,
-          it.answers ++ last ∷ [],
-          more_events,
-          more_replies last,
-          it.of_lines,
-          record {
-            turns = each_more (λ (one : Event BuiltIn). one ≡ event.Turn id n) it.own (event.Turn id n) it.are_turns refl;
-            as_many = omega (arith, many, it.as_many, taken_are, length-append it.own (event.Turn id n ∷ []));
-            before = it.answers;
-            last = last;
-            answers_are = refl;
-            answered = it.answered;
-            text_is = text_is ∙ ap (λ (k : ℕ). printed k last ++ 10 ∷ []) (sym many);
-          },
-        )
+    -- the turns of a line
+    are_of_line : (taken : ℕ) (last : Reply) (own : List (Event BuiltIn)) (answers : List Reply) → taken ≡ turns + 1 → text ≡ printed taken last ++ 10 ∷ []
+        → AllByRecursion (λ one. one ≡ turn) own → length own ≡ length answers → EndsTurns outcome it.answers last answers → AreTurns id n outcome text own answers
+    are_of_line taken last own answers taken_are text_is are as_many ends = record {
+      turns = are;
+      as_many = as_many;
+      before = it.answers;
+      last = last;
+      ends = ends;
+      gone_on = it.gone_on;
+      text_is = let many : taken ≡ length it.answers + 1 = omega (arith, it.so_many, taken_are) in text_is ∙ ap (λ (k : ℕ). printed k last ++ 10 ∷ []) many;
+    }
 
-  turns_more : (AreBrought : Text → Handler → Type 0) (id : Text) (n turns : ℕ) (start old new : Scheduled BuiltIn) → AnsweredTurns id n turns old new
-      → IsSchedule (TurnsBehind before id n zero) AreBrought start old → IsSchedule (TurnsBehind before id n turns) AreBrought start new
-  turns_more AreBrought id n zero start old new t s =
-      none_more (TurnsBehind before id n zero) (TurnsBehind before id n zero) AreBrought AreBrought (λ id next all. all) start old new s s.are t
-  turns_more AreBrought id n (suc turns) start old new t s =
-      let rest = turns_more AreBrought id n turns start old t.0 t.1 s in
-      event_more (TurnsBehind before id n turns) (TurnsBehind before id n (suc turns)) AreBrought AreBrought (λ id next all. all) start t.0 new rest (event.Turn id n) (Turned Answered)
-      (turn_more id n turns rest.events rest.replies rest.are) (λ id next all. tt) t.2
+  module _ (id : Text) (n count : ℕ) (outcome : Option LineOutcome) where
+    -- the line of turns
+    abbrev turn_line : Line
+    turn_line = Turn id n count outcome
+
+    module _ (turns taken : ℕ) (last : Reply) (taken_are : taken ≡ turns + 1) (text_is : text ≡ printed taken last ++ 10 ∷ []) (events : List (Event BuiltIn)) (replies : List Reply)
+        (it : TurnsBehind before id n outcome turns events replies) where
+      -- the last one
+      turn_last : AreOfLines (done_line turn_line ∷ before) (events ++ turn_of id n outcome ∷ []) (replies ++ last ∷ [])
+      turn_last = (
+        it.first,
+        it.own ++ turn_of id n outcome ∷ [],
+        it.told,
+        it.answers ++ last ∷ [],
+        more_events id n outcome turns events replies it,
+        more_replies id n outcome turns events replies it last,
+        it.of_lines,
+        are_of_line id n outcome turns events replies it taken last (it.own ++ turn_of id n outcome ∷ []) (it.answers ++ last ∷ []) taken_are text_is (more_turns id n outcome turns events replies it)
+            (omega (arith, it.as_many, it.so_many, length-append it.own (turn_of id n outcome ∷ []), length-append it.answers (last ∷ []))) (inl refl),
+      )
+
+      -- none behind these, since memory was refused
+      turn_refused : IsSome outcome → last ≡ refused_memory → AreOfLines (done_line turn_line ∷ before) events replies
+      turn_refused given is = (
+        it.first,
+        it.own,
+        it.told,
+        it.answers,
+        it.events_are,
+        it.replies_are,
+        it.of_lines,
+        are_of_line id n outcome turns events replies it taken last it.own it.answers taken_are text_is it.are_turns (it.as_many ∙ sym it.so_many) (inr (given, refl, is)),
+      )
+
+  turns_more : (AreBrought : Text → Handler → Type 0) (id : Text) (n : ℕ) (outcome : Option LineOutcome) (turns : ℕ) (start old new : Scheduled BuiltIn) → TurnsGoOn id n outcome turns old new
+      → IsSchedule (TurnsBehind before id n outcome zero) AreBrought start old → IsSchedule (TurnsBehind before id n outcome turns) AreBrought start new
+  turns_more AreBrought id n outcome zero start old new t s =
+      none_more (TurnsBehind before id n outcome zero) (TurnsBehind before id n outcome zero) AreBrought AreBrought (λ id next all. all) start old new s s.are t
+  turns_more AreBrought id n outcome (suc turns) start old new t s =
+      let rest = turns_more AreBrought id n outcome turns start old t.0 t.1 s in
+      let one = t.2 in
+      event_more (TurnsBehind before id n outcome turns) (TurnsBehind before id n outcome (suc turns)) AreBrought AreBrought (λ id next all. all) start t.0 new rest (turn_of id n outcome) one.answer
+      (turn_more id n outcome turns rest.events rest.replies rest.are one.answer one.another) (λ id next all. tt) one.applies
 
   module _ (start old new : Scheduled BuiltIn) (s : IsOfLines before start old) where
     -- what a line brings behind those before
@@ -152,9 +184,9 @@ module _ (before : List DoneLine) (number : ℕ) (text : List ℕ) where
         → IsOfLines (done_line line ∷ before) start new
     plain_more line one d of_line none = one_more line one d of_line (λ id next all. none id next)
 
-    no_turn : (id : Text) (n count : ℕ) → IsSchedule (TurnsBehind before id n zero) (Brought (Turn id n count)) start old
-    no_turn id n count =
-        none_more (AreOfLines before) (TurnsBehind before id n zero) (λ id next. AllBring id next before) (Brought (Turn id n count)) (λ id next all. all.0) start old old s
+    no_turn : (id : Text) (n count : ℕ) (outcome : Option LineOutcome) → IsSchedule (TurnsBehind before id n outcome zero) (Brought (Turn id n count outcome)) start old
+    no_turn id n count outcome =
+        none_more (AreOfLines before) (TurnsBehind before id n outcome zero) (λ id next. AllBring id next before) (Brought (Turn id n count outcome)) (λ id next all. all.0) start old old s
         (record {
           first = s.events;
           own = [];
@@ -164,7 +196,7 @@ module _ (before : List DoneLine) (number : ℕ) (text : List ℕ) where
           replies_are = sym (append-nil s.replies);
           of_lines = s.are;
           are_turns = tt;
-          answered = tt;
+          gone_on = tt;
           as_many = refl;
           so_many = refl;
         }) refl
@@ -183,11 +215,19 @@ module _ (before : List DoneLine) (number : ℕ) (text : List ℕ) where
         one_more (Begin id name now) (event.Begin id d.0 now) d.2 (event.Begin id d.0 now, d.2.reply, (d.0, d.1, refl), refl, refl, d.2.text_is) (λ want next all is. all.1 is d.0 d.1)
     line_more (Feed id n count) d = plain_more (Feed id n count) (event.Feed id n count) d (event.Feed id n count, d.reply, refl, refl, refl, d.text_is) (λ id next. tt)
     line_more (Close id n) d = plain_more (Close id n) (event.Close id n) d (event.Close id n, d.reply, refl, refl, refl, d.text_is) (λ id next. tt)
-    line_more (Turn id n count) d =
-        let rest = turns_more (Brought (Turn id n count)) id n d.took.before start old d.took.between d.took.answered (no_turn id n count) in
-        event_more (TurnsBehind before id n d.took.before) (AreOfLines (done_line (Turn id n count) ∷ before)) (Brought (Turn id n count)) (Brought (Turn id n count)) (λ id next all. all)
-        start d.took.between new rest (event.Turn id n) d.last
-        (turn_last id n d.took.before rest.events rest.replies rest.are count d.taken d.last d.took.taken_are d.text_is) (λ id next all. tt) d.took.applies
+    line_more (Turn id n count outcome) d =
+        let line = Turn id n count outcome in
+        let rest = turns_more (Brought line) id n outcome d.took.before start old d.took.between d.took.gone_on (no_turn id n count outcome) in
+        elim d.took.takes [
+          | inl applies ↦
+              event_more (TurnsBehind before id n outcome d.took.before) (AreOfLines (done_line line ∷ before)) (Brought line) (Brought line) (λ id next all. all)
+              start d.took.between new rest (turn_of id n outcome) d.last
+              (turn_last id n count outcome d.took.before d.taken d.last d.took.taken_are d.text_is rest.events rest.replies rest.are) (λ id next all. tt) applies
+          | inr none ↦
+              none_more (TurnsBehind before id n outcome d.took.before) (AreOfLines (done_line line ∷ before)) (Brought line) (Brought line) (λ id next all. all)
+              start d.took.between new rest
+              (turn_refused id n count outcome d.took.before d.taken d.last d.took.taken_are d.text_is rest.events rest.replies rest.are none.0 none.1) none.2
+        ]
     line_more (Move id n count) d = plain_more (Move id n count) (event.Move id n count) d (event.Move id n count, d.reply, refl, refl, refl, d.text_is) (λ id next. tt)
     line_more (Stop id n) d = plain_more (Stop id n) (event.Stop id n) d (event.Stop id n, d.reply, refl, refl, refl, d.text_is) (λ id next. tt)
     line_more Due d =

@@ -1,5 +1,5 @@
 -- The text of what was done, also where there is no memory for it.
-use Rattle.std.proofs.Common.{◌≡◌, ℕ, List, [], ◌∷◌, ◌++◌, Result, refl, subst, sym}
+use Rattle.std.proofs.Common.{◌≡◌, ℕ, List, [], ◌∷◌, ◌++◌, Option, Result, refl, subst, sym}
 use Rattle.sqlite_trees.specs.declared.store.Store.{Ghosts}
 use Rattle.built_in_handlers.specs.declared.built_in.BuiltIn.{BuiltIn}
 use Rattle.journal_model.specs.Notification.{Text}
@@ -8,6 +8,7 @@ use Rattle.schedule_runs.specs.Schedules.event
 use Rattle.schedule_runs.specs.Schedules.{Event, Reply}
 use Rattle.script_lines.specs.declared.line.Line.{Line}
 use Rattle.script_lines.specs.declared.line.Line.TheVariants as line
+use Rattle.script_lines.specs.declared.outcome.LineOutcome.{LineOutcome}
 use Rattle.script_lines.specs.declared.word.HandlerName.{HandlerName}
 use Rattle.durable_script.specs.Line.{AppliesOne, IsBegin, DoesEvent, DoesSomeEvent, TookTurns, TakesTurns, DoesLine, DoesSomeLine}
 use Rattle.durable_script.specs.Printed.{printed, Makes}
@@ -21,10 +22,11 @@ module _ {S : Type 0} (g : Ghosts S) (old new : Scheduler BuiltIn S) where
       reaches_so g (Applied one) (DoesSomeEvent one) (AppliesOne one reply) (DoesEvent one text) old new
       (λ x y p. (printed 1 p.0 ++ 10 ∷ [], record { reply = p.0; applies = p.1; text_is = refl })) (λ x y p. record { reply = reply; applies = p; text_is = is }) applied
 
-  pub turns_printed : (id : Text) (attempt asked taken : ℕ) (last : Reply) → Reaches g Nowhere (TookTurns id attempt asked taken last) old new
-      → (text : List ℕ) → text ≡ printed taken last ++ 10 ∷ [] → Reaches g Nowhere (TakesTurns id attempt asked text) old new
-  turns_printed id attempt asked taken last took text is =
-      reaches_so g Nowhere Nowhere (TookTurns id attempt asked taken last) (TakesTurns id attempt asked text) old new (λ x y none. none) (λ x y p. record { taken = taken; last = last; took = p; text_is = is }) took
+  pub turns_printed : (id : Text) (attempt asked : ℕ) (outcome : Option LineOutcome) (taken : ℕ) (last : Reply) → Reaches g Nowhere (TookTurns id attempt asked outcome taken last) old new
+      → (text : List ℕ) → text ≡ printed taken last ++ 10 ∷ [] → Reaches g Nowhere (TakesTurns id attempt asked outcome text) old new
+  turns_printed id attempt asked outcome taken last took text is =
+      reaches_so g Nowhere Nowhere (TookTurns id attempt asked outcome taken last) (TakesTurns id attempt asked outcome text) old new (λ x y none. none)
+      (λ x y p. record { taken = taken; last = last; took = p; text_is = is }) took
 
 -- what is told of a text is told in another way
 module _ {T E : Type 0} (bytes_of : T → List ℕ) (r : Result T E) where

@@ -1,48 +1,48 @@
 -- Turns, one behind another.
-use Rattle.std.proofs.Common.{◌≡◌, ℕ, suc, ◌+◌, ◌≤◌, true, refl, sym, subst, ◌∙◌, add-one}
+use Rattle.std.proofs.Common.{◌≡◌, ℕ, suc, ◌+◌, ◌≤◌, true, Option, IsSome, refl, sym, ap, subst, ◌∙◌, add-one, inl, inr}
 use Rattle.sqlite_trees.specs.declared.store.Store.{Ghosts}
 use Rattle.built_in_handlers.specs.declared.built_in.BuiltIn.{BuiltIn}
 use Rattle.journal_model.specs.Notification.{Text}
-use Rattle.schedule_runs.specs.Attempts.turn
 use Rattle.schedule_runs.specs.Passed.{Scheduler}
-use Rattle.schedule_runs.specs.Schedules.event
-use Rattle.schedule_runs.specs.Schedules.reply
-use Rattle.schedule_runs.specs.Schedules.{Reply}
-use Rattle.durable_script.specs.Line.{was_answered, AppliesOne, AnsweredTurns, TookTurns}
+use Rattle.schedule_runs.specs.Schedules.{Reply, Scheduled}
+use Rattle.script_lines.specs.declared.outcome.LineOutcome.{LineOutcome}
+use Rattle.durable_script.specs.Line.{goes_on, turn_of, AppliesOne, TakesTurn, TurnsGoOn, TookTurns}
+use Rattle.durable_script.specs.Printed.{refused_memory}
 use Rattle.durable_script.specs.Reaching.{Reaches, Nowhere}
-use Rattle.durable_script.proofs.Reaching.{Promised, reaches_then, reaches_turned}
+use Rattle.durable_script.proofs.Reaching.{Promised, reaches_none, reaches_so, reaches_then, reaches_turned}
 
-answered_is : (r : Reply) → was_answered r ≡ true → r ≡ reply.Turned turn.Answered
-answered_is (reply.Turned turn.Answered) e = refl
-answered_is (reply.Turned turn.Waiting) e = absurd cc
-answered_is (reply.Turned turn.Suspended) e = absurd cc
-answered_is (reply.Turned turn.Ended) e = absurd cc
-answered_is (reply.Turned (turn.Failed error)) e = absurd cc
-answered_is reply.Done e = absurd cc
-answered_is (reply.Placed place) e = absurd cc
-answered_is (reply.Ticked sleeps) e = absurd cc
-answered_is (reply.Begun n) e = absurd cc
-answered_is (reply.Fed n) e = absurd cc
-answered_is (reply.Moved b f why) e = absurd cc
-answered_is (reply.Refused why) e = absurd cc
+module _ {S : Type 0} (g : Ghosts S) (id : Text) (attempt : ℕ) (outcome : Option LineOutcome) where
+  -- a turn is taken
+  pub turn_taken : (answer : Reply) (old new : Scheduler BuiltIn S) → new.store ≡ old.store → Promised g (turn_of id attempt outcome) answer old new → new.options ≡ old.options
+      → Reaches g Nowhere (TakesTurn id attempt outcome answer) old new
+  turn_taken answer old new same does options =
+      reaches_so g Nowhere Nowhere (AppliesOne (turn_of id attempt outcome) answer) (TakesTurn id attempt outcome answer) old new (λ x y none. none) (λ x y p. inl p)
+      (reaches_turned g (turn_of id attempt outcome) answer old new same does tt options)
 
-module _ {S : Type 0} (g : Ghosts S) (id : Text) (attempt : ℕ) (start now new : Scheduler BuiltIn S) (before : ℕ) (answered : Reaches g Nowhere (AnsweredTurns id attempt before) start now) (last : Reply)
-    (same : new.store ≡ now.store) (does : Promised g (event.Turn id attempt) last now new) (options : new.options ≡ now.options) where
-  one : Reaches g Nowhere (AppliesOne (event.Turn id attempt) last) now new
-  one = reaches_turned g (event.Turn id attempt) last now new same does tt options
+  -- or none, where memory was refused
+  pub turn_not_taken : (answer : Reply) (old : Scheduler BuiltIn S) → IsSome outcome → answer ≡ refused_memory → Reaches g Nowhere (TakesTurn id attempt outcome answer) old old
+  turn_not_taken answer old given is = reaches_none g Nowhere (TakesTurn id attempt outcome answer) old (λ s. inr (given, is, refl))
 
-  -- the last one
-  pub turned_last : (asked taken : ℕ) → taken ≡ before + 1 → taken ≤ asked → (was_answered last ≡ true → taken ≡ asked) → Reaches g Nowhere (TookTurns id attempt asked taken last) start new
-  turned_last asked taken are within all =
-      reaches_then g Nowhere Nowhere Nowhere (AnsweredTurns id attempt before) (AppliesOne (event.Turn id attempt) last) (TookTurns id attempt asked taken last) start now new
-      (λ x y none. none) (λ x y z p none. none)
-      (λ x y z p q. record { before = before; between = y; answered = p; applies = q; taken_are = are; within = within; all = all }) answered one
+  module _ (start now new : Scheduler BuiltIn S) (before : ℕ) (gone_on : Reaches g Nowhere (TurnsGoOn id attempt outcome before) start now) (last : Reply)
+      (takes : Reaches g Nowhere (TakesTurn id attempt outcome last) now new) where
+    -- the last one
+    pub turned_last : (asked taken : ℕ) → taken ≡ before + 1 → taken ≤ asked → (goes_on last ≡ true → taken ≡ asked) → Reaches g Nowhere (TookTurns id attempt asked outcome taken last) start new
+    turned_last asked taken are within all =
+        reaches_then g Nowhere Nowhere Nowhere (TurnsGoOn id attempt outcome before) (TakesTurn id attempt outcome last) (TookTurns id attempt asked outcome taken last) start now new
+        (λ x y none. none) (λ x y z p none. none)
+        (λ x y z p q. record { before = before; between = y; gone_on = p; takes = q; taken_are = are; within = within; all = all }) gone_on takes
 
-  -- one more that was answered
-  pub turned_more : (taken : ℕ) → taken ≡ before + 1 → was_answered last ≡ true → Reaches g Nowhere (AnsweredTurns id attempt taken) start new
-  turned_more taken are was =
-      subst (λ (n : ℕ). Reaches g Nowhere (AnsweredTurns id attempt n) start new) (sym (are ∙ add-one before))
-      (reaches_then g Nowhere Nowhere Nowhere (AnsweredTurns id attempt before) (AppliesOne (event.Turn id attempt) (reply.Turned turn.Answered)) (AnsweredTurns id attempt (suc before)) start now new
-      (λ x y none. none) (λ x y z p none. none)
-      (λ x y z p q. (y, p, q)) answered
-      (subst (λ (r : Reply). Reaches g Nowhere (AppliesOne (event.Turn id attempt) r) now new) (answered_is last was) one))
+    -- memory was not refused for a turn behind which there is another
+    applied : goes_on last ≡ true → (x y : Scheduled BuiltIn) → TakesTurn id attempt outcome last x y → AppliesOne (turn_of id attempt outcome) last x y
+    applied was x y takes = elim takes [
+      | inl applies ↦ applies
+      | inr none ↦ absurd (cc (was, ap goes_on none.1))
+    ]
+
+    -- one more behind which there is another
+    pub turned_more : (taken : ℕ) → taken ≡ before + 1 → goes_on last ≡ true → Reaches g Nowhere (TurnsGoOn id attempt outcome taken) start new
+    turned_more taken are was =
+        subst (λ (n : ℕ). Reaches g Nowhere (TurnsGoOn id attempt outcome n) start new) (sym (are ∙ add-one before))
+        (reaches_then g Nowhere Nowhere Nowhere (TurnsGoOn id attempt outcome before) (TakesTurn id attempt outcome last) (TurnsGoOn id attempt outcome (suc before)) start now new
+        (λ x y none. none) (λ x y z p none. none)
+        (λ x y z p q. (y, p, record { answer = last; another = was; applies = applied was y z q })) gone_on takes)

@@ -4,6 +4,7 @@ pub mod Entries
 pub mod EntriesShown
 pub mod Rows
 pub mod Shown
+pub mod Outcome
 pub mod Line
 pub mod Runner
 pub mod Run

@@ -1,5 +1,5 @@
 -- What a line does to what the scheduler stands for, and its text with the line feed.
-use Rattle.std.specs.Prelude.{◌≡◌, ℕ, Bool, true, false, suc, zero, ◌+◌, ◌≤◌, List, [], ◌∷◌, ◌++◌, length, Some}
+use Rattle.std.specs.Prelude.{◌≡◌, ◌⊎◌, ℕ, Bool, true, false, suc, zero, ◌+◌, ◌≤◌, List, [], ◌∷◌, ◌++◌, length, Option, Some, IsSome}
 use Rattle.std.specs.List.{AllByRecursion}
 use Rattle.std.specs.declared.alloc.Global.{Global}
 use Rattle.built_in_handlers.specs.declared.built_in.BuiltIn.{BuiltIn}
@@ -12,11 +12,12 @@ use Rattle.journal_model.specs.declared.notification.NotificationResult.TheVaria
 use Rattle.journal_model.specs.declared.invocation.StateMode as model
 use Rattle.journal_model.specs.declared.invocation.StateMode.TheVariants as mode
 use Rattle.vm_types.specs.Options.{default_options}
-use Rattle.schedule_runs.specs.Attempts.{Answered}
+use Rattle.schedule_runs.specs.Attempts.turn
 use Rattle.schedule_runs.specs.Schedules.event
 use Rattle.schedule_runs.specs.Schedules.{FitsEvent, Event, Reply, Turned, Scheduled, Applies}
 use Rattle.script_lines.specs.declared.line.Line.{Line}
 use Rattle.script_lines.specs.declared.line.Line.TheVariants.{Invoke, Result, Signal, Cancel, Tick, Begin, Feed, Close, Turn, Move, Stop, Due, Show, State}
+use Rattle.script_lines.specs.declared.outcome.LineOutcome.{LineOutcome}
 use Rattle.script_lines.specs.declared.target.LineTarget.{LineTarget}
 use Rattle.script_lines.specs.declared.target.LineTarget.TheVariants as target
 use Rattle.script_lines.specs.declared.value.LineValue.{LineValue}
@@ -25,7 +26,8 @@ use Rattle.script_lines.specs.Word.{handler_word}
 use Rattle.script_lines.specs.declared.word.HandlerName.{HandlerName}
 use Rattle.script_lines.specs.declared.word.StateMode.{StateMode}
 use Rattle.script_lines.specs.declared.word.StateMode.TheVariants.{Whole, Hidden}
-use Rattle.durable_script.specs.Printed.{printed}
+use Rattle.durable_script.specs.Outcome.{given_outcome}
+use Rattle.durable_script.specs.Printed.{printed, refused_memory}
 use Rattle.durable_script.specs.Shown.{Looks, Shows, ShowsDue, ShowsState}
 
 -- the handler that a name stands for
@@ -72,31 +74,46 @@ pub record DoesEvent (one : Event BuiltIn) (text : List ℕ) (old new : Schedule
 abbrev pub DoesSomeEvent : Event BuiltIn → Scheduled BuiltIn → Scheduled BuiltIn → Type 0
 DoesSomeEvent one old new = (text : List ℕ) × DoesEvent one text old new
 
--- whether a reply is that of a turn that was answered
-abbrev pub was_answered : Reply → Bool
-was_answered (Turned Answered) = true
-was_answered _ = false
+-- whether a reply is that of a turn behind which there is another to make: a call was answered, or the body of a run executed
+abbrev pub goes_on : Reply → Bool
+goes_on (Turned turn.Answered) = true
+goes_on (Turned turn.RanBody) = true
+goes_on _ = false
 
--- so many turns, each of which is answered
-abbrev pub AnsweredTurns : List ℕ → ℕ → ℕ → Scheduled BuiltIn → Scheduled BuiltIn → Type 0
-AnsweredTurns id attempt zero old new = new ≡ old
-AnsweredTurns id attempt (suc turns) old new =
-    (between : Scheduled BuiltIn) × AnsweredTurns id attempt turns old between × AppliesOne (event.Turn id attempt) (Turned Answered) between new
+-- a turn of an attempt, in which the body of a run ends as the line says
+abbrev pub turn_of : List ℕ → ℕ → Option LineOutcome → Event BuiltIn
+turn_of id attempt outcome = event.Turn id attempt (given_outcome outcome)
 
--- so many turns were taken, of as many as were asked for: behind the first that is not answered there is none
-pub record TookTurns (id : List ℕ) (attempt asked taken : ℕ) (last : Reply) (old new : Scheduled BuiltIn) : Type 0 where
+-- a turn is taken, behind which there is another to make
+pub record TurnGoesOn (id : List ℕ) (attempt : ℕ) (outcome : Option LineOutcome) (old new : Scheduled BuiltIn) : Type 0 where
+  pub answer : Reply
+  pub another : goes_on answer ≡ true
+  pub applies : AppliesOne (turn_of id attempt outcome) answer old new
+
+-- so many of them
+abbrev pub TurnsGoOn : List ℕ → ℕ → Option LineOutcome → ℕ → Scheduled BuiltIn → Scheduled BuiltIn → Type 0
+TurnsGoOn id attempt outcome zero old new = new ≡ old
+TurnsGoOn id attempt outcome (suc turns) old new =
+    (between : Scheduled BuiltIn) × TurnsGoOn id attempt outcome turns old between × TurnGoesOn id attempt outcome between new
+
+-- a turn is taken; or memory is refused for the copy of the outcome that the line gives, and none is
+abbrev pub TakesTurn : List ℕ → ℕ → Option LineOutcome → Reply → Scheduled BuiltIn → Scheduled BuiltIn → Type 0
+TakesTurn id attempt outcome answer old new = AppliesOne (turn_of id attempt outcome) answer old new ⊎ (IsSome outcome × (answer ≡ refused_memory) × (new ≡ old))
+
+-- so many turns were taken, of as many as were asked for: behind the first behind which there is no other to make, none is
+pub record TookTurns (id : List ℕ) (attempt asked : ℕ) (outcome : Option LineOutcome) (taken : ℕ) (last : Reply) (old new : Scheduled BuiltIn) : Type 0 where
   pub before : ℕ
   pub between : Scheduled BuiltIn
-  pub answered : AnsweredTurns id attempt before old between
-  pub applies : AppliesOne (event.Turn id attempt) last between new
+  pub gone_on : TurnsGoOn id attempt outcome before old between
+  pub takes : TakesTurn id attempt outcome last between new
   pub taken_are : taken ≡ before + 1
   pub within : taken ≤ asked
-  pub all : was_answered last ≡ true → taken ≡ asked
+  pub all : goes_on last ≡ true → taken ≡ asked
 
-pub record TakesTurns (id : List ℕ) (attempt asked : ℕ) (text : List ℕ) (old new : Scheduled BuiltIn) : Type 0 where
+pub record TakesTurns (id : List ℕ) (attempt asked : ℕ) (outcome : Option LineOutcome) (text : List ℕ) (old new : Scheduled BuiltIn) : Type 0 where
   pub taken : ℕ
   pub last : Reply
-  pub took : TookTurns id attempt asked taken last old new
+  pub took : TookTurns id attempt asked outcome taken last old new
   pub text_is : text ≡ printed taken last ++ 10 ∷ []
 
 -- Each line is one event, but for the turns, and for what is shown, which changes nothing.
@@ -109,22 +126,26 @@ DoesLine (Tick now) text old new = DoesEvent (event.Tick now) text old new
 DoesLine (Begin id name now) text old new = (handler : BuiltIn) × IsNamed name handler × DoesEvent (event.Begin id handler now) text old new
 DoesLine (Feed id attempt count) text old new = DoesEvent (event.Feed id attempt count) text old new
 DoesLine (Close id attempt) text old new = DoesEvent (event.Close id attempt) text old new
-DoesLine (Turn id attempt count) text old new = TakesTurns id attempt count text old new
+DoesLine (Turn id attempt count outcome) text old new = TakesTurns id attempt count outcome text old new
 DoesLine (Move id attempt count) text old new = DoesEvent (event.Move id attempt count) text old new
 DoesLine (Stop id attempt) text old new = DoesEvent (event.Stop id attempt) text old new
 DoesLine Due text old new = Looks (ShowsDue text) old new
 DoesLine (Show id) text old new = Looks (Shows id text) old new
 DoesLine (State object) text old new = Looks (ShowsState object text) old new
 
--- turns of one attempt, all but the last of them answered; the reply of the last is printed, with their number
-pub record AreTurns (id : List ℕ) (attempt : ℕ) (text : List ℕ) (own : List (Event BuiltIn)) (answers : List Reply) : Type 0 where
-  pub turns : AllByRecursion (λ one. one ≡ event.Turn id attempt) own
+-- the last reply is that of a turn, or tells that memory was refused for one more
+abbrev pub EndsTurns : Option LineOutcome → (before : List Reply) → (last : Reply) → (answers : List Reply) → Type 0
+EndsTurns outcome before last answers = (answers ≡ before ++ last ∷ []) ⊎ (IsSome outcome × (answers ≡ before) × (last ≡ refused_memory))
+
+-- turns of one attempt, behind all but the last of which there is another to make; the last reply is printed, with their number
+pub record AreTurns (id : List ℕ) (attempt : ℕ) (outcome : Option LineOutcome) (text : List ℕ) (own : List (Event BuiltIn)) (answers : List Reply) : Type 0 where
+  pub turns : AllByRecursion (λ one. one ≡ turn_of id attempt outcome) own
   pub as_many : length own ≡ length answers
   pub before : List Reply
   pub last : Reply
-  pub answers_are : answers ≡ before ++ last ∷ []
-  pub answered : AllByRecursion (λ answer. answer ≡ Turned Answered) before
-  pub text_is : text ≡ printed (length answers) last ++ 10 ∷ []
+  pub ends : EndsTurns outcome before last answers
+  pub gone_on : AllByRecursion (λ answer. goes_on answer ≡ true) before
+  pub text_is : text ≡ printed (length before + 1) last ++ 10 ∷ []
 
 -- the event of a line that is one
 abbrev pub IsEventOf : Line → Event BuiltIn → Type 0
@@ -142,7 +163,7 @@ IsEventOf _ one = ⊥
 
 -- the events of a line and their replies, for which it prints this: turns of its attempt, none where something is shown, and otherwise one
 abbrev pub AreOfLine : Line → (text : List ℕ) → List (Event BuiltIn) → List Reply → Type 0
-AreOfLine (Turn id attempt count) text own answers = AreTurns id attempt text own answers
+AreOfLine (Turn id attempt count outcome) text own answers = AreTurns id attempt outcome text own answers
 AreOfLine Due text own answers = (own ≡ []) × (answers ≡ [])
 AreOfLine (Show id) text own answers = (own ≡ []) × (answers ≡ [])
 AreOfLine (State object) text own answers = (own ≡ []) × (answers ≡ [])

@@ -4,7 +4,9 @@ use Rattle.schedule_runs.specs.Attempts.turn
 use Rattle.schedule_runs.specs.Attempts.{Turn}
 use Rattle.schedule_runs.specs.Schedules.reply
 use Rattle.schedule_runs.specs.Schedules.{Reply, name_of}
+use Rattle.schedule_runs.specs.Schedules.refusal
 use Rattle.store_refusals.specs.Names as store
+use Rattle.store_refusals.specs.declared.refusal.Refusal.TheVariants.{OutOfMemory}
 use Rattle.script_lines.specs.declared.text.LastTurn.{LastTurn}
 use Rattle.script_lines.specs.declared.text.LastTurn.TheVariants as last
 use Rattle.script_lines.specs.declared.text.LineReply.TheVariants.{Done, Placed, Ticked, Begun, Fed, Turned}
@@ -12,10 +14,15 @@ use Rattle.script_lines.specs.Text.{reply_text, moved_text, moved_until_text, re
 
 abbrev pub word_of : Turn → LastTurn
 word_of turn.Answered = last.Answered
+word_of turn.RanBody = last.Ran
 word_of turn.Waiting = last.Waiting
 word_of turn.Suspended = last.Suspended
 word_of turn.Ended = last.Ended
 word_of (turn.Failed error) = last.Failed error.code.0
+
+-- memory was refused
+abbrev pub refused_memory : Reply
+refused_memory = reply.Refused (refusal.Store OutOfMemory)
 
 -- the text of a reply, the last one to so many turns where it is that of a turn
 abbrev pub printed : ℕ → Reply → List ℕ

@@ -16,7 +16,7 @@ use Rattle.schedule_runs.specs.Passed.{HoldsOf}
 use Rattle.schedule_runs.specs.Runs.{Leaves, at_first}
 use Rattle.schedule_runs.specs.Schedules.{AppliesAll, Brings, Event, HeldAttempt, Reply, Scheduled}
 use Rattle.built_in_handlers.specs.BuiltIn.{function_of}
-use Rattle.built_in_handlers.specs.Handlers.{nap, nap99, race, both, ask, pair, twice, keys, read, go, hook}
+use Rattle.built_in_handlers.specs.Handlers.{nap, nap99, race, both, ask, pair, twice, keys, read, effect, go, hook}
 use Rattle.script_lines.specs.declared.word.HandlerName.{HandlerName}
 use Rattle.script_lines.specs.declared.word.HandlerName.TheVariants as name
 use Rattle.script_lines.specs.declared.line.Line.{Line}
@@ -200,6 +200,7 @@ named_function name.Pair = pair
 named_function name.Twice = twice
 named_function name.Keys = keys
 named_function name.Read = read
+named_function name.Effect = effect
 named_function name.Go = go
 named_function name.Hook = hook
 

@@ -4,6 +4,7 @@
 mod due;
 mod entry;
 pub mod laws;
+mod outcome;
 mod reply;
 mod run;
 mod runner;

@@ -13,6 +13,7 @@ fn last_turn(turn: &Turn) -> LastTurn
 {
     match turn {
         Turn::Answered => LastTurn::Answered,
+        Turn::RanBody => LastTurn::Ran,
         Turn::Waiting => LastTurn::Waiting,
         Turn::Suspended => LastTurn::Suspended,
         Turn::Ended => LastTurn::Ended,

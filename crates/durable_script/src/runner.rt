@@ -4,10 +4,11 @@ ghost use Rattle.script_lines.specs.Line.{IsLine};
 ghost use Rattle.vm_types.specs.Options.{default_options};
 ghost use Rattle.durable_script.specs.Reaching.{Nowhere, Reaches};
 ghost use Rattle.durable_script.specs.Printed.{Makes};
-ghost use Rattle.durable_script.specs.Line.{brought, new_invocation, signal_key, was_answered, IsBegin, DoesEvent, DoesSomeEvent, TakesTurns, TookTurns, DoesLine, DoesSomeLine};
+ghost use Rattle.durable_script.specs.Line.{brought, new_invocation, signal_key, goes_on, IsBegin, DoesEvent, DoesSomeEvent, TakesTurn, TakesTurns, TookTurns, DoesLine, DoesSomeLine};
 ghost use Rattle.durable_script.specs.Runner.{DoesNext, StopsAt};
 
 use crate::due::show_due;
+use crate::outcome::run_outcome;
 use crate::reply::{line_reply, reply_line};
 use crate::show::show;
 use crate::state::show_state;
@@ -15,9 +16,10 @@ use built_in_handlers::BuiltIn;
 use bytes::{ByteStr, Bytes};
 use journal_model::{Failure, NewInvocation, NotificationResult};
 use journal_store::Store;
-use schedule_runs::{Event, OutsideSignal, Reply, Scheduler, Turn};
+use schedule_runs::{Event, OutsideSignal, Refusal, Reply, Scheduler, Turn};
 use script_lines::fault::ScriptFault;
 use script_lines::line::{Line, parse_line};
+use script_lines::outcome::LineOutcome;
 use script_lines::target::LineTarget;
 use script_lines::value::LineValue;
 use script_lines::word::{HandlerName, StateMode};
@@ -109,11 +111,26 @@ fn do_event<S: Alter + Drop>(
     text
 }
 
-/// Whether a reply is that of a turn that was answered.
-fn was_answered(reply: &Reply) -> bool
-    ensures { result ≡ was_answered reply.now }
+/// Whether a reply is that of a turn behind which there is another to make.
+fn goes_on(reply: &Reply) -> bool
+    ensures { result ≡ goes_on reply.now }
 {
-    matches!(reply, Reply::Turned(Turn::Answered))
+    matches!(reply, Reply::Turned(Turn::Answered | Turn::RanBody))
+}
+
+/// Takes a turn, or none where memory is refused for the copy of the outcome.
+fn take_turn<S: Alter + Drop>(
+    scheduler: &mut Scheduler<BuiltIn, S>,
+    id: &ByteStr,
+    attempt: u32,
+    outcome: &Option<LineOutcome>,
+) -> Reply
+    ensures { Reaches S.Store Nowhere (TakesTurn id.now attempt outcome.now result) scheduler.old scheduler.new }
+{
+    match run_outcome(scheduler.alloc, outcome) {
+        Ok(given) => scheduler.take_turn(id, attempt, given),
+        Err(_) => Reply::Refused(Refusal::Store(store_refusals::Refusal::OutOfMemory)),
+    }
 }
 
 /// Takes up to so many turns, and answers how many, and the last reply.
@@ -122,14 +139,15 @@ fn take_turns<S: Alter + Drop>(
     id: &ByteStr,
     attempt: u32,
     count: u32,
+    outcome: &Option<LineOutcome>,
 ) -> (u32, Reply)
     requires { 1 ≤ count }
-    ensures { Reaches S.Store Nowhere (TookTurns id.now attempt count result.0 result.1) scheduler.old scheduler.new }
+    ensures { Reaches S.Store Nowhere (TookTurns id.now attempt count outcome.now result.0 result.1) scheduler.old scheduler.new }
 {
     let mut taken = 1u32;
     loop {
-        let reply = scheduler.take_turn(id, attempt);
-        if taken == count || !was_answered(&reply) {
+        let reply = take_turn(scheduler, id, attempt, outcome);
+        if taken == count || !goes_on(&reply) {
             return (taken, reply);
         }
         drop(reply);
@@ -143,11 +161,13 @@ fn do_turns<S: Alter + Drop>(
     id: &ByteStr,
     attempt: u32,
     count: u32,
+    outcome: Option<LineOutcome>,
 ) -> Result<String, AllocError>
     requires { 1 ≤ count }
-    ensures { Makes string_bytes result (λ text. Reaches S.Store Nowhere (TakesTurns id.now attempt count text) scheduler.old scheduler.new) }
+    ensures { Makes string_bytes result (λ text. Reaches S.Store Nowhere (TakesTurns id.now attempt count outcome text) scheduler.old scheduler.new) }
 {
-    let (taken, reply) = take_turns(scheduler, id, attempt, count);
+    let (taken, reply) = take_turns(scheduler, id, attempt, count, &outcome);
+    drop(outcome);
     let text = reply_line(scheduler.alloc, line_reply(taken, &reply));
     drop(reply);
     text
@@ -226,7 +246,12 @@ fn carry_out<S: Alter + Drop>(
                 attempt,
             },
         ),
-        Line::Turn { id, attempt, count } => do_turns(scheduler, &id, attempt, count),
+        Line::Turn {
+            id,
+            attempt,
+            count,
+            outcome,
+        } => do_turns(scheduler, &id, attempt, count, outcome),
         Line::Move { id, attempt, count } => do_event(
             scheduler,
             Event::Move {

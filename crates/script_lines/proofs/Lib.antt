@@ -1,6 +1,7 @@
 pub mod WordLaws
 pub mod TargetLaws
 pub mod ValueLaws
+pub mod OutcomeLaws
 pub mod LineLaws
 pub mod SplitLaws
 pub mod Writing

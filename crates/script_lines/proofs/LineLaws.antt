@@ -1,6 +1,6 @@
 -- A line is read just where the bytes are its spelling.
 use Rattle.std.proofs.Common.{◌≡◌, ℕ, ◌^◌, ◌<◌, ◌≤◌, true, false, eqb, inl, inr, List, [], ◌∷◌, ◌++◌, Option, Some, None, refl, sym, ap, subst, ◌∙◌, arith, ◌≢◌}
-use Rattle.std.specs.Prelude.{codes, decimal, nat_lt}
+use Rattle.std.specs.Prelude.{codes, decimal, nat_lt, IfSome}
 use Rattle.std.specs.List.{AllByRecursion, list_all, join_with_byte, slice_split}
 use Rattle.std.specs.Str.Parse.{AllDigits}
 use Rattle.std.proofs.lemmas.Bool.{ne_eqb, eqb-false, and_parts, ltb-true}
@@ -12,21 +12,24 @@ use Rattle.std.proofs.lemmas.List.Splits.{slice_split_at, slice_split_none, join
 use Rattle.script_lines.specs.declared.word.StateMode.{StateMode}
 use Rattle.script_lines.specs.declared.word.StateMode.TheVariants.{Whole, Hidden}
 use Rattle.script_lines.specs.declared.word.HandlerName.{HandlerName}
-use Rattle.script_lines.specs.declared.word.HandlerName.TheVariants.{Nap, Nap99, Race, Both, Ask, Pair, Twice, Keys, Read, Go, Hook}
+use Rattle.script_lines.specs.declared.word.HandlerName.TheVariants.{Nap, Nap99, Race, Both, Ask, Pair, Twice, Keys, Read, Effect, Go, Hook}
 use Rattle.script_lines.specs.declared.word.Command.{Command}
 use Rattle.script_lines.specs.declared.word.Command.TheVariants.{Invoke as InvokeCommand, Result as ResultCommand, Signal as SignalCommand, Cancel as CancelCommand, Tick as TickCommand, Begin as BeginCommand, Feed as FeedCommand, Close as CloseCommand, Turn as TurnCommand, Move as MoveCommand, Stop as StopCommand, Due as DueCommand, Show as ShowCommand, State as StateCommand}
 use Rattle.script_lines.specs.declared.target.LineTarget.{LineTarget}
 use Rattle.script_lines.specs.declared.target.LineTarget.TheVariants.{Number, Name}
 use Rattle.script_lines.specs.declared.value.LineValue.{LineValue}
 use Rattle.script_lines.specs.declared.value.LineValue.TheVariants.{Void, Value, Failure, InvocationId}
+use Rattle.script_lines.specs.declared.outcome.LineOutcome.{LineOutcome}
+use Rattle.script_lines.specs.declared.outcome.LineOutcome.TheVariants as outcomes
 use Rattle.script_lines.specs.declared.line.Line.{Line}
 use Rattle.script_lines.specs.declared.line.Line.TheVariants.{Invoke, Result as ResultLine, Signal, Cancel, Tick, Begin, Feed, Close, Turn, Move, Stop, Due, Show, State}
-use Rattle.script_lines.specs.Word.{text_word, IsText, IsWordByte, mode_word, handler_word, target_word, IsTarget, value_word, IsValue}
-use Rattle.script_lines.specs.Line.{words_of, spelled, IsLine}
-use Rattle.script_lines.specs.Reading.{then_read, text_of, invoke_of, result_of, signal_of, cancel_of, tick_of, begin_of, feed_of, close_of, turn_of, move_of, stop_of, show_of, state_of, of_none, of_one, of_two, of_three, of_six, command_of, arguments_of, line_of}
+use Rattle.script_lines.specs.Word.{text_word, IsText, IsWordByte, mode_word, handler_word, target_word, IsTarget, value_word, IsValue, coded_word, IsCoded, outcome_word, IsOutcome}
+use Rattle.script_lines.specs.Line.{words_of, spelled, IsLine, outcome_words}
+use Rattle.script_lines.specs.Reading.{then_read, invoke_of, result_of, signal_of, cancel_of, tick_of, begin_of, feed_of, close_of, turns_of, turn_of, ending_turn_of, move_of, stop_of, show_of, state_of, of_none, of_one, of_two, of_three, of_six, of_turn, command_of, arguments_of, line_of}
 use Rattle.script_lines.proofs.WordLaws.{number_32, number_64, text_reading, mode_reading, handler_reading, read_step, chosen, tested}
 use Rattle.script_lines.proofs.TargetLaws.{target_reading}
 use Rattle.script_lines.proofs.ValueLaws.{value_reading}
+use Rattle.script_lines.proofs.OutcomeLaws.{outcome_reading}
 
 -- the words are those of the line
 record Spells (words : List (List ℕ)) (line : Line) : Type 0 where
@@ -104,20 +107,49 @@ close_takes id attempt line e =
     let at = number_32.takes attempt a.0 a.1 in
     made _ (Close i.0 a.0) line i.2 (record { is_line = (it.0, at.0); same = next refl (next it.1 (next at.1 refl)) })
 
-turn_takes : (id attempt count : List ℕ) (line : Line) → turn_of id attempt count ≡ Some line → Spells (codes "turn" ∷ id ∷ attempt ∷ count ∷ []) line
-unfolding turn_of
-turn_takes id attempt count line e =
+-- so many turns of an attempt are read so
+record Counts (attempt count : List ℕ) (turns : ℕ × ℕ) : Type 0 where
+  attempt_fits : turns.0 < 2 ^ 32
+  some : 1 ≤ turns.1
+  count_fits : turns.1 < 2 ^ 32
+  attempt_is : attempt ≡ decimal turns.0
+  count_is : count ≡ decimal turns.1
+
+turns_take : (attempt count : List ℕ) (turns : ℕ × ℕ) → turns_of attempt count ≡ Some turns → Counts attempt count turns
+unfolding turns_of
+turns_take attempt count turns e =
     let a = read_step e in let c = read_step a.2 in
     let at = number_32.takes attempt a.0 a.1 in
     let ct = number_32.takes count c.0 c.1 in
-    elim (chosen (eqb c.0 0) None (then_read (text_of id) (λ (text : List ℕ). Some (Turn text a.0 c.0))) (Some line) c.2) [
-      | inl h ↦ absurd (none-some line h.1)
+    elim (chosen (eqb c.0 0) None (Some (a.0, c.0)) (Some turns) c.2) [
+      | inl h ↦ absurd (none-some turns h.1)
       | inr h ↦
           let some : 1 ≤ c.0 = let no_zero : c.0 ≢ 0 = eqb-false c.0 0 h.0 in omega arith in
-          let i = read_step h.1 in
-          let it = text_reading.takes id i.0 i.1 in
-          made _ (Turn i.0 a.0 c.0) line i.2 (record { is_line = (it.0, at.0, some, ct.0); same = next refl (next it.1 (next at.1 (next ct.1 refl))) })
+          subst (λ (both : ℕ × ℕ). Counts attempt count both) (same_Some (a.0, c.0) turns h.1) (record { attempt_fits = at.0; some = some; count_fits = ct.0; attempt_is = at.1; count_is = ct.1 })
     ]
+
+turns_again : (attempt count : ℕ) → attempt < 2 ^ 32 → 1 ≤ count → count < 2 ^ 32 → turns_of (decimal attempt) (decimal count) ≡ Some (attempt, count)
+unfolding turns_of then_read
+turns_again attempt count a least c =
+    let some : eqb count 0 ≡ false = ne_eqb count 0 (λ e. omega arith) in
+    rw (number_32.again attempt a, number_32.again count c, some) refl
+
+turn_takes : (id attempt count : List ℕ) (line : Line) → turn_of id attempt count ≡ Some line → Spells (codes "turn" ∷ id ∷ attempt ∷ count ∷ []) line
+unfolding turn_of
+turn_takes id attempt count line e =
+    let t = read_step e in let i = read_step t.2 in
+    let counts = turns_take attempt count t.0 t.1 in
+    let it = text_reading.takes id i.0 i.1 in
+    made _ (Turn i.0 t.0.0 t.0.1 None) line i.2 (record { is_line = (it.0, counts.attempt_fits, counts.some, counts.count_fits, tt); same = next refl (next it.1 (next counts.attempt_is (next counts.count_is refl))) })
+
+ending_turn_takes : (id attempt count outcome : List ℕ) (line : Line) → ending_turn_of id attempt count outcome ≡ Some line → Spells (codes "turn" ∷ id ∷ attempt ∷ count ∷ outcome ∷ []) line
+unfolding ending_turn_of
+ending_turn_takes id attempt count outcome line e =
+    let t = read_step e in let i = read_step t.2 in let o = read_step i.2 in
+    let counts = turns_take attempt count t.0 t.1 in
+    let it = text_reading.takes id i.0 i.1 in
+    let ot = outcome_reading.takes outcome o.0 o.1 in
+    made _ (Turn i.0 t.0.0 t.0.1 (Some o.0)) line o.2 (record { is_line = (it.0, counts.attempt_fits, counts.some, counts.count_fits, ot.0); same = next refl (next it.1 (next counts.attempt_is (next counts.count_is (next ot.1 refl)))) })
 
 move_takes : (id attempt count : List ℕ) (line : Line) → move_of id attempt count ≡ Some line → Spells (codes "move" ∷ id ∷ attempt ∷ count ∷ []) line
 unfolding move_of
@@ -195,6 +227,15 @@ six_words read (a ∷ b ∷ c ∷ d ∷ []) line h = absurd cc
 six_words read (a ∷ b ∷ c ∷ d ∷ e ∷ []) line h = absurd cc
 six_words read (a ∷ b ∷ c ∷ d ∷ e ∷ f ∷ g ∷ more) line h = absurd cc
 
+turn_words : (words : List (List ℕ)) (line : Line) → of_turn words ≡ Some line → Spells (codes "turn" ∷ words) line
+unfolding of_turn
+turn_words (a ∷ b ∷ c ∷ []) line e = turn_takes a b c line e
+turn_words (a ∷ b ∷ c ∷ d ∷ []) line e = ending_turn_takes a b c d line e
+turn_words [] line e = absurd cc
+turn_words (a ∷ []) line e = absurd cc
+turn_words (a ∷ b ∷ []) line e = absurd cc
+turn_words (a ∷ b ∷ c ∷ d ∷ f ∷ more) line e = absurd cc
+
 abbrev command_word : Command → List ℕ
 command_word InvokeCommand = codes "invoke"
 command_word ResultCommand = codes "result"
@@ -232,7 +273,7 @@ arguments_take TickCommand words line e = let w = one_words tick_of words line e
 arguments_take BeginCommand words line e = let w = three_words begin_of words line e in retold _ words _ line w.3 (begin_takes w.0 w.1 w.2 line w.4)
 arguments_take FeedCommand words line e = let w = three_words feed_of words line e in retold _ words _ line w.3 (feed_takes w.0 w.1 w.2 line w.4)
 arguments_take CloseCommand words line e = let w = two_words close_of words line e in retold _ words _ line w.2 (close_takes w.0 w.1 line w.3)
-arguments_take TurnCommand words line e = let w = three_words turn_of words line e in retold _ words _ line w.3 (turn_takes w.0 w.1 w.2 line w.4)
+arguments_take TurnCommand words line e = turn_words words line e
 arguments_take MoveCommand words line e = let w = three_words move_of words line e in retold _ words _ line w.3 (move_takes w.0 w.1 w.2 line w.4)
 arguments_take StopCommand words line e = let w = two_words stop_of words line e in retold _ words _ line w.2 (stop_takes w.0 w.1 line w.3)
 arguments_take DueCommand words line e = let w = no_words Due words line e in retold _ words _ line w.0 (subst (λ (l : Line). Spells (codes "due" ∷ []) l) w.1 (record { is_line = tt; same = refl }))
@@ -250,7 +291,7 @@ line_takes (word ∷ words) line e =
 -- ---- what is spelled so is read
 
 line_again : (line : Line) → IsLine line → line_of (words_of line) ≡ Some line
-unfolding line_of then_read command_of arguments_of of_none of_one of_two of_three of_six invoke_of result_of signal_of cancel_of tick_of begin_of feed_of close_of turn_of move_of stop_of show_of state_of
+unfolding line_of then_read command_of arguments_of of_none of_one of_two of_three of_six of_turn invoke_of result_of signal_of cancel_of tick_of begin_of feed_of close_of turn_of ending_turn_of move_of stop_of show_of state_of
 line_again (Invoke id object version state seed input) h =
     rw (text_reading.again id h.0, text_reading.again object h.1, number_32.again version h.2, mode_reading.again state tt, number_64.again seed h.3, text_reading.again input h.4) refl
 line_again (ResultLine id completion value) h = rw (text_reading.again id h.0, number_32.again completion h.1, value_reading.again value h.2) refl
@@ -259,9 +300,8 @@ line_again (Tick now) h = rw (number_64.again now h) refl
 line_again (Begin id handler now) h = rw (text_reading.again id h.0, handler_reading.again handler tt, number_64.again now h.1) refl
 line_again (Feed id attempt count) h = rw (text_reading.again id h.0, number_32.again attempt h.1, number_32.again count h.2) refl
 line_again (Close id attempt) h = rw (text_reading.again id h.0, number_32.again attempt h.1) refl
-line_again (Turn id attempt count) h =
-    let some : eqb count 0 ≡ false = ne_eqb count 0 (λ e. let least = h.2 in omega arith) in
-    rw (text_reading.again id h.0, number_32.again attempt h.1, number_32.again count h.3, some) refl
+line_again (Turn id attempt count None) h = rw (turns_again attempt count h.1 h.2 h.3, text_reading.again id h.0) refl
+line_again (Turn id attempt count (Some outcome)) h = rw (turns_again attempt count h.1 h.2 h.3, text_reading.again id h.0, outcome_reading.again outcome h.4) refl
 line_again (Move id attempt count) h = rw (text_reading.again id h.0, number_32.again attempt h.1, number_32.again count h.2) refl
 line_again (Stop id attempt) h = rw (text_reading.again id h.0, number_32.again attempt h.1) refl
 line_again Due h = refl
@@ -313,6 +353,7 @@ handler-no_space Pair = letters (codes "pair") refl
 handler-no_space Twice = letters (codes "twice") refl
 handler-no_space Keys = letters (codes "keys") refl
 handler-no_space Read = letters (codes "read") refl
+handler-no_space Effect = letters (codes "effect") refl
 handler-no_space Go = letters (codes "go") refl
 handler-no_space Hook = letters (codes "hook") refl
 
@@ -320,13 +361,25 @@ joined-no_space : (front back : List ℕ) → NoSpace front → NoSpace back →
 joined-no_space [] back f b = b
 joined-no_space (byte ∷ front) back f b = (f.0, joined-no_space front back f.1 b)
 
+coded-no_space : (code : ℕ) (message : List ℕ) → IsCoded code message → NoSpace (coded_word code message)
+coded-no_space code message h =
+    let below = h.0 in
+    joined-no_space (decimal code) (58 ∷ message) (decimal-no_space code (omega arith)) (refl, printable-no_space message (recursion_from_All IsWordByte message h.1))
+
 value-no_space : (value : LineValue) → IsValue value → NoSpace (value_word value)
 value-no_space Void h = letters (codes "void") refl
 value-no_space (Value bytes) h = (refl, (refl, printable-no_space bytes (recursion_from_All IsWordByte bytes h)))
-value-no_space (Failure code message) h =
-    let below = h.0 in
-    (refl, (refl, joined-no_space (decimal code) (58 ∷ message) (decimal-no_space code (omega arith)) (refl, printable-no_space message (recursion_from_All IsWordByte message h.1))))
+value-no_space (Failure code message) h = (refl, (refl, coded-no_space code message h))
 value-no_space (InvocationId id) h = (refl, (refl, (refl, printable-no_space id (recursion_from_All IsWordByte id h))))
+
+outcome-no_space : (outcome : LineOutcome) → IsOutcome outcome → NoSpace (outcome_word outcome)
+outcome-no_space (outcomes.Success bytes) h = (refl, (refl, (refl, printable-no_space bytes (recursion_from_All IsWordByte bytes h))))
+outcome-no_space (outcomes.Failure code message) h = joined-no_space (codes "fail:") (coded_word code message) (letters (codes "fail:") refl) (coded-no_space code message h)
+outcome-no_space (outcomes.Retry code message) h = joined-no_space (codes "retry:") (coded_word code message) (letters (codes "retry:") refl) (coded-no_space code message h)
+
+outcomes-no_space : (outcome : Option LineOutcome) → IfSome outcome IsOutcome → AllByRecursion NoSpace (outcome_words outcome)
+outcomes-no_space None h = tt
+outcomes-no_space (Some outcome) h = (outcome-no_space outcome h, tt)
 
 target-no_space : (target : LineTarget) → IsTarget target → NoSpace (target_word target)
 target-no_space (Number number) h = (refl, decimal-no_space number (omega (arith, h)))
@@ -349,7 +402,9 @@ words-no_space (Begin id handler now) h =
     (letters (codes "begin") refl, (text-no_space id h.0, (handler-no_space handler, (decimal-no_space now (omega arith), tt))))
 words-no_space (Feed id attempt count) h = counted-no_space (codes "feed") id attempt count (letters (codes "feed") refl) h.0 h.1 h.2
 words-no_space (Close id attempt) h = let a = h.1 in (letters (codes "close") refl, (text-no_space id h.0, (decimal-no_space attempt (omega arith), tt)))
-words-no_space (Turn id attempt count) h = counted-no_space (codes "turn") id attempt count (letters (codes "turn") refl) h.0 h.1 h.3
+words-no_space (Turn id attempt count outcome) h =
+    let a = h.1 in let c = h.3 in
+    (letters (codes "turn") refl, (text-no_space id h.0, (decimal-no_space attempt (omega arith), (decimal-no_space count (omega arith), outcomes-no_space outcome h.4))))
 words-no_space (Move id attempt count) h = counted-no_space (codes "move") id attempt count (letters (codes "move") refl) h.0 h.1 h.2
 words-no_space (Stop id attempt) h = let a = h.1 in (letters (codes "stop") refl, (text-no_space id h.0, (decimal-no_space attempt (omega arith), tt)))
 words-no_space Due h = (letters (codes "due") refl, tt)
@@ -370,7 +425,7 @@ words_again (Tick now) h = split_again _ _ (words-no_space (Tick now) h)
 words_again (Begin id handler now) h = split_again _ _ (words-no_space (Begin id handler now) h)
 words_again (Feed id attempt count) h = split_again _ _ (words-no_space (Feed id attempt count) h)
 words_again (Close id attempt) h = split_again _ _ (words-no_space (Close id attempt) h)
-words_again (Turn id attempt count) h = split_again _ _ (words-no_space (Turn id attempt count) h)
+words_again (Turn id attempt count outcome) h = split_again _ _ (words-no_space (Turn id attempt count outcome) h)
 words_again (Move id attempt count) h = split_again _ _ (words-no_space (Move id attempt count) h)
 words_again (Stop id attempt) h = split_again _ _ (words-no_space (Stop id attempt) h)
 words_again Due h = split_again _ _ (words-no_space Due h)

@@ -14,8 +14,8 @@ use Rattle.std.proofs.lemmas.List.Elements.{All-from_recursion, recursion_from_A
 use Rattle.std.proofs.lemmas.List.Sums.{split_at_first, passes_at_first}
 use Rattle.script_lines.specs.declared.value.LineValue.{LineValue}
 use Rattle.script_lines.specs.declared.value.LineValue.TheVariants.{Void, Value, Failure, InvocationId}
-use Rattle.script_lines.specs.Word.{IsWordByte, value_word, IsValue}
-use Rattle.script_lines.specs.Reading.{then_read, printable_of, at_colon, failure_of, value_in, value_of}
+use Rattle.script_lines.specs.Word.{IsWordByte, IsCoded, coded_word, value_word, IsValue}
+use Rattle.script_lines.specs.Reading.{then_read, printable_of, at_colon, coded_of, value_in, value_of}
 use Rattle.script_lines.proofs.WordLaws.{IsReading, number_16, printable_takes, printable_again, read_step, chosen}
 
 -- ---- at the first colon
@@ -24,7 +24,7 @@ mapped : {A B : Type 0} (f : A → B) (b : Bool) (x : A) (y : B) → option_map 
 mapped f true x y e = (refl, same_Some (f x) y e)
 mapped f false x y e = absurd (none-some y e)
 
-colon_takes : (bytes : List ℕ) (parts : List ℕ × List ℕ) → at_colon bytes ≡ Some parts → bytes ≡ parts.0 ++ 58 ∷ parts.1
+pub colon_takes : (bytes : List ℕ) (parts : List ℕ × List ℕ) → at_colon bytes ≡ Some parts → bytes ≡ parts.0 ++ 58 ∷ parts.1
 unfolding at_colon
 colon_takes bytes parts e =
     let place = position_or_len (λ byte. eqb byte 58) bytes in
@@ -56,7 +56,7 @@ place_behind : (front back : List ℕ) → NoColon front → position_or_len (λ
 place_behind [] back h = refl
 place_behind (byte ∷ front) back h = let later = place_behind front back h.1 in rw h.0 (omega arith)
 
-colon_again : (front back : List ℕ) → NoColon front → at_colon (front ++ 58 ∷ back) ≡ Some (front, back)
+pub colon_again : (front back : List ℕ) → NoColon front → at_colon (front ++ 58 ∷ back) ≡ Some (front, back)
 unfolding at_colon
 colon_again front back h =
     let long = length-append front (58 ∷ back) in
@@ -69,24 +69,31 @@ digits-no_colon (digit ∷ digits) h =
     let range = digit_from_value digit h.0 in
     (ne_eqb digit 58 (λ e. let high = range.1 in omega arith), digits-no_colon digits h.1)
 
+-- a code and a text are read so
+pub coded_takes : (text : List ℕ) (coded : ℕ × List ℕ) → coded_of text ≡ Some coded → IsCoded coded.0 coded.1 × (text ≡ coded_word coded.0 coded.1)
+unfolding coded_of
+coded_takes text coded e =
+    let p = read_step e in let c = read_step p.2 in let m = read_step c.2 in
+    let split = colon_takes text p.0 p.1 in
+    let code = number_16.takes p.0.0 c.0 c.1 in
+    let message = printable_takes p.0.1 m.0 m.1 in
+    let same : text ≡ coded_word c.0 m.0 = split ∙ ap (λ (digits : List ℕ). digits ++ 58 ∷ p.0.1) code.1 ∙ ap (λ (bytes : List ℕ). coded_word c.0 bytes) message.1 in
+    subst (λ (both : ℕ × List ℕ). IsCoded both.0 both.1 × (text ≡ coded_word both.0 both.1)) (same_Some (c.0, m.0) coded m.2) ((code.0, All-from_recursion IsWordByte m.0 message.0), same)
+
+pub coded_again : (code : ℕ) (message : List ℕ) → IsCoded code message → coded_of (coded_word code message) ≡ Some (code, message)
+unfolding coded_of then_read
+coded_again code message h =
+    let parts : at_colon (coded_word code message) ≡ Some (decimal code, message) = let below = h.0 in colon_again (decimal code) message (digits-no_colon (decimal code) (decimal_is_IsNumeral code (omega arith)).0.1) in
+    rw (parts, number_16.again code h.0, printable_again message (recursion_from_All IsWordByte message h.1)) refl
+
 -- ---- values
 
 -- a value is read so, and the word was its own
 abbrev Takes : List ℕ → LineValue → Type 0
 Takes word value = IsValue value × (word ≡ value_word value)
 
-failure_takes : (text : List ℕ) (value : LineValue) → failure_of text ≡ Some value → Takes (codes "f:" ++ text) value
-unfolding failure_of
-failure_takes text value e =
-    let p = read_step e in let c = read_step p.2 in let m = read_step c.2 in
-    let split = colon_takes text p.0 p.1 in
-    let code = number_16.takes p.0.0 c.0 c.1 in
-    let message = printable_takes p.0.1 m.0 m.1 in
-    let same : text ≡ decimal c.0 ++ 58 ∷ m.0 = split ∙ ap (λ (digits : List ℕ). digits ++ 58 ∷ p.0.1) code.1 ∙ ap (λ (bytes : List ℕ). decimal c.0 ++ 58 ∷ bytes) message.1 in
-    subst (λ (v : LineValue). Takes (codes "f:" ++ text) v) (same_Some (Failure c.0 m.0) value m.2) ((code.0, All-from_recursion IsWordByte m.0 message.0), ap (λ (bytes : List ℕ). codes "f:" ++ bytes) same)
-
 -- the kind that was tested for
-kind_is : (word kind text name : List ℕ) → word ≡ kind ++ 58 ∷ text → bytes_eq kind name ≡ true → word ≡ name ++ 58 ∷ text
+pub kind_is : (word kind text name : List ℕ) → word ≡ kind ++ 58 ∷ text → bytes_eq kind name ≡ true → word ≡ name ++ 58 ∷ text
 kind_is word kind text name split e = split ∙ ap (λ (k : List ℕ). k ++ 58 ∷ text) ((bytes_eq-Decides kind name).0 e)
 
 -- a kind whose text is any printable bytes
@@ -98,14 +105,23 @@ bytes_take make word kind text name value so split named e =
     subst (λ (w : LineValue). Takes word w) (same_Some (make t.0) value t.2)
     (so t.0 (All-from_recursion IsWordByte t.0 bytes.0) (kind_is word kind text name split named ∙ ap (λ (b : List ℕ). name ++ 58 ∷ b) bytes.1))
 
+-- a kind whose text is a code and any printable bytes
+coded_take : (make : ℕ → List ℕ → LineValue) (word kind text name : List ℕ) (value : LineValue) → ((code : ℕ) (message : List ℕ) → IsCoded code message → word ≡ name ++ 58 ∷ coded_word code message → Takes word (make code message))
+    → word ≡ kind ++ 58 ∷ text → bytes_eq kind name ≡ true → then_read (coded_of text) (λ (coded : ℕ × List ℕ). Some (make coded.0 coded.1)) ≡ Some value → Takes word value
+coded_take make word kind text name value so split named e =
+    let t = read_step e in
+    let coded = coded_takes text t.0 t.1 in
+    subst (λ (w : LineValue). Takes word w) (same_Some (make t.0.0 t.0.1) value t.2)
+    (so t.0.0 t.0.1 coded.0 (kind_is word kind text name split named ∙ ap (λ (b : List ℕ). name ++ 58 ∷ b) coded.1))
+
 kind_takes : (word kind text : List ℕ) (value : LineValue) → word ≡ kind ++ 58 ∷ text → value_in kind text ≡ Some value → Takes word value
 unfolding value_in
 kind_takes word kind text value split e =
     elim (chosen (bytes_eq kind (codes "v")) (then_read (printable_of text) (λ (bytes : List ℕ). Some (Value bytes))) _ (Some value) e) [
       | inl v ↦ bytes_take Value word kind text (codes "v") value (λ bytes all is. (all, is)) split v.0 v.1
       | inr other ↦
-          elim (chosen (bytes_eq kind (codes "f")) (failure_of text) _ (Some value) other.1) [
-            | inl f ↦ let taken = failure_takes text value f.1 in (taken.0, kind_is word kind text (codes "f") split f.0 ∙ taken.1)
+          elim (chosen (bytes_eq kind (codes "f")) (then_read (coded_of text) (λ (coded : ℕ × List ℕ). Some (Failure coded.0 coded.1))) _ (Some value) other.1) [
+            | inl f ↦ coded_take Failure word kind text (codes "f") value (λ code message fits is. (fits, is)) split f.0 f.1
             | inr more ↦
                 elim (chosen (bytes_eq kind (codes "id")) (then_read (printable_of text) (λ (id : List ℕ). Some (InvocationId id))) None (Some value) more.1) [
                   | inl i ↦ bytes_take InvocationId word kind text (codes "id") value (λ bytes all is. (all, is)) split i.0 i.1
@@ -123,16 +139,15 @@ value_takes word value e =
     ]
 
 value_again : (value : LineValue) → IsValue value → value_of (value_word value) ≡ Some value
-unfolding value_of value_in failure_of then_read
+unfolding value_of value_in then_read
 value_again Void h = refl
 value_again (Value bytes) h =
     let parts : at_colon (codes "v:" ++ bytes) ≡ Some (codes "v", bytes) = colon_again (codes "v") bytes (refl, tt) in
     rw (parts, printable_again bytes (recursion_from_All IsWordByte bytes h)) refl
 value_again (Failure code message) h =
-    let text = decimal code ++ 58 ∷ message in
+    let text = coded_word code message in
     let parts : at_colon (codes "f:" ++ text) ≡ Some (codes "f", text) = colon_again (codes "f") text (refl, tt) in
-    let inner : at_colon text ≡ Some (decimal code, message) = let below = h.0 in colon_again (decimal code) message (digits-no_colon (decimal code) (decimal_is_IsNumeral code (omega arith)).0.1) in
-    rw (parts, inner, number_16.again code h.0, printable_again message (recursion_from_All IsWordByte message h.1)) refl
+    rw (parts, coded_again code message h) refl
 value_again (InvocationId id) h =
     let parts : at_colon (codes "id:" ++ id) ≡ Some (codes "id", id) = colon_again (codes "id") id (refl, (refl, tt)) in
     rw (parts, printable_again id (recursion_from_All IsWordByte id h)) refl

@@ -6,7 +6,7 @@ use Rattle.std.specs.Str.Parse.{digits_value}
 use Rattle.script_lines.specs.declared.word.StateMode.{StateMode}
 use Rattle.script_lines.specs.declared.word.StateMode.TheVariants.{Whole, Hidden}
 use Rattle.script_lines.specs.declared.word.HandlerName.{HandlerName}
-use Rattle.script_lines.specs.declared.word.HandlerName.TheVariants.{Nap, Nap99, Race, Both, Ask, Pair, Twice, Keys, Read, Go, Hook}
+use Rattle.script_lines.specs.declared.word.HandlerName.TheVariants.{Nap, Nap99, Race, Both, Ask, Pair, Twice, Keys, Read, Effect, Go, Hook}
 use Rattle.script_lines.specs.Word.{handler_word}
 use Rattle.script_lines.specs.declared.word.LineError.{LineError}
 use Rattle.script_lines.specs.declared.word.LineError.TheVariants.{NotUnderstood, Memory}
@@ -16,6 +16,8 @@ use Rattle.script_lines.specs.declared.target.LineTarget.{LineTarget}
 use Rattle.script_lines.specs.declared.target.LineTarget.TheVariants.{Number, Name}
 use Rattle.script_lines.specs.declared.value.LineValue.{LineValue}
 use Rattle.script_lines.specs.declared.value.LineValue.TheVariants.{Void, Value, Failure, InvocationId}
+use Rattle.script_lines.specs.declared.outcome.LineOutcome.{LineOutcome}
+use Rattle.script_lines.specs.declared.outcome.LineOutcome.TheVariants as outcome
 use Rattle.script_lines.specs.declared.line.Line.{Line}
 use Rattle.script_lines.specs.declared.line.Line.TheVariants.{Invoke, Result as ResultLine, Signal, Cancel, Tick, Begin, Feed, Close, Turn, Move, Stop, Due, Show, State}
 
@@ -63,19 +65,21 @@ handler_of word =
     (if bytes_eq word (handler_word Twice) then Some Twice else
     (if bytes_eq word (handler_word Keys) then Some Keys else
     (if bytes_eq word (handler_word Read) then Some Read else
+    (if bytes_eq word (handler_word Effect) then Some Effect else
     (if bytes_eq word (handler_word Go) then Some Go else
-    (if bytes_eq word (handler_word Hook) then Some Hook else None))))))))))
+    (if bytes_eq word (handler_word Hook) then Some Hook else None)))))))))))
 
 -- what stands before the first colon, and behind it
 unfoldable pub at_colon : List ℕ → Option (List ℕ × List ℕ)
 at_colon bytes = option_map (λ place. (take place bytes, drop (place + 1) bytes)) (position (λ byte. byte == 58) bytes)
 
-unfoldable pub failure_of : List ℕ → Option LineValue
-failure_of bytes = do
+-- a code, and the text behind the colon
+unfoldable pub coded_of : List ℕ → Option (ℕ × List ℕ)
+coded_of bytes = do
   parts ← at_colon bytes
   code ← number_below (2 ^ 16) parts.0
   message ← printable_of parts.1
-  Some (Failure code message)
+  Some (code, message)
 
 -- the value of a kind, spelled behind the colon
 unfoldable pub value_in : List ℕ → List ℕ → Option LineValue
@@ -83,7 +87,9 @@ value_in kind text =
     if bytes_eq kind (codes "v") then (do
       bytes ← printable_of text
       Some (Value bytes)) else
-    (if bytes_eq kind (codes "f") then failure_of text else
+    (if bytes_eq kind (codes "f") then (do
+      coded ← coded_of text
+      Some (Failure coded.0 coded.1)) else
     (if bytes_eq kind (codes "id") then (do
       id ← printable_of text
       Some (InvocationId id)) else None))
@@ -92,6 +98,24 @@ unfoldable pub value_of : List ℕ → Option LineValue
 value_of word = if bytes_eq word (codes "void") then Some Void else (do
   parts ← at_colon word
   value_in parts.0 parts.1)
+
+-- the outcome of a kind, spelled behind the colon
+unfoldable pub outcome_in : List ℕ → List ℕ → Option LineOutcome
+outcome_in kind text =
+    if bytes_eq kind (codes "ok") then (do
+      bytes ← printable_of text
+      Some (outcome.Success bytes)) else
+    (if bytes_eq kind (codes "fail") then (do
+      coded ← coded_of text
+      Some (outcome.Failure coded.0 coded.1)) else
+    (if bytes_eq kind (codes "retry") then (do
+      coded ← coded_of text
+      Some (outcome.Retry coded.0 coded.1)) else None))
+
+unfoldable pub outcome_of : List ℕ → Option LineOutcome
+outcome_of word = do
+  parts ← at_colon word
+  outcome_in parts.0 parts.1
 
 -- the number behind a '#', where one is spelled there
 unfoldable pub signal_number_of : List ℕ → Option ℕ
@@ -164,13 +188,25 @@ close_of id attempt = do
   id ← text_of id
   Some (Close id attempt)
 
-unfoldable pub turn_of : List ℕ → List ℕ → List ℕ → Option Line
-turn_of id attempt count = do
+-- which attempt, and how many of its turns
+unfoldable pub turns_of : List ℕ → List ℕ → Option (ℕ × ℕ)
+turns_of attempt count = do
   attempt ← number_below (2 ^ 32) attempt
   count ← number_below (2 ^ 32) count
-  if count == 0 then None else (do
-    id ← text_of id
-    Some (Turn id attempt count))
+  if count == 0 then None else Some (attempt, count)
+
+unfoldable pub turn_of : List ℕ → List ℕ → List ℕ → Option Line
+turn_of id attempt count = do
+  turns ← turns_of attempt count
+  id ← text_of id
+  Some (Turn id turns.0 turns.1 None)
+
+unfoldable pub ending_turn_of : List ℕ → List ℕ → List ℕ → List ℕ → Option Line
+ending_turn_of id attempt count outcome = do
+  turns ← turns_of attempt count
+  id ← text_of id
+  outcome ← outcome_of outcome
+  Some (Turn id turns.0 turns.1 (Some outcome))
 
 unfoldable pub move_of : List ℕ → List ℕ → List ℕ → Option Line
 move_of id attempt count = do
@@ -216,6 +252,12 @@ unfoldable pub of_six : (List ℕ → List ℕ → List ℕ → List ℕ → Lis
 of_six read (a ∷ b ∷ c ∷ d ∷ e ∷ f ∷ []) = read a b c d e f
 of_six read words = None
 
+-- a turn, without an outcome or with one
+unfoldable pub of_turn : List (List ℕ) → Option Line
+of_turn (a ∷ b ∷ c ∷ []) = turn_of a b c
+of_turn (a ∷ b ∷ c ∷ d ∷ []) = ending_turn_of a b c d
+of_turn words = None
+
 unfoldable pub command_of : List ℕ → Option Command
 command_of word =
     if bytes_eq word (codes "invoke") then Some InvokeCommand else
@@ -242,7 +284,7 @@ arguments_of TickCommand = of_one tick_of
 arguments_of BeginCommand = of_three begin_of
 arguments_of FeedCommand = of_three feed_of
 arguments_of CloseCommand = of_two close_of
-arguments_of TurnCommand = of_three turn_of
+arguments_of TurnCommand = of_turn
 arguments_of MoveCommand = of_three move_of
 arguments_of StopCommand = of_two stop_of
 arguments_of DueCommand = of_none Due

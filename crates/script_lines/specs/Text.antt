@@ -4,7 +4,7 @@ use Rattle.std.specs.List.{flat_map}
 use Rattle.std.specs.Int.{w16, to_be_bytes}
 use Rattle.protocol_shown.specs.Texts.{hex_byte}
 use Rattle.script_lines.specs.declared.text.LastTurn.{LastTurn}
-use Rattle.script_lines.specs.declared.text.LastTurn.TheVariants.{Answered, Waiting, Suspended, Ended, Failed}
+use Rattle.script_lines.specs.declared.text.LastTurn.TheVariants.{Answered, Ran, Waiting, Suspended, Ended, Failed}
 use Rattle.script_lines.specs.declared.text.LineReply.{LineReply}
 use Rattle.script_lines.specs.declared.text.LineReply.TheVariants.{Done, Placed, Ticked, Begun, Fed, Turned, Moved, Refused}
 use Rattle.script_lines.specs.declared.text.ShownRequest.{ShownRequest}
@@ -20,6 +20,7 @@ hex_text (byte ∷ bytes) = flat_map hex_byte (byte ∷ bytes)
 
 abbrev pub turn_text : LastTurn → List ℕ
 turn_text Answered = codes "answered"
+turn_text Ran = codes "ran"
 turn_text Waiting = codes "waiting"
 turn_text Suspended = codes "suspended"
 turn_text Ended = codes "ended"

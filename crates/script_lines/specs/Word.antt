@@ -3,11 +3,13 @@ use Rattle.std.specs.Prelude.{◌≡◌, ◌≢◌, ℕ, ◌^◌, ◌<◌, ◌�
 use Rattle.script_lines.specs.declared.word.StateMode.{StateMode}
 use Rattle.script_lines.specs.declared.word.StateMode.TheVariants.{Whole, Hidden}
 use Rattle.script_lines.specs.declared.word.HandlerName.{HandlerName}
-use Rattle.script_lines.specs.declared.word.HandlerName.TheVariants.{Nap, Nap99, Race, Both, Ask, Pair, Twice, Keys, Read, Go, Hook}
+use Rattle.script_lines.specs.declared.word.HandlerName.TheVariants.{Nap, Nap99, Race, Both, Ask, Pair, Twice, Keys, Read, Effect, Go, Hook}
 use Rattle.script_lines.specs.declared.target.LineTarget.{LineTarget}
 use Rattle.script_lines.specs.declared.target.LineTarget.TheVariants.{Number, Name}
 use Rattle.script_lines.specs.declared.value.LineValue.{LineValue}
 use Rattle.script_lines.specs.declared.value.LineValue.TheVariants.{Void, Value, Failure, InvocationId}
+use Rattle.script_lines.specs.declared.outcome.LineOutcome.{LineOutcome}
+use Rattle.script_lines.specs.declared.outcome.LineOutcome.TheVariants as outcome
 
 -- what a reader answers: the value that the bytes spell, and nothing where they spell none
 abbrev pub Reads : {A : Type 0} → (A → List ℕ) → (A → Type 0) → List ℕ → Option A → Type 0
@@ -42,22 +44,43 @@ handler_word Pair = codes "pair"
 handler_word Twice = codes "twice"
 handler_word Keys = codes "keys"
 handler_word Read = codes "read"
+handler_word Effect = codes "effect"
 handler_word Go = codes "go"
 handler_word Hook = codes "hook"
 
--- a value's word; the text behind a colon (58) is as it is, and may be empty
+-- a code, and a text behind a colon (58)
+abbrev pub coded_word : ℕ → List ℕ → List ℕ
+coded_word code message = decimal code ++ 58 ∷ message
+
+-- a value's word; the text behind a colon is as it is, and may be empty
 abbrev pub value_word : LineValue → List ℕ
 value_word Void = codes "void"
 value_word (Value bytes) = codes "v:" ++ bytes
-value_word (Failure code message) = codes "f:" ++ decimal code ++ 58 ∷ message
+value_word (Failure code message) = codes "f:" ++ coded_word code message
 value_word (InvocationId id) = codes "id:" ++ id
+
+-- the codes and texts that have a word
+abbrev pub IsCoded : ℕ → List ℕ → Type 0
+IsCoded code message = (code < 2 ^ 16) × All IsWordByte message
 
 -- the values that have a word
 abbrev pub IsValue : LineValue → Type 0
 IsValue Void = Unit {0}
 IsValue (Value bytes) = All IsWordByte bytes
-IsValue (Failure code message) = (code < 2 ^ 16) × All IsWordByte message
+IsValue (Failure code message) = IsCoded code message
 IsValue (InvocationId id) = All IsWordByte id
+
+-- the word of how a body ends
+abbrev pub outcome_word : LineOutcome → List ℕ
+outcome_word (outcome.Success bytes) = codes "ok:" ++ bytes
+outcome_word (outcome.Failure code message) = codes "fail:" ++ coded_word code message
+outcome_word (outcome.Retry code message) = codes "retry:" ++ coded_word code message
+
+-- the outcomes that have a word
+abbrev pub IsOutcome : LineOutcome → Type 0
+IsOutcome (outcome.Success bytes) = All IsWordByte bytes
+IsOutcome (outcome.Failure code message) = IsCoded code message
+IsOutcome (outcome.Retry code message) = IsCoded code message
 
 -- a signal's number behind a '#' (35), or its name
 abbrev pub number_word : ℕ → List ℕ

@@ -4,6 +4,7 @@
 pub mod arrival;
 pub mod fault;
 pub mod line;
+pub mod outcome;
 pub mod output;
 pub mod reading;
 pub mod script;

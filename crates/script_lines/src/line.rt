@@ -1,13 +1,14 @@
 //! The lines of a script.
-#![tactic(auto, unfolding(crate::specs::Reading::then_read, crate::specs::Reading::invoke_of, crate::specs::Reading::result_of, crate::specs::Reading::signal_of, crate::specs::Reading::cancel_of, crate::specs::Reading::tick_of, crate::specs::Reading::begin_of, crate::specs::Reading::feed_of, crate::specs::Reading::close_of, crate::specs::Reading::turn_of, crate::specs::Reading::move_of, crate::specs::Reading::stop_of, crate::specs::Reading::show_of, crate::specs::Reading::state_of, crate::specs::Reading::of_none, crate::specs::Reading::of_one, crate::specs::Reading::of_two, crate::specs::Reading::of_three, crate::specs::Reading::of_six))]
+#![tactic(auto, unfolding(crate::specs::Reading::then_read, crate::specs::Reading::invoke_of, crate::specs::Reading::result_of, crate::specs::Reading::signal_of, crate::specs::Reading::cancel_of, crate::specs::Reading::tick_of, crate::specs::Reading::begin_of, crate::specs::Reading::feed_of, crate::specs::Reading::close_of, crate::specs::Reading::turns_of, crate::specs::Reading::turn_of, crate::specs::Reading::ending_turn_of, crate::specs::Reading::of_turn, crate::specs::Reading::move_of, crate::specs::Reading::stop_of, crate::specs::Reading::show_of, crate::specs::Reading::state_of, crate::specs::Reading::of_none, crate::specs::Reading::of_one, crate::specs::Reading::of_two, crate::specs::Reading::of_three, crate::specs::Reading::of_six))]
 
 ghost use Rattle.std.specs.Prelude.{◌≡◌, ◌==◌, map, IfOk};
 ghost use Rattle.std.specs.List.{slice_split};
 ghost use Rattle.script_lines.specs.Word.{Reads};
 ghost use Rattle.script_lines.specs.Line.{spelled, IsLine};
 ghost use Rattle.script_lines.specs.declared.line.Line.TheVariants as line;
-ghost use Rattle.script_lines.specs.Reading.{Gives, invoke_of, result_of, signal_of, cancel_of, tick_of, begin_of, feed_of, close_of, turn_of, move_of, stop_of, show_of, state_of, of_none, of_one, of_two, of_three, of_six, line_of};
+ghost use Rattle.script_lines.specs.Reading.{Gives, invoke_of, result_of, signal_of, cancel_of, tick_of, begin_of, feed_of, close_of, turns_of, turn_of, ending_turn_of, move_of, stop_of, show_of, state_of, of_none, of_one, of_two, of_three, of_six, of_turn, line_of};
 
+use crate::outcome::{LineOutcome, parse_outcome};
 use crate::target::{LineTarget, parse_target};
 use crate::value::{LineValue, parse_value};
 use crate::word::{
@@ -67,11 +68,12 @@ pub enum Line {
         id: ByteStr,
         attempt: u32,
     },
-    /// Takes up to `count` turns, at least one.
+    /// Takes up to `count` turns, at least one. The body of a run that one executes ends with the outcome, which may be left out.
     Turn {
         id: ByteStr,
         attempt: u32,
         count: u32,
+        outcome: Option<LineOutcome>,
     },
     /// Moves up to `count` output bytes to the store.
     Move {
@@ -205,19 +207,64 @@ fn parse_close(alloc: Global, arguments: &[&[u8]]) -> Result<Line, LineError>
     Ok(Line::Close { id, attempt })
 }
 
-fn parse_turn(alloc: Global, arguments: &[&[u8]]) -> Result<Line, LineError>
-    ensures { Gives result (of_three turn_of (map (λ word. word.now) arguments.now)) }
+/// Which attempt, and how many of its turns, of which there is one at least.
+fn parse_turns(attempt: &[u8], count: &[u8]) -> Option<(u32, u32)>
+    ensures { result ≡ turns_of attempt.now count.now }
 {
-    let [id, attempt, count] = arguments else {
-        return Err(LineError::NotUnderstood);
-    };
-    let attempt = parse_u32(attempt).ok_or(LineError::NotUnderstood)?;
-    let count = parse_u32(count).ok_or(LineError::NotUnderstood)?;
+    let attempt = parse_u32(attempt)?;
+    let count = parse_u32(count)?;
     if count == 0 {
-        return Err(LineError::NotUnderstood);
+        return None;
     }
+    Some((attempt, count))
+}
+
+fn parse_plain_turn(
+    alloc: Global,
+    id: &[u8],
+    attempt: &[u8],
+    count: &[u8],
+) -> Result<Line, LineError>
+    ensures { Gives result (turn_of id.now attempt.now count.now) }
+{
+    let (attempt, count) = parse_turns(attempt, count).ok_or(LineError::NotUnderstood)?;
     let id = parse_text(alloc, id)?;
-    Ok(Line::Turn { id, attempt, count })
+    Ok(Line::Turn {
+        id,
+        attempt,
+        count,
+        outcome: None,
+    })
+}
+
+fn parse_ending_turn(
+    alloc: Global,
+    id: &[u8],
+    attempt: &[u8],
+    count: &[u8],
+    outcome: &[u8],
+) -> Result<Line, LineError>
+    ensures { Gives result (ending_turn_of id.now attempt.now count.now outcome.now) }
+{
+    let (attempt, count) = parse_turns(attempt, count).ok_or(LineError::NotUnderstood)?;
+    let id = parse_text(alloc, id)?;
+    let outcome = parse_outcome(alloc, outcome)?;
+    Ok(Line::Turn {
+        id,
+        attempt,
+        count,
+        outcome: Some(outcome),
+    })
+}
+
+fn parse_turn(alloc: Global, arguments: &[&[u8]]) -> Result<Line, LineError>
+    ensures { Gives result (of_turn (map (λ word. word.now) arguments.now)) }
+{
+    match arguments {
+        [id, attempt, count] => parse_plain_turn(alloc, id, attempt, count),
+        [id, attempt, count, outcome] => parse_ending_turn(alloc, id, attempt, count, outcome),
+        _ => Err(LineError::NotUnderstood),
+    }
 }
 
 fn parse_move(alloc: Global, arguments: &[&[u8]]) -> Result<Line, LineError>

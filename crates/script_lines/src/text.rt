@@ -33,6 +33,8 @@ impl fmt::Display for Hex<'_> {
 pub enum LastTurn {
     /// A call was answered.
     Answered,
+    /// The body of a run was executed.
+    Ran,
     /// The attempt waits for input.
     Waiting,
     /// The attempt is suspended: it has told what it waits for.
@@ -51,6 +53,7 @@ impl fmt::Display for LastTurn {
     fn fmt<W: fmt::Write>(&self, f: &mut fmt::Formatter<W>) -> fmt::Result {
         match self {
             LastTurn::Answered => write!(f, "answered"),
+            LastTurn::Ran => write!(f, "ran"),
             LastTurn::Waiting => write!(f, "waiting"),
             LastTurn::Suspended => write!(f, "suspended"),
             LastTurn::Ended => write!(f, "ended"),

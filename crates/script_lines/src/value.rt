@@ -2,7 +2,7 @@
 
 ghost use Rattle.std.specs.Prelude.{◌≡◌, ◌==◌, ◌<◌, None, Some, IfSome, MatchOption, length};
 ghost use Rattle.std.specs.List.{position};
-ghost use Rattle.script_lines.specs.Reading.{Gives, at_colon, failure_of, value_of, value_in};
+ghost use Rattle.script_lines.specs.Reading.{Gives, at_colon, coded_of, value_of, value_in};
 
 use crate::word::{LineError, parse_printable, parse_u16};
 use bytes::{ByteStr, Bytes};
@@ -28,7 +28,7 @@ fn place_of_colon(bytes: &[u8]) -> Option<usize>
 }
 
 /// What stands before the first colon, and behind it.
-fn split_at_colon(bytes: &[u8]) -> Option<(&[u8], &[u8])>
+pub(crate) fn split_at_colon(bytes: &[u8]) -> Option<(&[u8], &[u8])>
     ensures { MatchOption result (at_colon bytes.now ≡ None) (λ parts. at_colon bytes.now ≡ Some (parts.0.now, parts.1.now)) }
 {
     let Some(place) = place_of_colon(bytes) else {
@@ -37,16 +37,17 @@ fn split_at_colon(bytes: &[u8]) -> Option<(&[u8], &[u8])>
     Some((&bytes[..place], &bytes[place + 1..]))
 }
 
-#[tactic(auto, unfolding(crate::specs::Reading::failure_of, crate::specs::Reading::then_read))]
-fn parse_failure(alloc: Global, bytes: &[u8]) -> Result<LineValue, LineError>
-    ensures { Gives result (failure_of bytes.now) }
+/// A code, and the text behind the colon.
+#[tactic(auto, unfolding(crate::specs::Reading::coded_of, crate::specs::Reading::then_read))]
+pub(crate) fn parse_coded(alloc: Global, bytes: &[u8]) -> Result<(u16, ByteStr), LineError>
+    ensures { Gives result (coded_of bytes.now) }
 {
     let Some((code, message)) = split_at_colon(bytes) else {
         return Err(LineError::NotUnderstood);
     };
     let code = parse_u16(code).ok_or(LineError::NotUnderstood)?;
     let message = parse_printable(alloc, message)?;
-    Ok(LineValue::Failure { code, message })
+    Ok((code, message))
 }
 
 /// The value of a kind, spelled behind the colon.
@@ -58,7 +59,8 @@ fn parse_kind(alloc: Global, kind: &[u8], text: &[u8]) -> Result<LineValue, Line
         let text = parse_printable(alloc, text)?;
         Ok(LineValue::Value(text.into_bytes()))
     } else if kind == b"f".as_slice() {
-        parse_failure(alloc, text)
+        let (code, message) = parse_coded(alloc, text)?;
+        Ok(LineValue::Failure { code, message })
     } else if kind == b"id".as_slice() {
         let id = parse_printable(alloc, text)?;
         Ok(LineValue::InvocationId(id))

@@ -77,6 +77,8 @@ pub enum HandlerName {
     Keys,
     /// Reads the key `x`, and answers its value.
     Read,
+    /// Runs `r`, and answers its outcome.
+    Effect,
     /// Waits for the signal `go`, and answers what it brings.
     Go,
     /// Makes an awakeable, which is signal 17, waits for it, and answers what it brings.
@@ -98,6 +100,7 @@ impl HandlerName {
             HandlerName::Twice => b"twice".as_slice(),
             HandlerName::Keys => b"keys".as_slice(),
             HandlerName::Read => b"read".as_slice(),
+            HandlerName::Effect => b"effect".as_slice(),
             HandlerName::Go => b"go".as_slice(),
             HandlerName::Hook => b"hook".as_slice(),
         }
@@ -195,6 +198,8 @@ pub fn parse_handler(word: &[u8]) -> Option<HandlerName>
         Some(HandlerName::Keys)
     } else if word == HandlerName::Read.word() {
         Some(HandlerName::Read)
+    } else if word == HandlerName::Effect.word() {
+        Some(HandlerName::Effect)
     } else if word == HandlerName::Go.word() {
         Some(HandlerName::Go)
     } else if word == HandlerName::Hook.word() {

@@ -53,7 +53,7 @@ pub returns-in-Close : goal.returns-in-Close
 returns-in-Close g c = rw c.in-Close.is c.do_event-in-Close.ensures
 
 pub returns-in-Turn : goal.returns-in-Turn
-returns-in-Turn g c = makes_quiet string_bytes c.do_turns.result g.S.Store c.args.scheduler.now c.do_turns.new.scheduler c.args.line (line.Turn c.in-Turn.id c.in-Turn.attempt c.in-Turn.count) c.in-Turn.is c.do_turns.ensures
+returns-in-Turn g c = makes_quiet string_bytes c.do_turns.result g.S.Store c.args.scheduler.now c.do_turns.new.scheduler c.args.line (line.Turn c.in-Turn.id c.in-Turn.attempt c.in-Turn.count c.in-Turn.outcome) c.in-Turn.is c.do_turns.ensures
 
 pub returns-in-Move : goal.returns-in-Move
 returns-in-Move g c = rw c.in-Move.is c.do_event-in-Move.ensures

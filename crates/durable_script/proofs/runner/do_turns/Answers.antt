@@ -11,5 +11,5 @@ returns g c =
     let text = printed taken last ++ 10 ∷ [] in (
       text,
       subst (λ (t : List ℕ). IfOk c.reply_line-text.result (λ s. string_bytes s ≡ t ++ 10 ∷ [])) c.line_reply.ensures c.reply_line-text.ensures,
-      turns_printed g.S.Store c.args.scheduler.now c.take_turns-taken.new.scheduler c.args.id.now c.args.attempt c.args.count taken last c.take_turns-taken.ensures text refl,
+      turns_printed g.S.Store c.args.scheduler.now c.take_turns-taken.new.scheduler c.args.id.now c.args.attempt c.args.count c.args.outcome taken last c.take_turns-taken.ensures text refl,
     )

@@ -1,5 +1,5 @@
 use Rattle.std.proofs.Common.{◌≡◌, ◌≤◌, ◌+◌, ◌-◌, ℕ}
-use Rattle.durable_script.specs.Line.{AnsweredTurns}
+use Rattle.durable_script.specs.Line.{TurnsGoOn}
 use Rattle.durable_script.specs.Reaching.{Reaches, Nowhere}
 use Rattle.durable_script.proofs.runner.take_turns.Given as goal
 
@@ -8,7 +8,7 @@ invariant-loop-taken g l = record {
   before : ℕ;
   taken : l.taken ≡ before + 1;
   within : l.taken ≤ l.count;
-  answered : Reaches g.S.Store Nowhere (AnsweredTurns l.id l.attempt before) l.fn.scheduler l.scheduler;
+  gone_on : Reaches g.S.Store Nowhere (TurnsGoOn l.id l.attempt l.outcome before) l.fn.scheduler l.scheduler;
 }
 
 abbrev pub decreases-loop-taken : goal.decreases-loop-taken
