@@ -23,7 +23,7 @@ use std::io::Read;
 use std::process::ExitCode;
 use std::rt::{Env, HostRuntime};
 use std::{env, io};
-use store_files::{MemoryFile, close_file, leave_file, open_file, open_in_memory};
+use store_files::{MemoryFile, close_file, leave_file, let_go, open_file, open_in_memory};
 
 /// The two words that the program is called with.
 #[derive(Drop)]
@@ -103,7 +103,7 @@ fn open_path<S: Start>(
     match open_file(rt, path, start) {
         Ok(store) => Ok(store),
         Err(why) => {
-            drop(why);
+            let_go(rt, path, why);
             Err(ProgramFault::DatabaseRefused)
         }
     }

@@ -11,13 +11,13 @@ use rounds::Rounds;
 use schedule_runs::{
     Event, NewInvocation, Reply, Scheduler, Sequence, StateMode, Store, VMOptions,
 };
-use sqlite::{Alter, FileStore, Unknown};
+use sqlite::{Alter, File, FileStore, Unknown};
 use sqlite_disk::Disk;
 use std::alloc::{AllocError, Global};
 use std::rt::{Clock, Env, HostRuntime};
 use std::time::{SystemTime, UNIX_EPOCH};
 use std::{env, io};
-use store_files::{close_file, open_file};
+use store_files::{close_file, let_go, open_file, reason_of};
 use work::go_on;
 
 /// The words of the call.
@@ -120,6 +120,18 @@ fn run_over<S: Alter + Drop>(
     }
 }
 
+/// The store in a file, or why it is not taken.
+fn open(rt: &HostRuntime, file: &str) -> Result<Store<FileStore<File>>> {
+    match open_file(rt, file, Unknown) {
+        Ok(store) => Ok(store),
+        Err(mut why) => {
+            let reason = reason_of(rt, file, &mut why);
+            let_go(rt, file, why);
+            bail!("{file}: {reason}")
+        }
+    }
+}
+
 fn close<D: Disk + Drop>(store: Store<FileStore<D>>) -> Result<()> {
     match close_file(store) {
         Ok(files) => {
@@ -135,13 +147,7 @@ fn close<D: Disk + Drop>(store: Store<FileStore<D>>) -> Result<()> {
 
 fn run(rt: &HostRuntime) -> Result<()> {
     let Words { file, name } = read_words(rt)?;
-    let store = match open_file(rt, file.as_str(), Unknown) {
-        Ok(store) => store,
-        Err(why) => {
-            drop(why);
-            bail!("{file}: it is not taken");
-        }
-    };
+    let store = open(rt, &file)?;
     let mut scheduler = Scheduler::new(rt.alloc(), store, VMOptions::default());
     let done = run_over(rt, &mut scheduler, name);
     let closed = close(scheduler.into_store());

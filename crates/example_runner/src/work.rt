@@ -1,7 +1,7 @@
 //! What one call does: each invocation that is due is gone on with.
 use crate::rounds::Rounds;
 use bytes::ByteStr;
-use schedule_runs::{Event, Refusal, Reply, Scheduler, Turn};
+use schedule_runs::{Event, Refusal, Reply, RunOutcome, Scheduler, Turn};
 use sqlite::Alter;
 use std::alloc::{AllocError, Global};
 
@@ -58,6 +58,7 @@ pub fn go_on<S: Alter + Drop>(
         let reply = scheduler.apply(Event::Turn {
             invocation: id.clone()?,
             attempt,
+            outcome: RunOutcome::default(),
         });
         if let Some(last) = outcome_of(&reply) {
             outcome = last;

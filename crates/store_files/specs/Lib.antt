@@ -4,3 +4,4 @@ pub mod Left
 pub mod Made
 pub mod Refused
 pub mod Taken
+pub mod Why

@@ -6,14 +6,18 @@ mod close;
 mod crashes;
 mod laws;
 mod leave;
+mod look;
 mod make;
 mod memory;
 mod open;
+mod why;
 
 pub use close::close_file;
 pub use crashes::{crashes_leave_events, images_are_stores};
 pub use laws::opened_files_last;
 pub use leave::leave_file;
+pub use look::let_go;
 pub use memory::{memory_stays_clean, open_in_memory};
 pub use memory_disk::MemoryFile;
 pub use open::{FileNotTaken, NotTaken, open_file};
+pub use why::{Reason, reason_of};

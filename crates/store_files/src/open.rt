@@ -14,10 +14,13 @@ ghost use Rattle.store_files.specs.Refused.{IsNoStore, IsUnopened};
 ghost use Rattle.store_files.specs.Taken.{IsOpenedOver, IsTaken};
 ghost use Rattle.store_files.specs.declared.open.NotTaken.TheVariants.{NoStore, Unopened};
 
+use crate::look::is_refused_unopened;
 use crate::make::make_file;
 use journal_store::{NotOpened, Store};
-use sqlite::{Connection, Error, FileFrom, FileStore, Leftover, Start};
+use sqlite::{Connection, Error, ErrorCode, FileFrom, FileStore, Leftover, Start};
 use std::rt::HostRuntime;
+
+const CANNOT_OPEN: Error = Error::SqliteFailure(ErrorCode::CannotOpen);
 
 /// Why the file at a path is not taken, with what is left: of the files, or of the connection that was opened over them.
 #[derive(Drop)]
@@ -48,6 +51,9 @@ pub fn open_file<S: Start>(
     ensures unopened { (error : Error) (left : _) → result ≡ Err (Unopened error left) → IsUnopened (image_at S.Start) error left }
     ensures no_store { (left : _) → result ≡ Err (NoStore left) → IsNoStore (image_at S.Start) left.connection left.refusal }
 {
+    if is_refused_unopened(rt, path) {
+        return Err(NotTaken::Unopened(CANNOT_OPEN, None));
+    }
     make_file(rt, path);
     let connection = match Connection::open_from(rt, path, false, start) {
         Ok(connection) => connection,
