@@ -5,7 +5,8 @@
 //!   over its whole journal, and then makes as many calls anew, beside what decoding the same bytes alone takes.
 //! - `bench schedule COUNT [FILE]` brings COUNT invocations of `race` and COUNT of `ask` from invoke to end, each of whose first attempt
 //!   is stopped where it waits, in memory, and in a new file of that name with its syncs; then one whose journal grows to 10,000
-//!   entries, resumed at each tenth of them, and objects of 10 and of 10,000 keys. `bench schedule memory COUNT` does so in memory alone, also with scattered ids.
+//!   entries, resumed at each tenth of them, objects of 10 and of 10,000 keys, invocations of 10 and of 10,000 runs, in such files too,
+//!   and ten that are due among 100 and among 100,000. `bench schedule memory COUNT` does so in memory alone, also with scattered ids.
 //!
 //! A part with no word behind it does a little, and prints what came of it without times. With no word at all each part does so.
 #![tactic(auto)]

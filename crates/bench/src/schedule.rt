@@ -2,8 +2,10 @@
 mod events;
 mod growth;
 mod handlers;
+mod runs;
 mod states;
 mod timed;
+mod waiting;
 
 use crate::fault::Fault;
 use durable_schedule::Scheduler;
@@ -11,12 +13,14 @@ use events::Place;
 use growth::tell_growth;
 use handlers::{Numbers, Told, tell_both};
 use journal_store::{NotOpened, Store};
+use runs::tell_runs;
 use sqlite::{Alter, Unknown};
 use states::tell_states;
 use std::rt::HostRuntime;
 use store_files::{NotTaken, open_file, open_in_memory};
 use timed::Timed;
 use vm_types::VMOptions;
+use waiting::tell_due;
 
 /// What is done over one scheduler.
 #[derive(Clone, Copy)]
@@ -27,20 +31,34 @@ enum Work {
     Growth(u32, u32),
     /// An object of so many keys.
     States(u32),
+    /// One that makes so many runs.
+    Runs(u32),
+    /// So many that are suspended, of which ten are due.
+    Due(u32),
 }
 
 /// A little of each.
-const LITTLE: [Work; 3] = [
+const LITTLE: [Work; 5] = [
     Work::Invocations(Numbers::Counted, 2),
     Work::Growth(20, 1),
     Work::States(3),
+    Work::Runs(3),
+    Work::Due(20),
 ];
 
-/// A journal that grows to 10,000 entries, and objects of 10 and of 10,000 keys.
-const AT_SIZES: [Work; 3] = [
+/// How many runs an invocation makes, few and many.
+const RUNS: [u32; 2] = [10, 10_000];
+
+/// Journals that grow to 10 and to 10,000 entries, objects of 10 and of 10,000 keys, and ten that are due among 100 and among 100,000.
+const AT_SIZES: [Work; 8] = [
+    Work::Growth(10, 1),
     Work::Growth(1_000, 10),
     Work::States(10),
     Work::States(10_000),
+    Work::Runs(RUNS[0]),
+    Work::Runs(RUNS[1]),
+    Work::Due(100),
+    Work::Due(100_000),
 ];
 
 /// Over a store that was opened, unless it was not.
@@ -68,6 +86,8 @@ fn tell<S: Alter + Drop, L: Drop>(
             tell_growth(rt, &mut scheduler, &mut place, told, entries, times)
         }
         Work::States(keys) => tell_states(rt, &mut scheduler, &mut place, told, keys),
+        Work::Runs(runs) => tell_runs(rt, &mut scheduler, &mut place, told, runs),
+        Work::Due(suspended) => tell_due(rt, &mut scheduler, &mut place, told, suspended),
     };
     drop(place);
     // Each library lets go of its own, so that nothing is proved here of how that is done.
@@ -95,6 +115,18 @@ fn tell_in_file(rt: &HostRuntime, path: &str, work: Work) -> Result<(), Fault> {
     tell(rt, open_file(rt, path, Unknown), Told::File, work)
 }
 
+/// Invocations in a new file of this name; and those of runs, each in one whose name has their number behind it.
+fn tell_in_files(rt: &HostRuntime, path: &str, counted: Work) -> Result<(), Fault> {
+    tell_in_file(rt, path, counted)?;
+    for runs in RUNS {
+        let path = format!(in rt.alloc(); "{path}-{runs}")?;
+        let done = tell_in_file(rt, path.as_str(), Work::Runs(runs));
+        drop(path);
+        done?;
+    }
+    Ok(())
+}
+
 /// Does what the words say behind the part's name, or, where there are none, a little of it.
 pub fn run_schedule(rt: &HostRuntime, words: &[String]) -> Result<(), Fault> {
     let Some(first) = words.get(2) else {
@@ -112,7 +144,7 @@ pub fn run_schedule(rt: &HostRuntime, words: &[String]) -> Result<(), Fault> {
         let scattered = Work::Invocations(Numbers::Scattered, count);
         tell_in_memory(rt, Told::Memory, scattered)?;
     } else if let Some(path) = second {
-        tell_in_file(rt, path.as_str(), counted)?;
+        tell_in_files(rt, path.as_str(), counted)?;
     }
     tell_each(rt, Told::Memory, &AT_SIZES)
 }

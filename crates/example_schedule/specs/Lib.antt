@@ -1,2 +1,3 @@
+pub mod Payment
 pub mod Reminder
 pub mod Stamp

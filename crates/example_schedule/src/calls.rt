@@ -1,17 +1,18 @@
 //! Every call that asks for something and waits for nothing, made in one attempt, and what is recorded of it.
 use crate::{ALL, id, invocation};
-use schedule_runs::{Event, RecordedEntry, Reply, Scheduler, Sequence, Turn};
+use schedule_runs::{Event, RecordedEntry, Reply, RunOutcome, Scheduler, Sequence, Turn};
 use sqlite::Alter;
 use std::alloc::{AllocError, Global};
 use std::io;
 use test_steps::{Step, Steps};
 
-const CALLS: [Step; 15] = [
+const CALLS: [Step; 16] = [
     Step::Get,
     Step::GetKeys,
     Step::Set,
     Step::Clear,
     Step::ClearAll,
+    Step::Run,
     Step::Send,
     Step::CompleteAwakeable,
     Step::CompleteSignal,
@@ -55,6 +56,7 @@ fn make_turns<S: Alter + Drop>(scheduler: &mut Scheduler<Steps, S>) -> (u32, Rep
         let reply = scheduler.apply(Event::Turn {
             invocation: id(),
             attempt: 1,
+            outcome: RunOutcome::default(),
         });
         if !matches!(&reply, Reply::Turned(Turn::Answered)) {
             return (answered, reply);

@@ -1,11 +1,12 @@
 //! `example_schedule`: a handler of one's own, stopped while it sleeps, by the schedule whose contract is the headline, and gone on with by
-//! a loop over the scheduler that this leaves; one that keeps something in its object's state; and one that makes every call that waits for
-//! nothing.
+//! a loop over the scheduler that this leaves; one that keeps something in its object's state; one that makes every call that waits for
+//! nothing; and one that has something done outside.
 #![tactic(auto)]
 
 mod attempt;
 mod calls;
 mod orders;
+mod payment;
 mod reminder;
 mod stamp;
 
@@ -14,10 +15,11 @@ use attempt::go_on;
 use bytes::{ByteStr, Bytes};
 use calls::{make_calls, print_types};
 use orders::take_orders;
+use payment::pay;
 use reminder::Reminder;
 use schedule_runs::{
-    Event, NewInvocation, NoRoom, Reply, Scheduler, Sequence, StateMode, Store, VMOptions,
-    run_new_schedule,
+    Event, NewInvocation, NoRoom, Reply, RunOutcome, Scheduler, Sequence, StateMode, Store,
+    VMOptions, run_new_schedule,
 };
 use sqlite::Alter;
 use std::alloc::{AllocError, Global};
@@ -62,6 +64,7 @@ fn turn(attempt: u32) -> Event<Reminder> {
     Event::Turn {
         invocation: id(),
         attempt,
+        outcome: RunOutcome::default(),
     }
 }
 
@@ -194,8 +197,20 @@ fn run_calls<R: Print>(rt: &R, alloc: Global) -> Result<()> {
     Ok(printed?)
 }
 
+// An order that is paid, over a store of its own.
+fn run_payment<R: Print>(rt: &R, alloc: Global) -> Result<()> {
+    let Ok(store) = open_in_memory(alloc) else {
+        bail!("no store was made");
+    };
+    let mut scheduler = Scheduler::new(alloc, store, VMOptions::default());
+    let printed = pay(rt, &mut scheduler);
+    close(scheduler.into_store());
+    Ok(printed?)
+}
+
 fn main(rt: HostRuntime) -> Result<()> {
     run(&rt, rt.alloc())?;
     run_orders(&rt, rt.alloc())?;
+    run_payment(&rt, rt.alloc())?;
     run_calls(&rt, rt.alloc())
 }

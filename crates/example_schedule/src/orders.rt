@@ -1,7 +1,7 @@
 //! Orders of one customer, which share her state.
 use crate::stamp::Stamp;
 use bytes::{ByteStr, Bytes};
-use schedule_runs::{Event, NewInvocation, Reply, Scheduler, Sequence, StateMode};
+use schedule_runs::{Event, NewInvocation, Reply, RunOutcome, Scheduler, Sequence, StateMode};
 use sqlite::Alter;
 use std::alloc::Global;
 use std::io;
@@ -47,6 +47,7 @@ fn attempt<S: Alter + Drop>(
         scheduler.apply(Event::Turn {
             invocation: ByteStr::from_static(order),
             attempt: number,
+            outcome: RunOutcome::default(),
         });
     }
     scheduler.apply(Event::Move {

@@ -1,12 +1,31 @@
 //! `steps HEX STEP ..`: an attempt of version 7, to which these bytes come, of a handler that makes these calls. It makes turns while they
-//! are answered; of each is told what it came to, or its error by the code, and the types of the frames that it wrote.
+//! are answered; of each is told what it came to, or its error by the code, and the types of the frames that it wrote, with the payloads
+//! of outputs and suspensions. `closed` before the bytes closes its input, and `overwrite` before them has signals overwrite one another.
 use crate::answers::{debug, failed};
+use crate::feeding::options;
 use crate::operands::bytes;
-use invocation_vm::{Attempt, Sequence, Turn, VMOptions, Version};
-use protocol_stream::Decoder;
+use invocation_vm::{Attempt, RunOutcome, Sequence, Turn, Version};
+use protocol_stream::{Decoder, RawMessage};
+use protocol_types::MessageType;
 use std::alloc::Global;
 use std::fmt::Write;
 use test_steps::{Steps, step_named};
+
+// Whether a frame's payload is told.
+fn is_whole(frame: &RawMessage) -> bool {
+    matches!(
+        frame.ty(),
+        MessageType::Suspension | MessageType::OutputCommand
+    )
+}
+
+fn payload(alloc: Global, frame: &RawMessage) -> Option<String> {
+    let mut told = String::new(alloc);
+    for byte in frame.payload().as_slice() {
+        write!(told, "{byte:02x}").ok()?;
+    }
+    Some(told)
+}
 
 fn types(alloc: Global, frames: &[u8]) -> Option<String> {
     let mut told = String::new(alloc);
@@ -18,11 +37,16 @@ fn types(alloc: Global, frames: &[u8]) -> Option<String> {
         };
         let number = u16::from(frame.ty());
         write!(told, " {number:04x}").ok()?;
+        if is_whole(&frame) {
+            let payload = payload(alloc, &frame)?;
+            write!(told, " {payload}").ok()?;
+        }
     }
     Some(told)
 }
 
-fn told_of(alloc: Global, turn: Turn) -> Option<String> {
+/// What a turn came to, or its error by the code.
+pub fn told_of(alloc: Global, turn: Turn) -> Option<String> {
     match turn {
         Turn::Failed(error) => failed(alloc, error),
         turn => debug(alloc, turn),
@@ -32,13 +56,13 @@ fn told_of(alloc: Global, turn: Turn) -> Option<String> {
 fn drive(alloc: Global, attempt: &mut Attempt<Steps>) -> Option<String> {
     let mut told = String::new(alloc);
     for _ in 0..100 {
-        let turn = attempt.turn();
-        let is_answered = matches!(&turn, Turn::Answered);
+        let turn = attempt.turn(RunOutcome::default());
+        let goes_on = matches!(&turn, Turn::Answered | Turn::RanBody);
         let turn = told_of(alloc, turn)?;
         let frames = attempt.take_output(usize::MAX).ok()?;
         let written = types(alloc, frames.as_slice())?;
         write!(told, "{turn}{written}").ok()?;
-        if !is_answered {
+        if !goes_on {
             break;
         }
         write!(told, ", ").ok()?;
@@ -57,15 +81,32 @@ fn handler(alloc: Global, names: &[&str]) -> Option<Steps> {
     })
 }
 
-pub fn answer(alloc: Global, operands: &[&str]) -> Option<String> {
-    let [input, names @ ..] = operands else {
-        return None;
-    };
-    let input = bytes(alloc, *input)?;
+fn answered(
+    alloc: Global,
+    words: &[&str],
+    is_closed: bool,
+    input: &str,
+    names: &[&str],
+) -> Option<String> {
+    let input = bytes(alloc, input)?;
     let handler = handler(alloc, names)?;
-    let mut attempt = Attempt::new(alloc, Version::V7, VMOptions::default(), handler).ok()?;
+    let mut attempt = Attempt::new(alloc, Version::V7, options(words), handler).ok()?;
     attempt.feed(input);
+    if is_closed {
+        attempt.close_input();
+    }
     let told = drive(alloc, &mut attempt);
     drop(attempt);
     told
+}
+
+pub fn answer(alloc: Global, operands: &[&str]) -> Option<String> {
+    match operands {
+        ["overwrite", "closed", input, names @ ..] => {
+            answered(alloc, &["overwrite"], true, *input, names)
+        }
+        ["closed", input, names @ ..] => answered(alloc, &[], true, *input, names),
+        [input, names @ ..] => answered(alloc, &[], false, *input, names),
+        [] => None,
+    }
 }

@@ -1,6 +1,7 @@
 //! Rows of a machine: each file that a word of the call names has a call a line, its name and its operands; printed is the row
 //! and, behind ` = `, the answer. `new` begins another machine, `shown` prints it with `{:?}`, `tree` prints one of trees so, and
-//! `debug` another value; `steps` drives a handler of these calls. A row that is not understood is printed with a `?`.
+//! `debug` another value; `steps` drives a handler of these calls, `effect` one whose run ends so, and `retries` asks a policy. A row
+//! that is not understood is printed with a `?`.
 #![tactic(auto)]
 
 mod answers;
@@ -8,12 +9,15 @@ mod asking;
 mod awaits;
 mod commands;
 mod driven;
+mod effects;
+mod endings;
 mod feeding;
 pub mod names;
 mod operands;
 mod printed;
 mod requests;
 mod results;
+mod runs;
 mod state;
 mod tables;
 mod telling;
@@ -48,6 +52,9 @@ fn answer_of<V: VM>(alloc: Global, vm: &mut V, call: &str, operands: &[&str]) ->
     if let Some(told) = telling::answer(alloc, vm, call, operands) {
         return Some(told);
     }
+    if let Some(told) = runs::answer(alloc, vm, call, operands) {
+        return Some(told);
+    }
     asking::answer(alloc, vm, call, operands)
 }
 
@@ -76,6 +83,8 @@ impl<V: VM + fmt::Debug + Drop> Answers for Machine<V> {
             ["resolve", operands @ ..] => tables::answer::<V>(alloc, operands),
             ["copies", operands @ ..] => results::answer(alloc, operands),
             ["steps", operands @ ..] => driven::answer(alloc, operands),
+            ["effect", operands @ ..] => effects::answer(alloc, operands),
+            ["retries", operands @ ..] => runs::retries(alloc, operands),
             ["tree", operands @ ..] => answers::debug(alloc, awaits::tree(alloc, operands, 0)?),
             ["debug", name, operands @ ..] => printed::answer(alloc, *name, operands),
             ["shown"] => answers::shown(alloc, self.vm.as_ref()?),

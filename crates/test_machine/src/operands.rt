@@ -35,8 +35,8 @@ pub fn moment(operand: &str) -> Option<Moment> {
     Some(Moment::from_millis(millis))
 }
 
-// A failure with a pair of metadata.
-fn failure(alloc: Global) -> Option<TerminalFailure> {
+/// A failure with a pair of metadata.
+pub fn failure(alloc: Global) -> Option<TerminalFailure> {
     let mut pairs = Vec::new(alloc);
     pairs
         .push((ByteStr::from_static("k"), ByteStr::from_static("v")))

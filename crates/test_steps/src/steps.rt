@@ -1,10 +1,13 @@
 //! The calls that a list may have, and the handler of a list.
-ghost use Rattle.std.specs.Prelude.{◌≡◌};
+ghost use Rattle.std.specs.Prelude.{◌≡◌, IfOk};
+ghost use Rattle.journal_model.specs.AwaitTree.{Single, Combined, no_trees, and_trees, AllCompleted};
+ghost use Rattle.journal_model.specs.declared.call.Call.{Call as Calls};
 ghost use Rattle.test_steps.specs.Steps as stepping;
 
 use bytes::{ByteStr, Bytes};
 use journal_model::{
-    Answer, AttachInvocationTarget, Call, Handler, Input, NonEmptyValue, PayloadOptions, Target,
+    Answer, AttachInvocationTarget, AwaitedFuture, Call, Handler, Input, Moment, NonEmptyValue,
+    NotificationHandle, PayloadOptions, Target, UnresolvedFuture, Value,
 };
 use sequence::Sequence;
 use std::alloc::{AllocError, Global};
@@ -28,9 +31,31 @@ pub enum Step {
     Attach,
     GetOutput,
     Output,
+    /// Sleeps until 10 ms.
+    Sleep,
+    /// Asks for the signal `a`.
+    Signal,
+    IsCompleted(u32),
+    Take(u32),
+    Await(u32),
+    /// Awaits all of the one handle.
+    AwaitAll(u32),
+    /// Puts out what the call before has taken.
+    OutputTaken,
 }
 
-/// The step of a name.
+// The step of a name, about a handle.
+fn step_about(name: &str, handle: u32) -> Option<Step> {
+    Some(match name {
+        "is_completed" => Step::IsCompleted(handle),
+        "take" => Step::Take(handle),
+        "await" => Step::Await(handle),
+        "await_all" => Step::AwaitAll(handle),
+        _ => return None,
+    })
+}
+
+/// The step of a name. One about a handle has its number behind a colon.
 pub fn step_named(name: &str) -> Option<Step> {
     Some(match name {
         "get" => Step::Get,
@@ -49,7 +74,13 @@ pub fn step_named(name: &str) -> Option<Step> {
         "attach" => Step::Attach,
         "get_output" => Step::GetOutput,
         "output" => Step::Output,
-        _ => return None,
+        "sleep" => Step::Sleep,
+        "signal" => Step::Signal,
+        "output_taken" => Step::OutputTaken,
+        _ => {
+            let (name, handle) = name.split_once(':')?;
+            return step_about(name, handle.parse().ok()?);
+        }
     })
 }
 
@@ -112,10 +143,53 @@ fn send(alloc: Global) -> Call
     }
 }
 
-fn call_of(alloc: Global, step: Step) -> Call
-    ensures { result ≡ stepping.call_of step }
+#[tactic(auto, using(journal_model::proofs::TreeLemmas::future_trees))]
+fn await_all(alloc: Global, handle: u32) -> Result<Call, AllocError>
+    ensures { IfOk result (λ call. call ≡ Calls.Await (Combined AllCompleted (and_trees (Single handle) no_trees))) }
 {
-    match step {
+    let mut children = Vec::new(alloc);
+    children.push(UnresolvedFuture::Single(NotificationHandle::new(handle)))?;
+    Ok(Call::Await(AwaitedFuture::new(UnresolvedFuture::AllCompleted(Sequence::from_vec(
+        children,
+    )))))
+}
+
+fn bytes_taken(answer: &Answer) -> Result<Bytes, AllocError>
+    ensures { IfOk result (λ bytes. bytes ≡ stepping.bytes_taken answer.now) }
+{
+    match answer {
+        Answer::Taken(Some(Value::Success(bytes))) => bytes.clone(),
+        _ => Ok(Bytes::new()),
+    }
+}
+
+fn output_taken(answers: &[Answer]) -> Result<Call, AllocError>
+    ensures { IfOk result (λ call. call ≡ stepping.output_taken answers.now) }
+{
+    let bytes = match answers.get(answers.len().saturating_sub(1)) {
+        Some(answer) => bytes_taken(answer)?,
+        None => Bytes::new(),
+    };
+    Ok(Call::Output {
+        value: NonEmptyValue::Success(bytes),
+        options: PayloadOptions::stable_serialization(),
+    })
+}
+
+fn sleep() -> Call
+    ensures { result ≡ stepping.sleep }
+{
+    Call::Sleep {
+        name: ByteStr::new(),
+        wake_up: Moment::from_millis(10),
+        now: None,
+    }
+}
+
+fn call_of(alloc: Global, step: Step, answers: &[Answer]) -> Result<Call, AllocError>
+    ensures { IfOk result (λ call. call ≡ stepping.call_of step answers.now) }
+{
+    Ok(match step {
         Step::Get => get(),
         Step::GetKeys => Call::StateGetKeys { name: None },
         Step::Set => set(),
@@ -158,7 +232,18 @@ fn call_of(alloc: Global, step: Step) -> Call
             value: one(),
             options: PayloadOptions::stable_serialization(),
         },
-    }
+        Step::Sleep => sleep(),
+        Step::Signal => Call::Signal {
+            name: ByteStr::from_static("a"),
+        },
+        Step::IsCompleted(handle) => Call::IsCompleted(NotificationHandle::new(handle)),
+        Step::Take(handle) => Call::Take(NotificationHandle::new(handle)),
+        Step::Await(handle) => {
+            Call::Await(AwaitedFuture::single(NotificationHandle::new(handle)))
+        }
+        Step::AwaitAll(handle) => await_all(alloc, handle)?,
+        Step::OutputTaken => output_taken(answers)?,
+    })
 }
 
 /// The handler.
@@ -175,7 +260,7 @@ impl Handler for Steps {
 
     fn next(&self, _input: &Input, answers: &[Answer]) -> Result<Call, AllocError> {
         match self.steps.get(answers.len()) {
-            Some(step) => Ok(call_of(self.alloc, *step)),
+            Some(step) => call_of(self.alloc, *step, answers),
             None => Ok(Call::End),
         }
     }

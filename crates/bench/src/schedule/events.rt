@@ -3,6 +3,7 @@ use crate::fault::Fault;
 use crate::schedule::timed::Timed;
 use bytes::{ByteStr, Bytes};
 use durable_schedule::{Event, Reply, Scheduler};
+use invocation_vm::RunOutcome;
 use journal_store::{NewInvocation, NotificationResult, StateMode};
 use sequence::Sequence;
 use sqlite::Alter;
@@ -21,6 +22,8 @@ pub enum Step {
     /// All of the output is moved, which is so many frames.
     Move(usize),
     Stop,
+    /// No more of the input is handed out.
+    Close,
     /// The sleeps that are due at this moment are over: so many.
     Tick(u64, u64),
     /// A call is answered, for its completion.
@@ -107,6 +110,7 @@ impl Place {
             Step::Turn(_) => Event::Turn {
                 invocation,
                 attempt,
+                outcome: RunOutcome::default(),
             },
             Step::Move(_) => Event::Move {
                 invocation,
@@ -117,6 +121,10 @@ impl Place {
                 invocation,
                 completion,
                 value: NotificationResult::Value(Bytes::from_static(b"ok")),
+            },
+            Step::Close => Event::Close {
+                invocation,
+                attempt,
             },
             _ => Event::Stop {
                 invocation,
@@ -137,11 +145,19 @@ impl Place {
 /// What events are applied to: a scheduler, whatever database its store has. Seen so, a function over it says nothing of either.
 pub trait Events {
     fn apply_event(&mut self, event: Event<Timed>) -> Reply;
+
+    /// How many invocations are due.
+    fn count_due(&mut self) -> Result<usize, Fault>;
 }
 
 impl<S: Alter + Drop> Events for Scheduler<Timed, S> {
     fn apply_event(&mut self, event: Event<Timed>) -> Reply {
         self.apply(event)
+    }
+
+    fn count_due(&mut self) -> Result<usize, Fault> {
+        let ids = self.due()?;
+        Ok(ids.len())
     }
 }
 
@@ -189,6 +205,19 @@ pub fn apply_each<E: Events>(
         for _ in 0..events {
             apply(scheduler, place, *step)?;
         }
+    }
+    Ok(())
+}
+
+/// These steps, so many times.
+pub fn repeat<E: Events>(
+    scheduler: &mut E,
+    place: &mut Place,
+    steps: &[Step],
+    times: u32,
+) -> Result<(), Fault> {
+    for _ in 0..times {
+        apply_each(scheduler, place, steps)?;
     }
     Ok(())
 }

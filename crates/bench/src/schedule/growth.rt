@@ -1,6 +1,6 @@
 // An invocation whose journal grows, resumed part by part.
 use crate::fault::Fault;
-use crate::schedule::events::{Events, Place, Step, apply_each};
+use crate::schedule::events::{Events, Place, Step, apply_each, repeat};
 use crate::schedule::handlers::Told;
 use crate::schedule::timed::Timed;
 use crate::timing::{Micros, Stopwatch};
@@ -16,9 +16,7 @@ pub fn time_each<E: Events>(
     times: u32,
 ) -> Result<Duration, Fault> {
     let mut watch = Stopwatch::start(rt, false)?;
-    for _ in 0..times {
-        apply_each(scheduler, place, steps)?;
-    }
+    repeat(scheduler, place, steps, times)?;
     watch.lap(rt)
 }
 

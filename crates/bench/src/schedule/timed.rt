@@ -1,11 +1,11 @@
 // The handlers of the invocations whose events are timed.
 ghost use Rattle.std.specs.Prelude.{◌≡◌, decimal, IfOk};
-ghost use Rattle.bench.specs.Timed.{get_of, set_of};
+ghost use Rattle.bench.specs.Timed.{get_of, run_behind, set_of};
 
 use built_in_handlers::handlers::{Ask, Race};
 use bytes::{ByteStr, Bytes};
 use itoa::Buffer;
-use journal_model::{Answer, Call, Handler, Input, Moment, PayloadOptions};
+use journal_model::{Answer, AwaitedFuture, Call, Handler, Input, Moment, PayloadOptions};
 use std::alloc::{AllocError, Global};
 
 /// A handler whose events are timed. All are of one type, since there is a scheduler for each type of handlers.
@@ -19,6 +19,8 @@ pub enum Timed {
     Sets(Global, usize),
     /// Reads so many keys, the numbers from 0 on, waits for none of them, and ends.
     Reads(Global, usize),
+    /// Makes a run and awaits it, again and again.
+    Runs,
 }
 
 /// The key of this number.
@@ -49,6 +51,18 @@ fn get(alloc: Global, number: usize) -> Result<Call, AllocError>
     })
 }
 
+/// The run that was made last is awaited, or one more is made.
+fn run(answers: &[Answer]) -> Call
+    ensures { result ≡ run_behind answers.now }
+{
+    match answers.get(answers.len().saturating_sub(1)) {
+        Some(Answer::Handle(handle)) => Call::Await(AwaitedFuture::single(*handle)),
+        _ => Call::Run {
+            name: ByteStr::from_static("r"),
+        },
+    }
+}
+
 impl Handler for Timed {
     ghost use Rattle.bench.specs.Timed.{function_of};
 
@@ -65,6 +79,7 @@ impl Handler for Timed {
             }),
             Timed::Sets(alloc, count) if answers.len() < count => set(alloc, answers.len()),
             Timed::Reads(alloc, count) if answers.len() < count => get(alloc, answers.len()),
+            Timed::Runs => Ok(run(answers)),
             _ => Ok(Call::End),
         }
     }
