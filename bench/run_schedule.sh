@@ -1,6 +1,7 @@
 #!/bin/sh
-# Times COUNT invocations of race and COUNT of ask, from invoke to end, in memory and in a file in FOLDER, and a journal that grows
-# to 10,000 entries: by this repository, and by the same statements in the same transactions over the stock SQLite library:
+# Times COUNT invocations of race and COUNT of ask, from invoke to end, in memory and in a file in FOLDER, a journal that grows to 10,000
+# entries, the state of objects, effects in memory and in files, and the call that lists which invocations are due: by this repository, and
+# by the same statements in the same transactions over the stock SQLite library:
 #
 #     bench/run_schedule.sh [COUNT [FOLDER]]
 #

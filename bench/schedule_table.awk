@@ -16,6 +16,13 @@ $1 == "log" || ($1 == "memory" && FILENAME == ours) { put($2 ", " $3 " of them, 
 
 $1 == "file" { put($2 ", " $3 " of them, on a file", $5) }
 
+$1 == "runs" { put("effect, one of " $2 ", " $3, $4) }
+
+# Ours has a log in memory always.
+$1 == "runs" && $3 == "memory" && FILENAME == ours { put("effect, one of " $2 ", log", $4) }
+
+$1 == "suspended" { for (i = 3; i < NF; i += 2) put($i ", 10 of " $2, $(i + 1)) }
+
 $1 == "journal" { for (i = 3; i < NF; i += 2) put($i ", journal of " $2, $(i + 1)) }
 
 $1 == "state" { for (i = 3; i < NF; i += 2) put($i ", " $2 " keys", $(i + 1)) }

@@ -13,7 +13,7 @@
 enum statement {
     BEGIN, COMMIT, INVOCATION_BY_ID, OPEN_INVOCATION, ENTRY_BY_ANSWERED, ENTRY_BY_COMPLETION, ENTRY_BY_SECOND_COMPLETION,
     JOURNAL, STATES, SLEEPS_UNTIL, ADD_INVOCATION, SET_PROGRESS, ADD_ENTRY, OPEN_SLEEP, CLOSE_SLEEPS, CLOSE_SLEEPS_UNTIL, STATE, DROP_STATE,
-    ADD_STATE, STATEMENTS
+    ADD_STATE, ARRIVALS_AFTER, AWAKE, STATEMENTS
 };
 
 static const char *const TEXTS[STATEMENTS] = {
@@ -36,6 +36,8 @@ static const char *const TEXTS[STATEMENTS] = {
     "SELECT * FROM state WHERE object = ?1 AND key = ?2",
     "DELETE FROM state WHERE object = ?1 AND key = ?2",
     "INSERT INTO state VALUES (?1, ?2, ?3)",
+    "SELECT * FROM entry WHERE invocation = ?1 AND arrival > ?2 ORDER BY arrival",
+    "SELECT * FROM invocation WHERE awake = ?1 ORDER BY id",
 };
 
 static const char *const SCHEMA[] = {
@@ -83,6 +85,11 @@ static const unsigned char LAZY_READ[] = "\x0a\x04" "1234" "\x58\x01";
 static const unsigned char READ_ANSWER[] = "\x08\x01\x2a\x12\x0a\x10sixteen bytes...";
 static const unsigned char VALUE[] = "sixteen bytes...";
 
+/* Of a run, of its outcome, and of a suspension that waits for the answer of a call. */
+static const unsigned char RUN[] = "\x58\x01\x62\x01r";
+static const unsigned char OUTCOME[] = "\x08\x01\x2a\x00";
+static const unsigned char SUSPENSION[] = "\x0a\x05\x0a\x01\x02\x28\x01";
+
 /* When sleeps are over, in milliseconds. */
 enum { MOMENT = 1000 };
 
@@ -90,7 +97,7 @@ enum { MOMENT = 1000 };
 struct progress {
     char id[24];
     char object[24];
-    int is_ended, has_answer;
+    int is_ended, has_answer, is_suspended, is_woken;
     uint32_t handed, attempts, since_entry, last_completion, entries, arrivals;
     uint64_t first_moment;
 };
@@ -185,19 +192,19 @@ static int by_number(enum statement which, const char *id, uint64_t value) {
 static void bind_progress(enum statement which, int at, const struct progress *p) {
     for (int i = 0; i < 9; i++) sqlite3_bind_null(statements[which], at + i);
     if (!p->is_ended) text(which, at, p->object);
-    if (p->is_ended) {
-        number(which, at + 2, p->handed);
-        number(which, at + 3, 1);
-    }
+    if (p->is_suspended) sqlite3_bind_blob(statements[which], at + 1, SUSPENSION, sizeof SUSPENSION - 1, SQLITE_STATIC);
+    if (p->is_ended || p->is_suspended) number(which, at + 2, p->handed);
+    if (p->is_ended) number(which, at + 3, 1);
     if (p->has_answer) sqlite3_bind_blob(statements[which], at + 4, OUTPUT, sizeof OUTPUT - 1, SQLITE_STATIC);
     number(which, at + 9, p->attempts);
     number(which, at + 10, p->since_entry);
     number(which, at + 11, p->first_moment);
     number(which, at + 12, p->last_completion);
     number(which, at + 13, p->entries);
-    sqlite3_bind_null(statements[which], at + 14);
+    if (p->is_suspended) number(which, at + 14, 0);
+    else sqlite3_bind_null(statements[which], at + 14);
     number(which, at + 15, p->arrivals);
-    number(which, at + 16, !p->is_ended);
+    number(which, at + 16, !p->is_ended && (!p->is_suspended || p->is_woken));
 }
 
 static void set_progress(const struct progress *p) {
@@ -289,11 +296,44 @@ static void step_awaiting_on(struct progress *p) {
     by_id(INVOCATION_BY_ID, p->id);
 }
 
+/* An attempt waits for the answer of a call, and is over. */
+static void step_suspension(struct progress *p) {
+    by_id(INVOCATION_BY_ID, p->id);
+    by_number(ARRIVALS_AFTER, p->id, 0);
+    p->is_suspended = 1;
+    p->handed = p->entries;
+    run(BEGIN);
+    set_progress(p);
+    run(COMMIT);
+}
+
+/* The invocations of which an attempt may go on. */
+static int due(void) {
+    number(AWAKE, 1, 1);
+    return run(AWAKE);
+}
+
+static void step_run(struct progress *p) {
+    by_id(INVOCATION_BY_ID, p->id);
+    p->last_completion++;
+    record(p, 0x0410, RUN, sizeof RUN - 1, p->last_completion, 0, 0);
+}
+
+/* The outcome of the last run. */
+static void step_outcome(struct progress *p) {
+    by_id(INVOCATION_BY_ID, p->id);
+    by_number(ENTRY_BY_ANSWERED, p->id, p->last_completion);
+    by_number(ENTRY_BY_COMPLETION, p->id, p->last_completion);
+    record(p, 0x8010, OUTCOME, sizeof OUTCOME - 1, 0, 0, p->last_completion);
+}
+
 /* The result of a call, which is its second completion. */
 static void result(struct progress *p, uint32_t completion) {
     by_id(INVOCATION_BY_ID, p->id);
     by_number(ENTRY_BY_ANSWERED, p->id, completion);
     if (by_number(ENTRY_BY_COMPLETION, p->id, completion) == 0) by_number(ENTRY_BY_SECOND_COMPLETION, p->id, completion);
+    if (p->is_suspended) by_number(ARRIVALS_AFTER, p->id, 0);
+    p->is_woken = 1;
     record(p, 0x800d, ANSWER, sizeof ANSWER - 1, 0, 0, completion);
 }
 
