@@ -1,5 +1,5 @@
 -- A new machine that was told all, and was asked for its input.
-use Rattle.std.proofs.Common.{◌≡◌, ◌⊎◌, inl, inr, ◌∙◌, ℕ, ◌+◌, false, List, [], ◌∷◌, ◌++◌, append-nil, map, length, Option, Some, None, Result, Ok, Err, refl, sym, ap, subst}
+use Rattle.std.proofs.Common.{◌≡◌, ◌⊎◌, inl, inr, ◌∙◌, ℕ, ◌+◌, false, List, [], ◌∷◌, ◌++◌, append-nil, map, length, Option, Some, None, Result, Err, refl, sym, ap, subst}
 use Rattle.std.specs.List.{AllByRecursion}
 use Rattle.protocol_errors.specs.declared.error.Error.{Error}
 use Rattle.protocol_stream.specs.Frame.{message_of}
@@ -32,10 +32,10 @@ use Rattle.vm_machine.specs.declared.machine_state.MachineState.{MachineState}
 use Rattle.vm_types.specs.declared.options.VMOptions.{VMOptions}
 use Rattle.feeding_laws.specs.Memory.{FailsForMemory}
 use Rattle.feeding_laws.specs.Messages.{raw_of, MessageFits}
-use Rattle.feeding_laws.specs.Inputs.{bytes_of, IsFedEach}
+use Rattle.feeding_laws.specs.Inputs.{bytes_of}
 use Rattle.feeding_laws.proofs.Inputs.{front, nothing_at, some_is_none}
 use Rattle.feeding_laws.proofs.Beginning.{starts_read_back}
-use Rattle.beginning_laws.specs.Standing.{IsInputOf, start_told, CanBegin, IsRunOf, kind_of, new_kind, AwaitsStart, HasStarted}
+use Rattle.beginning_laws.specs.Standing.{IsInputOf, start_told, CanBegin, IsRunOf, kind_of, new_kind, HasStarted}
 use Rattle.beginning_laws.specs.Laws.{KnowsNoRuns, HoldsStart, ReadsOn, StartsAreRead, AnswersInput, RefusesInput, InputsAreAnswered, BeginsAttempt, AttemptsBegin}
 use Rattle.beginning_laws.proofs.Messages.{all_behind}
 

@@ -1,5 +1,5 @@
 -- The messages of an attempt's input: which of them are waited for, and what the abstract machine is with them.
-use Rattle.std.proofs.Common.{◌≡◌, ◌∙◌, arith, ℕ, zero, suc, ◌+◌, ◌-◌, ◌<◌, Bool, true, List, [], ◌∷◌, ◌++◌, map, length, Option, Some, None, if◌then◌else◌, refl, sym, ap, subst}
+use Rattle.std.proofs.Common.{◌≡◌, ◌∙◌, arith, ℕ, zero, suc, ◌+◌, ◌-◌, ◌<◌, Bool, true, List, [], ◌∷◌, ◌++◌, length, Option, None, if◌then◌else◌, refl, sym, ap, subst}
 use Rattle.std.specs.Prelude.{nat_lt}
 use Rattle.std.specs.List.{AllByRecursion}
 use Rattle.std.proofs.lemmas.Bool.{lt-ltb}
@@ -14,7 +14,7 @@ use Rattle.vm_start.specs.declared.phase.Phase.{Phase}
 use Rattle.vm_start.specs.declared.phase.Phase.TheVariants as phases
 use Rattle.feeding_laws.specs.Messages.{IsWaitedFor, phase_then}
 use Rattle.feeding_laws.specs.Inputs.{gathered_all, phase_behind, AreWaitedFor}
-use Rattle.feeding_laws.proofs.Inputs.{stays_active, phase_append}
+use Rattle.feeding_laws.proofs.Inputs.{stays_active}
 use Rattle.beginning_laws.specs.Standing.{IsEntry, IsArrival, IsInputOf}
 use Rattle.position_laws.specs.Beginning.{AttemptStart}
 

@@ -1,13 +1,10 @@
 -- One that has its start reads on.
-use Rattle.std.proofs.Common.{◌≡◌, ◌⊎◌, inl, inr, ◌∙◌, ◌+◌, ℕ, false, List, [], ◌∷◌, ◌++◌, map, length, Option, Some, None, refl, sym, ap, subst}
+use Rattle.std.proofs.Common.{◌≡◌, ◌⊎◌, inl, inr, ◌∙◌, ◌+◌, false, List, [], ◌∷◌, ◌++◌, length, Option, Some, None, refl, sym, ap, subst}
 use Rattle.std.specs.List.{AllByRecursion}
 use Rattle.protocol_records.specs.declared.start.StartMessage.{StartMessage}
-use Rattle.protocol_stream.specs.Item.{item_at}
 use Rattle.protocol_stream.specs.declared.decoder.RawMessage.{RawMessage}
 use Rattle.journal_model.specs.declared.value.NonEmptyValue.{NonEmptyValue}
-use Rattle.journal_model.specs.Notification.{Bytes}
-use Rattle.journal_model.specs.Attempt.{input_bytes}
-use Rattle.input_laws.specs.Message.{InputMessage, CarriesInput, CarriesRequest, CarriesArrival, CarriesOutcome, piece_of}
+use Rattle.input_laws.specs.Message.{InputMessage, CarriesInput, CarriesRequest, CarriesArrival, CarriesOutcome}
 use Rattle.attempt_model.specs.Machine.{Machine, machine_at_start}
 use Rattle.body_laws.specs.Bodies.{Executor}
 use Rattle.executor_laws.specs.Living.{reads_messages}
@@ -22,10 +19,10 @@ use Rattle.vm_start.specs.declared.phase.Phase.TheVariants as phases
 use Rattle.vm_machine.specs.declared.machine_state.MachineState.{MachineState}
 use Rattle.feeding_laws.specs.Memory.{FailsForMemory}
 use Rattle.feeding_laws.specs.Messages.{MessageFits, phase_then, MessagesAreKept}
-use Rattle.feeding_laws.specs.Inputs.{bytes_of, IsFedEach, gathered_all, commands_in, phase_behind, runs_behind, AreWaitedFor, KnowsRuns, AreKept, TakesFirst}
+use Rattle.feeding_laws.specs.Inputs.{gathered_all, commands_in, phase_behind, runs_behind, AreWaitedFor, KnowsRuns, AreKept, TakesFirst}
 use Rattle.feeding_laws.proofs.Inputs.{gathered_append, commands_append, phase_append, stays_active, well_then, inputs_are_kept}
 use Rattle.feeding_laws.specs.Feeding.{has_failed}
-use Rattle.beginning_laws.specs.Standing.{IsArrival, IsInputOf, Kind, kind_of, HasStarted, IsAsked}
+use Rattle.beginning_laws.specs.Standing.{IsArrival, Kind, kind_of, HasStarted, IsAsked}
 use Rattle.beginning_laws.specs.Laws.{KnowsNoRuns, ReadsOn, JournalsAreRead, ReadsArrivals, ArrivalsAreRead}
 use Rattle.beginning_laws.proofs.Messages.{all_behind, all_in_front, arrivals_waited_for, waited_behind, input_waited_for, arrivals_gathered}
 

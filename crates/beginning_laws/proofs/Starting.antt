@@ -1,6 +1,5 @@
 -- A start is read, and the messages behind it, in any cut of their bytes.
 use Rattle.std.proofs.Common.{◌≡◌, ◌⊎◌, inl, inr, ◌∙◌, ◌+◌, ℕ, Bool, true≢false, false, List, [], ◌∷◌, ◌++◌, map, length, append_assoc, Option, Some, None, Result, Ok, Err, refl, sym, ap, subst}
-use Rattle.std.specs.List.{AllByRecursion}
 use Rattle.protocol_errors.specs.Error.{decoding_code}
 use Rattle.protocol_stream.specs.ErrorText.{decoding_text}
 use Rattle.protocol_records.specs.declared.start.StartMessage.{StartMessage}
@@ -17,7 +16,7 @@ use Rattle.journal_model.specs.Notification.{Bytes}
 use Rattle.journal_model.specs.Start.{start_payload_of}
 use Rattle.journal_model.specs.State.{StartState}
 use Rattle.input_laws.specs.Message.{InputMessage, piece_of}
-use Rattle.attempt_model.specs.Machine.{Machine, machine_at_start}
+use Rattle.attempt_model.specs.Machine.{machine_at_start}
 use Rattle.body_laws.specs.Bodies.{Executor}
 use Rattle.position_laws.specs.Beginning.{AttemptStart, ShowsStart}
 use Rattle.vm_machine.specs.Causes.{Tells}
@@ -27,7 +26,7 @@ use Rattle.vm_start.specs.declared.phase.Phase.TheVariants as phases
 use Rattle.vm_machine.specs.declared.machine_state.MachineState.{MachineState}
 use Rattle.feeding_laws.specs.Memory.{FailsForMemory}
 use Rattle.feeding_laws.specs.Messages.{MessagesAreKept}
-use Rattle.feeding_laws.specs.Starting.{WaitsForStart, HasBegun, StartsAreKept}
+use Rattle.feeding_laws.specs.Starting.{HasBegun, StartsAreKept}
 use Rattle.feeding_laws.specs.Inputs.{bytes_of, IsFedEach, AreWaitedFor}
 use Rattle.feeding_laws.proofs.Beginning.{starts_read_back}
 use Rattle.feeding_laws.proofs.Inputs.{extended, same_found, same_message, unknown_is_none, Took, took_none, took_bytes, took_next, took_whole, memory_stays}

@@ -1,5 +1,5 @@
 -- The laws of this crate.
-use Rattle.std.specs.Prelude.{◌≡◌, ◌⊎◌, false, List, [], ◌∷◌, ◌++◌, map, Some, None, Result, Ok, Err}
+use Rattle.std.specs.Prelude.{◌≡◌, ◌⊎◌, false, List, [], ◌++◌, map, Some, None, Result, Ok, Err}
 use Rattle.std.specs.List.{AllByRecursion}
 use Rattle.protocol_errors.specs.declared.error.Error.{Error}
 use Rattle.protocol_records.specs.declared.start.StartMessage.{StartMessage}
@@ -8,7 +8,7 @@ use Rattle.protocol_types.specs.declared.version.Version.{Version}
 use Rattle.journal_model.specs.declared.handler.Input.{Input}
 use Rattle.journal_model.specs.Notification.{Bytes}
 use Rattle.journal_model.specs.Attempt.{input_bytes}
-use Rattle.input_laws.specs.Message.{InputMessage, CarriesInput, piece_of, arrivals_carried, requests_carried}
+use Rattle.input_laws.specs.Message.{InputMessage, piece_of, arrivals_carried, requests_carried}
 use Rattle.attempt_model.specs.Machine.{Machine, machine_at_start}
 use Rattle.body_laws.specs.Bodies.{Executor}
 use Rattle.executor_laws.specs.Living.{reads_messages, AreCached}

@@ -1,11 +1,10 @@
 -- How a machine stands to an attempt that was told messages of its input: before its start, among its entries, and when calls are made.
-use Rattle.std.specs.Prelude.{◌≡◌, ◌+◌, ℕ, Bool, false, List, [], ◌∷◌, ◌++◌, length, Some}
+use Rattle.std.specs.Prelude.{◌≡◌, ◌+◌, Bool, false, List, [], ◌∷◌, ◌++◌, length, Some}
 use Rattle.std.specs.List.{AllByRecursion}
 use Rattle.protocol_records.specs.declared.start.StartMessage.{StartMessage}
 use Rattle.protocol_stream.specs.Records.{start_record}
 use Rattle.protocol_types.specs.Version.{version_number}
 use Rattle.protocol_types.specs.declared.version.Version.{Version}
-use Rattle.journal_model.specs.Notification.{Bytes}
 use Rattle.journal_model.specs.State.{StateMap, IsOrdered}
 use Rattle.journal_model.specs.Start.{start_payload_of}
 use Rattle.journal_model.specs.Headline.{run_of}

@@ -1,6 +1,5 @@
 -- Which child a cancellation waits for.
 use Rattle.std.proofs.Common.{◌≡◌, ◌<◌, ◌≤◌, ◌^◌, ℕ, arith, Bool, true, false, List, [], ◌∷◌, Option, Some, None, refl, sym, ap, ◌∙◌, subst}
-use Rattle.std.specs.Prelude.{if◌then◌else◌}
 use Rattle.journal_model.specs.declared.call.Call.{Call}
 use Rattle.journal_model.specs.declared.options.SignalDelivery.{SignalDelivery}
 use Rattle.journal_model.specs.declared.value.Value.{Value}
@@ -15,7 +14,7 @@ use Rattle.attempt_model.specs.Requests.{Commands, PutState, put_all}
 use Rattle.attempt_model.specs.Results.{Ready, Resolution, Awake, Asleep, ready_after, resolution_of}
 use Rattle.attempt_model.specs.Machine.{Machine, AwaitsChild, is_cancelled, reply_where_asleep, reply_where_cancelled, reply_where_unknown, reply_to_children, reply_where_awake, reply_to_await, reply_unless_refused}
 use Rattle.vm_results.specs.Children.{AreMade}
-use Rattle.handle_laws.specs.Awaiting.{IsChildLeft, ChildrenLeave, AwaitedTreesFit}
+use Rattle.handle_laws.specs.Awaiting.{ChildrenLeave, AwaitedTreesFit}
 use Rattle.handle_laws.proofs.Fitting.{future_fits}
 use Rattle.handle_laws.proofs.Handles.{handles_fit, awaits_leave}
 
@@ -109,7 +108,7 @@ children_leave : ChildrenLeave
 children_leave same_header given m after tree child made e =
     let waits = child_waits given child after (same_header (Call.Await tree)) m tree (refusal_of given.version (Call.Await tree)) e in
     let below = waits.made made in
-    record { made = below; fits = λ few. record { leaves = below_all child m.completions below few; levels = tt }; slots = waits.slots }
+    record { made = below; fits = λ few. below_all child m.completions below few; slots = waits.slots }
 
 pub awaited_trees_fit : AwaitedTreesFit
 awaited_trees_fit = record { records = future_fits; handles = handles_fit; awaits = awaits_leave; children = children_leave }

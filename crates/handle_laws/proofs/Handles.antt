@@ -6,20 +6,20 @@ use Rattle.journal_model.specs.declared.notification.NotificationId.{Notificatio
 use Rattle.journal_model.specs.declared.call.Call.{Call}
 use Rattle.journal_model.specs.declared.options.SignalDelivery.{SignalDelivery}
 use Rattle.journal_model.specs.Notification.{Arrival, cancel_id}
-use Rattle.journal_model.specs.AwaitTree.{AwaitTree, AwaitState, Pending, Succeeded, Failed, is_completed, Single, Combined, AwaitTrees, no_trees, and_trees, await_state, is_awake}
+use Rattle.journal_model.specs.AwaitTree.{AwaitTree, AwaitState, Pending, Succeeded, Failed, is_completed, Single, Combined, AwaitTrees, no_trees, and_trees, is_awake}
 use Rattle.journal_model.specs.Await.{awaited_tree}
 use Rattle.journal_model.specs.History.{cancel_handle}
 use Rattle.journal_model.specs.Request.{Request}
 use Rattle.journal_model.specs.Refusal.{Refusal, refusal_of}
 use Rattle.journal_model.specs.Run.{Invocation}
-use Rattle.journal_model.specs.Waiting.{pruned, pruned_children, earlier_or_later, leaf_or_nothing, and_leaf, only_leaves, only_children}
+use Rattle.journal_model.specs.Waiting.{pruned, earlier_or_later, leaf_or_nothing, and_leaf, only_leaves, only_children}
 use Rattle.journal_laws.proofs.Pruning.{pruned-awake}
 use Rattle.attempt_model.specs.Children.{ChildrenOutcome, AllKnown, FirstUnknown, OneIsNoId, children_outcome, cancel_requests_for}
 use Rattle.attempt_model.specs.Requests.{Commands, PutState, put_all}
 use Rattle.attempt_model.specs.Results.{Slots, Ready, slot_in, slot_of, handle_state, Resolution, Awake, Asleep, ready_after, resolution_of}
 use Rattle.attempt_model.specs.Machine.{Machine, AwaitsTree, is_cancelled, reply_where_asleep, reply_where_cancelled, reply_where_unknown, reply_to_children, reply_where_awake, reply_to_await, reply_unless_refused}
 use Rattle.attempt_tables.proofs.Waking.{awake-map}
-use Rattle.handle_laws.specs.Trees.{IdFits, LeavesFit, AllLeavesFit, IsWithin, AreWithin, SlotsFit}
+use Rattle.handle_laws.specs.Trees.{IdFits, LeavesFit, AllLeavesFit, SlotsFit}
 use Rattle.handle_laws.specs.Awaiting.{HandlesFit, IsLeft, AwaitsLeave}
 
 -- ---- what handles stand for
@@ -62,52 +62,12 @@ module _ {Leaf : Type 0} (stands : Leaf → Option NotificationId) (fits : (leaf
   tree_fits (Single leaf) = leaf_fits (stands leaf) (fits leaf)
   tree_fits (Combined combinator children) = children_fit children
 
--- ---- levels
-
-module _ {A B : Type 0} (stands : A → Option B) where
-  before_within : (levels : ℕ) (o : Option B) (trees : AwaitTrees B) → AreWithin levels trees → AreWithin levels (and_leaf o trees)
-  before_within levels None trees h = h
-  before_within levels (Some leaf) trees h = h
-
-  alone_within : (levels : ℕ) (o : Option B) → IsWithin (suc levels) (leaf_or_nothing o)
-  alone_within levels None = tt
-  alone_within levels (Some leaf) = tt
-
-  mutual
-    children_within : (levels : ℕ) (trees : AwaitTrees A) → AreWithin levels trees → AreWithin levels (only_children stands trees)
-    children_within levels no_trees h = tt
-    children_within levels (and_trees (Single leaf) trees) h = before_within levels (stands leaf) (only_children stands trees) (children_within levels trees h)
-    children_within levels (and_trees (Combined combinator children) trees) h = (tree_within levels (Combined combinator children) h.0, children_within levels trees h.1)
-
-    tree_within : (levels : ℕ) (tree : AwaitTree A) → IsWithin levels tree → IsWithin levels (only_leaves stands tree)
-    tree_within zero tree h = absurd h
-    tree_within (suc levels) (Single leaf) h = alone_within levels (stands leaf)
-    tree_within (suc levels) (Combined combinator children) h = children_within levels children h
-
 pub handles_fit : HandlesFit
-handles_fit levels slots tree h within = (tree_fits (slot_of slots) (slot_fits slots h) tree, tree_within (slot_of slots) levels tree within)
+handles_fit slots tree h = tree_fits (slot_of slots) (slot_fits slots h) tree
+
+-- ---- what is left
 
 module _ {A : Type 0} (states : A → AwaitState) where
-  either_within : (levels : ℕ) (b : Bool) (one other : AwaitTrees A) → AreWithin levels one → AreWithin levels other → AreWithin levels (if b then one else other)
-  either_within levels true one other first second = first
-  either_within levels false one other first second = second
-
-  mutual
-    kept_within : (levels : ℕ) (trees : AwaitTrees A) → AreWithin levels trees → AreWithin levels (pruned_children trees states)
-    kept_within levels no_trees h = tt
-    kept_within levels (and_trees (Single leaf) trees) h =
-        let rest = kept_within levels trees h in
-        either_within levels (is_completed (await_state (Single leaf) states)) (pruned_children trees states) (and_trees (Single leaf) (pruned_children trees states)) rest rest
-    kept_within levels (and_trees (Combined combinator children) trees) h =
-        let rest = kept_within levels trees h.1 in
-        either_within levels (is_completed (await_state (Combined combinator children) states)) (pruned_children trees states)
-        (and_trees (Combined combinator (pruned_children children states)) (pruned_children trees states)) rest (pruned_within levels (Combined combinator children) h.0, rest)
-
-    pruned_within : (levels : ℕ) (tree : AwaitTree A) → IsWithin levels tree → IsWithin levels (pruned tree states)
-    pruned_within zero tree h = absurd h
-    pruned_within (suc levels) (Single leaf) h = tt
-    pruned_within (suc levels) (Combined combinator children) h = kept_within levels children h
-
   -- what is left of a tree that is not awake is not awake by itself
   nothing_more : (leaf : A) → earlier_or_later states (λ other. Pending) leaf ≡ states leaf
   nothing_more leaf = by_state (states leaf)
@@ -120,30 +80,26 @@ module _ {A : Type 0} (states : A → AwaitState) where
   left_asleep : (tree : AwaitTree A) → is_awake tree states ≡ false → is_awake (pruned tree states) (λ leaf. Pending) ≡ false
   left_asleep tree asleep = pruned-awake states (λ leaf. Pending) tree asleep ∙ ap (is_awake tree) (fun_ext nothing_more) ∙ asleep
 
--- ---- what is left
+abbrev IsAsleep : AwaitTree ℕ → Type 0
+IsAsleep left = is_awake left (λ leaf. Pending) ≡ false
 
-pub record IsPruned (cancelled left : AwaitTree ℕ) : Type 0 where
-  pub levels : (levels : ℕ) → IsWithin levels cancelled → IsWithin levels left
-  pub asleep : is_awake left (λ leaf. Pending) ≡ false
-
-resolved : (delivery : SignalDelivery) (slots : Slots) (tree left : AwaitTree ℕ) (queue : List Arrival) (ready waiting : Ready) → resolution_of delivery slots tree queue ready ≡ Asleep left waiting → IsPruned tree left
+resolved : (delivery : SignalDelivery) (slots : Slots) (tree left : AwaitTree ℕ) (queue : List Arrival) (ready waiting : Ready) → resolution_of delivery slots tree queue ready ≡ Asleep left waiting → IsAsleep left
 resolved delivery slots tree left [] ready waiting e = by_awake (is_awake tree (handle_state slots ready)) refl e
   where
-    by_awake : (b : Bool) → is_awake tree (handle_state slots ready) ≡ b → (if b then Awake [] ready else Asleep (pruned tree (handle_state slots ready)) ready) ≡ Asleep left waiting → IsPruned tree left
+    by_awake : (b : Bool) → is_awake tree (handle_state slots ready) ≡ b → (if b then Awake [] ready else Asleep (pruned tree (handle_state slots ready)) ready) ≡ Asleep left waiting → IsAsleep left
     by_awake true is e = absurd cc
     by_awake false is e =
         let same : pruned tree (handle_state slots ready) ≡ left = cc in
-        subst (IsPruned tree) same (record { levels = λ levels within. pruned_within (handle_state slots ready) levels tree within; asleep = left_asleep (handle_state slots ready) tree is })
+        subst IsAsleep same (left_asleep (handle_state slots ready) tree is)
 resolved delivery slots tree left (arrival ∷ queue) ready waiting e =
     by_awake (is_awake tree (handle_state slots ready)) e (resolved delivery slots (pruned tree (handle_state slots ready)) left queue (ready_after delivery ready arrival) waiting)
   where
     by_awake : (b : Bool)
         → (if b then Awake (arrival ∷ queue) ready else resolution_of delivery slots (pruned tree (handle_state slots ready)) queue (ready_after delivery ready arrival)) ≡ Asleep left waiting
-        → (resolution_of delivery slots (pruned tree (handle_state slots ready)) queue (ready_after delivery ready arrival) ≡ Asleep left waiting → IsPruned (pruned tree (handle_state slots ready)) left)
-        → IsPruned tree left
+        → (resolution_of delivery slots (pruned tree (handle_state slots ready)) queue (ready_after delivery ready arrival) ≡ Asleep left waiting → IsAsleep left)
+        → IsAsleep left
     by_awake true e later = absurd cc
-    by_awake false e later =
-        let is = later e in record { levels = λ levels within. is.levels levels (pruned_within (handle_state slots ready) levels tree within); asleep = is.asleep }
+    by_awake false e later = later e
 
 -- an await that is awake is answered, fails, or waits for a child
 cancelled_never : (same : Request → Request → Bool) (given : Invocation) (m after : Machine) (left : AwaitTree ℕ) (requests : List Request) (put : Option PutState)
@@ -176,19 +132,18 @@ awaits_leave same_header given m after tree left e = by_refusal (refusal_of give
   where
     by_resolution : (resolution : Resolution)
         → resolution_of given.options.signal_delivery m.slots (awaited_tree given.options.implicit_cancellation tree) m.queue m.ready ≡ resolution
-        → reply_to_await (same_header (Call.Await tree)) given m resolution ≡ AwaitsTree left after → IsLeft (awaited_tree given.options.implicit_cancellation tree) m after left
+        → reply_to_await (same_header (Call.Await tree)) given m resolution ≡ AwaitsTree left after → IsLeft m after left
     by_resolution (Awake queue ready) is e =
         absurd (awake_never (same_header (Call.Await tree)) given (record m { queue = queue; ready = ready }) after left (is_cancelled given (record m { queue = queue; ready = ready })) e)
     by_resolution (Asleep some ready) is e =
         let both = asleep_is some left (record m { queue = []; ready = ready }) after m.left e in
-        let is_pruned = resolved given.options.signal_delivery m.slots (awaited_tree given.options.implicit_cancellation tree) left m.queue m.ready ready (is ∙ ap (λ (t : AwaitTree ℕ). Asleep t ready) both.0) in
+        let asleep = resolved given.options.signal_delivery m.slots (awaited_tree given.options.implicit_cancellation tree) left m.queue m.ready ready (is ∙ ap (λ (t : AwaitTree ℕ). Asleep t ready) both.0) in
         record {
-          levels = is_pruned.levels;
           slots = sym (ap (λ (machine : Machine). machine.slots) both.1);
-          asleep = awake-map (slot_of after.slots) (λ leaf. Pending) left ∙ is_pruned.asleep;
+          asleep = awake-map (slot_of after.slots) (λ leaf. Pending) left ∙ asleep;
         }
 
-    by_refusal : (o : Option Refusal) → reply_unless_refused (same_header (Call.Await tree)) given m (Call.Await tree) o ≡ AwaitsTree left after → IsLeft (awaited_tree given.options.implicit_cancellation tree) m after left
+    by_refusal : (o : Option Refusal) → reply_unless_refused (same_header (Call.Await tree)) given m (Call.Await tree) o ≡ AwaitsTree left after → IsLeft m after left
     by_refusal None e =
         by_resolution (resolution_of given.options.signal_delivery m.slots (awaited_tree given.options.implicit_cancellation tree) m.queue m.ready) refl e
     by_refusal (Some refusal) e = absurd cc

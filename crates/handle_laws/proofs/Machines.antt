@@ -1,5 +1,5 @@
 -- What handles stand for fits, call by call and in a run.
-use Rattle.std.proofs.Common.{◌≡◌, ◌<◌, ◌≤◌, ◌+◌, ◌-◌, ◌^◌, ◌==◌, nat_lt, ℕ, zero, suc, arith, Bool, true, false, List, [], ◌∷◌, ◌++◌, map, Option, Some, None, refl, sym, ap, ◌∙◌, subst, slice_get, slice_set}
+use Rattle.std.proofs.Common.{◌≡◌, ◌<◌, ◌≤◌, ◌+◌, ◌-◌, ◌^◌, ◌==◌, nat_lt, ℕ, zero, suc, arith, Bool, true, false, List, [], ◌∷◌, map, Option, Some, None, sym, ap, ◌∙◌, subst, slice_get, slice_set}
 use Rattle.std.specs.Prelude.{if◌then◌else◌}
 use Rattle.std.specs.List.{AllByRecursion, list_all, list_any}
 use Rattle.journal_model.specs.declared.notification.NotificationId.{NotificationId}
@@ -181,7 +181,7 @@ machines_stand handler given journal arrivals calls m h =
     each_fits m.slots (λ place. subst FitsIfSome (sym (h.stands.tables.handles (17 + place)) ∙ at_place m.slots place) (stands_fit h.stands.steps (17 + place) created))
 
 trees_stand : TreesStandFitting
-trees_stand handler given journal arrivals calls m levels tree h within = handles_fit levels m.slots tree (machines_stand handler given journal arrivals calls m h) within
+trees_stand handler given journal arrivals calls m tree h = handles_fit m.slots tree (machines_stand handler given journal arrivals calls m h)
 
 pub machines_fit : MachinesFit
 machines_fit = record { calls = calls_fit; machines = machines_stand; trees = trees_stand }

@@ -12,7 +12,7 @@ use Rattle.attempt_model.specs.Results.{slot_of}
 use Rattle.attempt_model.specs.Machine.{Machine, Reply, Answered, AwaitsTree, AwaitsChild, Finished, FailedBy, reply_to}
 use Rattle.attempt_model.specs.Standing.{Stands}
 use Rattle.request_laws.specs.Calls.{IsTypedCall}
-use Rattle.handle_laws.specs.Trees.{LeavesFit, IsWithin, SlotsFit}
+use Rattle.handle_laws.specs.Trees.{LeavesFit, SlotsFit}
 
 -- ---- one call
 
@@ -47,10 +47,10 @@ abbrev pub MachinesStandFitting : Type 0
 MachinesStandFitting = (handler : Handler) (given : Invocation) (journal : List Request) (arrivals : List Arrival) (calls : ℕ) (m : Machine)
     → StandsTyped handler given journal arrivals calls m → SlotsFit m.slots
 
--- so each tree over its handles that is nested no deeper can be told
+-- so the leaves of each tree over its handles fit
 abbrev pub TreesStandFitting : Type 0
-TreesStandFitting = (handler : Handler) (given : Invocation) (journal : List Request) (arrivals : List Arrival) (calls : ℕ) (m : Machine) (levels : ℕ) (tree : AwaitTree ℕ)
-    → StandsTyped handler given journal arrivals calls m → IsWithin levels tree → LeavesFit (only_leaves (slot_of m.slots) tree) × IsWithin levels (only_leaves (slot_of m.slots) tree)
+TreesStandFitting = (handler : Handler) (given : Invocation) (journal : List Request) (arrivals : List Arrival) (calls : ℕ) (m : Machine) (tree : AwaitTree ℕ)
+    → StandsTyped handler given journal arrivals calls m → LeavesFit (only_leaves (slot_of m.slots) tree)
 
 pub record MachinesFit : Type 0 where
   pub calls : CallsLeaveFitting

@@ -1,11 +1,12 @@
-//! Which trees over its handles a machine can tell, and which child a cancellation waits for. Each function does nothing: its contract is the law.
+//! What trees over its handles a machine tells, and which child a cancellation waits for. Each function does nothing: its contract is the law.
 #![tactic(auto)]
 
 ghost use Rattle.handle_laws.specs.Awaiting.{AwaitedTreesFit};
 ghost use Rattle.handle_laws.specs.Machines.{MachinesFit};
 
-/// Trees over handles can be told, if what these stand for fits and no tree is nested too deep; so can what is left of them. The child
-/// that a cancellation waits for is one that a call has made, so the tree of it alone can be told too.
+/// The leaves of trees over handles fit, if what these stand for does; so do those of what is left of a tree. The child that a
+/// cancellation waits for is one that a call has made, so its id fits too. A tree whose leaves fit has a record that fits, if it is
+/// nested no deeper than that can tell.
 pub fn awaited_trees_fit()
     ensures { AwaitedTreesFit }
 {}

@@ -29,7 +29,7 @@ use Rattle.vm_feeding.specs.Refusals.{lacks_reads}
 use Rattle.vm_start.specs.Phases.{kept_error}
 use Rattle.vm_start.specs.declared.phase.Phase.TheVariants as phases
 use Rattle.vm_feeding.specs.Passed.{checks_off, is_active, IsUnexpected, MachineState}
-use Rattle.vm_progress.specs.Asleep.{FailsUnwritten, SettlesStay, ClosesAs, SleepsAs, SleepsWhere}
+use Rattle.vm_progress.specs.Asleep.{too_deep_error, FailsUntold, SettlesStay, ClosesAs, SleepsAs, SleepsWhere}
 use Rattle.vm_progress.specs.Executing.{executes_any, is_executing_for, run_for}
 use Rattle.vm_progress.specs.Awaiting.{ready_read, GoesOnAs, IsAwaited, DoesAwaitWhere, DoesAwait}
 use Rattle.vm_progress.specs.Ending.{end_place, closed_active, ClosesEnd, EndsAt, EndsAs}
@@ -49,6 +49,8 @@ use Rattle.vm_waiting.specs.declared.awaiting.AwaitError.{AwaitError}
 use Rattle.vm_waiting.specs.declared.awaiting.AwaitError.TheVariants as unawaited
 use Rattle.vm_waiting.specs.declared.children.ChildrenKnown.{ChildrenKnown}
 use Rattle.vm_waiting.specs.declared.children.ChildrenKnown.TheVariants as known
+use Rattle.vm_waiting.specs.declared.suspending.TellError.{TellError}
+use Rattle.vm_waiting.specs.declared.suspending.TellError.TheVariants.{TooDeep, Encoding}
 use Rattle.vm_waiting.specs.declared.waits_for.WaitsFor.{WaitsFor}
 use Rattle.vm_waiting.proofs.CancelReplies.{completions_stay}
 use Rattle.host_laws.proofs.Keeping.{Keeps, counted_like, Replays, Stands, moved, when_active, active_again, IsLike, keeps_like, replays_like, like_again, results_like, same_like, output_like, failed, steps_stand}
@@ -64,26 +66,27 @@ frame_closed false frame written is = refl
 pub frame_keeps : (frame : List ℕ) (written : Written) → (with_frame frame written).is_closed ≡ written.is_closed
 frame_keeps frame written = frame_closed written.is_closed frame written refl
 
-unwritten_stands : (error : EncodingError) (old : MachineState) (told : Error) (new : MachineState) → FailsUnwritten error old told new → Stands new
-unwritten_stands unsent.PayloadTooLong old told new is = failed is.cause old told new is.fails
-unwritten_stands unsent.OutOfMemory old told new is = failed is.cause old told new is.fails
+untold_stands : (error : TellError) (old : MachineState) (told : Error) (new : MachineState) → FailsUntold error old told new → Stands new
+untold_stands TooDeep old told new is = failed (Ok too_deep_error) old told new is
+untold_stands (Encoding unsent.PayloadTooLong) old told new is = failed is.cause old told new is.fails
+untold_stands (Encoding unsent.OutOfMemory) old told new is = failed is.cause old told new is.fails
 
 -- ---- awaits that wait
 
 writes_like : (tells : Bool) (ids : AwaitTree NotificationId) (done : Unit {0}) (old new : Active) → TellsIf tells ids old (Ok done) new → IsLike old new
-writes_like true ids done old new is = output_like old new is.1 (ap (λ (written : Written). written.is_closed) is.0.1 ∙ frame_keeps _ old.output)
+writes_like true ids done old new is = output_like old new is.1.1 (ap (λ (written : Written). written.is_closed) is.1.0.1 ∙ frame_keeps _ old.output)
 writes_like false ids done old new is = same_like old new is
 
-stay_settled : (tells executing : Bool) (ids : AwaitTree NotificationId) (old : MachineState) (written : Result (Unit {0}) EncodingError) (active : Active) (result : Result AwaitResponse Error) (new : MachineState)
+stay_settled : (tells executing : Bool) (ids : AwaitTree NotificationId) (old : MachineState) (written : Result (Unit {0}) TellError) (active : Active) (result : Result AwaitResponse Error) (new : MachineState)
     → TellsIf tells ids old.active written active → SettlesStay executing written (record old { active = active }) result new → Stands old → Stands new
 stay_settled tells executing ids old (Ok done) active (Ok response) new is settles stands = like_again old active new settles.1 (writes_like tells ids done old.active active is) stands
 stay_settled tells executing ids old (Ok done) active (Err told) new is settles stands = absurd settles
 stay_settled tells executing ids old (Err error) active (Ok response) new is settles stands = absurd settles
-stay_settled tells executing ids old (Err error) active (Err told) new is settles stands = unwritten_stands error (record old { active = active }) told new settles
+stay_settled tells executing ids old (Err error) active (Err told) new is settles stands = untold_stands error (record old { active = active }) told new settles
 
-closed_as : (written : Result (Unit {0}) EncodingError) (old : MachineState) (told : Error) (new : MachineState) → ClosesAs written old told new → Stands new
+closed_as : (written : Result (Unit {0}) TellError) (old : MachineState) (told : Error) (new : MachineState) → ClosesAs written old told new → Stands new
 closed_as (Ok done) old told new closes = moved (record old { phase = phases.Closed }) new closes.1 tt
-closed_as (Err error) old told new closes = unwritten_stands error old told new closes
+closed_as (Err error) old told new closes = untold_stands error old told new closes
 
 sleep_goes_on : (sleep : Sleep) (waits : WaitsFor) (old : MachineState) (result : Result AwaitResponse Error) (new : MachineState) → SleepsAs sleep waits old result new → Stands old → Stands new
 sleep_goes_on sleeps.Stays waits old result new is stands =

@@ -1,3 +1,4 @@
+pub mod Nested
 pub mod Fitting
 pub mod Reading
 pub mod Streams

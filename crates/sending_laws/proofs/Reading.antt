@@ -67,7 +67,7 @@ use Rattle.request_laws.specs.Fitting.{RequestFits}
 use Rattle.request_laws.proofs.Records.{output_fits}
 use Rattle.request_laws.proofs.Requests.{payload_read}
 use Rattle.handle_laws.specs.Trees.{TreeFits}
-use Rattle.sending_laws.specs.Sent.{Sent, Asks, Proposes, Awaits, Suspends, Fails, Ends, sent_payload, sent_frame, sent_message, SentFits, suspension_told, frame_meant}
+use Rattle.sending_laws.specs.Sent.{Sent, Asks, Proposes, Awaits, Suspends, Fails, Ends, sent_payload, sent_frame, sent_message, SuspendedFits, SentFits, suspension_told, frame_meant}
 use Rattle.sending_laws.specs.Reading.{FramesAreRead, ErrorsAreMeant}
 use Rattle.handle_laws.proofs.Fitting.{future_fits}
 use Rattle.sending_laws.proofs.Fitting.{completions_listed, signals_listed, names_listed}
@@ -135,15 +135,15 @@ awaiting_read tree h short =
 abbrev lists_record : AwaitTree NotificationId → SuspensionMessageV6
 lists_record tree = record { waiting_completions = listed completions_in tree; waiting_signals = listed signals_in tree; waiting_named_signals = listed names_in tree }
 
-suspension_read : (has_lists : Bool) (tree : AwaitTree NotificationId) → TreeFits tree → length (if has_lists then lists_payload tree else suspension_payload tree) < 2 ^ 32
+suspension_read : (has_lists : Bool) (tree : AwaitTree NotificationId) → SuspendedFits has_lists tree → length (if has_lists then lists_payload tree else suspension_payload tree) < 2 ^ 32
     → suspension_frame has_lists (if has_lists then lists_payload tree else suspension_payload tree) ≡ Frame.Suspend (Some (suspension_told has_lists tree))
 suspension_read true tree h short =
     let is = spelled_read records.SuspensionV6 suspension_v6_of suspension_v6_parts _ suspension_v6_reads (lists_record tree) (lists_payload tree)
     (record {
       level = omega arith;
-      waiting_completions = completions_listed tree h.leaves;
-      waiting_signals = signals_listed tree h.leaves;
-      waiting_named_signals = names_listed tree h.leaves;
+      waiting_completions = completions_listed tree h;
+      waiting_signals = signals_listed tree h;
+      waiting_named_signals = names_listed tree h;
     }) (lists_spelled (lists_record tree)) short in
     read_sound records.SuspensionV6 (λ fs. Frame.Suspend (Some (suspension_of_lists (suspension_v6_of LEVELS fs)))) (lists_payload tree) is.sound ∙ ap (λ (one : SuspensionMessageV6). Frame.Suspend (Some (suspension_of_lists one))) (sym is.value)
 suspension_read false tree h short =

@@ -91,10 +91,10 @@ stays_send false done m after waits old new opens fits tells =
     }
 
 suspensions_send : SuspensionsSend
-suspensions_send m after waits old new opens slots fits asleep is =
+suspensions_send m after waits old new opens slots fits asleep shallow is =
     let version = version_number old.output.version in
     let ids = awaited_ids old waits in
-    let one = frames_are_written.suspensions ids old new opens fits is in
+    let one = frames_are_written.suspensions ids old new opens fits shallow is in
     let told = suspension_told (lacks_feature version TellsTrees) ids in
     let same : only_leaves (λ (leaf : Option NotificationId). leaf) (leaves_over after.slots waits) ≡ ids =
     told_of after.slots waits ∙ ap (λ (s : Slots). ids_over s waits) (sym slots) in

@@ -5,6 +5,9 @@ use Rattle.std.specs.List.{flat_map}
 use Rattle.protocol_wire.specs.Parts.{payload_of}
 use Rattle.protocol_types.specs.declared.message_type.MessageType.TheVariants as types
 use Rattle.protocol_types.specs.declared.version.Version.{Version}
+use Rattle.protocol_types.specs.declared.feature.Feature.TheVariants.{AwaitTree as TellsTrees}
+use Rattle.protocol_types.specs.Version.{version_number}
+use Rattle.protocol_types.specs.Feature.{lacks_feature}
 use Rattle.journal_model.specs.Request.{Request}
 use Rattle.journal_model.specs.Spelling.{request_frame}
 use Rattle.protocol_controls.specs.Error.{error_parts}
@@ -14,6 +17,7 @@ use Rattle.vm_context.specs.Output.{Written, with_frame}
 use Rattle.vm_calls.specs.declared.active.Active.{Active}
 use Rattle.vm_start.specs.Failure.{told_error}
 use Rattle.sending_laws.specs.Sent.{Sent, Asks, Proposes, Awaits, Suspends, Fails, Ends, sent_frame, sent_stream}
+use Rattle.sending_laws.proofs.Nested.{shallow_fits, suspended_fits}
 use Rattle.sending_laws.specs.Writing.{Sends, CommandsAreWritten, ProposalsAreWritten, AwaitsAreWritten, SuspensionsAreWritten, ErrorsAreWritten, EndsAreWritten, FramesAreWritten}
 
 stream_of : (version : Version) (requests : List Request) → flat_map request_frame requests ≡ sent_stream version (map Asks requests)
@@ -40,13 +44,13 @@ proposals_written n value done old new opens small typed writes =
 
 awaits_written : AwaitsAreWritten
 awaits_written ids done old new opens fits tells =
-    record { fits = record { told = fits; short = tells.0.0 opens }; sends = sends_one (Awaits ids) old.output new.output opens tells.0.1 }
+    record { fits = record { told = shallow_fits ids fits tells.0; short = tells.1.0.0 opens }; sends = sends_one (Awaits ids) old.output new.output opens tells.1.0.1 }
 
 suspensions_written : SuspensionsAreWritten
-suspensions_written ids old new opens fits is =
+suspensions_written ids old new opens fits shallow is =
     let sends = sends_one (Suspends ids) old.output (with_frame (sent_frame old.output.version (Suspends ids)) old.output) opens refl in
     record {
-      fits = record { told = fits; short = is.fits opens };
+      fits = record { told = suspended_fits (lacks_feature (version_number old.output.version) TellsTrees) ids fits shallow; short = is.fits opens };
       sends = record {
         version = ap (λ (active : Active). active.output.version) is.suspended ∙ sends.version;
         bytes = ap (λ (active : Active). active.output.bytes) is.suspended ∙ sends.bytes;

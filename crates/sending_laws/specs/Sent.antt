@@ -31,7 +31,7 @@ use Rattle.vm_proposals.specs.Proposing.{proposal, proposal_message}
 use Rattle.vm_waiting.specs.Suspending.{listed, suspension_payload_in}
 use Rattle.request_laws.specs.Calls.{IsTypedValue}
 use Rattle.request_laws.specs.Fitting.{RequestFits}
-use Rattle.handle_laws.specs.Trees.{TreeFits}
+use Rattle.handle_laws.specs.Trees.{LeavesFit, TreeFits}
 
 -- a request, the outcome of a run that is proposed for its completion, what is waited for while the attempt stays and where it is suspended,
 -- an error, and the end
@@ -76,17 +76,22 @@ sent_message version sent = message_of (sent_type sent) (sent_payload version se
 
 -- ---- where the protocol can tell it
 
-abbrev pub IsTold : Sent → Type 0
-IsTold (Asks request) = RequestFits request
-IsTold (Proposes n value) = (n < 2 ^ 32) × IsTypedValue value
-IsTold (Awaits tree) = TreeFits tree
-IsTold (Suspends tree) = TreeFits tree
-IsTold (Fails error) = ErrorFits LEVELS error
-IsTold Ends = Unit {0}
+-- a suspension tells the tree, or before version 7 lists of its ids, however deep these are nested
+abbrev pub SuspendedFits : (has_lists : Bool) → AwaitTree NotificationId → Type 0
+SuspendedFits true tree = LeavesFit tree
+SuspendedFits false tree = TreeFits tree
+
+abbrev pub IsTold : Version → Sent → Type 0
+IsTold version (Asks request) = RequestFits request
+IsTold version (Proposes n value) = (n < 2 ^ 32) × IsTypedValue value
+IsTold version (Awaits tree) = TreeFits tree
+IsTold version (Suspends tree) = SuspendedFits (lacks_feature (version_number version) TellsTrees) tree
+IsTold version (Fails error) = ErrorFits LEVELS error
+IsTold version Ends = Unit {0}
 
 -- and the length of its payload is one that a header tells
 pub record SentFits (version : Version) (sent : Sent) : Type 0 where
-  pub told : IsTold sent
+  pub told : IsTold version sent
   pub short : length (sent_payload version sent) < 2 ^ 32
 
 abbrev pub AllFit : Version → List Sent → Type 0

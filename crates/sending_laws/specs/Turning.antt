@@ -21,7 +21,7 @@ use Rattle.vm_awaits.specs.Views.{slots_of}
 use Rattle.vm_context.specs.Output.{Written}
 use Rattle.vm_calls.specs.declared.active.Active.{Active}
 use Rattle.vm_calls.specs.Active.{writes_frames}
-use Rattle.vm_waiting.specs.Suspending.{Writes, IsSuspended, TellsIf}
+use Rattle.vm_waiting.specs.Suspending.{is_suspension_too_deep, Writes, IsSuspended, TellsIf}
 use Rattle.vm_waiting.specs.WaitsFor.{awaited_ids, waits_as}
 use Rattle.vm_waiting.specs.declared.waits_for.WaitsFor.{WaitsFor}
 use Rattle.vm_waiting.specs.declared.waits_for.WaitsFor.TheVariants.{Future, Child}
@@ -30,7 +30,7 @@ use Rattle.protocol_errors.specs.declared.error.Error.{Error}
 use Rattle.vm_proposals.specs.Proposing.{proposal, WritesProposal}
 use Rattle.request_laws.specs.Calls.{IsTypedValue}
 use Rattle.request_laws.specs.Fitting.{RequestFits}
-use Rattle.handle_laws.specs.Trees.{TreeFits}
+use Rattle.handle_laws.specs.Trees.{LeavesFit}
 use Rattle.sending_laws.specs.Sent.{Sent, Asks, Proposes, AllFit, is_recorded, frame_meant}
 use Rattle.sending_laws.specs.Writing.{Sends}
 
@@ -53,13 +53,13 @@ leaves_over slots (Child completion) = Single (Some (CompletionId completion))
 
 -- an await that stays, which may be told or not
 abbrev pub StaysSend : Type 0
-StaysSend = (told : Bool) (done : Unit {0}) (m after : Machine) (waits : WaitsFor) (old new : Active) → old.output.is_closed ≡ false → TreeFits (awaited_ids old waits)
+StaysSend = (told : Bool) (done : Unit {0}) (m after : Machine) (waits : WaitsFor) (old new : Active) → old.output.is_closed ≡ false → LeavesFit (awaited_ids old waits)
     → TellsIf told (awaited_ids old waits) old (Ok done) new → TurnSends false m (waits_as waits after) old.output new.output
 
 -- an await that is suspended, for what the machine's reply waits for; a child alone is not awake by itself
 abbrev pub SuspensionsSend : Type 0
-SuspensionsSend = (m after : Machine) (waits : WaitsFor) (old new : Active) → old.output.is_closed ≡ false → slots_of old.results ≡ after.slots → TreeFits (awaited_ids old waits)
-    → is_awake (leaves_over after.slots waits) (λ leaf. Pending) ≡ false → IsSuspended (awaited_ids old waits) old new
+SuspensionsSend = (m after : Machine) (waits : WaitsFor) (old new : Active) → old.output.is_closed ≡ false → slots_of old.results ≡ after.slots → LeavesFit (awaited_ids old waits)
+    → is_awake (leaves_over after.slots waits) (λ leaf. Pending) ≡ false → is_suspension_too_deep old.output.version (awaited_ids old waits) ≡ false → IsSuspended (awaited_ids old waits) old new
     → TurnSends true m (waits_as waits after) old.output new.output
 
 abbrev pub EndsSend : Type 0

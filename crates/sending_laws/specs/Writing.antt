@@ -9,12 +9,12 @@ use Rattle.protocol_errors.specs.declared.error.Error.{Error}
 use Rattle.vm_context.specs.Output.{Written}
 use Rattle.vm_calls.specs.declared.active.Active.{Active}
 use Rattle.vm_calls.specs.Active.{writes_frames}
-use Rattle.vm_waiting.specs.Suspending.{Writes, IsSuspended, TellsIf}
+use Rattle.vm_waiting.specs.Suspending.{is_suspension_too_deep, Writes, IsSuspended, TellsIf}
 use Rattle.vm_start.specs.Failure.{told_error}
 use Rattle.vm_start.specs.Failing as failing
 use Rattle.vm_proposals.specs.Proposing.{proposal, WritesProposal}
 use Rattle.request_laws.specs.Calls.{IsTypedValue}
-use Rattle.handle_laws.specs.Trees.{TreeFits}
+use Rattle.handle_laws.specs.Trees.{LeavesFit}
 use Rattle.sending_laws.specs.Sent.{Sent, Asks, Proposes, Awaits, Suspends, Fails, Ends, sent_stream, SentFits}
 
 -- these frames are behind what was written, and no other
@@ -36,11 +36,12 @@ ProposalsAreWritten = (n : ℕ) (value : NonEmptyValue) (done : Unit {0}) (old n
     → WritesProposal (proposal n value) old (Ok done) new → SendsOne (Proposes n value) old new
 
 abbrev pub AwaitsAreWritten : Type 0
-AwaitsAreWritten = (ids : AwaitTree NotificationId) (done : Unit {0}) (old new : Active) → old.output.is_closed ≡ false → TreeFits ids → TellsIf true ids old (Ok done) new
+AwaitsAreWritten = (ids : AwaitTree NotificationId) (done : Unit {0}) (old new : Active) → old.output.is_closed ≡ false → LeavesFit ids → TellsIf true ids old (Ok done) new
     → SendsOne (Awaits ids) old.output new.output
 
 abbrev pub SuspensionsAreWritten : Type 0
-SuspensionsAreWritten = (ids : AwaitTree NotificationId) (old new : Active) → old.output.is_closed ≡ false → TreeFits ids → IsSuspended ids old new → SendsOne (Suspends ids) old.output new.output
+SuspensionsAreWritten = (ids : AwaitTree NotificationId) (old new : Active) → old.output.is_closed ≡ false → LeavesFit ids → is_suspension_too_deep old.output.version ids ≡ false → IsSuspended ids old new
+    → SendsOne (Suspends ids) old.output new.output
 
 abbrev pub ErrorsAreWritten : Type 0
 ErrorsAreWritten = (error : Error) (old new : Written) → old.is_closed ≡ false → failing.Writes error old new → SendsOne (Fails (told_error error)) old new

@@ -121,7 +121,6 @@ module _ {H : Type 0} (function : H → Handler) (next : Handler) (version : Ver
       record {
         handler = ap (λ (a : Attempt H). function a.handler) does.1 ∙ ap function unasked.handler_is ∙ is_next;
         going = ap (λ (a : Attempt H). a.over) does.1 ∙ unasked.over;
-        cancellation = ap (λ (a : Attempt H). a.cancellation) does.1 ∙ unasked.cancellation;
         kind = on.started.kind_is;
         of_run = of_run;
         fed = by;

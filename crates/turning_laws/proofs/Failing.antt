@@ -1,8 +1,10 @@
--- A call is not carried out: for which cause, and what is told of it.
-use Rattle.std.proofs.Common.{Bool, ◌≡◌, ◌⊎◌, inl, inr, ◌∙◌, ℕ, ◌==◌, false, List, [], ◌∷◌, ◌++◌, map, Option, Result, Ok, Err, IfOk, refl, sym, ap, subst}
+-- A call fails: for which cause, and what is told of it.
+use Rattle.std.proofs.Common.{Bool, ◌≡◌, ◌⊎◌, inl, inr, ◌∙◌, ℕ, ◌==◌, false, List, [], ◌∷◌, ◌++◌, map, Option, Some, Result, Ok, Err, IfOk, refl, sym, ap, subst}
 use Rattle.std.specs.List.{AllByRecursion}
 use Rattle.std.specs.declared.alloc.AllocError.{AllocError}
+use Rattle.journal_model.specs.AwaitTree.{Single}
 use Rattle.journal_model.specs.Notification.{Bytes}
+use Rattle.journal_model.specs.declared.notification.NotificationId.TheVariants.{CompletionId}
 use Rattle.attempt_model.specs.Machine.{FailedBy, Fault, Mismatch, UncompletedInReplay, EndInReplay, KeysNotText, ChildNotId, Refused}
 use Rattle.vm_awaits.specs.Views.{slots_of}
 use Rattle.vm_outcomes.specs.Causes.{TellsEither, CauseTells}
@@ -12,6 +14,9 @@ use Rattle.vm_refusals.specs.declared.refusal.CallRefusal.{CallRefusal}
 use Rattle.vm_types.specs.declared.options.JournalMismatchRetryBehavior.{JournalMismatchRetryBehavior}
 use Rattle.vm_types.specs.declared.options.JournalReplay.{JournalReplay}
 use Rattle.vm_types.specs.declared.options.JournalReplay.TheVariants.{Enabled, Disabled}
+use Rattle.vm_waiting.specs.WaitsFor.{waits_as}
+use Rattle.vm_waiting.specs.declared.waits_for.WaitsFor.{WaitsFor}
+use Rattle.vm_waiting.specs.declared.waits_for.WaitsFor.TheVariants.{Future, Child}
 use Rattle.handle_laws.proofs.Fitting.{all_append}
 use Rattle.turning_laws.proofs.Reading.{turns_send}
 use Rattle.turning_laws.proofs.Quiet.{commands_quiet}
@@ -19,12 +24,12 @@ use Rattle.turning_laws.proofs.Notes.{TellsNotes, note_turn, cause_tells, fails_
 use Rattle.turning_laws.specs.Bodies.{outcomes_in}
 use Rattle.turning_laws.specs.Machine.phases
 use Rattle.turning_laws.specs.Keeping.{FailsWith, TellsBy}
-use Rattle.turning_laws.specs.Machine.{writes_frames, MachineState, Written, TellsCause, out_of_memory, told_error, Fails, Cause, ByFault, NoNumber, TooLong, NoReplay, NoMemory, HasPut, requests_passed_on, FailsWhen}
+use Rattle.turning_laws.specs.Machine.{writes_frames, MachineState, Written, TellsCause, out_of_memory, told_error, Fails, Cause, ByFault, NoNumber, TooLong, TooDeep, NoReplay, NoMemory, HasPut, requests_passed_on, FailsWhen}
 use Rattle.turning_laws.specs.Reading.{Kind}
 use Rattle.turning_laws.specs.Sending.{Sent, Asks, Fails as SentFails, sent_stream, AllFit, frame_meant}
 use Rattle.turning_laws.specs.Sending.{IsOfStore as IsSentOfStore}
-use Rattle.turning_laws.specs.Words.{internal, unsupported_feature, journal_mismatch, Error, Version, Answer, Call, Frame, answers_of, Request, Handler, arrivals_carried, requests_carried, IsNote, LiveAttempt, VMOptions, Refusal, Commands, RepliesAsRun}
-use Rattle.turning_laws.specs.Turning.{IsTurnOf, IsOwnCause, IsToldAs, FailsBy}
+use Rattle.turning_laws.specs.Words.{internal, unsupported_feature, journal_mismatch, Error, Version, Answer, Call, Frame, answers_of, Request, Handler, arrivals_carried, requests_carried, IsNote, LiveAttempt, Machine, VMOptions, Refusal, Commands, RepliesAsRun}
+use Rattle.turning_laws.specs.Turning.{IsTurnOf, RunWaitsFor, IsOwnCause, IsToldAs, FailsBy}
 use Rattle.turning_laws.proofs.Now.{Now, compares, call_of, reply_at}
 use Rattle.turning_laws.proofs.Midway.{PassesOn, passes_on, no_front, none_written}
 use Rattle.turning_laws.proofs.Stored.{notes_of_store}
@@ -101,6 +106,12 @@ module _ (next : Handler) (version : Version) (asked : JournalMismatchRetryBehav
     | inr lacks ↦ inr lacks
   ]
 
+  depth_told : CauseTold TooDeep → Told TooDeep
+  depth_told told = elim (with_code (inr (ap (λ (e : Error). e.code.0) told))) [
+    | inl fails ↦ inl (error, told, fails.0, fails.1)
+    | inr lacks ↦ inr lacks
+  ]
+
   pub told_as : (cause : Cause) → IsOwnCause next live.start.given (arrivals_carried live.read) live.calls cause → CauseTold cause → Told cause
   told_as (ByFault (Refused refusal)) own told = refusal_told refusal told
   told_as (ByFault Mismatch) own told = absurd own
@@ -110,6 +121,7 @@ module _ (next : Handler) (version : Version) (asked : JournalMismatchRetryBehav
   told_as (ByFault ChildNotId) own told = absurd own
   told_as NoNumber own told = number_told told
   told_as TooLong own told = length_told told
+  told_as TooDeep own told = depth_told told
   told_as NoReplay own told = absurd own
   told_as NoMemory own told = absurd told
 
@@ -129,12 +141,20 @@ module _ (next : Handler) (version : Version) (options : VMOptions) (is_closed :
   own_fault ChildNotId as_run = as_run
   own_fault (Refused refusal) as_run = as_run
 
+  own_wait : (waits : WaitsFor) (whole : Machine) → RepliesAsRun next live.start.given (requests_carried live.read) (arrivals_carried live.read) live.calls (waits_as waits whole)
+      → RunWaitsFor next live.start.given (arrivals_carried live.read) live.calls
+  own_wait (Future left) whole waits = (waits.ids, waits.waits)
+  own_wait (Child child) whole waits = (Single (Some (CompletionId child)), waits.waits)
+
   own : (far : HasPut live.start.given live.machine (call_of next live n.at) vm) (cause : Cause) → FailsWhen live.start.given live.machine (call_of next live n.at) vm far cause
       → IsOwnCause next live.start.given (arrivals_carried live.read) live.calls cause
   own far (ByFault fault) when =
       own_fault fault (subst (RepliesAsRun next live.start.given (requests_carried live.read) (arrivals_carried live.read) live.calls) when n.as_run)
   own far NoNumber when = tt
   own far TooLong when = tt
+  own far TooDeep when =
+      own_wait when.0.waits when.0.machine
+      (subst (RepliesAsRun next live.start.given (requests_carried live.read) (arrivals_carried live.read) live.calls) when.0.replies n.as_run)
   own far NoReplay when = never_replayed options.journal_replay replays (sym (ap (λ (k : Kind). k.options.journal_replay) n.kind) ∙ when.1)
   own far NoMemory when = tt
 

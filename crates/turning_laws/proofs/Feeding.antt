@@ -200,7 +200,7 @@ feeds_keep function next version options stays journals keeps live proposed is_c
 
 pub events_keep : {H : Type 0} (function : H → Handler) (next : Handler) (version : Version) (options : VMOptions) → StaysServing function next version options
 events_keep function next version options live is_closed a more coming s may =
-    record { handler = s.handler; going = s.going; cancellation = s.cancellation; kind = s.kind; of_run = s.of_run; fed = fed_more live more may s.fed; started = s.started; bytes = s.bytes; whole = s.whole; stands = stands s.stands }
+    record { handler = s.handler; going = s.going; kind = s.kind; of_run = s.of_run; fed = fed_more live more may s.fed; started = s.started; bytes = s.bytes; whole = s.whole; stands = stands s.stands }
   where
     stands : HasNotRead function next version options live is_closed a ⊎ HasRead function next version options live a
         → HasNotRead function next version options (record live { unread = live.unread ++ more; coming = coming }) is_closed a

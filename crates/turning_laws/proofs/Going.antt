@@ -10,7 +10,6 @@ use Rattle.turning_laws.specs.Words.{after_turn, answers_of, arrivals_carried, F
 pub record OnlyTurns {H : Type 0} (before after : Attempt H) : Type 0 where
   pub handler : after.handler ≡ before.handler
   pub over : after.over ≡ before.over
-  pub cancellation : after.cancellation ≡ before.cancellation
   pub input : after.input ≡ before.input
   pub machine : after.vm.state ≡ record before.vm.state { active = after.vm.state.active; runs = after.vm.state.runs }
 
@@ -21,7 +20,6 @@ module _ {H : Type 0} (function : H → Handler) (next : Handler) (version : Ver
   serves_on frames calls whole driven numbers answers = record {
     handler = ap function t.handler ∙ s.handler;
     going = t.over ∙ s.going;
-    cancellation = t.cancellation ∙ s.cancellation;
     kind = ap kind_of t.machine ∙ s.kind;
     of_run = s.of_run;
     fed = s.fed;

@@ -10,7 +10,7 @@ pub mod Quiet
 pub mod Notes
 pub mod Closing
 pub mod Reading
-pub mod Covered
+pub mod Recorded
 pub mod Texts
 pub mod Ids
 pub mod Replies
@@ -20,7 +20,6 @@ pub mod Executing
 pub mod Sending
 pub mod Stored
 pub mod Failing
-pub mod Refusing
 pub mod Going
 pub mod Alone
 pub mod Running

@@ -13,7 +13,7 @@ use Rattle.vm_types.specs.declared.options.JournalMismatchRetryBehavior.{Journal
 use Rattle.turning_laws.specs.Attempts.{Turn}
 use Rattle.turning_laws.specs.Bodies.{about, ending, NonEmptyValue, Outcome, Pause, pausing, Retry, run_told, RunExitResult, RunOutcome, with_delay}
 use Rattle.turning_laws.specs.Keeping.{FailsWith}
-use Rattle.turning_laws.specs.Machine.{MachineState, Written, Cause, ByFault, NoNumber, TooLong, NoReplay, NoMemory}
+use Rattle.turning_laws.specs.Machine.{MachineState, Written, Cause, ByFault, NoNumber, TooLong, TooDeep, NoReplay, NoMemory}
 use Rattle.turning_laws.specs.Running.{BodyCause, BodyFailsWhen, BodyToldAs, IsLong, Lacks, LacksMemory, Pauses, TriedAgain}
 use Rattle.turning_laws.specs.Sending.{Sent}
 use Rattle.turning_laws.specs.Words.{internal, unsupported_feature, journal_mismatch, Error, Version, version_number, Call, Request, Handler, arrivals_carried, LiveAttempt, VMOptions}
@@ -54,8 +54,26 @@ as_told told old error own (inr long) = inl (ap (λ (e : Error). e.code.0) long.
 as_told told old error (inl is) (inl same) = inl (ap (λ (e : Error). e.code.0) same ∙ is)
 as_told told old error (inr is) (inl same) = inr (ap (λ (e : Error). e.code.0) same ∙ is)
 
+as_internal : (told : Error) (old : Written) (error : Error) → told.code.0 ≡ internal → FailsWith told old error → error.code.0 ≡ internal
+as_internal told old error is (inr long) = ap (λ (e : Error). e.code.0) long.1
+as_internal told old error is (inl same) = ap (λ (e : Error). e.code.0) same ∙ is
+
+-- only a call that is refused, and what is nested too deep, are told as what is not supported
+abbrev pub IsCodeOf : Cause → Error → Type 0
+IsCodeOf (ByFault fault) error = IsOwnCode error
+IsCodeOf TooDeep error = IsOwnCode error
+IsCodeOf cause error = error.code.0 ≡ internal
+
+any_code : (cause : Cause) (error : Error) → IsCodeOf cause error → IsOwnCode error
+any_code (ByFault fault) error is = is
+any_code TooDeep error is = is
+any_code NoNumber error is = inl is
+any_code TooLong error is = inl is
+any_code NoReplay error is = inl is
+any_code NoMemory error is = inl is
+
 module _ (next : Handler) (version : Version) (live : LiveAttempt) (call : Call) (old new : MachineState) (more : List Request) (error : Error) (sent : List Sent) where
-  by_cause : (cause : Cause) → IsOwnCause next live.start.given (arrivals_carried live.read) live.calls cause → IsToldAs version live call old new more cause error sent → IsOwnCode error
+  by_cause : (cause : Cause) → IsOwnCause next live.start.given (arrivals_carried live.read) live.calls cause → IsToldAs version live call old new more cause error sent → IsCodeOf cause error
   by_cause (ByFault (Refused refusal)) own tells =
       let code : tells.0.code.0 ≡ refusal_code tells.1.0 = ap (λ (e : Error). e.code.0) tells.1.1.1.plain in
       as_told tells.0 old.active.output error (elim (refused_code tells.1.0) [ inl is ↦ inl (code ∙ is) | inr is ↦ inr (code ∙ is) ]) tells.2
@@ -64,13 +82,18 @@ module _ (next : Handler) (version : Version) (live : LiveAttempt) (call : Call)
   by_cause (ByFault EndInReplay) own tells = absurd own
   by_cause (ByFault KeysNotText) own tells = absurd own
   by_cause (ByFault ChildNotId) own tells = absurd own
-  by_cause NoNumber own tells = as_told tells.0 old.active.output error (inl (either_code new _ tells.0 tells.1)) tells.2
-  by_cause TooLong own tells = as_told tells.0 old.active.output error (inl (either_code new _ tells.0 tells.1)) tells.2
+  by_cause NoNumber own tells = as_internal tells.0 old.active.output error (either_code new _ tells.0 tells.1) tells.2
+  by_cause TooLong own tells = as_internal tells.0 old.active.output error (either_code new _ tells.0 tells.1) tells.2
+  by_cause TooDeep own tells = as_told tells.0 old.active.output error (inr (ap (λ (e : Error). e.code.0) tells.1)) tells.2
   by_cause NoReplay own tells = absurd own
-  by_cause NoMemory own tells = inl (ap (λ (e : Error). e.code.0) tells)
+  by_cause NoMemory own tells = ap (λ (e : Error). e.code.0) tells
+
+-- what a cause that is the call's own is told as
+pub code_of_cause : (next : Handler) (version : Version) (live : LiveAttempt) (call : Call) (old new : MachineState) (error : Error) (sent : List Sent) (by : FailsBy next version live call old new error sent) → IsCodeOf by.cause error
+code_of_cause next version live call old new error sent by = by_cause next version live call old new by.far.more error sent by.cause by.own by.told
 
 pub own_code : (next : Handler) (version : Version) (live : LiveAttempt) (call : Call) (old new : MachineState) (error : Error) (sent : List Sent) → FailsBy next version live call old new error sent → IsOwnCode error
-own_code next version live call old new error sent by = by_cause next version live call old new by.far.more error sent by.cause by.own by.told
+own_code next version live call old new error sent by = any_code by.cause error (code_of_cause next version live call old new error sent by)
 
 -- what a body that fails its attempt may tell
 abbrev pub IsCode : RunOutcome → ℕ → Type 0
@@ -103,11 +126,5 @@ pub turns_match : {H : Type 0} (function : H → Handler) (next : Handler) (vers
 turns_match function next version options keeps is_closed live before proposed ran error after queued b s turns =
     elim (keeps is_closed live before proposed ran (Turn.Failed error) after queued b s turns).behind.0 [
       | inl by ↦ elim (own_code next version live _ before.vm.state after.vm.state error _ by) [ inl is ↦ inl is | inr is ↦ inr (inl is) ]
-      | inr others ↦ elim others [
-        | inl by ↦ body_code next live proposed version options ran before.vm.state error _ by
-        | inr uncovered ↦ elim uncovered.1 [
-          | inl plain ↦ inr (inl (ap (λ (e : Error). e.code.0) plain))
-          | inr lacks ↦ inl (ap (λ (e : Error). e.code.0) lacks)
-        ]
-      ]
+      | inr by ↦ body_code next live proposed version options ran before.vm.state error _ by
     ]

@@ -1,18 +1,18 @@
 -- What is known of a machine of whose attempt the input was read, at a turn.
-use Rattle.std.proofs.Common.{ℕ, ◌≡◌, ◌∙◌, suc, Bool, true, List, map, length, sym, ap, subst}
+use Rattle.std.proofs.Common.{ℕ, ◌≡◌, ◌∙◌, suc, Bool, List, map, length, sym, ap, subst}
 use Rattle.attempt_calls.proofs.Simulating.{simulates}
 use Rattle.position_laws.proofs.Turning.{machine_turns}
 use Rattle.vm_commands.specs.HeaderEquality.{same_header}
 use Rattle.vm_commands.proofs.Comparing.{compares_reflexively}
-use Rattle.turning_laws.specs.Serving.{IsOfStore, IsFedBy, AwaitsWithin, HasNumbers, kind_where, HasRead, Serves}
+use Rattle.turning_laws.specs.Serving.{IsOfStore, IsFedBy, HasNumbers, kind_where, HasRead, Serves}
 use Rattle.turning_laws.specs.Bodies.{Executor, IsReplayed, NonEmptyValue, ReplaysStand, StandsReplayed}
-use Rattle.turning_laws.proofs.Covered.{stored, covered_within}
+use Rattle.turning_laws.proofs.Recorded.{stored}
 use Rattle.turning_laws.proofs.Messages.{unread_fit}
 use Rattle.turning_laws.proofs.Reading.{no_arrival_is_held}
-use Rattle.turning_laws.specs.Attempts.{Attempt, is_covered}
+use Rattle.turning_laws.specs.Attempts.{Attempt}
 use Rattle.turning_laws.specs.Machine.{checks_off, MachineState, IsDriven}
 use Rattle.turning_laws.specs.Reading.{kind_of}
-use Rattle.turning_laws.specs.Words.{version_number, Version, Answer, Call, item_at, arrivals_within, answers_of, Request, Handler, Invocation, Progress, piece_of, arrivals_carried, requests_carried, Reply, reply_to, IsInRun, LiveAttempt, run_options, VMOptions, ImplicitCancellationOption, Queued, AreOfKind, Fits, next_call, RepliesAsRun, AsksByText, MakesTurns, IsTypedCall}
+use Rattle.turning_laws.specs.Words.{version_number, Version, Answer, Call, item_at, arrivals_within, answers_of, Request, Handler, Invocation, Progress, piece_of, arrivals_carried, requests_carried, Reply, reply_to, IsInRun, LiveAttempt, VMOptions, Queued, AreOfKind, Fits, next_call, RepliesAsRun, AsksByText, MakesTurns, IsTypedCall}
 use Rattle.turning_laws.proofs.Texts.{HasTextKey, typed_key, asks_on}
 
 -- what its requests are compared by
@@ -36,10 +36,7 @@ pub record Now (next : Handler) (version : Version) (options : VMOptions) (is_cl
   pub typed : IsTypedCall (call_of next live at)
   -- what its run has asked for with that call too is by keys that are text
   pub by_text : AsksByText next live.start.given (arrivals_carried live.read) (suc live.calls)
-  pub covered : is_covered options.implicit_cancellation (call_of next live at) ≡ true
   pub recorded : IsOfStore (call_of next live at)
-  pub within : AwaitsWithin (run_options options) (call_of next live at)
-  pub of_options : live.start.given.options ≡ run_options options
   pub of_version : live.start.given.version ≡ version_number version
   -- its messages fit
   pub fed : IsFedBy live
@@ -74,13 +71,8 @@ module _ {H : Type 0} (function : H → Handler) (next : Handler) (version : Ver
       ap (λ (handler : Handler). handler live.start.given.input before.answers) s.handler
       ∙ ap (λ (answers : List Answer). next live.start.given.input answers) (r.answers ∙ ap (λ (p : Progress). answers_of p.steps) at.stands.going)
 
-  covered_call : is_covered before.cancellation asked ≡ true → is_covered options.implicit_cancellation (call_of next live stands.at) ≡ true
-  covered_call covered =
-      sym (ap (λ (cancellation : ImplicitCancellationOption). is_covered cancellation asked) s.cancellation
-      ∙ ap (λ (call : Call). is_covered options.implicit_cancellation call) (called stands.at)) ∙ covered
-
-  pub now : IsTypedCall asked → is_covered before.cancellation asked ≡ true → Now next version options is_closed live before.vm.state
-  now typed covered = record {
+  pub now : IsTypedCall asked → Now next version options is_closed live before.vm.state
+  now typed = record {
     at = stands.at;
     makes = machine_turns (compares before.vm.state) next live.start.given is_closed live.held live.read live.unread live.calls live.machine
         (compares_reflexively (checks_off before.vm.state.options.non_determinism_checks)) fits kinds stands.at;
@@ -93,10 +85,7 @@ module _ {H : Type 0} (function : H → Handler) (next : Handler) (version : Ver
     by_text = asks_on next live.start.given l.start.keys (arrivals_carried live.read) live.calls
         (subst (λ (p : Progress). HasTextKey (next live.start.given.input (answers_of p.steps))) (sym stands.at.stands.going)
         (typed_key (call_of next live stands.at) (subst IsTypedCall (called stands.at) typed))) by_text;
-    covered = covered_call covered;
     recorded = stored (call_of next live stands.at);
-    within = covered_within (run_options options) (call_of next live stands.at) (covered_call covered);
-    of_options = ap (λ (given : Invocation). given.options) s.of_run.given_is;
     of_version = ap (λ (given : Invocation). given.version) s.of_run.given_is ∙ s.of_run.version_is;
     fed = s.fed;
     fits = fits;

@@ -32,7 +32,7 @@ module _ {H : Type 0} where
     serves_by live now is_closed closed_now before after others s kind of_run fed started bytes whole stands =
         let there = subst (λ (a : Attempt H). HasNotRead function next version options now closed_now a ⊎ HasRead function next version options now a) others stands in
         subst (λ (a : Attempt H). Serves function next version options now closed_now a) (sym others)
-        (record { handler = s.handler; going = s.going; cancellation = s.cancellation; kind = kind; of_run = of_run; fed = fed; started = started; bytes = bytes; whole = whole; stands = there })
+        (record { handler = s.handler; going = s.going; kind = kind; of_run = of_run; fed = fed; started = started; bytes = bytes; whole = whole; stands = there })
 
   never : {A : Type 0} (finish : Finish) (before : Attempt H) → before.over ≡ None → before.over ≡ Some finish → A
   never finish before none some = cc

@@ -1,5 +1,5 @@
 -- Turns one after the other, with the journal read and the input closed.
-use Rattle.std.proofs.Common.{◌≡◌, ◌⊎◌, inl, inr, ◌∙◌, ◌+◌, arith, ℕ, suc, Bool, true, false, true≢false, List, [], ◌∷◌, ◌++◌, length, length-append, map, Option, sym, ap, subst}
+use Rattle.std.proofs.Common.{◌≡◌, ◌⊎◌, inl, inr, ◌∙◌, ◌+◌, arith, ℕ, suc, true, false, true≢false, List, [], ◌∷◌, ◌++◌, length, length-append, map, Option, sym, ap, subst}
 use Rattle.turning_laws.specs.Bodies.{NonEmptyValue}
 use Rattle.turning_laws.specs.Serving.{HasBodies, Serves, IsOver}
 use Rattle.turning_laws.proofs.Over.{overs_stay}

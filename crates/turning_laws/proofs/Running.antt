@@ -145,7 +145,7 @@ module _ {H : Type 0} (function : H → Handler) (next : Handler) (version : Ver
       output = waits_more version fails.coming before after (ap (λ (a : Attempt H). a.front ++ a.behind) p.others) fails.bytes;
       makes = note_turn next is_closed live (map (frame_meant version) fails.coming) fails.notes;
       proposes = fails.quiet;
-      behind = (inr (inl (by_cause cause refl fails.told)), machine_failed fails.kept fails.phase);
+      behind = (inr (by_cause cause refl fails.told), machine_failed fails.kept fails.phase);
     })
 
   -- memory was refused
@@ -240,7 +240,6 @@ module _ {H : Type 0} (function : H → Handler) (next : Handler) (version : Ver
     only = record {
       handler = ap (λ (a : Attempt H). a.handler) p.others;
       over = ap (λ (a : Attempt H). a.over) p.others;
-      cancellation = ap (λ (a : Attempt H). a.cancellation) p.others;
       input = ap (λ (a : Attempt H). a.input) p.others;
       machine = machine_is ∙ ap (λ (m : MachineState). record before.vm.state { active = m.active; runs = m.runs }) (sym machine_is);
     }

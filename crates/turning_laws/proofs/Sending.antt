@@ -1,5 +1,5 @@
 -- What a turn has sent, by the outcome of its call.
-use Rattle.std.proofs.Common.{◌≡◌, ◌⊎◌, inl, inr, ◌∙◌, ◌+◌, ◌≤◌, ◌-◌, ◌^◌, ℕ, arith, Bool, true, false, List, [], ◌∷◌, ◌++◌, map, Option, Some, None, Ok, refl, sym, ap, subst}
+use Rattle.std.proofs.Common.{◌≡◌, ◌⊎◌, inl, inr, ◌∙◌, ◌+◌, ◌≤◌, ◌^◌, ℕ, arith, Bool, true, false, List, [], ◌∷◌, ◌++◌, map, Option, Some, None, Ok, refl, sym, ap, subst}
 use Rattle.std.proofs.lemmas.List.{append_cancel_left}
 use Rattle.std.specs.List.{AllByRecursion, list_all}
 use Rattle.std.specs.Str.{is_utf8}
@@ -15,11 +15,12 @@ use Rattle.attempt_model.specs.Results.{Ready}
 use Rattle.request_laws.specs.Fitting.{RequestFits}
 use Rattle.request_laws.proofs.Making.{calls_make_fit}
 use Rattle.handle_laws.specs.Machines.{Leaves}
+use Rattle.handle_laws.specs.Trees.{LeavesFit}
 use Rattle.handle_laws.proofs.Children.{awaited_trees_fit}
 use Rattle.handle_laws.proofs.Machines.{machines_fit}
 use Rattle.vm_awaits.specs.Views.{AsyncResults, slots_of}
 use Rattle.vm_outcomes.specs.Carrying.{tells_waiting}
-use Rattle.vm_waiting.specs.Suspending.{TellsIf}
+use Rattle.vm_waiting.specs.Suspending.{is_suspension_too_deep, TellsIf}
 use Rattle.vm_waiting.specs.WaitsFor.{awaited_ids, waits_as}
 use Rattle.vm_waiting.specs.declared.waits_for.WaitsFor.{WaitsFor}
 use Rattle.vm_waiting.specs.declared.waits_for.WaitsFor.TheVariants.{Future, Child}
@@ -29,8 +30,8 @@ use Rattle.turning_laws.proofs.Reading.{turns_send}
 use Rattle.turning_laws.specs.Machine.{MachineState, Fits, Active, Written, with_frame, HasPut, Answers, Waits, Suspends, Ends}
 use Rattle.turning_laws.specs.Reading.{Kind, MessageFits}
 use Rattle.turning_laws.specs.Sending.{Sent, Asks, sent_stream, AllFit, is_recorded, frame_meant, IsOfStore, TurnSends}
-use Rattle.turning_laws.specs.Serving.{AwaitsWithin, HasNumbers}
-use Rattle.turning_laws.specs.Words.{LEVELS, version_number, Version, Answer, Call, awaited_tree, AwaitTree, NotificationId, keys_of, completions_of, signals_of, Request, Handler, Invocation, RunOptions, Machine, Reply, Answered, Finished, reply_to, LiveAttempt, run_options, VMOptions, IsWithin, SlotsFit, TreeFits, refusal_of, Slots, slot_of, requests_by, SendsReply, AnswersNext, RepliesAsRun, requests_carried, arrivals_carried, are_by_text}
+use Rattle.turning_laws.specs.Serving.{HasNumbers}
+use Rattle.turning_laws.specs.Words.{version_number, Version, Answer, Call, AwaitTree, NotificationId, keys_of, completions_of, signals_of, Request, Handler, Invocation, Machine, Reply, Answered, Finished, reply_to, LiveAttempt, VMOptions, SlotsFit, refusal_of, Slots, slot_of, requests_by, SendsReply, AnswersNext, RepliesAsRun, requests_carried, arrivals_carried, are_by_text}
 use Rattle.turning_laws.proofs.Now.{Now, compares, call_of, reply_at}
 use Rattle.turning_laws.proofs.Texts.{reply_text}
 use Rattle.turning_laws.proofs.Ids.{AreText, AreReadyText, AreTaken, messages_text, line_text, ready_text, values_text}
@@ -104,7 +105,7 @@ left_in_all n k few (inl none) = omega (arith, few, none)
 left_in_all n k few (inr left) = left
 
 tells_results : (told : Bool) (ids : AwaitTree NotificationId) (old new : Active) → TellsIf told ids old (Ok tt) new → new.results ≡ old.results
-tells_results true ids old new tells = ap (λ (active : Active). active.results) tells.1
+tells_results true ids old new tells = ap (λ (active : Active). active.results) tells.1.1
 tells_results false ids old new same = ap (λ (active : Active). active.results) same
 
 module _ (next : Handler) (version : Version) (options : VMOptions) (is_closed : Bool) (live : LiveAttempt) (vm : MachineState) (n : Now next version options is_closed live vm) where
@@ -226,9 +227,9 @@ module _ (next : Handler) (version : Version) (options : VMOptions) (is_closed :
 
   -- ---- it waits
 
-  -- what is waited for can be told, is not awake by itself, and stands for what it stood for
+  -- the ids of what is waited for can be told, it is not awake by itself, and stands for what it stood for
   pub record IsTold (waits : WaitsFor) (after : Machine) : Type 0 where
-    pub fits : (active : Active) → slots_of active.results ≡ after.slots → TreeFits (awaited_ids active waits)
+    pub fits : (active : Active) → slots_of active.results ≡ after.slots → LeavesFit (awaited_ids active waits)
     pub asleep : is_awake (leaves_over after.slots waits) (λ leaf. Pending) ≡ false
     pub numbers : HasNumbers after
     pub left : after.left ≡ []
@@ -239,10 +240,6 @@ module _ (next : Handler) (version : Version) (options : VMOptions) (is_closed :
 
     replies : reply_to (compares vm) given live.machine (Call.Await asked.0) ≡ waits_as waits after
     replies = sym (ap (λ (c : Call). reply_to (compares vm) given live.machine c) asked.1) ∙ e
-
-    awaited_within : IsWithin (LEVELS - 1) (awaited_tree given.options.implicit_cancellation asked.0)
-    awaited_within =
-        subst (λ (some : RunOptions). IsWithin (LEVELS - 1) (awaited_tree some.implicit_cancellation asked.0)) (sym n.of_options) (subst (AwaitsWithin (run_options options)) asked.1 n.within)
 
     stayed : Stayed live.machine after
     stayed =
@@ -268,9 +265,9 @@ module _ (next : Handler) (version : Version) (options : VMOptions) (is_closed :
   pub is_told : (waits : WaitsFor) (after : Machine) → reply_at next live vm n.at ≡ waits_as waits after → IsTold waits after
   is_told (Future left) after e =
       let is_left = awaited_trees_fit.awaits (compares vm) given live.machine after (asked (Future left) after e).0 (tree_of left) (replies (Future left) after e) in
-      let fit = awaited_trees_fit.handles (LEVELS - 1) live.machine.slots (tree_of left) n.numbers.slots (is_left.levels (LEVELS - 1) (awaited_within (Future left) after e)) in
+      let fit = awaited_trees_fit.handles live.machine.slots (tree_of left) n.numbers.slots in
       record {
-        fits = λ active same. subst (λ (slots : Slots). TreeFits (only_leaves (slot_of slots) (tree_of left))) (sym (same ∙ is_left.slots)) (record { leaves = fit.0; levels = fit.1 });
+        fits = λ active same. subst (λ (slots : Slots). LeavesFit (only_leaves (slot_of slots) (tree_of left))) (sym (same ∙ is_left.slots)) fit;
         asleep = is_left.asleep;
         numbers = numbers (Future left) after e is_left.slots;
         left = (stayed (Future left) after e).left;
@@ -301,7 +298,8 @@ module _ (next : Handler) (version : Version) (options : VMOptions) (is_closed :
       subst (λ (b : Bool). SendsFor b (reply_at next live vm n.at) new.active.output) (sym closed)
       (subst (λ (some : Reply). SendsFor true some new.active.output) (sym p.replies)
       (sends_for true (waits_as p.waits p.machine) p.resolved.output new.active.output (ap (λ (o : Written). o.version) p.unwritten ∙ of_output) (ap (λ (o : Written). o.bytes) p.unwritten)
-      (turns_send.suspensions live.machine p.machine p.waits p.resolved new.active (ap (λ (o : Written). o.is_closed) p.unwritten ∙ opened) slots (is.fits p.resolved slots) is.asleep p.suspended)))
+      (turns_send.suspensions live.machine p.machine p.waits p.resolved new.active (ap (λ (o : Written). o.is_closed) p.unwritten ∙ opened) slots (is.fits p.resolved slots) is.asleep
+      (subst (λ (v : Version). is_suspension_too_deep v (awaited_ids p.resolved p.waits) ≡ false) (sym (ap (λ (o : Written). o.version) p.unwritten ∙ n.driven.written)) p.shallow) p.suspended)))
 
   -- ---- it ends
 

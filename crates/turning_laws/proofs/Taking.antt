@@ -84,7 +84,6 @@ module _ {H : Type 0} (function : H → Handler) (next : Handler) (version : Ver
   moved live is_closed before after moves none s = record {
     handler = ap (λ (a : Attempt H). function a.handler) moves.others ∙ s.handler;
     going = ap (λ (a : Attempt H). a.over) moves.others ∙ s.going;
-    cancellation = ap (λ (a : Attempt H). a.cancellation) moves.others ∙ s.cancellation;
     kind = ap (λ (vm : CoreVM). kind_of vm.state) moves.machine ∙ s.kind;
     of_run = s.of_run;
     fed = s.fed;

@@ -1,18 +1,18 @@
 -- What each turn of an attempt tells of the run.
-use Rattle.std.proofs.Common.{◌≡◌, ◌⊎◌, inl, inr, ◌∙◌, ℕ, suc, pred, Bool, true, false, List, [], ◌∷◌, ◌++◌, map, Option, Some, None, refl, sym, ap, subst}
+use Rattle.std.proofs.Common.{◌≡◌, ◌⊎◌, inl, inr, ◌∙◌, ℕ, suc, pred, Bool, false, List, [], ◌∷◌, ◌++◌, map, Option, Some, None, refl, sym, ap, subst}
 use Rattle.journal_model.specs.Run.{GoesOn, RefusedCall, Ended, run, run_requests}
 use Rattle.replay_laws.proofs.Standing.{at}
-use Rattle.attempt_model.specs.Machine.{Refused}
-use Rattle.turning_laws.specs.Attempts.{Attempt, Turn, Turns}
+use Rattle.attempt_model.specs.Machine.{Mismatch, UncompletedInReplay, EndInReplay, KeysNotText, ChildNotId, Refused}
+use Rattle.turning_laws.specs.Attempts.{Attempt, Turn}
 use Rattle.turning_laws.specs.Bodies.{Body, NonEmptyValue, RunOutcome}
-use Rattle.turning_laws.specs.Machine.{Cause, ByFault}
-use Rattle.turning_laws.specs.Running.{WaitsForOthers, ExecutesFirst}
+use Rattle.turning_laws.specs.Machine.{Cause, ByFault, NoNumber, TooLong, TooDeep, NoReplay, NoMemory}
+use Rattle.turning_laws.specs.Running.{RunWaitsFor, WaitsForOthers, ExecutesFirst}
 use Rattle.turning_laws.specs.Sending.{Sent, frame_meant}
-use Rattle.turning_laws.specs.Serving.{HasBodies, HasNotRead, HasRead, Serves}
+use Rattle.turning_laws.specs.Serving.{HasNotRead, HasRead, Serves}
 use Rattle.turning_laws.specs.Telling.{Told, HasCome, HasJournal, FailsSo, refused, of_body, lacks, too_deep, TurnTells, IsTold, TellsOne, TurnsTell}
-use Rattle.turning_laws.specs.Turning.{turns_answered, IsOwnCause, FailsBy, FailsFor, FailsForBody, IsUncovered, FailsUncovered, TurnKeeps, TurnsBehind, TurnServes}
-use Rattle.turning_laws.specs.Words.{Arrival, arrivals_carried, after_turn, Error, Handler, HasReadJournal, Input, internal, item_at, LiveAttempt, Queued, Request, requests_carried, unsupported_feature, Version, VMOptions}
-use Rattle.turning_laws.proofs.Matching.{own_code, body_code, IsOwnCode, IsCode}
+use Rattle.turning_laws.specs.Turning.{turns_answered, IsOwnCause, FailsBy, FailsFor, FailsForBody, TurnsBehind, TurnServes}
+use Rattle.turning_laws.specs.Words.{Arrival, arrivals_carried, after_turn, Error, Handler, HasReadJournal, Input, item_at, LiveAttempt, Request, requests_carried, Version, VMOptions}
+use Rattle.turning_laws.proofs.Matching.{code_of_cause, body_code, IsCodeOf, IsOwnCode, IsCode}
 
 module _ (next : Handler) (live : LiveAttempt) (told : Told) (proposed : List (ℕ × NonEmptyValue)) (calls_are : pred told.answered ≡ live.calls) (proposed_are : told.proposed ≡ proposed) where
   abbrev own_requests : List Request
@@ -76,16 +76,25 @@ module _ {H : Type 0} (function : H → Handler) (next : Handler) (version : Ver
 
   -- ---- why it has failed
 
-  of_code : (error : Error) → IsOwnCode error → FailsSo next live.start told come ran error
-  of_code error (inl is) = lacks is
-  of_code error (inr is) = too_deep is
+  of_depth : (error : Error) → RunWaitsFor next live.start.given (arrivals_carried live.read) live.calls → IsOwnCode error → FailsSo next live.start told come ran error
+  of_depth error waits (inl is) = lacks is
+  of_depth error waits (inr is) = too_deep (subst (λ (calls : ℕ). RunWaitsFor next live.start.given (arrivals_carried live.read) calls) (sym calls_are) waits) is
 
   for_call : (error : Error) (sent : List Sent) (after : Attempt H) → FailsBy next version live (next live.start.given.input before.answers) before.vm.state after.vm.state error sent → FailsSo next live.start told come ran error
-  for_call error sent after by = by_why by.cause by.own
+  for_call error sent after by = by_why by.cause by.own (code_of_cause next version live (next live.start.given.input before.answers) before.vm.state after.vm.state error sent by)
     where
-      by_why : (cause : Cause) → IsOwnCause next live.start.given (arrivals_carried live.read) live.calls cause → FailsSo next live.start told come ran error
-      by_why (ByFault (Refused refusal)) own = refused refusal (subst (λ (calls : ℕ). (run next live.start.given (arrivals_carried live.read) (suc calls)).ending ≡ RefusedCall refusal) (sym calls_are) own)
-      by_why cause own = of_code error (own_code next version live (next live.start.given.input before.answers) before.vm.state after.vm.state error sent by)
+      by_why : (cause : Cause) → IsOwnCause next live.start.given (arrivals_carried live.read) live.calls cause → IsCodeOf cause error → FailsSo next live.start told come ran error
+      by_why (ByFault (Refused refusal)) own code = refused refusal (subst (λ (calls : ℕ). (run next live.start.given (arrivals_carried live.read) (suc calls)).ending ≡ RefusedCall refusal) (sym calls_are) own)
+      by_why (ByFault Mismatch) own code = absurd own
+      by_why (ByFault UncompletedInReplay) own code = absurd own
+      by_why (ByFault EndInReplay) own code = absurd own
+      by_why (ByFault KeysNotText) own code = absurd own
+      by_why (ByFault ChildNotId) own code = absurd own
+      by_why TooDeep own code = of_depth error own code
+      by_why NoNumber own code = lacks code
+      by_why TooLong own code = lacks code
+      by_why NoReplay own code = absurd own
+      by_why NoMemory own code = lacks code
 
   for_body : (error : Error) (sent : List Sent) → (body : Body) → ExecutesFirst next live.start.given (arrivals_carried live.read) live.calls (requests_carried live.read ++ live.machine.written) proposed body
       → IsCode ran error.code.0 → FailsSo next live.start told come ran error
@@ -94,15 +103,10 @@ module _ {H : Type 0} (function : H → Handler) (next : Handler) (version : Ver
   for_body error sent body first (inr (inr own)) = of_body body (told_first next live told proposed calls_are t.outcomes body first) (inl own)
 
   failed_so : (error : Error) (sent : List Sent) (after : Attempt H) → FailsFor function next version options is_closed live before error sent after
-      ⊎ (FailsForBody function next version options is_closed live before proposed ran error sent
-      ⊎ (IsUncovered function next version options is_closed live before × FailsUncovered function next version options is_closed live before error))
+      ⊎ FailsForBody function next version options is_closed live before proposed ran error sent
       → FailsSo next live.start told come ran error
   failed_so error sent after (inl by) = for_call error sent after by
-  failed_so error sent after (inr (inl by)) = for_body error sent by.body by.first (body_code next live proposed version options ran before.vm.state error sent by)
-  failed_so error sent after (inr (inr uncovered)) = elim uncovered.1 [
-    | inl plain ↦ too_deep (ap (λ (e : Error). e.code.0) plain)
-    | inr lacking ↦ lacks (ap (λ (e : Error). e.code.0) lacking)
-  ]
+  failed_so error sent after (inr by) = for_body error sent by.body by.first (body_code next live proposed version options ran before.vm.state error sent by)
 
   abbrev One : Turn → Attempt H → Type 0
   One turn after = TellsOne function next version options live.start is_closed told ran turn after

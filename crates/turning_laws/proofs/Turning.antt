@@ -126,7 +126,7 @@ module _ {H : Type 0} (function : H → Handler) (next : Handler) (version : Ver
               a.machine,
               counted,
               goes_on_with vm after front state_is so.sends (suc live.calls) a.machine _
-                  (record { handler = ap (λ (a : Attempt H). a.handler) is; over = ap (λ (a : Attempt H). a.over) is; cancellation = ap (λ (a : Attempt H). a.cancellation) is; input = input; machine = turns_only vm after state_is a.others })
+                  (record { handler = ap (λ (a : Attempt H). a.handler) is; over = ap (λ (a : Attempt H). a.over) is; input = input; machine = turns_only vm after state_is a.others })
                   a.driven so.numbers answers
                   (answered_lives next version options is_closed live before.vm.state n proposed b.executor w answer a.machine a.replies (map (frame_meant version) so.sends.coming) sends texts)
                   (answered_keeps next version options is_closed live before.vm.state n proposed b.executor w a.machine vm.state.runs a.runs) (left w.behind) (ap (goes_on live.calls) a.replies),
@@ -166,7 +166,7 @@ module _ {H : Type 0} (function : H → Handler) (next : Handler) (version : Ver
       (
         p.machine,
         goes_on_with vm after front state_is so live.calls p.machine (record b.executor { machine = p.machine })
-            (record { handler = ap (λ (a : Attempt H). a.handler) is; over = ap (λ (a : Attempt H). a.over) is; cancellation = ap (λ (a : Attempt H). a.cancellation) is; input = input; machine = turns_only vm after state_is others })
+            (record { handler = ap (λ (a : Attempt H). a.handler) is; over = ap (λ (a : Attempt H). a.over) is; input = input; machine = turns_only vm after state_is others })
             p.driven told.numbers (ap (λ (a : Attempt H). a.answers) is ∙ r.answers)
             (waits_live next version options is_closed live before.vm.state n proposed b.executor w p.waits p.machine p.replies p.none (map (frame_meant version) so.coming) sends)
             (subst (λ (runs : Runs). KeepsBodies runs (record b.executor { machine = p.machine })) (sym same_runs) (keeps_with before.vm.state.runs b.executor p.machine w.keeps)) (inr told.left) (ap (goes_on live.calls) p.replies ∙ waits_on p.waits p.machine),

@@ -12,15 +12,14 @@ use Rattle.turning_laws.proofs.Notes.{no_turn}
 use Rattle.turning_laws.proofs.Over.{waits_same}
 use Rattle.turning_laws.proofs.Phases.{stage}
 use Rattle.turning_laws.specs.Attempts.finishes
-use Rattle.turning_laws.specs.Attempts.{output_of, FinishesBy, TakesOutcome, CarriesCall, GivesInput, ReadsInput, ReadsOrAsks, TurnsWhere, TurnsOn, TurnsUnless, Attempt, Finish, Turn, is_covered, CarriesWhere, AnswersCall}
+use Rattle.turning_laws.specs.Attempts.{output_of, FinishesBy, TakesOutcome, CarriesCall, GivesInput, ReadsInput, ReadsOrAsks, TurnsWhere, TurnsOn, TurnsUnless, Attempt, Finish, Turn}
 use Rattle.turning_laws.specs.Machine.phases
 use Rattle.turning_laws.specs.Machine.outcomes
 use Rattle.turning_laws.specs.Machine.{CoreVM, MachineState, Written, out_of_memory, Phase, Comes, NoMemory, IsDriven, CallOutcome, IsReady}
 use Rattle.turning_laws.specs.Reading.{AnswersInput, RefusesInput, InputsAreAnswered}
-use Rattle.turning_laws.specs.Words.{item_at, Error, Version, Call, Input, Frame, answers_of, Handler, run, arrivals_carried, Machine, machine_at_start, with_messages, LiveAttempt, HasReadJournal, after_turn, VMOptions, Queued, Invocation}
+use Rattle.turning_laws.specs.Words.{item_at, Error, Version, Call, Input, answers_of, Handler, run, arrivals_carried, Machine, machine_at_start, with_messages, LiveAttempt, HasReadJournal, after_turn, VMOptions, Queued, Invocation}
 use Rattle.turning_laws.specs.Turning.{turns_answered, GoesOnBehind, GoesOnWith, FailsFor, ProposesAs, TurnsBehind, TurnKeeps, TurnServes}
 use Rattle.turning_laws.proofs.Now.{Now, call_of, now, called}
-use Rattle.turning_laws.proofs.Refusing.{refused}
 use Rattle.turning_laws.proofs.Turning.{answered, waiting, suspended, ended as has_ended, failed}
 
 -- ---- readiness
@@ -112,7 +111,6 @@ module _ {H : Type 0} (function : H → Handler) (next : Handler) (version : Ver
         serves = record {
           handler = ap (λ (some : Attempt H). function some.handler) gives.1 ∙ s.handler;
           going = ap (λ (some : Attempt H). some.over) gives.1 ∙ s.going;
-          cancellation = ap (λ (some : Attempt H). some.cancellation) gives.1 ∙ s.cancellation;
           kind = a.asked.kind_is;
           of_run = s.of_run;
           fed = s.fed;
@@ -189,12 +187,8 @@ module _ {H : Type 0} (function : H → Handler) (next : Handler) (version : Ver
         (called function next version options stand is_closed live before queued proposed b.executor b.lives s r here.at)
         (c.carries live.start.given live.machine r.driven)) c.comes
 
-    by_covered : (covered : Bool) → is_covered before.cancellation asked ≡ covered → CarriesWhere covered ran asked before turn after → Keeps turn
-    by_covered true is c = carried (now function next version options stand is_closed live before queued proposed b.executor b.lives s r c.typed is) c
-    by_covered false is c = refused function next version options is_closed live before proposed ran s r turn after c is
-
-    carries : AnswersCall ran asked before turn after ⊎ FinishesBy finishes.OutOfMemory before turn after → Keeps turn
-    carries (inl c) = by_covered (is_covered before.cancellation asked) refl c
+    carries : CarriesCall ran asked before turn after ⊎ FinishesBy finishes.OutOfMemory before turn after → Keeps turn
+    carries (inl c) = carried (now function next version options stand is_closed live before queued proposed b.executor b.lives s r c.typed) c
     carries (inr over) =
         subst Keeps (sym over.0) (silent (ap output_of over.1) (Turn.Failed out_of_memory) refl (inl lacks_memory, finished finishes.OutOfMemory (ap (λ (a : Attempt H). a.over) over.1)))
 

@@ -12,7 +12,7 @@ use Rattle.turning_laws.specs.Machine.{Written, IsTooLong, out_of_memory, told_e
 use Rattle.turning_laws.specs.Reading.{CanBegin, IsRunOf}
 use Rattle.turning_laws.specs.Sending.{Sent, Fails, sent_stream, AllFit, frame_meant}
 use Rattle.turning_laws.specs.Serving.{IsFedBy, Serves, HasBodies, IsOver}
-use Rattle.turning_laws.specs.Words.{arrivals_carried, input_bytes, piece_of, plain_error, internal, Error, Version, Bytes, Handler, Invocation, Frame, InputMessage, IsNote, AttemptStart, ShowsStart, LiveAttempt, machine_at_start, HasReadJournal, attempt_begun, handed_bytes, after_reading, VMOptions}
+use Rattle.turning_laws.specs.Words.{arrivals_carried, input_bytes, piece_of, plain_error, internal, Error, Version, Bytes, Handler, Frame, InputMessage, IsNote, AttemptStart, ShowsStart, LiveAttempt, machine_at_start, HasReadJournal, attempt_begun, handed_bytes, after_reading, VMOptions}
 pub use Rattle.beginning_laws.specs.Reading.{MayCome}
 
 -- as it is begun, once it has read its start frame

@@ -2,7 +2,7 @@
 pub use Rattle.vm_attempt.specs.Feeding.{IsFed, IsNew, BeginsAs, is_waiting, input_closed, ClosesWhere, ClosesInput, HasFailed, has_failed, IsReady, with_input}
 pub use Rattle.vm_attempt.specs.Machine.{CoreVM}
 pub use Rattle.vm_attempt.specs.Outcomes.outcomes
-pub use Rattle.vm_attempt.specs.Outcomes.{IsDriven, Fails, Cause, ByFault, NoNumber, TooLong, NoReplay, NoMemory, HasPut, requests_passed_on, FailsWhen, Answers, Waits, Executes, Suspends, Ends, Comes, CallOutcome}
+pub use Rattle.vm_attempt.specs.Outcomes.{IsDriven, Fails, Cause, ByFault, NoNumber, TooLong, TooDeep, NoReplay, NoMemory, HasPut, requests_passed_on, FailsWhen, Answers, Waits, Executes, Suspends, Ends, Comes, CallOutcome}
 pub use Rattle.vm_calls.specs.Active.{Sees, Fits, are_any, writes_frames}
 pub use Rattle.vm_calls.specs.declared.active.Active.{Active}
 pub use Rattle.vm_context.specs.Output.{Written, with_frame}

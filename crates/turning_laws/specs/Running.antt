@@ -20,6 +20,10 @@ use Rattle.turning_laws.specs.Machine.{are_any, MachineState, out_of_memory, tol
 use Rattle.turning_laws.specs.Sending.{Sent, Fails}
 use Rattle.turning_laws.specs.Words.{internal, unsupported_feature, Error, Version, version_number, NotificationId, AwaitTree, Arrival, arrivals_carried, Request, requests_carried, LiveAttempt, ShowsStart, VMOptions}
 
+-- with one more call the run over these arrivals waits
+abbrev pub RunWaitsFor : (next : Handler) (given : Invocation) (arrivals : List Arrival) (calls : ℕ) → Type 0
+RunWaitsFor next given arrivals calls = (awaited : AwaitTree (Option NotificationId)) × ((run next given arrivals (suc calls)).ending ≡ Waits awaited)
+
 -- the run over these arrivals comes to this with one more call, with exactly these requests
 pub record RunComesTo (next : Handler) (given : Invocation) (arrivals : List Arrival) (calls : ℕ) (requests : List Request) (ending : Ending) : Type 0 where
   pub over : (run next given arrivals (suc calls)).ending ≡ ending

@@ -1,5 +1,5 @@
 -- How an attempt over a machine stands to the live attempt of which the definitions speak.
-use Rattle.std.specs.Prelude.{◌≡◌, ◌⊎◌, ◌≤◌, ◌-◌, ◌^◌, ℕ, Bool, true, List, [], ◌++◌, Some, None}
+use Rattle.std.specs.Prelude.{◌≡◌, ◌⊎◌, ◌≤◌, ◌^◌, ℕ, Bool, true, List, [], ◌++◌, Some, None}
 use Rattle.std.specs.List.{AllByRecursion}
 use Rattle.attempt_model.specs.Requests.{Commands, requests_by}
 use Rattle.vm_ephemeral.specs.Reads.{no_reads}
@@ -10,7 +10,7 @@ use Rattle.turning_laws.specs.Machine.phases
 use Rattle.turning_laws.specs.Machine.{IsDriven}
 use Rattle.turning_laws.specs.Reading.{IsInputOf, IsRunOf, Kind, kind_of, start_told, HasStarted}
 use Rattle.turning_laws.specs.Sending.{is_recorded}
-use Rattle.turning_laws.specs.Words.{LEVELS, item_at, Version, Error, Call, RunOptions, awaited_tree, answers_of, Request, StartState, Handler, run, arrivals_carried, are_by_text, Machine, machine_at_start, ShowsStart, with_messages, LiveAttempt, HasReadJournal, VMOptions, IsWithin, SlotsFit, IsTextId}
+use Rattle.turning_laws.specs.Words.{item_at, Version, Error, Call, answers_of, Request, StartState, Handler, run, arrivals_carried, are_by_text, Machine, machine_at_start, ShowsStart, with_messages, LiveAttempt, HasReadJournal, VMOptions, SlotsFit, IsTextId}
 
 -- ---- its handler
 
@@ -18,11 +18,6 @@ use Rattle.turning_laws.specs.Words.{LEVELS, item_at, Version, Error, Call, RunO
 abbrev pub IsOfStore : Call → Type 0
 IsOfStore call = (start : StartState) (done : List Request) (left : Commands) (completion : ℕ)
     → AllByRecursion (λ request. is_recorded request ≡ true) (requests_by start done left completion call)
-
--- what it awaits is nested no deeper than can be told
-abbrev pub AwaitsWithin : RunOptions → Call → Type 0
-AwaitsWithin options (Call.Await tree) = IsWithin (LEVELS - 1) (awaited_tree options.implicit_cancellation tree)
-AwaitsWithin options call = Unit {0}
 
 -- ---- its input
 
@@ -71,7 +66,6 @@ module _ {H : Type 0} (function : H → Handler) (next : Handler) (version : Ver
   pub record Serves (live : LiveAttempt) (is_closed : Bool) (a : Attempt H) : Type 0 where
     pub handler : function a.handler ≡ next
     pub going : a.over ≡ None
-    pub cancellation : a.cancellation ≡ options.implicit_cancellation
     pub kind : kind_of a.vm.state ≡ kind_where version options is_closed
     pub of_run : IsRunOf live.start version options
     pub fed : IsFedBy live

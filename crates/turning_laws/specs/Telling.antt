@@ -4,7 +4,7 @@ use Rattle.journal_model.specs.Run.{GoesOn, RefusedCall, Ended, run, run_request
 use Rattle.turning_laws.specs.Attempts.{Attempt, Turn, Turns}
 use Rattle.turning_laws.specs.Bodies.{Body, NonEmptyValue, RunOutcome}
 use Rattle.turning_laws.specs.Keeping.{early_error}
-use Rattle.turning_laws.specs.Running.{WaitsForOthers, ExecutesFirst, IsBodyCode}
+use Rattle.turning_laws.specs.Running.{RunWaitsFor, WaitsForOthers, ExecutesFirst, IsBodyCode}
 use Rattle.turning_laws.specs.Serving.{HasBodies, IsOver, Serves}
 use Rattle.turning_laws.specs.Turning.{turns_answered}
 use Rattle.turning_laws.specs.Words.{Arrival, arrivals_carried, AttemptStart, Bytes, CarriesInput, Error, Handler, input_bytes, InputMessage, internal, item_at, LiveAttempt, piece_of, Queued, Refusal, Request, unsupported_feature, Version, VMOptions}
@@ -61,8 +61,8 @@ module _ (next : Handler) (start : AttemptStart) (told : Told) (come : HasCome s
     early : (HasJournal start come.read → ⊥) → told.is_closed ≡ true → error.code.0 ≡ early_error.code.0 → FailsSo ran error
     -- there was no number or no room for what it makes, or no memory
     lacks : error.code.0 ≡ internal → FailsSo ran error
-    -- it awaits what is nested too deep to be told
-    too_deep : error.code.0 ≡ unsupported_feature → FailsSo ran error
+    -- the run waits, for what is nested too deep to be told
+    too_deep : RunWaitsFor next start.given arrivals calls → error.code.0 ≡ unsupported_feature → FailsSo ran error
 
   -- by what a reply tells of a turn, and of what was told then
   abbrev pub TurnTells : RunOutcome → Turn → (now : Told) → Type 0

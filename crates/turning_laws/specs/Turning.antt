@@ -7,20 +7,21 @@ use Rattle.journal_model.specs.Run.{Handler, Invocation, Ending, RefusedCall, En
 use Rattle.waking_laws.specs.Suspended.{WaitsAll}
 use Rattle.vm_awaits.specs.Views.{slots_of}
 use Rattle.vm_outcomes.specs.Causes.{CauseTells}
-use Rattle.turning_laws.specs.Attempts.{output_of, Turns, Attempt, Turn, is_covered, not_carried_out}
+use Rattle.turning_laws.specs.Attempts.{output_of, Turns, Attempt, Turn}
 use Rattle.turning_laws.specs.Bodies.{asked_by, NonEmptyValue, Body, outcomes_in, outcome_frame, RunOutcome}
 use Rattle.turning_laws.specs.Serving.{Serves, HasBodies, IsOver}
 use Rattle.turning_laws.specs.Keeping.{FailsWith}
-use Rattle.turning_laws.specs.Machine.{MachineState, out_of_memory, told_error, Cause, ByFault, NoReplay, NoMemory, HasPut, FailsWhen}
-pub use Rattle.turning_laws.specs.Running.{RunComesTo, WaitsForOthers, ExecutesFirst, tried_by, OutcomeIs, FailsByBody, IsBodyCode}
+use Rattle.turning_laws.specs.Machine.{MachineState, out_of_memory, told_error, Cause, ByFault, TooDeep, NoReplay, NoMemory, HasPut, FailsWhen}
+pub use Rattle.turning_laws.specs.Running.{RunWaitsFor, RunComesTo, WaitsForOthers, ExecutesFirst, tried_by, OutcomeIs, FailsByBody, IsBodyCode}
 use Rattle.turning_laws.specs.Sending.{Sent, Asks, Fails, sent_stream, AllFit, frame_meant, IsOfStore}
 use Rattle.turning_laws.specs.Words.{internal, unsupported_feature, Error, Version, version_number, Call, Input, Arrival, Request, arrivals_carried, requests_carried, Machine, Refused, ShowsStart, LiveAttempt, HasReadJournal, after_turn, VMOptions, Queued, TurnsOfRun, requests_sent}
 
--- of a handler that wrote the journal, over the arrivals that were asked for, the run itself refuses the call, or there is no number or
--- no room for what it makes, or no memory
+-- of a handler that wrote the journal, over the arrivals that were asked for, the run itself refuses the call, or waits for what is nested too
+-- deep to be told, or there is no number or no room for what it makes, or no memory
 abbrev pub IsOwnCause : Handler → Invocation → List Arrival → ℕ → Cause → Type 0
 IsOwnCause next given arrivals calls (ByFault (Refused refusal)) = (run next given arrivals (suc calls)).ending ≡ RefusedCall refusal
 IsOwnCause next given arrivals calls (ByFault fault) = ⊥
+IsOwnCause next given arrivals calls TooDeep = RunWaitsFor next given arrivals calls
 IsOwnCause next given arrivals calls NoReplay = ⊥
 IsOwnCause next given arrivals calls cause = Unit {0}
 
@@ -32,7 +33,7 @@ IsToldAs version live call old new more cause error sent =
     (told : Error) × CauseTells version live.start.given.input.invocation_id live.machine.left new.active.journal (slots_of new.active.results) old.runs call cause told
     × FailsWith told old.active.output error × (sent ≡ map Asks more ++ Fails (told_error error) ∷ [])
 
--- there is a cause for which the machine does not carry out this call, and this error tells it
+-- there is a cause for which the machine fails in this call, and this error tells it
 pub record FailsBy (next : Handler) (version : Version) (live : LiveAttempt) (call : Call) (old new : MachineState) (error : Error) (sent : List Sent) : Type 0 where
   -- how far it has come with its requests
   pub far : HasPut live.start.given live.machine call old
@@ -77,17 +78,9 @@ module _ {H : Type 0} (function : H → Handler) (next : Handler) (version : Ver
     abbrev pub RunComes : Ending → Type 0
     RunComes ending = RunComesTo next live.start.given (arrivals_carried live.read) live.calls (requests_carried live.read ++ live.machine.written) ending
 
-    -- its machine does not carry out the call that the handler makes next
+    -- its machine fails in the call that the handler makes next
     abbrev pub FailsFor : Error → List Sent → (after : Attempt H) → Type 0
     FailsFor error sent after = FailsBy next version live (next live.start.given.input before.answers) before.vm.state after.vm.state error sent
-
-    -- that call is none that is carried out: it awaits what no frame can tell
-    abbrev pub IsUncovered : Type 0
-    IsUncovered = is_covered options.implicit_cancellation (next live.start.given.input before.answers) ≡ false
-
-    -- then it fails with that, or for want of memory
-    abbrev pub FailsUncovered : Error → Type 0
-    FailsUncovered error = (error ≡ not_carried_out) ⊎ (error ≡ out_of_memory)
 
     -- it has proposed these outcomes, and where it executes the body of a run, that ends so
     module _ (proposed : List (ℕ × NonEmptyValue)) (ran : RunOutcome) where
@@ -127,7 +120,7 @@ module _ {H : Type 0} (function : H → Handler) (next : Handler) (version : Ver
       TurnsBehind sent Turn.Suspended after =
           (is_closed ≡ true) × RunWaits × IsOver after × SuspendsWith next live (map (frame_meant version) sent)
       TurnsBehind sent Turn.Ended after = RunComes Ended × IsOver after × (map (frame_meant version) sent ≡ Frame.End ∷ [])
-      TurnsBehind sent (Turn.Failed error) after = (FailsFor error sent after ⊎ (FailsForBody error sent ⊎ (IsUncovered × FailsUncovered error))) × IsOver after
+      TurnsBehind sent (Turn.Failed error) after = (FailsFor error sent after ⊎ FailsForBody error sent) × IsOver after
 
       -- what a turn has written are frames of the run, which the store reads as what they are meant as
       pub record TurnKeeps (turn : Turn) (after : Attempt H) : Type 0 where

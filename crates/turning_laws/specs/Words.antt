@@ -4,7 +4,7 @@ pub use Rattle.attempt_model.specs.Machine.{Machine, machine_at_start, with_arri
 pub use Rattle.attempt_model.specs.Requests.{Commands, PutState, put_one, put_all, requests_by}
 pub use Rattle.attempt_model.specs.Results.{Slots, slot_of}
 pub use Rattle.attempt_model.specs.Standing.{RequestsStand, RepliesAsRun, AreOfKind, Fits, next_call, AnswersNext}
-pub use Rattle.handle_laws.specs.Trees.{IsWithin, AreWithin, SlotsFit, TreeFits}
+pub use Rattle.handle_laws.specs.Trees.{SlotsFit}
 pub use Rattle.input_laws.specs.Message.{InputMessage, CarriesInput, piece_of, arrivals_carried, CarriesRequest, CarriesArrival, CarriesOutcome, requests_carried}
 pub use Rattle.journal_model.specs.Attempt.{input_bytes, arrivals_within}
 pub use Rattle.journal_model.specs.Await.{awaited_tree, child_of}
@@ -37,7 +37,6 @@ pub use Rattle.protocol_errors.specs.declared.error.Error.{Error}
 pub use Rattle.protocol_stream.specs.Item.{item_at, message}
 pub use Rattle.protocol_types.specs.Version.{version_content_type, version_number}
 pub use Rattle.protocol_types.specs.declared.version.Version.{Version}
-pub use Rattle.protocol_wire.specs.declared.record.TheConstants.{LEVELS}
 pub use Rattle.request_laws.specs.Calls.{IsTypedCall}
 pub use Rattle.request_laws.specs.Making.{IsTextId}
 pub use Rattle.state_laws.specs.Keys.{HasTextKeys}

@@ -5,8 +5,8 @@
 //! No law speaks of a store: an attempt replays its journal (`replay_laws`), whoever feeds it, and any turns follow one another between any
 //! cuts of its input. What a schedule does with the attempt of a store is one use of that; so is a host's, or a bench's.
 //!
-//! That signals wait in line, and that its messages are such as the protocol can carry, are premises. That a call which is carried out is of its
-//! type is none: the turn tells it. A schedule keeps what is said here of messages, and takes what is said of options as a premise of its own.
+//! That signals wait in line, and that its messages are such as the protocol can carry, are premises. That a call is of its type is none:
+//! the turn tells it. A schedule keeps what is said here of messages, and takes what is said of options as a premise of its own.
 #![tactic(auto)]
 
 ghost use Rattle.turning_laws.specs.Keeping.{BeginsServing, ClosesServing, FeedsServing, InputsCome, OversStay, ProposesOnce, StaysServing, TakesServing};

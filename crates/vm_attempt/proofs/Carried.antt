@@ -8,7 +8,7 @@ use Rattle.request_laws.specs.Calls.{IsTypedCall}
 use Rattle.vm_core.specs.declared.core_vm.CoreVM.{CoreVM}
 use Rattle.vm_core.specs.Outcomes.outcomes
 use Rattle.vm_core.specs.Outcomes.{CarriesOut, CallOutcome}
-use Rattle.vm_attempt.specs.Turning.{TakesOutcome, CarriesCall, AnswersCall, ReadsOrAsks}
+use Rattle.vm_attempt.specs.Turning.{TakesOutcome, CarriesCall, ReadsOrAsks}
 use Rattle.vm_attempt.specs.declared.attempt.Attempt.{Attempt}
 use Rattle.vm_attempt.specs.declared.run_outcome.RunOutcome.{RunOutcome}
 use Rattle.vm_attempt.specs.declared.turn.Turn.{Turn}
@@ -36,8 +36,8 @@ module _ {H : Type 0} where
 
   -- the handler is asked for its next call, and this is answered
   pub asked : (function : H → Handler) (ran : Option RunOutcome) (input : Input) (call : Call) (before : Attempt H) (turn : Turn) (after : Attempt H) → before.input ≡ Some input
-      → call ≡ function before.handler input before.answers → ForSome ran (λ ran. AnswersCall ran call before turn after)
+      → call ≡ function before.handler input before.answers → ForSome ran (λ ran. CarriesCall ran call before turn after)
       → ForSome ran (λ ran. ReadsOrAsks function ran before.input before turn after)
   asked function given input call before turn after has_read asks answers ran is =
       subst (λ (read : Option Input). ReadsOrAsks function ran read before turn after) (sym has_read)
-      (inl (subst (λ (call : Call). AnswersCall ran call before turn after) asks (answers ran is)))
+      (inl (subst (λ (call : Call). CarriesCall ran call before turn after) asks (answers ran is)))

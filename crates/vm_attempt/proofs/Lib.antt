@@ -2,6 +2,5 @@ pub mod Advancing
 pub mod Carried
 mod Lists
 mod Stopped
-pub mod Nested
 pub mod Pieces
 pub mod Typing

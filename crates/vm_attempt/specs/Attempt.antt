@@ -32,7 +32,6 @@ module _ {H : Type 0} where
   -- its handler was asked nothing, and nothing waits to be handed out
   pub record IsUnasked (options : VMOptions) (handler : H) (a : Attempt H) : Type 0 where
     pub handler_is : a.handler ≡ handler
-    pub cancellation : a.cancellation ≡ options.implicit_cancellation
     pub input : a.input ≡ None
     pub answers : a.answers ≡ []
     pub over : a.over ≡ None

@@ -8,7 +8,7 @@ use Rattle.vm_attempt.specs.declared.attempt.Attempt.{Attempt}
 -- an attempt with another handler
 abbrev pub with_handler : {H K : Type 0} → K → Attempt H → Attempt K
 with_handler handler a =
-    record { alloc = a.alloc; handler = handler; vm = a.vm; cancellation = a.cancellation; input = a.input; answers = a.answers; over = a.over; front = a.front; behind = a.behind }
+    record { alloc = a.alloc; handler = handler; vm = a.vm; input = a.input; answers = a.answers; over = a.over; front = a.front; behind = a.behind }
 
 abbrev pub attempt_code : {H : Type 0} → Coded H → Coded (Attempt H)
 attempt_code {H} handler =

@@ -1,6 +1,5 @@
 pub mod Attempt
 pub mod Coding
-pub mod Covered
 pub mod Output
 pub mod Typed
 pub mod Turning

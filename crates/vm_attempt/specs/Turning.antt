@@ -1,22 +1,18 @@
 -- What a turn of an attempt comes to.
-use Rattle.std.specs.Prelude.{◌≡◌, ◌⊎◌, ℕ, Bool, true, false, [], ◌∷◌, ◌++◌, codes, Option, Some, None, Result, Ok, Err}
+use Rattle.std.specs.Prelude.{◌≡◌, ◌⊎◌, ℕ, Bool, true, false, [], ◌∷◌, ◌++◌, Option, Some, None, Result, Ok, Err}
 use Rattle.journal_model.specs.Run.{Handler}
 use Rattle.journal_model.specs.declared.call.Answer.{Answer}
 use Rattle.journal_model.specs.declared.call.Call.{Call}
 use Rattle.journal_model.specs.declared.handler.Input.{Input}
-use Rattle.protocol_errors.specs.Code.{unsupported_feature}
-use Rattle.protocol_errors.specs.Error.{plain_error}
 use Rattle.protocol_errors.specs.declared.error.Error.{Error}
 use Rattle.request_laws.specs.Calls.{IsTypedCall}
 use Rattle.vm_feeding.specs.Reading.{IsRead}
 use Rattle.vm_start.specs.Failing.{out_of_memory}
 use Rattle.vm_feeding.specs.Asking.{IsReady}
-use Rattle.vm_feeding.specs.Telling.{IsTold}
 use Rattle.vm_proposals.specs.Proposing.{ProposesRun}
 use Rattle.vm_core.specs.Outcomes.outcomes
 use Rattle.vm_core.specs.Outcomes.{CarriesOut, CallOutcome}
 use Rattle.vm_core.specs.declared.core_vm.CoreVM.{CoreVM}
-use Rattle.vm_attempt.specs.Covered.{is_covered}
 use Rattle.vm_attempt.specs.Typed.{IsTypedOutcome}
 use Rattle.vm_attempt.specs.declared.attempt.Attempt.{Attempt}
 use Rattle.vm_attempt.specs.declared.run_outcome.RunOutcome.{RunOutcome}
@@ -29,10 +25,6 @@ abbrev pub again : Finish → Turn
 again finishes.Suspended = Turn.Suspended
 again finishes.Ended = Turn.Ended
 again finishes.OutOfMemory = Turn.Failed out_of_memory
-
--- what an attempt fails with whose handler makes a call that is not carried out
-abbrev pub not_carried_out : Error
-not_carried_out = plain_error unsupported_feature (codes "what is awaited is nested too deep to be told")
 
 -- what a turn comes to that has proposed how a body has ended
 abbrev pub ran_or_failed : Result (Unit {0}) Error → Turn
@@ -76,22 +68,6 @@ module _ {H : Type 0} where
     pub carries : CarriesOut call before.vm.state outcome between.state
     pub comes : TakesOutcome ran outcome (record before { vm = between }) turn after
 
-  -- the machine is told that the call is not carried out, and fails; what it has failed with is answered, and nothing of the call is done
-  pub record RefusesCall (before : Attempt H) (turn : Turn) (after : Attempt H) : Type 0 where
-    pub told : IsTold not_carried_out None before.vm.state after.vm.state
-    pub answer : Error
-    pub has_failed : IsReady after.vm.state.phase (Err answer)
-    pub turn_is : turn ≡ Turn.Failed answer
-    pub others : after ≡ record before { vm = after.vm }
-
-  abbrev pub CarriesWhere : (covered : Bool) → RunOutcome → Call → (before : Attempt H) → Turn → (after : Attempt H) → Type 0
-  CarriesWhere true ran call before turn after = CarriesCall ran call before turn after
-  CarriesWhere false ran call before turn after = RefusesCall before turn after
-
-  -- the call is carried out if it is one that is
-  abbrev pub AnswersCall : RunOutcome → Call → (before : Attempt H) → Turn → (after : Attempt H) → Type 0
-  AnswersCall ran call before turn after = CarriesWhere (is_covered before.cancellation call) ran call before turn after
-
   -- ---- the input
 
   abbrev pub GivesInput : Result Input Error → (between : Attempt H) → Turn → (after : Attempt H) → Type 0
@@ -108,10 +84,10 @@ module _ {H : Type 0} where
 
   -- the body of a run is executed in a turn where the machine asks for that, and then it has ended so; else that is not looked at
   module _ (function : H → Handler) (ran : RunOutcome) where
-    -- the input is read first, which no call is; then the handler's next call is carried out or refused, if there is memory for it
+    -- the input is read first, which no call is; then the handler's next call is carried out, if there is memory for it
     abbrev pub ReadsOrAsks : Option Input → (before : Attempt H) → Turn → (after : Attempt H) → Type 0
     ReadsOrAsks None before turn after = ReadsInput before turn after
-    ReadsOrAsks (Some input) before turn after = AnswersCall ran (function before.handler input before.answers) before turn after ⊎ FinishesBy finishes.OutOfMemory before turn after
+    ReadsOrAsks (Some input) before turn after = CarriesCall ran (function before.handler input before.answers) before turn after ⊎ FinishesBy finishes.OutOfMemory before turn after
 
     -- calls are made of the machine, or more has to come, or it has failed
     abbrev pub TurnsWhere : Result Bool Error → (before : Attempt H) → Turn → (after : Attempt H) → Type 0

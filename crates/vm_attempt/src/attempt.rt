@@ -1,18 +1,17 @@
 // An attempt.
-ghost use Rattle.std.specs.Prelude.{◌≡◌, Some, IsSome, OnOk};
+ghost use Rattle.std.specs.Prelude.{◌≡◌, [], Some, IsSome, IfSome, OnOk};
 ghost use Rattle.std.specs.Option.{ForSome};
 ghost use Rattle.vm_attempt.specs.Attempt.{IsBegun, has_stopped, Feeds, ClosesInput};
-ghost use Rattle.vm_attempt.specs.Output.{Gathers, HasFront, Shows, LetsGo, TakesOutput};
-ghost use Rattle.vm_attempt.specs.Turning.{FinishesBy, TakesAnswer, RunsBody, TakesOutcome, CarriesCall, RefusesCall, AnswersCall, ReadsInput, ReadsOrAsks, TurnsOn, Turns};
+ghost use Rattle.vm_attempt.specs.Output.{output_of, Gathers, HasFront, Shows, LetsGo, TakesOutput};
+ghost use Rattle.vm_attempt.specs.Turning.{FinishesBy, TakesAnswer, RunsBody, TakesOutcome, CarriesCall, ReadsInput, ReadsOrAsks, TurnsOn, Turns};
 
-use crate::covered::is_covered;
 use crate::header::ContentType;
 use crate::output::{advance, first, join};
 use crate::run_outcome::RunOutcome;
-use crate::turn::{Finish, Turn, not_carried_out, ran_or_failed, turn_again};
+use crate::turn::{Finish, Turn, ran_or_failed, turn_again};
 use crate::typed::{call_is_typed, outcome_is_typed};
 use bytes::Bytes;
-use journal_model::{Answer, Call, Handler, ImplicitCancellationOption, Input, NotificationHandle};
+use journal_model::{Answer, Call, Handler, Input, NotificationHandle};
 use protocol_errors::Error;
 use protocol_types::Version;
 use sequence::Sequence;
@@ -27,8 +26,6 @@ pub struct Attempt<H> {
     alloc: Global,
     handler: H,
     vm: CoreVM,
-    /// Whether a cancellation ends awaits, as its machine has it.
-    cancellation: ImplicitCancellationOption,
     /// What the handler is given, once it was read.
     input: Option<Input>,
     /// What the handler was answered so far.
@@ -70,7 +67,6 @@ impl<H: Handler> Attempt<H> {
                 alloc,
                 handler,
                 vm,
-                cancellation: options.implicit_cancellation,
                 input: None,
                 answers: Sequence::new(alloc),
                 over: None,
@@ -173,30 +169,6 @@ impl<H: Handler> Attempt<H> {
         self.come_to(outcome, ran)
     }
 
-    // The attempt fails, since a call is made that is not carried out. What it has failed with is what all later turns answer, also where
-    // memory is refused for the frame that tells it.
-    fn refuse(&mut self) -> Turn
-        ensures { RefusesCall self.old result self.new }
-    {
-        self.vm.notify_error(not_carried_out(), None);
-        match self.vm.is_ready_to_execute() {
-            Ok(_) => unreachable!(),
-            Err(error) => Turn::Failed(error),
-        }
-    }
-
-    // The handler's call is carried out, if it is one that is.
-    fn answer_call(&mut self, call: Call, ran: &mut Option<RunOutcome>) -> Turn
-        requires { IsSome ran.old }
-        ensures { ForSome ran.old (λ ran. AnswersCall ran call self.old result self.new) }
-    {
-        if is_covered(self.cancellation, &call) {
-            return self.carry(call, ran);
-        }
-        drop(call);
-        self.refuse()
-    }
-
     // The input is read.
     fn read_input(&mut self) -> Turn
         ensures { ReadsInput self.old result self.new }
@@ -220,7 +192,7 @@ impl<H: Handler> Attempt<H> {
             Some(input) => self.handler.next(input, self.answers.as_slice()),
         };
         match next {
-            Ok(call) => self.answer_call(call, ran),
+            Ok(call) => self.carry(call, ran),
             Err(_) => self.finish(Finish::OutOfMemory),
         }
     }
@@ -286,6 +258,20 @@ impl<H: Handler> Attempt<H> {
         ensures { LetsGo count self.old self.new }
     {
         advance(&mut self.front, &mut self.behind, count);
+    }
+
+    /// How it is over, where no byte waits any more: all that it does from then on is to answer that in each turn.
+    ///
+    /// It is not told of an attempt whose machine has failed, nor where there is no memory for looking.
+    pub fn finished(&mut self) -> Option<Finish>
+        ensures same { Gathers self.old self.new }
+        ensures over { IfSome result (λ finish. (self.new.over ≡ Some finish) × (output_of self.new ≡ [])) }
+    {
+        let finish = self.over?;
+        match self.gather(1) {
+            Ok(()) if self.front.is_empty() => Some(finish),
+            _ => None,
+        }
     }
 
     /// Hands out the first bytes, so many at most. Where memory is refused they all stay.

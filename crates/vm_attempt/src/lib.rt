@@ -5,7 +5,6 @@
 #![tactic(auto)]
 
 mod attempt;
-mod covered;
 mod header;
 mod output;
 mod run_outcome;
@@ -14,6 +13,6 @@ mod typed;
 
 pub use attempt::Attempt;
 pub use run_outcome::RunOutcome;
-pub use turn::{Finish, Turn};
+pub use turn::{Finish, Turn, turn_again};
 pub use vm_core::{CoreVM, VM, VMResult};
 pub use vm_refusals::{RetryPolicy, RunExitResult};

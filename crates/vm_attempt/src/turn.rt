@@ -1,9 +1,8 @@
 // What turns come to.
 ghost use Rattle.std.specs.Prelude.{◌≡◌};
-ghost use Rattle.vm_attempt.specs.Turning.{again, not_carried_out, ran_or_failed};
+ghost use Rattle.vm_attempt.specs.Turning.{again, ran_or_failed};
 
-use bytes::ByteStr;
-use protocol_errors::{Error, codes};
+use protocol_errors::Error;
 use vm_start::out_of_memory;
 
 /// What a turn of an attempt came to.
@@ -32,18 +31,8 @@ pub enum Finish {
     OutOfMemory,
 }
 
-// The error of an attempt whose handler makes a call that is not carried out.
-pub(crate) fn not_carried_out() -> Error
-    ensures { result ≡ not_carried_out }
-{
-    Error::new(
-        codes::UNSUPPORTED_FEATURE,
-        ByteStr::from_static("what is awaited is nested too deep to be told"),
-    )
-}
-
 /// What each turn comes to of an attempt that is over.
-pub(crate) fn turn_again(finish: Finish) -> Turn
+pub fn turn_again(finish: Finish) -> Turn
     ensures { result ≡ again finish }
 {
     match finish {

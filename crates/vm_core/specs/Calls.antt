@@ -1,5 +1,5 @@
 -- What each call of a host does to a machine in every phase, and what it answers.
-use Rattle.std.specs.Prelude.{ℕ, List, [], not, codes, Option, None, Result}
+use Rattle.std.specs.Prelude.{ℕ, [], not, codes, Option, None, Result}
 use Rattle.journal_model.specs.Notification.{Bytes, Text}
 use Rattle.journal_model.specs.Run.{name_or_empty}
 use Rattle.journal_model.specs.declared.call.Answer.{Answer}

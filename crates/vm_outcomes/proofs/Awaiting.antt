@@ -5,7 +5,6 @@ use Rattle.journal_model.specs.AwaitTree.{AwaitTree}
 use Rattle.journal_model.specs.Notification.{Bytes}
 use Rattle.journal_model.specs.Request.{Request}
 use Rattle.journal_model.specs.Run.{Invocation}
-use Rattle.journal_model.specs.Spelling.{awaiting_on_payload}
 use Rattle.journal_model.specs.declared.call.Answer.{Answer}
 use Rattle.journal_model.specs.declared.call.Call.{Call}
 use Rattle.journal_model.specs.declared.notification.NotificationId.{NotificationId}
@@ -18,7 +17,6 @@ use Rattle.protocol_errors.specs.Error.{decoding_code}
 use Rattle.protocol_errors.specs.declared.error.Error.{Error}
 use Rattle.protocol_stream.specs.ErrorText.{too_long_text}
 use Rattle.protocol_stream.specs.declared.decoder.DecodingError.{DecodingError}
-use Rattle.protocol_stream.specs.declared.encoder.EncodingError.{EncodingError}
 use Rattle.protocol_stream.specs.declared.encoder.EncodingError.TheVariants as unsent
 use Rattle.protocol_types.specs.declared.message_type.MessageType.TheVariants.{SendSignalCommand}
 use Rattle.protocol_types.specs.declared.version.Version.{Version}
@@ -27,7 +25,7 @@ use Rattle.vm_calls.specs.Active.{Sees, writes_frames}
 use Rattle.vm_calls.specs.declared.active.Active.{Active}
 use Rattle.vm_calls.specs.declared.call_error.CallError.TheVariants as calls
 use Rattle.vm_calls.specs.declared.put_error.PutError.{PutError}
-use Rattle.vm_calls.specs.declared.put_error.PutError.TheVariants.{Replay, Encoding}
+use Rattle.vm_calls.specs.declared.put_error.PutError.TheVariants as puts
 use Rattle.vm_commands.specs.HeaderEquality.{same_header}
 use Rattle.vm_commands.specs.declared.replay_error.ReplayError.TheVariants as unmatched
 use Rattle.vm_context.specs.Journal.{JournalCounts, after_command}
@@ -37,7 +35,7 @@ use Rattle.vm_start.specs.declared.phase.Phase.{Phase}
 use Rattle.vm_start.specs.declared.phase.Phase.TheVariants as phases
 use Rattle.vm_machine.specs.PassedMachine.{child_not_id_error}
 use Rattle.vm_feeding.specs.Passed.{checks_off, CallCauses, MachineFails, IsUnexpected, MachineState, Settles, TellsLast, Unless}
-use Rattle.vm_progress.specs.Asleep.{LacksMemory, FailsUnwritten, SettlesStay, ClosesAs, HandsOutRun, SleepIs, SleepsAs, SleepsWhere}
+use Rattle.vm_progress.specs.Asleep.{too_deep_error, LacksMemory, FailsUntold, SettlesStay, ClosesAs, HandsOutRun, SleepIs, SleepsAs, SleepsWhere}
 use Rattle.vm_progress.specs.Awaiting.{ready_read, GoesOnAs, IsAwaited, DoesAwaitWhere, DoesAwait}
 use Rattle.vm_progress.specs.Executing.{executes_any, is_executing_for, run_for}
 use Rattle.vm_progress.specs.Uncompleted.{started_id, TellsUncompleted}
@@ -50,16 +48,18 @@ use Rattle.vm_types.specs.declared.answers.AwaitResponse.TheVariants.{ExecuteRun
 use Rattle.vm_types.specs.declared.handles.EphemeralCompletionId.{EphemeralCompletionId}
 use Rattle.vm_waiting.specs.Awaiting.{LooksAlone, ComesTo, FailsCancelling, Awaits}
 use Rattle.vm_waiting.specs.Cancelling.{after_cancels}
-use Rattle.vm_waiting.specs.Suspending.{suspension_payload_in, Suspends, tells_awaiting, TellsIf}
+use Rattle.vm_waiting.specs.Suspending.{suspension_payload_in, is_too_deep, Suspends, tells_awaiting, TellsIf}
 use Rattle.vm_waiting.specs.Waiting.{Becomes}
 use Rattle.vm_waiting.specs.WaitsFor.{awaited_ids, waits_for_any, waits_as}
 use Rattle.vm_waiting.specs.declared.awaiting.Awaited.{Awaited}
 use Rattle.vm_waiting.specs.declared.awaiting.Awaited.TheVariants.{AnyCompleted, Cancelled, Asleep}
 use Rattle.vm_waiting.specs.declared.awaiting.AwaitError.{AwaitError}
 use Rattle.vm_waiting.specs.declared.awaiting.AwaitError.TheVariants as unawaited
+use Rattle.vm_waiting.specs.declared.suspending.TellError.{TellError}
+use Rattle.vm_waiting.specs.declared.suspending.TellError.TheVariants.{TooDeep, Encoding}
 use Rattle.vm_waiting.specs.declared.waits_for.WaitsFor.{WaitsFor}
 use Rattle.vm_outcomes.specs.Carrying.{tells_waiting, Answers, Waits, Executes, Suspends as IsSuspended, Comes, CarriesOut}
-use Rattle.vm_outcomes.specs.Causes.{ByFault, TooLong, Unread, Differs, IsAsked, IsLookedAt, waiting_payload, HasCause}
+use Rattle.vm_outcomes.specs.Causes.{ByFault, TooLong, TooDeep as Deep, Unread, Differs, IsAsked, IsLookedAt, IsAsleep, waiting_payload, is_wait_too_deep, HasCause}
 use Rattle.vm_outcomes.specs.Driven.{IsDriven, reply_of}
 use Rattle.vm_outcomes.specs.Outcomes.{awaited_as}
 use Rattle.vm_outcomes.specs.Stopping.{HasPut, IsUnmatchedNext}
@@ -98,14 +98,14 @@ last_apart journal code text (Ok error) other tells = ap (λ (e : Error). e.code
 last_apart journal code text (Err refused) other tells = tt
 
 put_apart : {M : Type 0} (difference : M → M → List ℕ) (journal : JournalCounts) (error : PutError M) (told : Result Error AllocError) → CallCauses difference journal (calls.Put error) told → Apart told
-put_apart difference journal (Replay (unmatched.Unavailable error)) told causes = last_apart journal _ _ told refl causes
-put_apart difference journal (Replay (unmatched.Decoding error)) told causes = last_apart journal _ _ told (decoding_apart error) causes
-put_apart difference journal (Replay (unmatched.Mismatch error)) told causes = last_apart journal _ _ told refl causes
-put_apart difference journal (Replay unmatched.OutOfMemory) (Ok error) causes = absurd causes
-put_apart difference journal (Replay unmatched.OutOfMemory) (Err refused) causes = tt
-put_apart difference journal (Encoding unsent.PayloadTooLong) told causes = last_apart journal _ _ told refl causes
-put_apart difference journal (Encoding unsent.OutOfMemory) (Ok error) causes = absurd causes
-put_apart difference journal (Encoding unsent.OutOfMemory) (Err refused) causes = tt
+put_apart difference journal (puts.Replay (unmatched.Unavailable error)) told causes = last_apart journal _ _ told refl causes
+put_apart difference journal (puts.Replay (unmatched.Decoding error)) told causes = last_apart journal _ _ told (decoding_apart error) causes
+put_apart difference journal (puts.Replay (unmatched.Mismatch error)) told causes = last_apart journal _ _ told refl causes
+put_apart difference journal (puts.Replay unmatched.OutOfMemory) (Ok error) causes = absurd causes
+put_apart difference journal (puts.Replay unmatched.OutOfMemory) (Err refused) causes = tt
+put_apart difference journal (puts.Encoding unsent.PayloadTooLong) told causes = last_apart journal _ _ told refl causes
+put_apart difference journal (puts.Encoding unsent.OutOfMemory) (Ok error) causes = absurd causes
+put_apart difference journal (puts.Encoding unsent.OutOfMemory) (Err refused) causes = tt
 
 -- it is told of what is waited for
 uncompleted_told : (invocation : Bytes) (slots : Slots) (runs : Runs) (waits : WaitsFor) (told : Result Error AllocError) → IfOk told (TellsUncompleted invocation slots runs waits)
@@ -206,24 +206,30 @@ module _ (given : Invocation) (m : Machine) (tree : AwaitTree ℕ) (old : Machin
         abbrev is_told : Bool
         is_told = tells_awaiting old.version old.options.awaiting_on_policy (executes_any old.runs) (waits_for_any waits)
 
-        -- a frame that tells it could not be written
-        fails_unwritten : (error : EncodingError) (answer : Error) (new : MachineState) → (error ≡ unsent.PayloadTooLong → 2 ^ 32 ≤ length (waiting_payload old.is_input_closed old.version ids))
-            → (old.is_input_closed ≡ true → is_executing_for waits old.runs ≡ false) → FailsUnwritten error (record old { active = resolved }) answer new → Comes given m (Call.Await tree) old (awaited_as (Err answer)) new
-        fails_unwritten unsent.PayloadTooLong answer new long idle fails =
+        abbrev asleep : (old.is_input_closed ≡ true → is_executing_for waits old.runs ≡ false) → IsAsleep given m (Call.Await tree) old
+        asleep idle = record { waits = waits; machine = becomes.machine; replies = becomes.replies; none = no_run; idle = idle; resolved = resolved; sees = becomes.sees }
+
+        -- a frame that tells it would be too long
+        fails_long : (answer : Error) (new : MachineState) → 2 ^ 32 ≤ length (waiting_payload old.is_input_closed old.version ids) → (old.is_input_closed ≡ true → is_executing_for waits old.runs ≡ false)
+            → FailsUntold (Encoding unsent.PayloadTooLong) (record old { active = resolved }) answer new → Comes given m (Call.Await tree) old (awaited_as (Err answer)) new
+        fails_long answer new long idle fails =
             fails_awaiting fails.cause resolved answer new (code_apart internal fails.cause refl (plain_code internal (Some too_long_text) fails.cause fails.causes)) (record {
               cause = TooLong;
-              when = (refl, inr (inl (record { waits = waits; machine = becomes.machine; replies = becomes.replies; none = no_run; idle = idle; resolved = resolved; sees = becomes.sees; long = long refl })));
+              when = (refl, inr (inl (asleep idle, long)));
               at = tt;
               tells = told_plain resolved.journal internal (Some too_long_text) fails.cause fails.causes;
               leaves = looked_asked old.active resolved looked;
             }) unwritten fails.fails
-        fails_unwritten unsent.OutOfMemory answer new long idle fails = lacks_memory answer new fails
 
-        long_told : (error : EncodingError) (told : Bool) (active : Active) → TellsIf told ids resolved (Err error) active → error ≡ unsent.PayloadTooLong
-            → 2 ^ 32 ≤ length (awaiting_on_payload ids false)
-        long_told unsent.PayloadTooLong true active tells is = tells.0.0
-        long_told unsent.OutOfMemory true active tells is = cc
-        long_told error false active tells is = absurd tells
+        -- it is nested too deep for one
+        fails_deep : (answer : Error) (new : MachineState) → is_wait_too_deep old.is_input_closed old.version is_told ids ≡ true → (old.is_input_closed ≡ true → is_executing_for waits old.runs ≡ false)
+            → FailsUntold TooDeep (record old { active = resolved }) answer new → Comes given m (Call.Await tree) old (awaited_as (Err answer)) new
+        fails_deep answer new deep idle fails =
+            fails_awaiting (Ok too_deep_error) resolved answer new refl
+            (record { cause = Deep; when = (asleep idle, deep); at = tt; tells = refl; leaves = looked }) unwritten fails
+
+        never_closed : old.is_input_closed ≡ false → old.is_input_closed ≡ true → is_executing_for waits old.runs ≡ false
+        never_closed is_open is_closed = (let wrong : true ≡ false = sym is_closed ∙ is_open in cc)
 
         -- it waits, and tells of it or does not
         waits_with : (told : Bool) (active : Active) (response : AwaitResponse) (new : MachineState) (input run : Bool) → response ≡ WaitingExternalProgress input run → new ≡ record old { active = active }
@@ -246,22 +252,30 @@ module _ (given : Invocation) (m : Machine) (tree : AwaitTree ℕ) (old : Machin
               others = refl;
             }))
 
+        -- it stays for more input, and cannot tell of it
+        stays_untold : (is_open : old.is_input_closed ≡ false) (told : Bool) (error : TellError) (active : Active) (answer : Error) (new : MachineState) → is_told ≡ told
+            → TellsIf told ids resolved (Err error) active → FailsUntold error (record old { active = resolved }) answer new → Comes given m (Call.Await tree) old (awaited_as (Err answer)) new
+        stays_untold is_open true TooDeep active answer new same tells fails =
+            fails_deep answer new (ap (λ (b : Bool). is_wait_too_deep b old.version is_told ids) is_open ∙ ap (λ (b : Bool). b && is_too_deep ids) same ∙ tells.0) (never_closed is_open) fails
+        stays_untold is_open true (Encoding unsent.PayloadTooLong) active answer new same tells fails =
+            fails_long answer new (subst (λ (b : Bool). 2 ^ 32 ≤ length (waiting_payload b old.version ids)) (sym is_open) tells.1.0.0) (never_closed is_open) fails
+        stays_untold is_open true (Encoding unsent.OutOfMemory) active answer new same tells fails = lacks_memory answer new fails
+        stays_untold is_open false error active answer new same tells fails = absurd tells
+
         -- it stays for more input
-        stays : (is_open : old.is_input_closed ≡ false) (executing : Bool) (told : Result (Unit {0}) EncodingError) (active : Active) (result : Result AwaitResponse Error) (new : MachineState)
+        stays : (is_open : old.is_input_closed ≡ false) (executing : Bool) (told : Result (Unit {0}) TellError) (active : Active) (result : Result AwaitResponse Error) (new : MachineState)
             → TellsIf is_told ids resolved told active → SettlesStay executing told (record old { active = active }) result new → Comes given m (Call.Await tree) old (awaited_as result) new
         stays is_open executing (Ok done) active (Ok response) new tells settles =
             waits_with is_told active response new true executing settles.0 settles.1 tells (ap (λ (b : Bool). not b && is_told) is_open) (inl is_open)
         stays is_open executing (Ok done) active (Err answer) new tells settles = absurd settles
         stays is_open executing (Err error) active (Ok response) new tells settles = absurd settles
         stays is_open executing (Err error) active (Err answer) new tells settles =
-            fails_unwritten error answer new
-            (λ is. subst (λ (b : Bool). 2 ^ 32 ≤ length (waiting_payload b old.version ids)) (sym is_open) (long_told error is_told active tells is))
-            (λ is_closed. (let wrong : true ≡ false = sym is_closed ∙ is_open in cc))
-            (subst (λ (a : Active). FailsUnwritten error (record old { active = a }) answer new) (untold is_told ids resolved active error tells) settles)
+            stays_untold is_open is_told error active answer new refl tells
+            (subst (λ (a : Active). FailsUntold error (record old { active = a }) answer new) (untold is_told ids resolved active error tells) settles)
 
         -- it is suspended
-        suspends : (is_closed : old.is_input_closed ≡ true) (idle : is_executing_for waits old.runs ≡ false) (written : Result (Unit {0}) EncodingError) (active : Active) (answer : Error) (new : MachineState)
-            → Suspends ids resolved written active → ClosesAs written (record old { active = active }) answer new → Comes given m (Call.Await tree) old (awaited_as (Err answer)) new
+        suspends : (is_closed : old.is_input_closed ≡ true) (idle : is_executing_for waits old.runs ≡ false) (written : Result (Unit {0}) TellError) (active : Active) (answer : Error) (new : MachineState)
+            → Suspends old.version ids resolved written active → ClosesAs written (record old { active = active }) answer new → Comes given m (Call.Await tree) old (awaited_as (Err answer)) new
         suspends is_closed idle (Ok done) active answer new suspended closes =
             subst (λ (e : Error). Comes given m (Call.Await tree) old (awaited_as (Err e)) new) (sym closes.0)
             (subst (λ (vm : MachineState). IsSuspended given m (Call.Await tree) old vm) (sym closes.1) (record {
@@ -275,17 +289,21 @@ module _ (given : Invocation) (m : Machine) (tree : AwaitTree ℕ) (old : Machin
               resolved = resolved;
               sees = becomes.sees;
               unwritten = unwritten;
-              suspended = suspended;
+              shallow = suspended.0;
+              suspended = suspended.1;
               others = refl;
             }))
-        suspends is_closed idle (Err unsent.PayloadTooLong) active answer new suspended closes =
-            fails_unwritten unsent.PayloadTooLong answer new
-            (λ is. subst (λ (b : Bool). 2 ^ 32 ≤ length (waiting_payload b old.version ids)) (sym is_closed)
-            (subst (λ (v : Version). 2 ^ 32 ≤ length (suspension_payload_in v ids)) (ap (λ (w : Written). w.version) unwritten ∙ driven.written) suspended.0))
+        suspends is_closed idle (Err TooDeep) active answer new suspended closes =
+            fails_deep answer new (ap (λ (b : Bool). is_wait_too_deep b old.version is_told ids) is_closed ∙ suspended.0) (λ closed. idle)
+            (subst (λ (a : Active). FailsUntold TooDeep (record old { active = a }) answer new) suspended.1 closes)
+        suspends is_closed idle (Err (Encoding unsent.PayloadTooLong)) active answer new suspended closes =
+            fails_long answer new
+            (subst (λ (b : Bool). 2 ^ 32 ≤ length (waiting_payload b old.version ids)) (sym is_closed)
+            (subst (λ (v : Version). 2 ^ 32 ≤ length (suspension_payload_in v ids)) (ap (λ (w : Written). w.version) unwritten ∙ driven.written) suspended.1.0))
             (λ closed. idle)
-            (subst (λ (a : Active). FailsUnwritten unsent.PayloadTooLong (record old { active = a }) answer new) suspended.1 closes)
-        suspends is_closed idle (Err unsent.OutOfMemory) active answer new suspended closes =
-            lacks_memory answer new (subst (λ (a : Active). LacksMemory (record old { active = a }) answer new) suspended closes)
+            (subst (λ (a : Active). FailsUntold (Encoding unsent.PayloadTooLong) (record old { active = a }) answer new) suspended.1.1 closes)
+        suspends is_closed idle (Err (Encoding unsent.OutOfMemory)) active answer new suspended closes =
+            lacks_memory answer new (subst (λ (a : Active). LacksMemory (record old { active = a }) answer new) suspended.1 closes)
 
         sleeps_as : (sleep : Sleep) (result : Result AwaitResponse Error) (new : MachineState) → SleepIs sleep waits (record old { active = resolved }) → SleepsAs sleep waits (record old { active = resolved }) result new
             → Comes given m (Call.Await tree) old (awaited_as result) new
@@ -318,20 +336,20 @@ module _ (given : Invocation) (m : Machine) (tree : AwaitTree ℕ) (old : Machin
     cancel_cause : {M : Type 0} (difference : M → M → List ℕ) (error : PutError M) → PutWhy given m tree old error stops.far.put stops.next
         → FailsCancelling (checks_off old.options.non_determinism_checks) given m tree error old.active active → (told : Result Error AllocError)
         → CallCauses difference active.journal (calls.Put error) told → HasCause given m (Call.Await tree) old stops.far active told
-    cancel_cause difference (Replay (unmatched.Unavailable error)) why awaits told causes = absurd why
-    cancel_cause difference (Replay (unmatched.Decoding error)) why awaits told causes =
+    cancel_cause difference (puts.Replay (unmatched.Unavailable error)) why awaits told causes = absurd why
+    cancel_cause difference (puts.Replay (unmatched.Decoding error)) why awaits told causes =
         mismatches_at given m (Call.Await tree) old stops.far active command_asked (Unread error) told awaits.1.0 (unmatched_next why.0) why.1 causes
-    cancel_cause difference (Replay (unmatched.Mismatch error)) why awaits told causes =
+    cancel_cause difference (puts.Replay (unmatched.Mismatch error)) why awaits told causes =
         mismatches_at given m (Call.Await tree) old stops.far active command_asked (Differs error.command_index (difference error.actual error.expected)) told awaits.1 (unmatched_next why) tt causes
-    cancel_cause difference (Replay unmatched.OutOfMemory) why awaits told causes = memory_lacks given m (Call.Await tree) old stops.far active command_asked told (unless_ok told causes)
-    cancel_cause difference (Encoding unsent.PayloadTooLong) why awaits told causes = record {
+    cancel_cause difference (puts.Replay unmatched.OutOfMemory) why awaits told causes = memory_lacks given m (Call.Await tree) old stops.far active command_asked told (unless_ok told causes)
+    cancel_cause difference (puts.Encoding unsent.PayloadTooLong) why awaits told causes = record {
       cause = TooLong;
       when = (refl, inr (inr (record { next = stops.next; rest = stops.rest; behind = stops.behind; left = why.0; long = why.1 })));
       at = tt;
       tells = told_last active.journal internal (Some too_long_text) told causes;
       leaves = command_asked;
     }
-    cancel_cause difference (Encoding unsent.OutOfMemory) why awaits told causes = memory_lacks given m (Call.Await tree) old stops.far active command_asked told (unless_ok told causes)
+    cancel_cause difference (puts.Encoding unsent.OutOfMemory) why awaits told causes = memory_lacks given m (Call.Await tree) old stops.far active command_asked told (unless_ok told causes)
 
   cancel_fails : {M : Type 0} (difference : M → M → List ℕ) (error : PutError M) (active : Active) (result : Result AwaitResponse Error) (new : MachineState) → StopsFor given m tree old error active
       → FailsCancelling (checks_off old.options.non_determinism_checks) given m tree error old.active active → Settles difference (Err (calls.Put error)) (record old { active = active }) result new

@@ -1,4 +1,4 @@
--- A call that is not carried out has a cause, and the machine fails with it.
+-- A call that fails has a cause, and the machine fails with it.
 use Rattle.std.proofs.Common.{◌≡◌, ◌==◌, inl, inr, ℕ, true, false, List, [], append-nil, Option, Some, Result, Ok, Err, IfOk, refl, sym, ap, subst, ◌∙◌}
 use Rattle.std.specs.declared.alloc.AllocError.{AllocError}
 use Rattle.journal_model.specs.Notification.{Bytes}
@@ -27,7 +27,7 @@ use Rattle.vm_runs.specs.Runs.{Runs}
 use Rattle.vm_refusals.specs.declared.refusal_error.RefusalError.{RefusalError}
 use Rattle.vm_feeding.specs.Passed.{IsRefused, checks_off, MachineFails, MachineState, Tells, TellsLast, Unless}
 use Rattle.vm_outcomes.specs.Carrying.{Fails}
-use Rattle.vm_outcomes.specs.Causes.{Cause, ByFault, NoNumber, TooLong, NoReplay, NoMemory, FailsAt, IsAsked, IsAsBefore, IsLookedAt, Leaves, Unmatched, IsUnmatched, unmatched_code, unmatched_text, TellsEither, FaultTells, CauseTells, moment_event, HasCause}
+use Rattle.vm_outcomes.specs.Causes.{Cause, ByFault, NoNumber, TooLong, TooDeep, NoReplay, NoMemory, FailsAt, IsAsked, IsAsBefore, IsLookedAt, Leaves, Unmatched, IsUnmatched, unmatched_code, unmatched_text, TellsEither, FaultTells, CauseTells, moment_event, HasCause}
 use Rattle.vm_outcomes.specs.Driven.{reply_of}
 use Rattle.vm_outcomes.specs.Stopping.{HasPut, requests_passed_on, IsUnmatchedNext}
 use Rattle.vm_outcomes.proofs.Answering.{MayBe, nothing_written}
@@ -95,6 +95,7 @@ leaves_on (ByFault ChildNotId) front old between new others leaves = looked_on o
 leaves_on (ByFault (Refused refusal)) front old between new others leaves = before_on old between new others leaves
 leaves_on NoNumber front old between new others leaves = asked_on front old between new others leaves
 leaves_on TooLong front old between new others leaves = asked_on front old between new others leaves
+leaves_on TooDeep front old between new others leaves = looked_on old between new others leaves
 leaves_on NoReplay front old between new others leaves = before_on old between new others leaves
 leaves_on NoMemory front old between new others leaves = asked_on front old between new others leaves
 

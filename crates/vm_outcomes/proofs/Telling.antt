@@ -8,7 +8,6 @@ use Rattle.journal_model.specs.Spelling.{awaiting_on_payload, frame_bytes}
 use Rattle.attempt_model.specs.Machine.{Machine}
 use Rattle.protocol_errors.specs.Code.{internal, suspended}
 use Rattle.protocol_errors.specs.declared.error.Error.{Error}
-use Rattle.protocol_stream.specs.declared.encoder.EncodingError.{EncodingError}
 use Rattle.protocol_stream.specs.declared.encoder.EncodingError.TheVariants.{PayloadTooLong, OutOfMemory}
 use Rattle.protocol_types.specs.Version.{version_number}
 use Rattle.protocol_types.specs.declared.message_type.MessageType.TheVariants as messages
@@ -21,6 +20,8 @@ use Rattle.vm_start.specs.Failure.{failed_with, asked_behavior}
 use Rattle.vm_start.specs.declared.phase.Phase.{Phase}
 use Rattle.vm_types.specs.declared.options.JournalMismatchRetryBehavior.{JournalMismatchRetryBehavior}
 use Rattle.vm_waiting.specs.Suspending.{TellsIf}
+use Rattle.vm_waiting.specs.declared.suspending.TellError.{TellError}
+use Rattle.vm_waiting.specs.declared.suspending.TellError.TheVariants.{TooDeep, Encoding}
 use Rattle.vm_outcomes.specs.Outcomes.{awaited_as}
 use Rattle.vm_outcomes.specs.declared.outcome.CallOutcome.TheVariants.{Suspended, Failed}
 
@@ -37,7 +38,7 @@ told_where frame written true = record { closed = refl; version = refl; commands
 told_where frame written false = record { closed = refl; version = refl; commands = refl }
 
 told_by : (told : Bool) (ids : AwaitTree NotificationId) (old new : Active) → TellsIf told ids old (Ok tt) new → IsTold old.output new.output
-told_by true ids old new tells = subst (λ (w : Written). IsTold old.output w) (sym tells.0.1) (told_where (frame_bytes messages.AwaitingOn (awaiting_on_payload ids false)) old.output old.output.is_closed)
+told_by true ids old new tells = subst (λ (w : Written). IsTold old.output w) (sym tells.1.0.1) (told_where (frame_bytes messages.AwaitingOn (awaiting_on_payload ids false)) old.output old.output.is_closed)
 told_by false ids old new tells = subst (λ (a : Active). IsTold old.output a.output) (sym tells) (record { closed = refl; version = refl; commands = refl })
 
 -- what is told changes nothing of what is seen
@@ -55,7 +56,7 @@ told_sees given m old output sees same = record {
 }
 
 told_alone : (told : Bool) (ids : AwaitTree NotificationId) (old new : Active) → TellsIf told ids old (Ok tt) new → new ≡ record old { output = new.output }
-told_alone true ids old new tells = tells.1
+told_alone true ids old new tells = tells.1.1
 told_alone false ids old new tells = tells ∙ ap (λ (a : Active). record old { output = a.output }) (sym tells)
 
 pub record IsSeenAs (given : Invocation) (m : Machine) (old new : Active) : Type 0 where
@@ -73,9 +74,10 @@ tells_seen given m told ids old new tells sees =
     }
 
 -- what could not be told is not written
-pub untold : (told : Bool) (ids : AwaitTree NotificationId) (old new : Active) (error : EncodingError) → TellsIf told ids old (Err error) new → new ≡ old
-untold true ids old new PayloadTooLong tells = tells.1 ∙ ap (λ (w : Written). record old { output = w }) tells.0.1
-untold true ids old new OutOfMemory tells = tells.1 ∙ ap (λ (w : Written). record old { output = w }) tells.0
+pub untold : (told : Bool) (ids : AwaitTree NotificationId) (old new : Active) (error : TellError) → TellsIf told ids old (Err error) new → new ≡ old
+untold true ids old new TooDeep tells = tells.1
+untold true ids old new (Encoding PayloadTooLong) tells = tells.1.1 ∙ ap (λ (w : Written). record old { output = w }) tells.1.0.1
+untold true ids old new (Encoding OutOfMemory) tells = tells.1.1 ∙ ap (λ (w : Written). record old { output = w }) tells.1.0
 untold false ids old new error tells = absurd tells
 
 -- ---- errors

@@ -18,7 +18,7 @@ use Rattle.vm_start.specs.Phases.{closed_error}
 use Rattle.vm_start.specs.declared.phase.Phase.{Phase}
 use Rattle.vm_start.specs.declared.phase.Phase.TheVariants as phases
 use Rattle.vm_progress.specs.Executing.{LooksForRun, executes_any, is_executing_for, run_for}
-use Rattle.vm_waiting.specs.Suspending.{tells_awaiting, TellsIf, IsSuspended}
+use Rattle.vm_waiting.specs.Suspending.{is_suspension_too_deep, tells_awaiting, TellsIf, IsSuspended}
 use Rattle.vm_waiting.specs.WaitsFor.{awaited_ids, waits_for_any, waits_as}
 use Rattle.vm_waiting.specs.declared.waits_for.WaitsFor.{WaitsFor}
 use Rattle.vm_feeding.specs.Passed.{MachineState}
@@ -92,6 +92,7 @@ module _ (given : Invocation) (m : Machine) (call : Call) (old : MachineState) w
     pub resolved : Active
     pub sees : Sees given resolved machine
     pub unwritten : resolved.output ≡ old.active.output
+    pub shallow : is_suspension_too_deep old.version (awaited_ids resolved waits) ≡ false
     pub suspended : IsSuspended (awaited_ids resolved waits) resolved new.active
     pub others : new ≡ record old { phase = phases.Closed; active = new.active }
 

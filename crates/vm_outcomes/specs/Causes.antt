@@ -1,5 +1,5 @@
--- Why a handler's call is not carried out, and what the machine fails with then.
-use Rattle.std.specs.Prelude.{◌≡◌, ◌≤◌, ◌<◌, ◌+◌, ◌^◌, ◌⊎◌, ℕ, ℤ, Bool, true, false, List, [], ◌∷◌, ◌++◌, length, codes, Option, Some, None, Result, IfOk}
+-- Why a handler's call fails, and what the machine fails with then.
+use Rattle.std.specs.Prelude.{◌≡◌, ◌≤◌, ◌<◌, ◌+◌, ◌^◌, ◌⊎◌, ◌&&◌, ℕ, ℤ, Bool, true, false, List, [], ◌∷◌, ◌++◌, length, codes, Option, Some, None, Result, IfOk}
 use Rattle.std.specs.declared.alloc.AllocError.{AllocError}
 use Rattle.journal_model.specs.AwaitTree.{AwaitTree}
 use Rattle.journal_model.specs.History.{completions_of, signals_of, ids_of}
@@ -32,7 +32,8 @@ use Rattle.vm_commands.specs.Popping.{IsNoRequest, IsNextUnread}
 use Rattle.vm_context.specs.Journal.{JournalCounts, no_id_text}
 use Rattle.vm_start.specs.Phases.{unexpected_error}
 use Rattle.vm_start.specs.declared.phase.Phase.TheVariants as phases
-use Rattle.vm_progress.specs.Executing.{is_executing_for, run_for}
+use Rattle.vm_progress.specs.Asleep.{too_deep_error}
+use Rattle.vm_progress.specs.Executing.{executes_any, is_executing_for, run_for}
 use Rattle.vm_progress.specs.Uncompleted.{started_id, TellsUncompleted}
 use Rattle.vm_refusals.specs.Refusals.{refusal_meant, refusal_code, text_of_refusal}
 use Rattle.vm_refusals.specs.declared.refusal.CallRefusal.{CallRefusal}
@@ -40,14 +41,14 @@ use Rattle.vm_machine.specs.PassedMachine.{child_not_id_error}
 use Rattle.vm_runs.specs.Runs.{Runs}
 use Rattle.vm_types.specs.declared.options.JournalReplay.TheVariants.{Disabled}
 use Rattle.vm_waiting.specs.Cancelling.{after_cancels}
-use Rattle.vm_waiting.specs.Suspending.{suspension_payload_in}
-use Rattle.vm_waiting.specs.WaitsFor.{awaited_ids, waits_as}
+use Rattle.vm_waiting.specs.Suspending.{suspension_payload_in, is_too_deep, is_suspension_too_deep, tells_awaiting}
+use Rattle.vm_waiting.specs.WaitsFor.{awaited_ids, waits_for_any, waits_as}
 use Rattle.vm_waiting.specs.declared.waits_for.WaitsFor.{WaitsFor}
 use Rattle.vm_feeding.specs.Passed.{place_text, checks_off, MachineState, Tells, TellsLast}
 use Rattle.vm_outcomes.specs.Driven.{reply_of}
 use Rattle.vm_outcomes.specs.Stopping.{HasPut, IsUnmatchedNext}
 
--- why a call is not carried out
+-- why a call fails
 pub data Cause : Type 0 where
   -- the abstract machine fails
   ByFault : Fault → Cause
@@ -55,6 +56,8 @@ pub data Cause : Type 0 where
   NoNumber : Cause
   -- what it would write is longer than a frame can be
   TooLong : Cause
+  -- what it would tell of what it waits for is nested deeper than a frame can tell
+  TooDeep : Cause
   -- which awakeables were made is not known where the journal of the earlier attempts is not replayed
   NoReplay : Cause
   NoMemory : Cause
@@ -74,10 +77,14 @@ abbrev pub waiting_payload : (is_input_closed : Bool) → Version → AwaitTree 
 waiting_payload true version ids = suspension_payload_in version ids
 waiting_payload false version ids = awaiting_on_payload ids false
 
+-- whether that cannot be told: a list of ids can, and so can what is not to be told
+abbrev pub is_wait_too_deep : (is_input_closed : Bool) → Version → (is_told : Bool) → AwaitTree NotificationId → Bool
+is_wait_too_deep true version is_told ids = is_suspension_too_deep version ids
+is_wait_too_deep false version is_told ids = is_told && is_too_deep ids
+
 module _ (given : Invocation) (m : Machine) (call : Call) (vm : MachineState) where
-  -- The await waits, and what it would write of that is too long. No run of it is to be executed; nor is one being executed where it
-  -- would write its suspension.
-  pub record IsLongWait : Type 0 where
+  -- The await waits, and no run of it is to be executed; nor is one being executed where it would write its suspension.
+  pub record IsAsleep : Type 0 where
     pub waits : WaitsFor
     pub machine : Machine
     pub replies : reply_of vm given m call ≡ waits_as waits machine
@@ -85,7 +92,16 @@ module _ (given : Invocation) (m : Machine) (call : Call) (vm : MachineState) wh
     pub idle : vm.is_input_closed ≡ true → is_executing_for waits vm.runs ≡ false
     pub resolved : Active
     pub sees : Sees given resolved machine
-    pub long : 2 ^ 32 ≤ length (waiting_payload vm.is_input_closed vm.version (awaited_ids resolved waits))
+
+  -- what it would write of that is too long
+  abbrev pub IsLongWait : Type 0
+  IsLongWait = (asleep : IsAsleep) × (2 ^ 32 ≤ length (waiting_payload vm.is_input_closed vm.version (awaited_ids asleep.resolved asleep.waits)))
+
+  -- what it would write of that is nested too deep
+  abbrev pub IsDeepWait : Type 0
+  IsDeepWait = (asleep : IsAsleep)
+      × (is_wait_too_deep vm.is_input_closed vm.version (tells_awaiting vm.version vm.options.awaiting_on_policy (executes_any vm.runs) (waits_for_any asleep.waits)) (awaited_ids asleep.resolved asleep.waits)
+      ≡ true)
 
   -- it passes a cancellation on, and the next request of that would be written, and is too long
   pub record IsLongCancel (far : HasPut given m call vm) : Type 0 where
@@ -101,6 +117,7 @@ module _ (given : Invocation) (m : Machine) (call : Call) (vm : MachineState) wh
   FailsWhen far NoNumber = (refusal_of given.version call ≡ None) × LacksNumber m call
   FailsWhen far TooLong =
       (refusal_of given.version call ≡ None) × (((m.left ≡ []) × IsLong (checks_off vm.options.non_determinism_checks) given m call) ⊎ (IsLongWait ⊎ IsLongCancel far))
+  FailsWhen far TooDeep = IsDeepWait
   FailsWhen far NoReplay = (call ≡ Call.Awakeable) × (vm.options.journal_replay ≡ Disabled)
   FailsWhen far NoMemory = Unit {0}
 
@@ -151,7 +168,7 @@ unmatched_text (NoRead error) = type_mismatch_text error
 unmatched_text (Differs index difference) = mismatch_text ++ place_text index ++ difference
 unmatched_text (Unanswered empty) = fixed_text empty
 
--- What a call is told as that is not carried out, of this invocation and where this version is spoken, where these recorded commands were
+-- What a call that fails is told as, of this invocation and where this version is spoken, where these recorded commands were
 -- left, and in the end these were asked for, handles stand for these ids and these runs are kept: the code, the text, and the command that it is about, if one is.
 module _ (version : Version) (invocation : Bytes) (left : Commands) (journal : JournalCounts) (slots : Slots) (runs : Runs) (call : Call) where
   abbrev pub FaultTells : Fault → Error → Type 0
@@ -168,6 +185,7 @@ module _ (version : Version) (invocation : Bytes) (left : Commands) (journal : J
   CauseTells (ByFault fault) told = FaultTells fault told
   CauseTells NoNumber told = TellsEither journal internal (Some no_id_text) told
   CauseTells TooLong told = TellsEither journal internal (Some too_long_text) told
+  CauseTells TooDeep told = told ≡ too_deep_error
   CauseTells NoReplay told = told ≡ plain_error unsupported_feature (codes "awakeables need journal replay")
   -- no error is made where memory is refused
   CauseTells NoMemory told = ⊥
@@ -200,6 +218,7 @@ abbrev pub Leaves : Cause → (front : List Request) → (old new : Active) → 
 Leaves (ByFault fault) front old new = LeavesFault fault front old new
 Leaves NoNumber front old new = IsAsked front old.journal new.journal
 Leaves TooLong front old new = IsAsked front old.journal new.journal
+Leaves TooDeep front old new = IsLookedAt old new
 Leaves NoReplay front old new = IsAsBefore old new
 Leaves NoMemory front old new = IsAsked front old.journal new.journal
 

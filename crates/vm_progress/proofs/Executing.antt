@@ -4,7 +4,6 @@ use Rattle.journal_model.specs.Future.{tree_of}
 use Rattle.journal_model.specs.declared.future.UnresolvedFuture.{UnresolvedFuture}
 use Rattle.body_laws.specs.Bodies.{Executor, body_awaited, executes_or_awaits}
 use Rattle.protocol_errors.specs.declared.error.Error.{Error}
-use Rattle.protocol_stream.specs.declared.encoder.EncodingError.{EncodingError}
 use Rattle.vm_calls.specs.declared.active.Active.{Active}
 use Rattle.vm_machine.specs.declared.machine_state.MachineState.{MachineState}
 use Rattle.vm_runs.specs.Keeping.{HandsOut, KeepsBodies}
@@ -13,6 +12,7 @@ use Rattle.vm_types.specs.declared.answers.AwaitResponse.{AwaitResponse}
 use Rattle.vm_types.specs.declared.answers.AwaitResponse.TheVariants.{ExecuteRun}
 use Rattle.vm_waiting.specs.Suspending.{tells_awaiting, TellsIf}
 use Rattle.vm_waiting.specs.WaitsFor.{awaited_ids, waits_for_any}
+use Rattle.vm_waiting.specs.declared.suspending.TellError.{TellError}
 use Rattle.vm_waiting.specs.declared.waits_for.WaitsFor.{WaitsFor}
 use Rattle.vm_waiting.specs.declared.waits_for.WaitsFor.TheVariants.{Future, Child}
 use Rattle.vm_progress.specs.Asleep.{SettlesStay, Stays, SleepsOn, SleepsWhere}
@@ -42,7 +42,7 @@ executes_none waits old runs result new looks on =
     subst (λ (found : Option ℕ). SleepsWhere found waits old result new) looks.least
     (subst (λ (after : Runs). SleepsOn waits (record old { runs = after }) result new) looks.left on)
 
-pub stays_by : (waits : WaitsFor) (old : MachineState) (executing any : Bool) (told : Result (Unit {0}) EncodingError) (active : Active) (result : Result AwaitResponse Error) (new : MachineState)
+pub stays_by : (waits : WaitsFor) (old : MachineState) (executing any : Bool) (told : Result (Unit {0}) TellError) (active : Active) (result : Result AwaitResponse Error) (new : MachineState)
     → executing ≡ is_executing_for waits old.runs → any ≡ executes_any old.runs
     → TellsIf (tells_awaiting old.version old.options.awaiting_on_policy any (waits_for_any waits)) (awaited_ids old.active waits) old.active told active
     → SettlesStay executing told (record old { active = active }) result new → Stays waits old result new

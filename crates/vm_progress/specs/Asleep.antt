@@ -1,13 +1,12 @@
 -- How an await goes on that waits behind the journal: a run is to be executed, it fails, it is suspended, or it stays.
-use Rattle.std.specs.Prelude.{◌≡◌, ◌<◌, ℕ, Bool, true, false, length, [], Option, Some, None, Result, Ok, Err}
-use Rattle.protocol_errors.specs.Code.{internal}
+use Rattle.std.specs.Prelude.{◌≡◌, ◌<◌, ℕ, Bool, true, false, length, [], codes, Option, Some, None, Result, Ok, Err}
+use Rattle.protocol_errors.specs.Code.{internal, unsupported_feature}
 use Rattle.protocol_errors.specs.Error.{plain_error}
 use Rattle.protocol_errors.specs.Fixed.{fixed_code, fixed_text}
 use Rattle.protocol_errors.specs.declared.error.Error.{Error}
 use Rattle.protocol_errors.specs.declared.fixed.FixedError.{FixedError}
 use Rattle.protocol_errors.specs.declared.fixed.FixedError.TheVariants.{Suspended, InputClosedWhileWaitingEphemeralNotifications}
 use Rattle.protocol_stream.specs.ErrorText.{too_long_text}
-use Rattle.protocol_stream.specs.declared.encoder.EncodingError.{EncodingError}
 use Rattle.protocol_stream.specs.declared.encoder.EncodingError.TheVariants.{PayloadTooLong, OutOfMemory}
 use Rattle.vm_calls.specs.declared.active.Active.{Active}
 use Rattle.vm_start.specs.declared.phase.Phase.TheVariants.{Closed}
@@ -19,6 +18,8 @@ use Rattle.vm_types.specs.declared.answers.AwaitResponse.{AwaitResponse}
 use Rattle.vm_types.specs.declared.answers.AwaitResponse.TheVariants.{WaitingExternalProgress, ExecuteRun}
 use Rattle.vm_waiting.specs.Suspending.{Suspends, tells_awaiting, TellsIf}
 use Rattle.vm_waiting.specs.WaitsFor.{awaited_ids, waits_for_any}
+use Rattle.vm_waiting.specs.declared.suspending.TellError.{TellError}
+use Rattle.vm_waiting.specs.declared.suspending.TellError.TheVariants.{TooDeep, Encoding}
 use Rattle.vm_waiting.specs.declared.waits_for.WaitsFor.{WaitsFor}
 use Rattle.vm_progress.specs.Executing.{LooksForRun, run_for, is_executing_for, executes_any}
 use Rattle.vm_progress.specs.declared.asleep.Sleep.{Sleep}
@@ -38,10 +39,15 @@ SleepIs sleeps.Suspends waits vm = (vm.is_input_closed ≡ true) × (vm.reads.in
 abbrev pub LacksMemory : (old : MachineState) → Error → (new : MachineState) → Type 0
 LacksMemory old answer new = FailsBy (λ told. ⊥) old answer new
 
--- the machine fails with why a frame is not written, about no command
-abbrev pub FailsUnwritten : EncodingError → (old : MachineState) → Error → (new : MachineState) → Type 0
-FailsUnwritten PayloadTooLong old answer new = FailsBy (Tells internal (Some too_long_text)) old answer new
-FailsUnwritten OutOfMemory old answer new = LacksMemory old answer new
+-- of what no frame can tell
+abbrev pub too_deep_error : Error
+too_deep_error = plain_error unsupported_feature (codes "what is awaited is nested too deep to be told")
+
+-- the machine fails with why what it waits for is not told, about no command
+abbrev pub FailsUntold : TellError → (old : MachineState) → Error → (new : MachineState) → Type 0
+FailsUntold TooDeep old answer new = MachineFails (Ok too_deep_error) old answer new
+FailsUntold (Encoding PayloadTooLong) old answer new = FailsBy (Tells internal (Some too_long_text)) old answer new
+FailsUntold (Encoding OutOfMemory) old answer new = LacksMemory old answer new
 
 abbrev pub fixed_error : FixedError → Error
 fixed_error error = plain_error (fixed_code error) (fixed_text error)
@@ -53,15 +59,15 @@ FailsUnanswered old answer new = MachineFails (Ok (fixed_error InputClosedWhileW
 -- ---- it stays
 
 -- what is answered where it was told what is waited for, or did not need to be, and where it could not be
-abbrev pub SettlesStay : (executing : Bool) → (told : Result (Unit {0}) EncodingError) → (old : MachineState) → Result AwaitResponse Error → (new : MachineState) → Type 0
+abbrev pub SettlesStay : (executing : Bool) → (told : Result (Unit {0}) TellError) → (old : MachineState) → Result AwaitResponse Error → (new : MachineState) → Type 0
 SettlesStay executing (Ok done) old (Ok response) new = (response ≡ WaitingExternalProgress true executing) × (new ≡ old)
 SettlesStay executing (Ok done) old (Err answer) new = ⊥
 SettlesStay executing (Err error) old (Ok response) new = ⊥
-SettlesStay executing (Err error) old (Err answer) new = FailsUnwritten error old answer new
+SettlesStay executing (Err error) old (Err answer) new = FailsUntold error old answer new
 
 -- it is told what is waited for, where that is to be told, by whether any run is being executed; answered is whether one of these is
 pub record Stays (waits : WaitsFor) (old : MachineState) (result : Result AwaitResponse Error) (new : MachineState) : Type 0 where
-  pub told : Result (Unit {0}) EncodingError
+  pub told : Result (Unit {0}) TellError
   pub active : Active
   pub tells : TellsIf (tells_awaiting old.version old.options.awaiting_on_policy (executes_any old.runs) (waits_for_any waits)) (awaited_ids old.active waits) old.active told active
   pub settles : SettlesStay (is_executing_for waits old.runs) told (record old { active = active }) result new
@@ -69,14 +75,14 @@ pub record Stays (waits : WaitsFor) (old : MachineState) (result : Result AwaitR
 -- ---- it is suspended
 
 -- a machine whose suspension was written is closed, and has not failed
-abbrev pub ClosesAs : (written : Result (Unit {0}) EncodingError) → (old : MachineState) → Error → (new : MachineState) → Type 0
+abbrev pub ClosesAs : (written : Result (Unit {0}) TellError) → (old : MachineState) → Error → (new : MachineState) → Type 0
 ClosesAs (Ok done) old answer new = (answer ≡ fixed_error Suspended) × (new ≡ record old { phase = Closed })
-ClosesAs (Err error) old answer new = FailsUnwritten error old answer new
+ClosesAs (Err error) old answer new = FailsUntold error old answer new
 
 pub record SuspendsWith (waits : WaitsFor) (old : MachineState) (answer : Error) (new : MachineState) : Type 0 where
-  pub written : Result (Unit {0}) EncodingError
+  pub written : Result (Unit {0}) TellError
   pub active : Active
-  pub suspends : Suspends (awaited_ids old.active waits) old.active written active
+  pub suspends : Suspends old.version (awaited_ids old.active waits) old.active written active
   pub closes : ClosesAs written (record old { active = active }) answer new
 
 -- ---- all of them

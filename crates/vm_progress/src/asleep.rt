@@ -1,10 +1,13 @@
 // An await that waits behind the journal.
 ghost use Rattle.std.specs.Prelude.{◌≡◌};
-ghost use Rattle.vm_progress.specs.Asleep.{SleepIs, LacksMemory, FailsUnwritten, FailsUnanswered, SettlesStay, Stays, ClosesAs, SuspendsWith, SleepsOn, Sleeps};
+ghost use Rattle.vm_progress.specs.Asleep.{SleepIs, LacksMemory, too_deep_error, FailsUntold, FailsUnanswered, SettlesStay, Stays, ClosesAs, SuspendsWith, SleepsOn, Sleeps};
 ghost use Rattle.vm_progress.specs.Executing.{LooksForRun, is_executing_for};
 
+use bytes::ByteStr;
 use journal_model::NotificationHandle;
-use protocol_errors::{Error, INPUT_CLOSED_WHILE_WAITING_EPHEMERAL_NOTIFICATIONS, SUSPENDED};
+use protocol_errors::{
+    Error, INPUT_CLOSED_WHILE_WAITING_EPHEMERAL_NOTIFICATIONS, SUSPENDED, codes,
+};
 use protocol_stream::EncodingError;
 use std::alloc::AllocError;
 use std::mem::replace;
@@ -12,7 +15,7 @@ use vm_machine::{MachineState, about_nothing};
 use vm_runs::RunState;
 use vm_start::Phase;
 use vm_types::AwaitResponse;
-use vm_waiting::{WaitsFor, suspend, tell_awaiting_on};
+use vm_waiting::{TellError, WaitsFor, suspend, tell_awaiting_on};
 
 /// How an await goes on that waits.
 #[derive(Clone, Copy, Debug, PartialEq, Eq)]
@@ -69,16 +72,27 @@ pub(crate) fn fail_for_memory(vm: &mut MachineState) -> Error
     vm.fail(Err(AllocError))
 }
 
-// Fails with why a frame is not written.
-fn fail_unwritten(vm: &mut MachineState, error: EncodingError) -> Error
-    ensures { FailsUnwritten error vm.old result vm.new }
+// Of what no frame can tell.
+fn too_deep_error() -> Error
+    ensures { result ≡ too_deep_error }
+{
+    Error::new(
+        codes::UNSUPPORTED_FEATURE,
+        ByteStr::from_static("what is awaited is nested too deep to be told"),
+    )
+}
+
+// Fails with why what it waits for is not told.
+fn fail_untold(vm: &mut MachineState, error: TellError) -> Error
+    ensures { FailsUntold error vm.old result vm.new }
 {
     match error {
-        EncodingError::PayloadTooLong => {
+        TellError::TooDeep => vm.fail(Ok(too_deep_error())),
+        TellError::Encoding(EncodingError::PayloadTooLong) => {
             let cause = about_nothing(vm.alloc, &EncodingError::PayloadTooLong);
             vm.fail(cause)
         }
-        EncodingError::OutOfMemory => fail_for_memory(vm),
+        TellError::Encoding(EncodingError::OutOfMemory) => fail_for_memory(vm),
     }
 }
 
@@ -93,7 +107,7 @@ fn fail_unanswered(vm: &mut MachineState) -> Error
 fn settle_stay(
     vm: &mut MachineState,
     executing: bool,
-    told: Result<(), EncodingError>,
+    told: Result<(), TellError>,
 ) -> Result<AwaitResponse, Error>
     ensures { SettlesStay executing told vm.old result vm.new }
 {
@@ -102,7 +116,7 @@ fn settle_stay(
             waiting_input: true,
             waiting_run_proposal: executing,
         }),
-        Err(error) => Err(fail_unwritten(vm, error)),
+        Err(error) => Err(fail_untold(vm, error)),
     }
 }
 
@@ -123,7 +137,7 @@ fn stay_with(vm: &mut MachineState, waits: WaitsFor) -> Result<AwaitResponse, Er
 }
 
 // What becomes of a machine whose suspension was written, or could not be.
-fn close_as(vm: &mut MachineState, written: Result<(), EncodingError>) -> Error
+fn close_as(vm: &mut MachineState, written: Result<(), TellError>) -> Error
     ensures { ClosesAs written vm.old result vm.new }
 {
     match written {
@@ -131,7 +145,7 @@ fn close_as(vm: &mut MachineState, written: Result<(), EncodingError>) -> Error
             drop(replace(&mut vm.phase, Phase::Closed));
             SUSPENDED.into()
         }
-        Err(error) => fail_unwritten(vm, error),
+        Err(error) => fail_untold(vm, error),
     }
 }
 
@@ -139,7 +153,7 @@ fn close_as(vm: &mut MachineState, written: Result<(), EncodingError>) -> Error
 fn suspend_with(vm: &mut MachineState, waits: WaitsFor) -> Error
     ensures { SuspendsWith waits vm.old result vm.new }
 {
-    let written = suspend(&mut vm.active, vm.alloc, waits);
+    let written = suspend(&mut vm.active, vm.alloc, vm.version, waits);
     close_as(vm, written)
 }
 

@@ -1,6 +1,5 @@
 -- A machine makes the call of a run over what it keeps of runs behind it.
-use Rattle.std.proofs.Common.{◌≡◌, ◌∙◌, inl, inr, [], List, ℕ, true, Bool, Option, Some, None, Result, Ok, Err, IfOk, refl, sym, ap, subst}
-use Rattle.journal_model.specs.History.{completions_of}
+use Rattle.std.proofs.Common.{◌≡◌, ◌∙◌, inl, [], List, ℕ, Bool, Option, Some, None, Result, Ok, Err, IfOk, refl, sym, ap, subst}
 use Rattle.journal_model.specs.Notification.{Text}
 use Rattle.journal_model.specs.Refusal.{refusal_of}
 use Rattle.journal_model.specs.Run.{Invocation}
@@ -10,7 +9,6 @@ use Rattle.attempt_model.specs.Machine.{Machine}
 use Rattle.protocol_commands.specs.declared.run_command.RunCommandMessage.{RunCommandMessage}
 use Rattle.protocol_differences.specs.Promises.{run_command_difference}
 use Rattle.protocol_errors.specs.declared.error.Error.{Error}
-use Rattle.protocol_types.specs.Version.{version_number}
 use Rattle.protocol_types.specs.declared.message_type.MessageType.TheVariants.{RunCommand}
 use Rattle.vm_calls.specs.Active.{Sees, IsAtCommand}
 use Rattle.vm_calls.specs.Finding.{FindsAs}

@@ -1,5 +1,5 @@
 -- A run that is called is kept where its outcome has not come, and answers the handle that stands for its completion.
-use Rattle.std.proofs.Common.{◌≡◌, ◌∷◌, ◌++◌, ◌+◌, ◌<◌, ◌∙◌, ◌⊎◌, inl, inr, append-nil, ℕ, Bool, true, false, if◌then◌else◌, length, List, [], None, Result, Ok, Err, IfOk, OnOk, OnErr, refl, sym, ap, ap₂, subst}
+use Rattle.std.proofs.Common.{◌≡◌, ◌∷◌, ◌++◌, ◌+◌, ◌<◌, ◌∙◌, inr, append-nil, ℕ, Bool, true, false, if◌then◌else◌, length, [], None, Result, Ok, Err, OnOk, OnErr, refl, sym, ap, ap₂, subst}
 use Rattle.std.specs.declared.alloc.AllocError.{AllocError}
 use Rattle.journal_model.specs.Notification.{Text}
 use Rattle.journal_model.specs.Refusal.{refusal_of}
@@ -9,7 +9,7 @@ use Rattle.journal_model.specs.declared.call.Answer.{Answer}
 use Rattle.journal_model.specs.declared.call.Call.{Call}
 use Rattle.attempt_model.specs.Machine.{Machine, next_slot}
 use Rattle.body_laws.specs.Bodies as bodies
-use Rattle.body_laws.specs.Bodies.{Body, Executor, bodies_of_call}
+use Rattle.body_laws.specs.Bodies.{Executor, bodies_of_call}
 use Rattle.protocol_differences.specs.Passed.{CommandMetadata}
 use Rattle.protocol_differences.specs.declared.relationship.CommandRelationship.TheVariants.{Last}
 use Rattle.protocol_types.specs.declared.message_type.MessageType.TheVariants.{RunCommand}
@@ -27,10 +27,10 @@ use Rattle.vm_calls.proofs.Calls.{brings_none}
 use Rattle.vm_context.specs.Journal.{JournalCounts, command_told, last_index, name_told}
 use Rattle.vm_refusals.specs.declared.runs.RunHandle.{RunHandle}
 use Rattle.vm_runs.specs.Keeping.{IsNew, KeepsBodies, with_body}
-use Rattle.vm_runs.specs.Runs.{Runs, body_of, with_run}
+use Rattle.vm_runs.specs.Runs.{Runs, with_run}
 use Rattle.vm_runs.specs.declared.run.Run.{Run}
 use Rattle.vm_proposals.specs.Calling.{KeepsBodiesOf}
-use Rattle.vm_proposals.specs.Running.{HasInserted, Inserts, IsKept, Keeps, KeepsRun, run_of, run_called, handle_called, is_known, called}
+use Rattle.vm_proposals.specs.Running.{Inserts, IsKept, Keeps, KeepsRun, run_of, run_called, handle_called, is_known, called}
 
 pub run_completes : (given : Invocation) (m : Machine) (name copy : Text) (id : ℕ)
     → refusal_of given.version (Call.Run name) ≡ None → copy ≡ name → id ≡ m.completions → CompletesOne given m (Call.Run name) (Request.Run id copy)

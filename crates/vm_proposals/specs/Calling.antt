@@ -1,5 +1,5 @@
 -- What a call of a run does to a machine in any phase.
-use Rattle.std.specs.Prelude.{◌≡◌, ◌++◌, [], Result}
+use Rattle.std.specs.Prelude.{◌++◌, [], Result}
 use Rattle.journal_model.specs.Notification.{Text}
 use Rattle.journal_model.specs.declared.call.Answer.{Answer}
 use Rattle.journal_model.specs.declared.call.Call.{Call}

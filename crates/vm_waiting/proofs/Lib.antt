@@ -14,3 +14,4 @@ pub mod TellsAsRun
 pub mod Pairing
 pub mod Calls
 pub mod AnswerCalls
+pub mod Nested

@@ -22,7 +22,7 @@ use Rattle.protocol_stream.proofs.RecordSpellings.{awaiting_on_spelled}
 use Rattle.protocol_messages.specs.Encoded.{suspends_by_lists, payload_message, suspension_message, plain_message}
 use Rattle.vm_context.specs.Output.{Written, with_frame}
 use Rattle.vm_calls.specs.declared.active.Active.{Active}
-use Rattle.vm_waiting.specs.Suspending.{suspension_payload_in, Writes, Suspends}
+use Rattle.vm_waiting.specs.Suspending.{suspension_payload_in, Writes, IsWritten}
 use Rattle.vm_waiting.proofs.Listing.{suspension_spelled}
 
 -- ---- messages
@@ -78,5 +78,5 @@ module _ (ids : AwaitTree NotificationId) (old : Active) where
   abbrev suspension : List ℕ
   suspension = suspension_payload_in old.output.version ids
 
-  pub suspended : (output : Written) → Writes messages.Suspension suspension old.output (Ok tt) output → Suspends ids old (Ok tt) (record old { output = record output { is_closed = true } })
+  pub suspended : (output : Written) → Writes messages.Suspension suspension old.output (Ok tt) output → IsWritten ids old (Ok tt) (record old { output = record output { is_closed = true } })
   suspended output writes = record { fits = writes.0; suspended = ap (λ (o : Written). record old { output = record o { is_closed = true } }) writes.1 }

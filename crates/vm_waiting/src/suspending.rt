@@ -7,8 +7,9 @@ ghost use Rattle.protocol_stream.specs.Records.{future_record};
 ghost use Rattle.protocol_stream.specs.declared.encoder.EncodingError.TheVariants.{OutOfMemory};
 ghost use Rattle.protocol_types.specs.declared.message_type.MessageType.TheVariants.{Suspension, AwaitingOn};
 ghost use Rattle.vm_awaits.specs.Views.{slots_of};
+ghost use Rattle.attempt_model.specs.Results.{Slots};
 ghost use Rattle.vm_waiting.specs.WaitsFor.{ids_over, awaited_ids, waits_for_any};
-ghost use Rattle.vm_waiting.specs.Suspending.{suspension_payload_in, Writes, Suspends, allows_telling, tells_awaiting, TellsIf};
+ghost use Rattle.vm_waiting.specs.Suspending.{suspension_payload_in, is_suspension_too_deep, Writes, IsWritten, WritesAwaited, Suspends, allows_telling, tells_awaiting, TellsIf};
 
 use crate::WaitsFor;
 use protocol_records::{AwaitingOnMessage, Future, SuspensionMessage};
@@ -18,6 +19,14 @@ use vm_awaits::AsyncResultsState;
 use vm_calls::Active;
 use vm_context::Output;
 use vm_types::AwaitingOnPolicy;
+
+/// Why what is waited for is not told.
+#[derive(Clone, Copy, Debug, PartialEq, Eq)]
+pub enum TellError {
+    /// It is nested deeper than a frame can tell.
+    TooDeep,
+    Encoding(EncodingError),
+}
 
 // What is waited for, as a record over ids.
 fn record_of(
@@ -65,16 +74,45 @@ fn write_awaiting_on(output: &mut Output, alloc: Global, told: Future) -> Result
     sent
 }
 
-/// Suspends the attempt: writes what it waits for, and ends the output.
-///
-/// Where it cannot be written the attempt stays as it was.
-pub fn suspend(active: &mut Active, alloc: Global, waits: WaitsFor) -> Result<(), EncodingError>
-    ensures { Suspends (awaited_ids active.old waits) active.old result active.new }
+// Whether a suspension of this version cannot tell it.
+fn is_suspension_too_deep(version: Version, waits: &WaitsFor) -> bool
+    ensures { (slots : Slots) → result ≡ is_suspension_too_deep version (ids_over slots waits.now) }
+{
+    if Feature::AwaitTree.is_later_than(version.number()) {
+        return false;
+    }
+    waits.is_too_deep()
+}
+
+// Writes what it waits for, and ends the output, or leaves the attempt as it was.
+fn write_and_end(active: &mut Active, alloc: Global, waits: WaitsFor) -> Result<(), EncodingError>
+    ensures { IsWritten (awaited_ids active.old waits) active.old result active.new }
 {
     let awaiting_on = record_of(&active.results, alloc, waits)?;
     write_suspension(&mut active.output, alloc, awaiting_on)?;
     active.output.send_eof();
     Ok(())
+}
+
+/// Suspends the attempt: writes what it waits for, and ends the output. The version is the output's.
+///
+/// Where it cannot be written the attempt stays as it was.
+pub fn suspend(
+    active: &mut Active,
+    alloc: Global,
+    version: Version,
+    waits: WaitsFor,
+) -> Result<(), TellError>
+    ensures { Suspends version (awaited_ids active.old waits) active.old result active.new }
+{
+    if is_suspension_too_deep(version, &waits) {
+        drop(waits);
+        return Err(TellError::TooDeep);
+    }
+    match write_and_end(active, alloc, waits) {
+        Ok(()) => Ok(()),
+        Err(error) => Err(TellError::Encoding(error)),
+    }
 }
 
 fn allows_telling(policy: AwaitingOnPolicy, executes_run: bool) -> bool
@@ -100,11 +138,24 @@ fn tells_awaiting(
         && waits.is_for_any()
 }
 
-fn tell(active: &mut Active, alloc: Global, waits: WaitsFor) -> Result<(), EncodingError>
-    ensures { TellsIf true (awaited_ids active.old waits) active.old result active.new }
+fn write_awaited(active: &mut Active, alloc: Global, waits: WaitsFor) -> Result<(), EncodingError>
+    ensures { WritesAwaited (awaited_ids active.old waits) active.old result active.new }
 {
     let awaiting_on = record_of(&active.results, alloc, waits)?;
     write_awaiting_on(&mut active.output, alloc, awaiting_on)
+}
+
+fn tell(active: &mut Active, alloc: Global, waits: WaitsFor) -> Result<(), TellError>
+    ensures { TellsIf true (awaited_ids active.old waits) active.old result active.new }
+{
+    if waits.is_too_deep() {
+        drop(waits);
+        return Err(TellError::TooDeep);
+    }
+    match write_awaited(active, alloc, waits) {
+        Ok(()) => Ok(()),
+        Err(error) => Err(TellError::Encoding(error)),
+    }
 }
 
 /// Tells what the attempt waits for, where it stays for more input: as the policy has it, by whether any run is being executed, and
@@ -116,7 +167,7 @@ pub fn tell_awaiting_on(
     policy: AwaitingOnPolicy,
     executes_run: bool,
     waits: WaitsFor,
-) -> Result<(), EncodingError>
+) -> Result<(), TellError>
     ensures { TellsIf (tells_awaiting version policy executes_run (waits_for_any waits)) (awaited_ids active.old waits) active.old result active.new }
 {
     if tells_awaiting(version, policy, executes_run, &waits) {

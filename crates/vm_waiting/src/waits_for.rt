@@ -3,12 +3,16 @@ ghost use Rattle.std.specs.Prelude.{◌≡◌, IfOk};
 ghost use Rattle.journal_model.specs.AwaitTree.{Single};
 ghost use Rattle.journal_model.specs.declared.notification.NotificationId.TheVariants.{CompletionId};
 ghost use Rattle.protocol_stream.specs.Records.{future_record};
+ghost use Rattle.attempt_model.specs.Results.{Slots};
 ghost use Rattle.vm_awaits.specs.Views.{slots_of};
+ghost use Rattle.vm_waiting.specs.Suspending.{is_too_deep};
 ghost use Rattle.vm_waiting.specs.WaitsFor.{ids_over, waits_for_any};
 
 use crate::handles::has_handle;
+use crate::nesting::is_nested_within;
 use journal_model::UnresolvedFuture;
 use protocol_records::{CombinatorType, Future};
+use protocol_wire::LEVELS;
 use sequence::Sequence;
 use std::alloc::{AllocError, Global};
 use vm_awaits::AsyncResultsState;
@@ -59,6 +63,16 @@ impl WaitsFor {
         match self {
             WaitsFor::Future(left) => has_handle(left),
             WaitsFor::Child(_) => true,
+        }
+    }
+
+    /// Whether it is nested deeper than a frame can tell. What its handles stand for does not count.
+    pub(crate) fn is_too_deep(&self) -> bool
+        ensures { (slots : Slots) → result ≡ is_too_deep (ids_over slots self.now) }
+    {
+        match self {
+            WaitsFor::Future(left) => !is_nested_within(left, LEVELS - 1),
+            WaitsFor::Child(_) => false,
         }
     }
 }

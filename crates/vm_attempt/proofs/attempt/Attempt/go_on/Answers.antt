@@ -7,4 +7,4 @@ pub returns-in-Ok : goal.returns-in-Ok
 returns-in-Ok g c =
     let asks : c.in-Ok.call ≡ g.H.Handler.next_call c.args.self.now.handler c.in-Some.input c.args.self.now.answers =
     c.in-Ok.ensures ∙ ap (λ (answers : List Answer). g.H.Handler.next_call c.args.self.now.handler c.in-Some.input answers) c.as_slice.ensures in
-    asked g.H.Handler.next_call c.args.ran.now c.in-Some.input c.in-Ok.call c.args.self.now c.answer_call.result c.answer_call.new.self c.in-Some.is asks c.answer_call.ensures
+    asked g.H.Handler.next_call c.args.ran.now c.in-Some.input c.in-Ok.call c.args.self.now c.carry.result c.carry.new.self c.in-Some.is asks c.carry.ensures

@@ -3,7 +3,7 @@ use Rattle.vm_context.specs.Output.{Written}
 use Rattle.vm_waiting.specs.Suspending.{IsSuspended}
 use Rattle.vm_waiting.specs.WaitsFor.{awaited_ids}
 use Rattle.vm_waiting.proofs.WaitingFrames.{suspended}
-use Rattle.vm_waiting.proofs.suspending.suspend.Goals as goal
+use Rattle.vm_waiting.proofs.suspending.write_and_end.Goals as goal
 
 pub returns : goal.returns
 returns c =
