@@ -1,5 +1,5 @@
 -- The calls on an attempt, by what the store stands for.
-use Rattle.std.proofs.Common.{◌≡◌, refl, sym, ap, subst, ◌∙◌, ℕ, true, false, List, Option, Some, None, option_map, inl, inr, Result, Ok, Err, IsErrAnd, bytes_eq}
+use Rattle.std.proofs.Common.{◌≡◌, refl, sym, ap, subst, ◌∙◌, ℕ, true, false, List, Option, Some, None, option_map, inl, inr, Result, Ok, Err, IsErrAnd, IsTrue, bytes_eq, length, []}
 use Rattle.std.proofs.lemmas.Slice.Eq.{bytes_eq-Decides}
 use Rattle.sqlite_trees.specs.declared.store.Store.{Ghosts}
 use Rattle.sqlite.specs.Held.{Held, state}
@@ -11,7 +11,7 @@ use Rattle.journal_model.specs.Cause.{causes_of}
 use Rattle.store_tables.specs.Looks.{Looks}
 use Rattle.store_refusals.specs.declared.refusal.Refusal.{Refusal}
 use Rattle.store_refusals.specs.declared.refusal.Refusal.TheVariants as refusal
-use Rattle.store_refusals.specs.Refused.{IsRefused}
+use Rattle.store_refusals.specs.Refused.{IsRefused, is_circumstance}
 use Rattle.store_invocations.specs.Rows.{IsStoreOf}
 use Rattle.store_live.specs.declared.attempt.LiveAttempt.{LiveAttempt}
 use Rattle.store_live.specs.Attempts.{Attempts, ByInvocation, attempt_of, IsNow, Changes, bytes_out, after_close, after_hand_out, after_output}
@@ -22,11 +22,12 @@ use Rattle.store_calls.specs.Calls.{HandsOut, ClosesInput, Feeds, Stops}
 use Rattle.store_calls.specs.Frames.{Steps}
 use Rattle.journal_store.specs.Stored.{stored}
 use Rattle.journal_store.specs.Stands.{Stands, IsStanding, Leads}
-use Rattle.journal_store.specs.Attempts.{IsStale, has_closed, has_rest}
+use Rattle.journal_store.specs.Attempts.{HasRead, IsStale, has_closed, has_rest}
 use Rattle.journal_store.proofs.Standing.{stands_asked, true_or_false}
 use Rattle.journal_store.proofs.Quiet.{live_here, this_one, stale_refused, stands_stopped, hand_out_closed, stands_handed, close_remains, close_closed, stands_closed}
 use Rattle.journal_store.proofs.Waiting.{stopped_waits, handed_waits, closed_waits}
 use Rattle.journal_store.proofs.Leading.{stood, leads_so, adds, stays, leaves}
+use Rattle.journal_store.proofs.Recording.{looked}
 
 -- ---- an attempt that is not live
 
@@ -80,6 +81,21 @@ module _ {S : Type 0} (g : Ghosts S) (a b : Held S) (live : Attempts) (id : Text
       → (HasCleanDisk (state g b) → (events : List Event) → IsStoreOf events (state g a) → IsStale events id why) → Leads g (Call why) (stored a live) (stored b live)
   dead Call so why none looks told = leads_so g (IsDead id n why) (Call why) (stored a live) (stored b live) (so why) (is_dead why none looks told)
 
+-- ---- the next row is not read
+
+pub none_read : {A : Type 0} (Call : Result A Refusal → Standing → Standing → Type 0) (event : Event) (r : Result A Refusal) {Q : Refusal → Type 0} → IsErrAnd r Q
+    → ((why : Refusal) (s t : Standing) → Refuses event why s t → Call (Err why) s t) → {S : Type 0} (g : Ghosts S) (a b : Held S) (before after : Attempts) → after ≡ before → Looks g a b
+    → ((why : Refusal) → Q why → HasCleanDisk (state g b) → (s : Standing) → IsStanding g s (stored a before) → IsRefused [] why) → Leads g (Call r) (stored a before) (stored b after)
+none_read Call event (Ok x) it is g a b before after same looks told = absurd it
+none_read Call event (Err why) it is g a b before after same looks told =
+    λ clean s standing.
+    let done = looked g a b before event why looks (λ _ _ _. inr (circumstance (told why it clean s standing))) clean s standing in
+    subst (λ (live : Attempts). (t : Standing) × IsStanding g t (stored b live) × Call (Err why) s t) (sym same) (done.0, done.1, is why s done.0 done.2)
+  where
+    circumstance : IsRefused [] why → IsTrue (is_circumstance why)
+    circumstance (inl e) = cc
+    circumstance (inr e) = e
+
 -- ---- memory
 
 pub is_memory : {A : Type 0} {Q : Refusal → Type 0} (r : Result A Refusal) → IsErrAnd r Q → ((why : Refusal) → Q why → why ≡ refusal.OutOfMemory) → r ≡ Err refusal.OutOfMemory
@@ -91,7 +107,7 @@ is_memory (Err why) it so = let same : why ≡ refusal.OutOfMemory = so why it i
 output_kept : (events : List Event) (id : Text) (bytes : Bytes) (o : Option LiveAttempt) → Agrees events id o → Agrees events id (option_map (after_output bytes) o)
 output_kept events id bytes None agrees = agrees
 output_kept events id bytes (Some attempt) agrees =
-    record { number = agrees.number; version = agrees.version; bytes = agrees.bytes; pieces = agrees.pieces; handed = agrees.handed; closed = agrees.closed }
+    record { number = agrees.number; version = agrees.version; input = agrees.input; closed = agrees.closed }
 
 stands_fed : (events : List Event) (database : State) (old new : ByInvocation) (id : Text) (bytes : Bytes) → Stands events database old → Changes id (after_output bytes) old new → Stands events database new
 stands_fed events database old new id bytes stands changes = record {
@@ -115,11 +131,19 @@ module _ {S : Type 0} (g : Ghosts S) (tables : Held S) (before : Attempts) (id :
       (s, is, record { cause = cause s.events is.stands; stays = record { events = refl; outputs = λ one. refl } })
 
   pub hands_out : (most : ℕ) (bytes : Bytes) (after : Attempts) → has_closed (attempt_of before.attempts id) ≡ false → bytes ≡ bytes_out most (attempt_of before.attempts id)
-      → Changes id (after_hand_out most) before.attempts after.attempts → Leads g (HandsOut id n most (Ok bytes)) (stored tables before) (stored tables after)
-  hands_out most bytes after opened out changed clean s is =
-      let did = stands_handed s.events (state g tables) before.attempts after.attempts id n most bytes is.stands here opened out changed in
-      let it = adds g s (stored tables before) (stored tables after) is (Event.HandOut id n most) did.2 (handed_waits id most before.attempts after.attempts changed) in
+      → Changes id (after_hand_out most) before.attempts after.attempts → (s : Standing) → HasRead s.events id (attempt_of before.attempts id) → IsStanding g s (stored tables before)
+      → (t : Standing) × IsStanding g t (stored tables after) × HandsOut id n most (Ok bytes) s t
+  hands_out most bytes after opened out changed s read is =
+      let did = stands_handed s.events (state g tables) before.attempts after.attempts id n most bytes is.stands here opened read out changed in
+      let it = adds g s (stored tables before) (stored tables after) is (Event.HandOut id n (length bytes)) did.2 (handed_waits id most before.attempts after.attempts changed) in
       (it.0, it.1, (did.1, it.2))
+
+  pub closes : (after : Attempts) → has_rest (attempt_of before.attempts id) ≡ false → has_closed (attempt_of before.attempts id) ≡ false → Changes id after_close before.attempts after.attempts
+      → (s : Standing) → HasRead s.events id (attempt_of before.attempts id) → IsStanding g s (stored tables before)
+      → (t : Standing) × IsStanding g t (stored tables after) × ClosesInput id n (Ok tt) s t
+  closes after rest opened changed s read is =
+      let did = stands_closed s.events (state g tables) before.attempts after.attempts id n is.stands here read rest opened changed in
+      adds g s (stored tables before) (stored tables after) is (Event.CloseInput id n) did.2 (closed_waits id before.attempts after.attempts changed)
 
   pub hands_closed : (most : ℕ) → has_closed (attempt_of before.attempts id) ≡ true → Leads g (HandsOut id n most (Err refusal.InputAlreadyClosed)) (stored tables before) (stored tables before)
   hands_closed most closed =
@@ -131,19 +155,16 @@ module _ {S : Type 0} (g : Ghosts S) (tables : Held S) (before : Attempts) (id :
       subst (λ (r : Result Bytes Refusal). Leads g (HandsOut id n most r) (stored tables before) (stored tables after)) (sym is)
       (refuses_still (Event.HandOut id n most) refusal.OutOfMemory after same (λ events stands. inr refl))
 
-  pub closes : (after : Attempts) → has_rest (attempt_of before.attempts id) ≡ false → has_closed (attempt_of before.attempts id) ≡ false → Changes id after_close before.attempts after.attempts
-      → Leads g (ClosesInput id n (Ok tt)) (stored tables before) (stored tables after)
-  closes after rest opened changed clean s is =
-      let did = stands_closed s.events (state g tables) before.attempts after.attempts id n is.stands here rest opened changed in
-      adds g s (stored tables before) (stored tables after) is (Event.CloseInput id n) did.2 (closed_waits id before.attempts after.attempts changed)
-
-  pub closes_rest : has_rest (attempt_of before.attempts id) ≡ true → Leads g (ClosesInput id n (Err refusal.InputRemains)) (stored tables before) (stored tables before)
-  closes_rest rest = refuses_still (Event.CloseInput id n) refusal.InputRemains before refl (λ events stands. close_remains events (state g tables) before.attempts id n stands here rest)
+  pub closes_rest : has_rest (attempt_of before.attempts id) ≡ true → (s : Standing) → HasRead s.events id (attempt_of before.attempts id) → IsStanding g s (stored tables before)
+      → (t : Standing) × IsStanding g t (stored tables before) × ClosesInput id n (Err refusal.InputRemains) s t
+  closes_rest rest s read is =
+      (s, is, record { cause = close_remains s.events (state g tables) before.attempts id n is.stands here read rest; stays = record { events = refl; outputs = λ one. refl } })
 
   pub closes_closed : has_rest (attempt_of before.attempts id) ≡ false → has_closed (attempt_of before.attempts id) ≡ true
-      → Leads g (ClosesInput id n (Err refusal.InputAlreadyClosed)) (stored tables before) (stored tables before)
-  closes_closed rest closed =
-      refuses_still (Event.CloseInput id n) refusal.InputAlreadyClosed before refl (λ events stands. close_closed events (state g tables) before.attempts id n stands here rest closed)
+      → (s : Standing) → HasRead s.events id (attempt_of before.attempts id) → IsStanding g s (stored tables before)
+      → (t : Standing) × IsStanding g t (stored tables before) × ClosesInput id n (Err refusal.InputAlreadyClosed) s t
+  closes_closed rest closed s read is =
+      (s, is, record { cause = close_closed s.events (state g tables) before.attempts id n is.stands here read rest closed; stays = record { events = refl; outputs = λ one. refl } })
 
   pub feeds : (bytes : Bytes) (after : Attempts) → Changes id (after_output bytes) before.attempts after.attempts → Leads g (Feeds id n bytes (Ok tt)) (stored tables before) (stored tables after)
   feeds bytes after changed clean s is =

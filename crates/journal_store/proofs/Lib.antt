@@ -1,7 +1,6 @@
 pub mod Standing
 pub mod Asking
 pub mod Flagged
-pub mod Found
 pub mod Waiting
 pub mod Lasting
 pub mod Leading
@@ -17,3 +16,6 @@ pub mod Outcomes
 pub mod Taking
 pub mod Accepting
 pub mod Opening
+pub mod Reading
+pub mod Framed
+pub mod Fitting

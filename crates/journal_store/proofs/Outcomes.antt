@@ -1,49 +1,33 @@
--- What the outcome of a run leaves of the attempt that proposed it: it is told that the outcome is recorded, or handed the notification.
-use Rattle.std.proofs.Common.{◌≡◌, ℕ, ◌+◌, refl, sym, ap, ap₂, subst, length, Bool, true, false, ◌&&◌, if◌then◌else◌, List, [], ◌∷◌, Option, Some, None, bytes_eq}
-use Rattle.journal_model.specs.Notification.{Bytes, Text}
-use Rattle.journal_model.specs.declared.notification.NotificationId.TheVariants.{CompletionId}
+-- What the outcome of a run leaves of the attempt that proposed it: it is to be acknowledged, or nothing.
+use Rattle.std.proofs.Common.{◌≡◌, ℕ, refl, sym, ap, ap₂, subst, ◌∙◌, Bool, true, false, ◌&&◌, if◌then◌else◌, List, [], ◌∷◌, Option, Some, None, bytes_eq}
+use Rattle.journal_model.specs.Notification.{Text}
 use Rattle.journal_model.specs.declared.value.NonEmptyValue.{NonEmptyValue}
-use Rattle.journal_model.specs.Value.{result_of_value}
-use Rattle.journal_model.specs.Spelling.{acknowledgement_payload, frame_bytes, notification_payload}
 use Rattle.journal_model.specs.Event.{Event, Frame}
-use Rattle.journal_model.specs.Journal.{completion, entries_of, version_of}
-use Rattle.journal_model.specs.Attempt.{notification_type}
-use Rattle.journal_model.specs.Cause.{causes_of, IsAccepted}
+use Rattle.journal_model.specs.Journal.{version_of}
+use Rattle.journal_model.specs.Attempt.{acknowledged}
+use Rattle.journal_model.specs.Cause.{IsAccepted}
 use Rattle.protocol_types.specs.declared.feature.Feature.TheVariants.{Acknowledgement}
 use Rattle.protocol_types.specs.Feature.{has_feature}
-use Rattle.protocol_types.specs.declared.message_type.MessageType.TheVariants as types
-use Rattle.store_steps.specs.declared.frame.HandedAnswer.{HandedAnswer}
-use Rattle.store_steps.specs.Reads.{IsHanded, answer_rows, frame_handed}
 use Rattle.store_live.specs.declared.attempt.LiveAttempt.{LiveAttempt}
-use Rattle.store_live.specs.Attempts.{after_put}
-use Rattle.store_live_laws.specs.Agrees.{Agrees, run_ended}
-use Rattle.store_live_laws.proofs.Steps.{arrived, is_acknowledged}
-use Rattle.journal_store.specs.Taking.{after_answer}
+use Rattle.store_live_laws.specs.Agrees.{Agrees}
+use Rattle.store_live_laws.proofs.Steps.{recorded, is_acknowledged}
+use Rattle.store_model.proofs.States.{itself}
+use Rattle.journal_store.specs.Taking.{after_noted}
 
-module _ (events : List Event) (id : Text) (number n : ℕ) (value : NonEmptyValue) (attempt : LiveAttempt) (accepted : IsAccepted events) (agrees : Agrees events id (Some attempt)) where
-  abbrev taken_with : Bool → Event
-  taken_with asks = Event.Take id number (Frame.RunOutcome n value asks)
-
-  abbrev frame_told : Bool → Bytes
-  frame_told is_acknowledgement =
-      if is_acknowledgement then frame_bytes types.ProposeRunCompletionAck (acknowledgement_payload n)
-      else frame_bytes (notification_type (entries_of events id) (CompletionId n)) (notification_payload (completion n (result_of_value value)))
-
-  outcome_told : (asks has : Bool) → has_feature (version_of events id) Acknowledgement ≡ has → causes_of events (taken_with asks) ≡ []
-      → Agrees (taken_with asks ∷ events) id (Some (after_put (1 + length (entries_of events id)) (frame_told (asks && has)) attempt))
-  outcome_told true true late none = is_acknowledged events id number n value (Some attempt) late agrees
-  outcome_told true false late none =
-      arrived events (taken_with true) id (completion n (result_of_value value)) (Some attempt) (run_ended id number n value true)
-      (ap (λ (has : Bool). if has && bytes_eq id id then Some n else None) late) accepted none agrees
-  outcome_told false has late none =
-      arrived events (taken_with false) id (completion n (result_of_value value)) (Some attempt) (run_ended id number n value false) refl accepted none agrees
-
-pub outcome_left : (events : List Event) (id : Text) (number n : ℕ) (value : NonEmptyValue) (asks : Bool) (answer : Option HandedAnswer) (attempt : LiveAttempt) → IsAccepted events
-    → causes_of events (Event.Take id number (Frame.RunOutcome n value asks)) ≡ []
-    → IsHanded (frame_handed (version_of events id) (Frame.RunOutcome n value asks)) (answer_rows events id (Frame.RunOutcome n value asks)) answer
-    → Agrees events id (Some attempt) → Agrees (Event.Take id number (Frame.RunOutcome n value asks) ∷ events) id (Some (after_answer answer attempt))
-outcome_left events id number n value asks None attempt accepted none handed agrees = absurd handed
-outcome_left events id number n value asks (Some answer) attempt accepted none handed agrees =
-    subst (λ (left : LiveAttempt). Agrees (Event.Take id number (Frame.RunOutcome n value asks) ∷ events) id (Some left))
-    (sym (ap₂ (λ (place : ℕ) (frame : Bytes). after_put place frame attempt) handed.0 handed.1))
-    (outcome_told events id number n value attempt accepted agrees asks (has_feature (version_of events id) Acknowledgement) refl none)
+pub outcome_left : (events : List Event) (id : Text) (number n : ℕ) (value : NonEmptyValue) (asks : Bool) (noted : Option ℕ) (attempt : LiveAttempt)
+    → IsAccepted (Event.Take id number (Frame.RunOutcome n value asks) ∷ events) → noted ≡ acknowledged (version_of events id) id (Event.Take id number (Frame.RunOutcome n value asks))
+    → Agrees events id (Some attempt) → Agrees (Event.Take id number (Frame.RunOutcome n value asks) ∷ events) id (Some (after_noted noted attempt))
+outcome_left events id number n value false noted attempt accepted told agrees =
+    subst (λ (o : Option ℕ). Agrees (Event.Take id number (Frame.RunOutcome n value false) ∷ events) id (Some (after_noted o attempt))) (sym told)
+    (recorded events (Event.Take id number (Frame.RunOutcome n value false)) id (Some attempt) accepted refl refl agrees)
+outcome_left events id number n value true noted attempt accepted told agrees = by_version (has_feature (version_of events id) Acknowledgement) refl
+  where
+    by_version : (has : Bool) → has_feature (version_of events id) Acknowledgement ≡ has → Agrees (Event.Take id number (Frame.RunOutcome n value true) ∷ events) id (Some (after_noted noted attempt))
+    by_version true late =
+        let is : noted ≡ Some n = told ∙ ap₂ (λ (a b : Bool). if a && b then Some n else None) late (itself id) in
+        subst (λ (o : Option ℕ). Agrees (Event.Take id number (Frame.RunOutcome n value true) ∷ events) id (Some (after_noted o attempt))) (sym is)
+        (is_acknowledged events id number n value (Some attempt) accepted late agrees)
+    by_version false early =
+        let plain : acknowledged (version_of events id) id (Event.Take id number (Frame.RunOutcome n value true)) ≡ None = ap (λ (a : Bool). if a && bytes_eq id id then Some n else None) early in
+        subst (λ (o : Option ℕ). Agrees (Event.Take id number (Frame.RunOutcome n value true) ∷ events) id (Some (after_noted o attempt))) (sym (told ∙ plain))
+        (recorded events (Event.Take id number (Frame.RunOutcome n value true)) id (Some attempt) accepted refl plain agrees)

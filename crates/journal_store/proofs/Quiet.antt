@@ -13,11 +13,13 @@ use Rattle.store_refusals.specs.declared.refusal.Refusal.TheVariants as refusal
 use Rattle.store_refusals.specs.Refused.{first_of, refusal_of, is_circumstance, IsRefused}
 use Rattle.store_live.specs.declared.attempt.LiveAttempt.{LiveAttempt}
 use Rattle.store_live.specs.Attempts.{ByInvocation, attempt_of, IsNow, Changes, bytes_out, after_close, after_hand_out}
-use Rattle.store_live_laws.specs.Agrees.{Agrees, has_number, CausesOfLive, IsFirstCause}
+use Rattle.due_laws.specs.Handing.{HandsPart}
+use Rattle.store_live_laws.specs.Agrees.{Agrees, has_number, CausesOfLive, IsFirstCause, LeftIsTold}
+use Rattle.store_live_laws.proofs.Left.{left_told, part_told}
 use Rattle.store_live_laws.proofs.Tests.{live_told, causes_told}
 use Rattle.store_live_laws.proofs.Steps.{closed as closed_kept, handed_out, stopped}
 use Rattle.journal_store.specs.Stands.{Stands}
-use Rattle.journal_store.specs.Attempts.{has_closed, has_rest}
+use Rattle.journal_store.specs.Attempts.{HasRead, has_closed, has_rest}
 use Rattle.journal_store.proofs.Standing.{stands_after, unwritten}
 
 -- the attempt with this number
@@ -86,60 +88,75 @@ pub hand_out_closed : (events : List Event) (database : State) (attempts : ByInv
 hand_out_closed events database attempts id number most stands live closed =
     inl (ap first_of (hand_out_causes events database attempts id number most stands live true closed))
 
-handed_bytes : (events : List Event) (id : Text) (most : ℕ) (o : Option LiveAttempt) (number : ℕ) → IsThis number o → Agrees events id o
-    → bytes_out most o ≡ take most (input_left events id)
-handed_bytes events id most None number here agrees = cc
-handed_bytes events id most (Some attempt) number here agrees = ap (take most) agrees.bytes
+handed_bytes : (events : List Event) (id : Text) (most : ℕ) (o : Option LiveAttempt) (number : ℕ) → IsThis number o → Agrees events id o → HasRead events id o
+    → HandsPart (input_left events id) most (bytes_out most o)
+handed_bytes events id most None number here agrees read = cc
+handed_bytes events id most (Some attempt) number here agrees read = part_told events id most attempt agrees (read attempt refl)
 
 pub stands_handed : (events : List Event) (database : State) (old new : ByInvocation) (id : Text) (number most : ℕ) (bytes : List ℕ) → Stands events database old
-    → has_number number (attempt_of old id) ≡ true → has_closed (attempt_of old id) ≡ false → bytes ≡ bytes_out most (attempt_of old id) → Changes id (after_hand_out most) old new
-    → (causes_of events (Event.HandOut id number most) ≡ []) × (bytes ≡ take most (input_left events id)) × Stands (Event.HandOut id number most ∷ events) database new
-stands_handed events database old new id number most bytes stands live opened out changed =
-    let none = hand_out_causes events database old id number most stands live false opened in
-    let here = this_one number (attempt_of old id) live in
-    let kept = unwritten events (Event.HandOut id number most) database stands.kept tt none (none_written (object_of events (Event.HandOut id number most))) in (
-      none,
-      out ∙ handed_bytes events id most (attempt_of old id) number here (stands.live id),
-      stands_after events (Event.HandOut id number most) id (option_map (after_hand_out most) (attempt_of old id)) database old new refl refl kept
-          (handed_out events id number most (attempt_of old id) (stands.live id)) changed stands.live,
-    )
+    → has_number number (attempt_of old id) ≡ true → has_closed (attempt_of old id) ≡ false → HasRead events id (attempt_of old id) → bytes ≡ bytes_out most (attempt_of old id)
+    → Changes id (after_hand_out most) old new
+    → (causes_of events (Event.HandOut id number (length bytes)) ≡ []) × HandsPart (input_left events id) most bytes × Stands (Event.HandOut id number (length bytes) ∷ events) database new
+stands_handed events database old new id number most bytes stands live opened read out changed =
+    subst
+    (λ (given : List ℕ). (causes_of events (Event.HandOut id number (length given)) ≡ []) × HandsPart (input_left events id) most given × Stands (Event.HandOut id number (length given) ∷ events) database new)
+    (sym out) all
+  where
+    all : (causes_of events (Event.HandOut id number (length (bytes_out most (attempt_of old id)))) ≡ []) × HandsPart (input_left events id) most (bytes_out most (attempt_of old id))
+        × Stands (Event.HandOut id number (length (bytes_out most (attempt_of old id))) ∷ events) database new
+    all =
+        let count : ℕ = length (bytes_out most (attempt_of old id)) in
+        let none = hand_out_causes events database old id number count stands live false opened in
+        let here = this_one number (attempt_of old id) live in
+        let kept = unwritten events (Event.HandOut id number count) database stands.kept tt none (none_written (object_of events (Event.HandOut id number count))) in (
+          none,
+          handed_bytes events id most (attempt_of old id) number here (stands.live id) read,
+          stands_after events (Event.HandOut id number count) id (option_map (after_hand_out most) (attempt_of old id)) database old new refl refl kept
+              (handed_out events id number most (attempt_of old id) kept.accepted (stands.live id)) changed stands.live,
+        )
 
 -- ---- the input that is closed
 
 close_causes : (events : List Event) (database : State) (attempts : ByInvocation) (id : Text) (number : ℕ) → Stands events database attempts
-    → has_number number (attempt_of attempts id) ≡ true → (rest closed : Bool) → has_rest (attempt_of attempts id) ≡ rest → has_closed (attempt_of attempts id) ≡ closed
+    → has_number number (attempt_of attempts id) ≡ true → HasRead events id (attempt_of attempts id) → (rest closed : Bool) → has_rest (attempt_of attempts id) ≡ rest
+    → has_closed (attempt_of attempts id) ≡ closed
     → causes_of events (Event.CloseInput id number) ≡ those_that_hold ((rest, InputRemains) ∷ (closed, InputAlreadyClosed) ∷ [])
-close_causes events database attempts id number stands live rest closed left is =
+close_causes events database attempts id number stands live read rest closed left is =
     let here = this_one number (attempt_of attempts id) live in
     let told = (told_here events database attempts id number stands here).of_close in
     let same : here.attempt.is_input_closed ≡ closed = sym (ap has_closed here.is) ∙ is in
-    let more : not (is_empty here.attempt.input.bytes) ≡ rest = rest_seen here.attempt.input.bytes ∙ (sym (ap has_rest here.is) ∙ left) in
+    let agrees = subst (Agrees events id) here.is (stands.live id) in
+    let more : not (is_empty (input_left events id)) ≡ rest =
+    rest_seen here.attempt (left_told events id here.attempt stands.kept.accepted agrees) (read here.attempt here.is) here.attempt.input.rest refl ∙ (sym (ap has_rest here.is) ∙ left) in
     subst (λ (n : ℕ). causes_of events (Event.CloseInput id n) ≡ those_that_hold ((rest, InputRemains) ∷ (closed, InputAlreadyClosed) ∷ [])) here.numbered
     (told ∙ ap₂ (λ (a b : Bool). those_that_hold ((a, InputRemains) ∷ (b, InputAlreadyClosed) ∷ [])) more same)
   where
-    rest_seen : (bytes : List ℕ) → not (is_empty bytes) ≡ not (length bytes == 0)
-    rest_seen [] = refl
-    rest_seen (byte ∷ bytes) = ap not (sym (ne_eqb (length (byte ∷ bytes)) 0 (λ e. omega (arith, e))))
+    rest_seen : (attempt : LiveAttempt) → LeftIsTold events id attempt → (attempt.input.rest ≡ [] → input_left events id ≡ []) → (bytes : List ℕ) → attempt.input.rest ≡ bytes
+        → not (is_empty (input_left events id)) ≡ not (length attempt.input.rest == 0)
+    rest_seen attempt told ends [] e = ap (λ (left : List ℕ). not (is_empty left)) (ends e) ∙ sym (ap (λ (rest : List ℕ). not (length rest == 0)) e)
+    rest_seen attempt told ends (byte ∷ bytes) e =
+        ap not (told.remains byte bytes e) ∙ sym (ap (λ (rest : List ℕ). not (length rest == 0)) e ∙ ap not (ne_eqb (length (byte ∷ bytes)) 0 (λ f. omega (arith, f))))
 
 pub close_remains : (events : List Event) (database : State) (attempts : ByInvocation) (id : Text) (number : ℕ) → Stands events database attempts
-    → has_number number (attempt_of attempts id) ≡ true → has_rest (attempt_of attempts id) ≡ true → IsRefused (causes_of events (Event.CloseInput id number)) refusal.InputRemains
-close_remains events database attempts id number stands live rest =
-    inl (ap first_of (close_causes events database attempts id number stands live true (has_closed (attempt_of attempts id)) rest refl))
+    → has_number number (attempt_of attempts id) ≡ true → HasRead events id (attempt_of attempts id) → has_rest (attempt_of attempts id) ≡ true
+    → IsRefused (causes_of events (Event.CloseInput id number)) refusal.InputRemains
+close_remains events database attempts id number stands live read rest =
+    inl (ap first_of (close_causes events database attempts id number stands live read true (has_closed (attempt_of attempts id)) rest refl))
 
 pub close_closed : (events : List Event) (database : State) (attempts : ByInvocation) (id : Text) (number : ℕ) → Stands events database attempts
-    → has_number number (attempt_of attempts id) ≡ true → has_rest (attempt_of attempts id) ≡ false → has_closed (attempt_of attempts id) ≡ true
+    → has_number number (attempt_of attempts id) ≡ true → HasRead events id (attempt_of attempts id) → has_rest (attempt_of attempts id) ≡ false → has_closed (attempt_of attempts id) ≡ true
     → IsRefused (causes_of events (Event.CloseInput id number)) refusal.InputAlreadyClosed
-close_closed events database attempts id number stands live rest closed =
-    inl (ap first_of (close_causes events database attempts id number stands live false true rest closed))
+close_closed events database attempts id number stands live read rest closed =
+    inl (ap first_of (close_causes events database attempts id number stands live read false true rest closed))
 
 pub stands_closed : (events : List Event) (database : State) (old new : ByInvocation) (id : Text) (number : ℕ) → Stands events database old
-    → has_number number (attempt_of old id) ≡ true → has_rest (attempt_of old id) ≡ false → has_closed (attempt_of old id) ≡ false → Changes id after_close old new
+    → has_number number (attempt_of old id) ≡ true → HasRead events id (attempt_of old id) → has_rest (attempt_of old id) ≡ false → has_closed (attempt_of old id) ≡ false → Changes id after_close old new
     → (causes_of events (Event.CloseInput id number) ≡ []) × Unit {0} × Stands (Event.CloseInput id number ∷ events) database new
-stands_closed events database old new id number stands live rest opened changed =
-    let none = close_causes events database old id number stands live false false rest opened in
+stands_closed events database old new id number stands live read rest opened changed =
+    let none = close_causes events database old id number stands live read false false rest opened in
     let kept = unwritten events (Event.CloseInput id number) database stands.kept tt none (none_written (object_of events (Event.CloseInput id number))) in (
       none,
       tt,
       stands_after events (Event.CloseInput id number) id (option_map after_close (attempt_of old id)) database old new refl refl kept
-          (closed_kept events id number (attempt_of old id) (stands.live id)) changed stands.live,
+          (closed_kept events id number (attempt_of old id) kept.accepted (stands.live id)) changed stands.live,
     )

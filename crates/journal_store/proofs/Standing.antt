@@ -6,12 +6,11 @@ use Rattle.sqlite.specs.Effect.{Database}
 use Rattle.sqlite.specs.State.{State, HasCleanDisk, Survives}
 use Rattle.sqlite.proofs.StateLemmas.{survives_then}
 use Rattle.sql_tables.specs.Asking.{IsKept as Asked}
-use Rattle.journal_model.specs.Notification.{Bytes, Text, Arrival}
-use Rattle.journal_model.specs.Spelling.{frame_bytes, notification_payload}
+use Rattle.journal_model.specs.Notification.{Text}
 use Rattle.journal_model.specs.declared.invocation.NewInvocation.{NewInvocation}
 use Rattle.journal_model.specs.Event.{Event}
-use Rattle.journal_model.specs.Journal.{invocation_of, is_tick, is_text, entries_of, version_of}
-use Rattle.journal_model.specs.Attempt.{live_attempt, acknowledged, notification_type}
+use Rattle.journal_model.specs.Journal.{invocation_of, is_tick, is_text, version_of}
+use Rattle.journal_model.specs.Attempt.{live_attempt, acknowledged}
 use Rattle.journal_model.specs.Cause.{causes_of, IsAccepted}
 use Rattle.store_frames.specs.Read.{AreRead, IsReadIn}
 use Rattle.store_tables.specs.Records.{Holds, Records, applied_all}
@@ -26,12 +25,11 @@ use Rattle.store_refusals.specs.Prepared.{Keeps}
 use Rattle.store_invocations.specs.Rows.{IsStoreOf}
 use Rattle.store_invocations.proofs.Standing.{store_kept}
 use Rattle.store_live.specs.declared.attempt.LiveAttempt.{LiveAttempt}
-use Rattle.store_live.specs.Attempts.{ByInvocation, attempt_of, IsNow, Changes, after_put, after_reserve}
-use Rattle.store_live_laws.specs.Agrees.{Agrees, Brings}
-use Rattle.store_live_laws.proofs.Steps.{arrived, elsewhere}
+use Rattle.store_live.specs.Attempts.{ByInvocation, attempt_of, IsNow, Changes, after_reserve}
+use Rattle.store_live_laws.specs.Agrees.{Agrees, does_record}
+use Rattle.store_live_laws.proofs.Steps.{as_before, elsewhere, recorded}
 use Rattle.store_live_laws.proofs.Begun.{invoked}
 use Rattle.store_live.specs.Before.{IsAsBefore, AreAsBefore}
-use Rattle.store_live.proofs.Adding.{as_it_is}
 use Rattle.store_calls.specs.Standing.{Standing}
 use Rattle.journal_store.specs.Stands.{Stands, KeepsAll, KeepsOf}
 
@@ -99,53 +97,36 @@ stands_after events event id after database old new of_it no_tick kept agrees no
     | inl same ↦ subst (λ (o : Text). Agrees (event ∷ events) o (attempt_of new o)) ((bytes_eq-Decides id other).0 same)
         (subst (Agrees (event ∷ events) id) (sym now.own) agrees)
     | inr apart ↦ subst (Agrees (event ∷ events) other) (sym (now.others other apart))
-        (elsewhere events event other (attempt_of old other) (ap (is_text other) of_it ∙ apart) no_tick (live other))
+        (elsewhere events event other (attempt_of old other) kept.accepted (ap (is_text other) of_it ∙ apart) no_tick (live other))
   ];
 }
 
--- an arrival is put behind the input of the attempt
-pub stands_arrived : (events : List Event) (event : Event) (id : Text) (arrival : Arrival) (place : ℕ) (frame : Bytes) (database : State) (old new : ByInvocation)
-    → invocation_of event ≡ Some id → is_tick event ≡ false → Brings id event arrival → acknowledged (version_of events id) id event ≡ None
-    → IsAccepted events → causes_of events event ≡ [] → IsStoreOf (event ∷ events) database → place ≡ 1 + length (entries_of events id)
-    → frame ≡ frame_bytes (notification_type (entries_of events id) arrival.id) (notification_payload arrival)
-    → Changes id (after_put place frame) old new → ((other : Text) → Agrees events other (attempt_of old other)) → Stands (event ∷ events) database new
-stands_arrived events event id arrival place frame database old new of_it no_tick brings plain accepted none kept place_is frame_is changed live =
-    stands_after events event id (option_map (after_put place frame) (attempt_of old id)) database old new of_it no_tick kept
-    (subst (λ (n : ℕ). Agrees (event ∷ events) id (option_map (after_put n frame) (attempt_of old id))) (sym place_is)
-    (subst (λ (bytes : Bytes). Agrees (event ∷ events) id (option_map (after_put (1 + length (entries_of events id)) bytes) (attempt_of old id))) (sym frame_is)
-    (arrived events event id arrival (attempt_of old id) brings plain accepted none (live id)))) changed live
+-- what is recorded, of whichever invocation, leaves what is kept of each attempt, but of one that is to acknowledge it
+pub stands_recorded : (events : List Event) (event : Event) (database : State) (attempts : ByInvocation) → does_record event ≡ true
+    → ((id : Text) → acknowledged (version_of events id) id event ≡ None) → IsStoreOf (event ∷ events) database
+    → ((other : Text) → Agrees events other (attempt_of attempts other)) → Stands (event ∷ events) database attempts
+stands_recorded events event database attempts does plain kept live =
+    record { kept = kept; live = λ id. recorded events event id (attempt_of attempts id) kept.accepted does (plain id) (live id) }
 
 -- ---- room
 
--- room that was made for a frame is used up when it is put
-pub put_in_room : (id : Text) (len place : ℕ) (frame : Bytes) (old mid new : ByInvocation) → Changes id (after_reserve len) old mid → Changes id (after_put place frame) mid new
-    → Changes id (after_put place frame) old new
-put_in_room id len place frame old mid new room put = record {
-  own = put.own ∙ ap (option_map (after_put place frame)) room.own ∙ same (attempt_of old id);
-  others = λ other apart. put.others other apart ∙ room.others other apart;
-}
-  where
-    same : (o : Option LiveAttempt) → option_map (after_put place frame) (option_map (after_reserve len) o) ≡ option_map (after_put place frame) o
-    same None = refl
-    same (Some attempt) = refl
+as_it_is : (o : Option LiveAttempt) → IsAsBefore o o
+as_it_is None = tt
+as_it_is (Some attempt) = refl
 
-with_room_only : (len : ℕ) (o : Option LiveAttempt) → IsAsBefore o (option_map (after_reserve len) o)
-with_room_only len None = tt
-with_room_only len (Some attempt) = refl
+with_room_only : (o : Option LiveAttempt) → IsAsBefore o (option_map after_reserve o)
+with_room_only None = tt
+with_room_only (Some attempt) = refl
 
-pub room_only : (id : Text) (len : ℕ) (old new : ByInvocation) → Changes id (after_reserve len) old new → AreAsBefore old new
-room_only id len old new room other = elim (true_or_false (bytes_eq id other)) [
+pub room_only : (id : Text) (old new : ByInvocation) → Changes id after_reserve old new → AreAsBefore old new
+room_only id old new room other = elim (true_or_false (bytes_eq id other)) [
   | inl same ↦ subst (λ (o : Text). IsAsBefore (attempt_of old o) (attempt_of new o)) ((bytes_eq-Decides id other).0 same)
-      (subst (IsAsBefore (attempt_of old id)) (sym room.own) (with_room_only len (attempt_of old id)))
+      (subst (IsAsBefore (attempt_of old id)) (sym room.own) (with_room_only (attempt_of old id)))
   | inr apart ↦ subst (IsAsBefore (attempt_of old other)) (sym (room.others other apart)) (as_it_is (attempt_of old other))
 ]
 
 pub agrees_still : (events : List Event) (id : Text) (one other : Option LiveAttempt) → IsAsBefore one other → Agrees events id one → Agrees events id other
-agrees_still events id None None same agrees = agrees
-agrees_still events id (Some one) (Some other) same agrees = subst (λ (o : LiveAttempt). Agrees events id (Some o)) (sym same)
-    (record { number = agrees.number; version = agrees.version; bytes = agrees.bytes; pieces = agrees.pieces; handed = agrees.handed; closed = agrees.closed })
-agrees_still events id None (Some other) same agrees = absurd same
-agrees_still events id (Some one) None same agrees = absurd same
+agrees_still = as_before
 
 -- the tables keep the same records where nothing was changed
 pub store_still : (events : List Event) (old new : State) (P : Trees → Type 0) → Survives old new P → Asked old new → IsStoreOf events old → IsStoreOf events new

@@ -1,15 +1,14 @@
 -- A frame is taken, or refused.
-use Rattle.std.proofs.Common.{◌≡◌, ℕ, ◌+◌, refl, sym, ap, ap₂, subst, ◌∙◌, inl, inr, arith, drop, length, Bool, true, false, ◌||◌, if◌then◌else◌, List, [], ◌∷◌, Option, Some, None, option_map, Result, Ok, Err, IfOk, OnOk, OnErr, IsTrue}
+use Rattle.std.proofs.Common.{◌≡◌, ℕ, ◌+◌, refl, sym, ap, ap₂, subst, ◌∙◌, inl, inr, arith, drop, length, Bool, true, false, not, List, [], ◌∷◌, Option, Some, None, option_map, Result, Ok, Err, IfOk, OnOk, OnErr, IsTrue}
 use Rattle.sqlite_trees.specs.declared.store.Store.{Ghosts}
 use Rattle.sqlite_trees.specs.Tree.{Trees}
 use Rattle.sqlite.specs.Held.{Held, state}
 use Rattle.sqlite.specs.State.{State, HasCleanDisk, Survives}
 use Rattle.sqlite.proofs.StateLemmas.{survives_then}
 use Rattle.journal_model.specs.Notification.{Bytes, Text}
-use Rattle.journal_model.specs.Request.{Request}
 use Rattle.journal_model.specs.Event.{Event, Frame}
-use Rattle.journal_model.specs.Journal.{ends_attempt, version_of, entries_of, entries_of_frame, starting_state}
-use Rattle.journal_model.specs.Attempt.{is_live}
+use Rattle.journal_model.specs.Journal.{ends_attempt, version_of}
+use Rattle.journal_model.specs.Attempt.{acknowledged, is_live}
 use Rattle.journal_model.specs.Cause.{FrameNotAccepted, causes_of, those_that_hold, adding_tests, IsAccepted}
 use Rattle.protocol_stream.specs.declared.frame.TheConstants.{HEADER_LEN}
 use Rattle.protocol_types.specs.Version.{version_number}
@@ -18,10 +17,7 @@ use Rattle.store_frames.specs.declared.frame.AttemptFrame.{AttemptFrame}
 use Rattle.store_frames.specs.Answer.{IsFrame}
 use Rattle.store_frames.specs.Meaning.{frame_of}
 use Rattle.store_frames.specs.Read.{IsReadIn}
-use Rattle.store_tables.specs.declared.row.EntryRow.{EntryRow}
 use Rattle.store_tables.specs.declared.row.Write.{Write}
-use Rattle.store_model.proofs.States.{itself}
-use Rattle.store_lookups.specs.Lookups.{rows_of_arrivals}
 use Rattle.store_tables.specs.Looks.{Lasts, Looks}
 use Rattle.store_tables.specs.Records.{Holds, applied_all}
 use Rattle.store_tables.specs.Steps.{Lands}
@@ -31,18 +27,14 @@ use Rattle.store_refusals.specs.Refused.{first_of, is_circumstance, IsRefused}
 use Rattle.store_invocations.specs.Rows.{IsStoreOf}
 use Rattle.store_steps.specs.declared.frame.FrameReply.{FrameReply}
 use Rattle.store_steps.specs.declared.frame.PreparedFrame.{PreparedFrame}
-use Rattle.store_steps.specs.declared.frame.HandedAnswer.{HandedAnswer}
-use Rattle.store_steps.specs.Reads.{IsHanded, answer_rows, frame_handed}
 use Rattle.store_steps.specs.Taken.{IsLive, IsReply, IsTaken, Takes, does_end, lies_in_frame}
 use Rattle.store_steps.proofs.Live.{begun_open}
 use Rattle.store_steps.proofs.Tests.{causes_left}
 use Rattle.store_live.specs.declared.attempt.LiveAttempt.{LiveAttempt}
-use Rattle.store_live.specs.Attempts.{Attempts, ByInvocation, attempt_of, IsNow, after_put, after_take}
+use Rattle.store_live.specs.Attempts.{Attempts, ByInvocation, attempt_of, IsNow, after_take}
 use Rattle.store_live.specs.Before.{AreAsBefore}
-use Rattle.store_live_laws.specs.Agrees.{Agrees, IsKeptLive, after_rows, has_number, rows_arrived}
-use Rattle.store_live_laws.proofs.Waiting.{waiting_told}
-use Rattle.store_live_laws.proofs.Steps.{taken, ended}
-use Rattle.store_live_laws.proofs.Added.{commanded}
+use Rattle.store_live_laws.specs.Agrees.{Agrees, IsKeptLive, has_number}
+use Rattle.store_live_laws.proofs.Steps.{recorded, ended}
 use Rattle.store_live_laws.proofs.Tests.{live_is_open}
 use Rattle.journal_store.specs.declared.step.SeenFrame.{SeenFrame}
 use Rattle.journal_store.specs.declared.step.FirstSeen.TheVariants as firsts
@@ -53,7 +45,7 @@ use Rattle.store_calls.proofs.Live.{told_end}
 use Rattle.store_calls.proofs.Taking.{same_stays}
 use Rattle.journal_store.specs.Stored.{Stored, stored}
 use Rattle.journal_store.specs.Stands.{Stands, IsStanding, Leads, Keeps, KeepsAll, Endures, WaitsNow}
-use Rattle.journal_store.specs.Taking.{HasMessage, HasMessageOf, IsEndedBy, IsFirstOf, IsSeen, IsSeenOf, SettlesStep, after_answer, passed}
+use Rattle.journal_store.specs.Taking.{HasMessage, HasMessageOf, IsEndedBy, IsFirstOf, IsSeen, IsSeenOf, SettlesStep, after_noted, passed}
 use Rattle.journal_store.specs.Writing.{Writes}
 use Rattle.journal_store.proofs.Lasting.{outlasts_now}
 use Rattle.journal_store.proofs.Outcomes.{outcome_left}
@@ -61,24 +53,6 @@ use Rattle.journal_store.proofs.Standing.{all_stored, landed, store_still, stand
 use Rattle.journal_store.proofs.Quiet.{live_here, stands_stopped, this_one}
 use Rattle.journal_store.proofs.Waiting.{before_waits, now_waits, same_waits, stopped_waits}
 use Rattle.journal_store.proofs.Leading.{leaves, stays}
-
--- ---- what a frame leaves
-
--- the rows of the arrivals that a command brings are those of what the store answers to it
-rows_brought : (events : List Event) (id : Text) (number : ℕ) (request : Request)
-    → rows_arrived events (Event.Take id number (Frame.Command request)) id ≡ answer_rows events id (Frame.Command request)
-rows_brought events id number request =
-    ap (λ (mine : Bool). rows_of_arrivals id (entries_of events id) (1 + length (entries_of events id))
-    (if mine || false then entries_of_frame (starting_state events id) (entries_of events id) (Frame.Command request) else [])) (itself id)
-
-put_rows : (version : ℕ) (request : Request) (rows : List EntryRow) (answer : Option HandedAnswer) (attempt : LiveAttempt) → IsHanded (frame_handed version (Frame.Command request)) rows answer
-    → after_rows rows attempt ≡ after_answer answer attempt
-put_rows version request [] None attempt h = refl
-put_rows version request [] (Some answer) attempt h = absurd h
-put_rows version request (row ∷ []) None attempt h = absurd h
-put_rows version request (row ∷ []) (Some answer) attempt h = ap₂ (λ (place : ℕ) (frame : Bytes). after_put place frame attempt) (sym h.0) (sym h.1)
-put_rows version request (row ∷ other ∷ rows) None attempt h = absurd h
-put_rows version request (row ∷ other ∷ rows) (Some answer) attempt h = absurd h
 
 -- ---- the attempt that is left
 
@@ -90,47 +64,36 @@ attempt_left false rest attempt = Some (record attempt { output = rest })
 -- of the bytes that wait the events say nothing
 other_output : (events : List Event) (id : Text) (attempt : LiveAttempt) (rest : Bytes) → Agrees events id (Some attempt) → Agrees events id (Some (record attempt { output = rest }))
 other_output events id attempt rest agrees =
-    record { number = agrees.number; version = agrees.version; bytes = agrees.bytes; pieces = agrees.pieces; handed = agrees.handed; closed = agrees.closed }
+    record { number = agrees.number; version = agrees.version; input = agrees.input; closed = agrees.closed }
 
--- what is put behind the input is put there whatever waits of the output
-put_apart : (answer : Option HandedAnswer) (attempt : LiveAttempt) (rest : Bytes) → record (after_answer answer attempt) { output = rest } ≡ after_answer answer (record attempt { output = rest })
-put_apart None attempt rest = refl
-put_apart (Some answer) attempt rest = refl
+-- what is noted is so whatever waits of the output
+noted_apart : (noted : Option ℕ) (attempt : LiveAttempt) (rest : Bytes) → record (after_noted noted attempt) { output = rest } ≡ after_noted noted (record attempt { output = rest })
+noted_apart None attempt rest = refl
+noted_apart (Some n) attempt rest = refl
 
-agrees_left : (events : List Event) (id : Text) (number : ℕ) (frame : Frame) (read : AttemptFrame) (reply : FrameReply) (answer : Option HandedAnswer) (attempt : LiveAttempt) (rest : Bytes)
-    → IsAccepted events → causes_of events (Event.Take id number frame) ≡ [] → IsHanded (frame_handed (version_of events id) frame) (answer_rows events id frame) answer
-    → IsFrame frame read → IsReply events id frame reply → Agrees events id (Some attempt) → (b : Bool) → does_end reply ≡ b
-    → Agrees (Event.Take id number frame ∷ events) id (option_map (after_answer answer) (attempt_left b rest attempt))
-agrees_left events id number frame read reply answer attempt rest accepted none handed is replied agrees true e =
+agrees_left : (events : List Event) (id : Text) (number : ℕ) (frame : Frame) (reply : FrameReply) (noted : Option ℕ) (attempt : LiveAttempt) (rest : Bytes)
+    → IsAccepted (Event.Take id number frame ∷ events) → noted ≡ acknowledged (version_of events id) id (Event.Take id number frame)
+    → IsReply events id frame reply → Agrees events id (Some attempt) → (b : Bool) → does_end reply ≡ b
+    → Agrees (Event.Take id number frame ∷ events) id (option_map (after_noted noted) (attempt_left b rest attempt))
+agrees_left events id number frame reply noted attempt rest accepted told replied agrees true e =
     ended events id number frame (sym (told_end events id frame reply replied) ∙ e)
-agrees_left events id number frame read reply answer attempt rest accepted none handed is replied agrees false e =
-    by_frame frame read (sym (told_end events id frame reply replied) ∙ e) none handed is replied
+agrees_left events id number frame reply noted attempt rest accepted told replied agrees false e =
+    by_frame frame (sym (told_end events id frame reply replied) ∙ e) accepted told
   where
-    by_frame : (frame : Frame) (read : AttemptFrame) → ends_attempt frame ≡ false → causes_of events (Event.Take id number frame) ≡ [] → IsHanded (frame_handed (version_of events id) frame) (answer_rows events id frame) answer
-        → IsFrame frame read → IsReply events id frame reply → Agrees (Event.Take id number frame ∷ events) id (Some (after_answer answer (record attempt { output = rest })))
-    by_frame (Frame.Command request) read goes none handed is replied =
-        let event = Event.Take id number (Frame.Command request) in
-        let brought : after_rows (rows_arrived events event id) attempt ≡ after_answer answer attempt =
-        put_rows (version_of events id) request (rows_arrived events event id) answer attempt
-        (subst (λ (rows : List EntryRow). IsHanded (frame_handed (version_of events id) (Frame.Command request)) rows answer) (sym (rows_brought events id number request)) handed) in
-        subst (λ (left : LiveAttempt). Agrees (event ∷ events) id (Some left)) (put_apart answer attempt rest)
-        (other_output (event ∷ events) id (after_answer answer attempt) rest
-        (subst (λ (left : LiveAttempt). Agrees (event ∷ events) id (Some left)) brought (commanded events id number request (Some attempt) accepted none agrees)))
-    by_frame Frame.AwaitingOn read goes none handed is replied = by_answer answer handed
-      where
-        by_answer : (o : Option HandedAnswer) → IsHanded (frame_handed (version_of events id) Frame.AwaitingOn) [] o → Agrees (Event.Take id number Frame.AwaitingOn ∷ events) id (Some (after_answer o (record attempt { output = rest })))
-        by_answer None h = other_output (Event.Take id number Frame.AwaitingOn ∷ events) id attempt rest (taken events id number Frame.AwaitingOn (Some attempt) refl agrees)
-        by_answer (Some answered) h = absurd h
-    by_frame (Frame.RunOutcome n value asks) read goes none handed is replied =
+    plain : (frame : Frame) → ends_attempt frame ≡ false → IsAccepted (Event.Take id number frame ∷ events) → noted ≡ None → acknowledged (version_of events id) id (Event.Take id number frame) ≡ None
+        → Agrees (Event.Take id number frame ∷ events) id (Some (after_noted noted (record attempt { output = rest })))
+    plain frame goes accepted none is =
+        subst (λ (o : Option ℕ). Agrees (Event.Take id number frame ∷ events) id (Some (after_noted o (record attempt { output = rest })))) (sym none)
+        (other_output (Event.Take id number frame ∷ events) id attempt rest
+        (recorded events (Event.Take id number frame) id (Some attempt) accepted (ap not goes) is agrees))
+
+    by_frame : (frame : Frame) → ends_attempt frame ≡ false → IsAccepted (Event.Take id number frame ∷ events) → noted ≡ acknowledged (version_of events id) id (Event.Take id number frame)
+        → Agrees (Event.Take id number frame ∷ events) id (Some (after_noted noted (record attempt { output = rest })))
+    by_frame (Frame.RunOutcome n value asks) goes accepted told =
         let event = Event.Take id number (Frame.RunOutcome n value asks) in
-        subst (λ (left : LiveAttempt). Agrees (event ∷ events) id (Some left)) (put_apart answer attempt rest)
-        (other_output (event ∷ events) id (after_answer answer attempt) rest (outcome_left events id number n value asks answer attempt accepted none handed agrees))
-    by_frame (Frame.Suspend suspension) read goes none handed is replied = cc
-    by_frame (Frame.Error code said behavior delay) read goes none handed is replied = cc
-    by_frame Frame.End read goes none handed is replied = cc
-    by_frame Frame.Broken read goes none handed is replied = absurd replied
-    by_frame Frame.TooDeep read goes none handed is replied = absurd replied
-    by_frame Frame.NotAccepted read goes none handed is replied = absurd replied
+        subst (λ (left : LiveAttempt). Agrees (event ∷ events) id (Some left)) (noted_apart noted attempt rest)
+        (other_output (event ∷ events) id (after_noted noted attempt) rest (outcome_left events id number n value asks noted attempt accepted told agrees))
+    by_frame frame goes accepted told = plain frame goes accepted told refl
 
 passed_left : (b : Bool) (len : ℕ) (found : Option LiveAttempt) (attempt : LiveAttempt) → found ≡ Some attempt → passed b len found ≡ attempt_left b (drop len attempt.output) attempt
 passed_left true len found attempt is = refl
@@ -152,14 +115,14 @@ pub is_live_here : (events : List Event) (id : Text) (number : ℕ) (attempt : L
 is_live_here events id number attempt it accepted agrees live seen = record {
   live = live;
   closed = seen.closed ∙ agrees.closed;
-  handed = seen.handed ∙ agrees.handed;
-  waiting = seen.waiting ∙ waiting_told events id attempt accepted agrees;
+  handed = seen.handed ∙ agrees.input.handed;
+  heard = seen.heard ∙ agrees.input.heard;
 }
 
 abbrev output_in : LiveAttempt → Bytes
 output_in attempt = attempt.output
 
-left_alike : (answer : Option HandedAnswer) (b : Bool) (rest : Bytes) (attempt : LiveAttempt) → option_map output_in (option_map (after_answer answer) (attempt_left b rest attempt)) ≡ rest_after b rest
+left_alike : (answer : Option ℕ) (b : Bool) (rest : Bytes) (attempt : LiveAttempt) → option_map output_in (option_map (after_noted answer) (attempt_left b rest attempt)) ≡ rest_after b rest
 left_alike answer true rest attempt = refl
 left_alike None false rest attempt = refl
 left_alike (Some answered) false rest attempt = refl
@@ -275,7 +238,7 @@ module _ {S : Type 0} (g : Ghosts S) (a mid b : Held S) (before after : Attempts
   pub seen_taken : (made : PreparedFrame) (result : Result (Option FrameReply) Refusal) → Looks g a mid → Writes g made.writes.items mid b result
       → IsPrepared (Ok made)
       → IfOk result (λ reply. reply ≡ Some made.reply)
-      → OnOk result (IsNow id (option_map (after_answer made.answer) (passed (does_end made.reply) it.len (attempt_of before.attempts id))) before.attempts after.attempts)
+      → OnOk result (IsNow id (option_map (after_noted made.acknowledged) (passed (does_end made.reply) it.len (attempt_of before.attempts id))) before.attempts after.attempts)
       → OnErr result (AreAsBefore before.attempts after.attempts)
       → Leads g (StepsBy result) (stored a before) (stored b after)
   seen_taken made (Ok None) looks wrote prepared replied now same clean s is = cc
@@ -288,13 +251,13 @@ module _ {S : Type 0} (g : Ghosts S) (a mid b : Held S) (before after : Attempts
       (wrote.done clean) in
       let agrees : Agrees s.events id (Some one.attempt) = subst (Agrees s.events id) one.found (is.stands.live id) in
       let is_reply : IsReply s.events id frame reply = subst (IsReply s.events id frame) (sym replied) ready.1.reply in
-      let left_live = option_map (after_answer made.answer) (attempt_left (does_end reply) left_of one.attempt) in
+      let left_live = option_map (after_noted made.acknowledged) (attempt_left (does_end reply) left_of one.attempt) in
       let is_now : IsNow id left_live before.attempts after.attempts =
-      subst (λ (o : Option LiveAttempt). IsNow id (option_map (after_answer made.answer) o) before.attempts after.attempts)
+      subst (λ (o : Option LiveAttempt). IsNow id (option_map (after_noted made.acknowledged) o) before.attempts after.attempts)
       (ap (λ (r : FrameReply). passed (does_end r) it.len (attempt_of before.attempts id)) (sym replied) ∙ passed_left (does_end reply) it.len (attempt_of before.attempts id) one.attempt one.found) now in
       let stood_after = stands_after s.events event id left_live (state g b) before.attempts after.attempts refl refl all
-      (agrees_left s.events id n frame it.frame reply made.answer one.attempt left_of is.stands.kept.accepted ready.0 ready.1.answer one.seen.read is_reply agrees (does_end reply) refl) is_now is.stands.live in
-      let waits = subst (λ (output : Option Bytes). WaitsNow id output before.attempts after.attempts) (left_alike made.answer (does_end reply) left_of one.attempt)
+      (agrees_left s.events id n frame reply made.acknowledged one.attempt left_of all.accepted ready.1.acknowledged is_reply agrees (does_end reply) refl) is_now is.stands.live in
+      let waits = subst (λ (output : Option Bytes). WaitsNow id output before.attempts after.attempts) (left_alike made.acknowledged (does_end reply) left_of one.attempt)
       (now_waits id left_live before.attempts after.attempts is_now) in
       let to = leaves g s (stored a before) (stored b after) is event id (rest_after (does_end reply) left_of) stood_after waits in (
         to.0,

@@ -1,13 +1,10 @@
 -- What waits of what attempts wrote.
-use Rattle.std.proofs.Common.{◌≡◌, ℕ, refl, ap, subst, ◌∙◌, inl, inr, List, [], ◌∷◌, filter, Option, Some, None, option_map, Result, Ok, Err, bytes_eq, OnOk, OnErr}
+use Rattle.std.proofs.Common.{◌≡◌, ℕ, refl, ap, subst, ◌∙◌, inl, inr, Option, Some, None, option_map, bytes_eq}
 use Rattle.std.proofs.lemmas.Slice.Eq.{bytes_eq-Decides}
 use Rattle.journal_model.specs.Notification.{Bytes, Text}
-use Rattle.store_refusals.specs.declared.refusal.Refusal.{Refusal}
 use Rattle.store_live.specs.declared.attempt.LiveAttempt.{LiveAttempt}
-use Rattle.store_live.specs.Attempts.{ByInvocation, attempt_of, IsNow, Changes, after_hand_out, after_put, after_put_in_room, after_close}
-use Rattle.store_live.specs.declared.added.AddedFrames.{AddedFrames}
+use Rattle.store_live.specs.Attempts.{Attempts, ByInvocation, attempt_of, IsNow, Changes, ChangesInput, after_hand_out, after_input, after_close}
 use Rattle.store_live.specs.Before.{IsAsBefore, AreAsBefore}
-use Rattle.store_live.specs.Added.{ArePut, is_added_to, put_in_turn}
 use Rattle.journal_store.specs.Stands.{output_of, KeepsOutputs, WaitsNow}
 use Rattle.journal_store.proofs.Standing.{true_or_false}
 
@@ -38,7 +35,7 @@ handed_waits id most old new changes = changed_waits id (after_hand_out most) ol
 pub closed_waits : (id : Text) (old new : ByInvocation) → Changes id after_close old new → KeepsOutputs old new
 closed_waits id old new changes = changed_waits id after_close old new (λ one. refl) changes
 
--- an arrival is put behind, or room was made for it
+-- room was made
 pub before_waits : (old new : ByInvocation) → AreAsBefore old new → KeepsOutputs old new
 before_waits old new same id = by_both (attempt_of old id) (attempt_of new id) (same id)
   where
@@ -48,19 +45,12 @@ before_waits old new same id = by_both (attempt_of old id) (attempt_of new id) (
     by_both None (Some other) is = absurd is
     by_both (Some one) None is = absurd is
 
--- frames are put behind
-put_output : (own : List AddedFrames) (o : Option LiveAttempt) → option_map output_in (put_in_turn own o) ≡ option_map output_in o
-put_output [] o = refl
-put_output (one ∷ own) o =
-    put_output own (option_map (after_put_in_room one.place one.frames.items) o) ∙ same_output (after_put_in_room one.place one.frames.items) (λ attempt. refl) o
+pub still_waits : (old new : Attempts) → new ≡ old → KeepsOutputs old.attempts new.attempts
+still_waits old new same id = ap (λ (all : Attempts). output_of all.attempts id) same
 
-pub put_waits : (added : List AddedFrames) (old new : ByInvocation) → ArePut added old new → KeepsOutputs old new
-put_waits added old new put id = ap (option_map output_in) (put id) ∙ put_output (filter (is_added_to id) added) (attempt_of old id)
-
-pub arrived_waits : {A : Type 0} (id : Text) (place : ℕ) (frame : Bytes) (old new : ByInvocation) (result : Result A Refusal)
-    → OnOk result (Changes id (after_put place frame) old new) → OnErr result (AreAsBefore old new) → KeepsOutputs old new
-arrived_waits id place frame old new (Ok done) put same = changed_waits id (after_put place frame) old new (λ one. refl) put
-arrived_waits id place frame old new (Err why) put same = before_waits old new same
+-- a frame is read
+pub input_waits : (id : Text) (old new : ByInvocation) → ChangesInput id old new → KeepsOutputs old new
+input_waits id old new it = changed_waits id (after_input it.0) old new (λ one. refl) it.1
 
 -- of one invocation the attempt is this now, and of the others it is as before
 pub now_waits : (id : Text) (attempt : Option LiveAttempt) (old new : ByInvocation) → IsNow id attempt old new → WaitsNow id (option_map output_in attempt) old new

@@ -1,5 +1,5 @@
 -- How a frame is taken: what is seen of it first, what is written, and what is left of its attempt.
-use Rattle.std.specs.Prelude.{◌≡◌, ℕ, ◌≤◌, length, drop, Bool, true, false, Option, Some, None, option_map, Result, Ok, Err}
+use Rattle.std.specs.Prelude.{◌≡◌, ℕ, ◌≤◌, ◌<◌, length, drop, Bool, true, false, Option, Some, None, option_map, Result, Ok, Err}
 use Rattle.sqlite_trees.specs.declared.store.Store.{Ghosts}
 use Rattle.journal_model.specs.Notification.{Bytes, Text}
 use Rattle.protocol_stream.specs.declared.decoder.RawMessage.{RawMessage}
@@ -11,10 +11,8 @@ use Rattle.store_frames.specs.Answer.{IsFrame}
 use Rattle.store_frames.specs.Meaning.{frame_of}
 use Rattle.store_refusals.specs.declared.refusal.Refusal.{Refusal}
 use Rattle.store_steps.specs.declared.frame.FrameReply.{FrameReply}
-use Rattle.store_steps.specs.declared.frame.HandedAnswer.{HandedAnswer}
 use Rattle.store_live.specs.declared.attempt.LiveAttempt.{LiveAttempt}
-use Rattle.store_live.specs.Input.{arrivals_left, one_frame}
-use Rattle.store_live.specs.Attempts.{ByInvocation, IsNow, after_put, after_reserve, after_take}
+use Rattle.store_live.specs.Attempts.{ByInvocation, IsNow, after_outcome, after_reserve, after_take}
 use Rattle.store_calls.specs.Frames.{TakesFrame}
 use Rattle.journal_store.specs.Stored.{Stored}
 use Rattle.journal_store.specs.Stands.{Settles}
@@ -31,7 +29,7 @@ pub record IsSeen (attempt : LiveAttempt) (it : SeenFrame) : Type 0 where
   pub within : it.len ≤ length attempt.output
   pub read : IsFrame (frame_of (version_number attempt.version) message_is) it.frame
   pub handed : it.facts.handed ≡ attempt.input.handed
-  pub waiting : it.facts.waiting ≡ arrivals_left attempt.input.pieces
+  pub heard : it.facts.heard ≡ attempt.input.heard
   pub closed : it.facts.is_input_closed ≡ attempt.is_input_closed
 
 abbrev pub IsFirstSeen : LiveAttempt → FirstSeen → Type 0
@@ -63,18 +61,18 @@ abbrev pub passed : Bool → ℕ → Option LiveAttempt → Option LiveAttempt
 passed true len found = None
 passed false len found = option_map (after_take len) found
 
--- what the store answers to a frame is put behind, in room that was made for it before
-abbrev pub after_answer : Option HandedAnswer → LiveAttempt → LiveAttempt
-after_answer None attempt = attempt
-after_answer (Some answer) attempt = after_put answer.place answer.frame attempt
+-- the outcome of a run is to be acknowledged, in room that was made for it before
+abbrev pub after_noted : Option ℕ → LiveAttempt → LiveAttempt
+after_noted None attempt = attempt
+after_noted (Some completion) attempt = after_outcome completion attempt
 
-abbrev pub after_room : Option HandedAnswer → LiveAttempt → LiveAttempt
+abbrev pub after_room : Option ℕ → LiveAttempt → LiveAttempt
 after_room None attempt = attempt
-after_room (Some answer) attempt = after_reserve (length answer.frame) attempt
+after_room (Some completion) attempt = after_reserve attempt
 
-abbrev pub HasRoomFor : Option HandedAnswer → LiveAttempt → Type 0
-HasRoomFor None attempt = Unit {0}
-HasRoomFor (Some answer) attempt = attempt.input.reserved ≡ Some (one_frame (length answer.frame))
+abbrev pub HasRoomToNote : Option ℕ → LiveAttempt → Type 0
+HasRoomToNote None attempt = Unit {0}
+HasRoomToNote (Some completion) attempt = 0 < attempt.input.room
 
 -- an attempt is over where the cause of a refusal lies in its frame
 abbrev pub IsEndedBy : Bool → Text → ByInvocation → ByInvocation → Type 0

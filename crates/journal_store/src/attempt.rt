@@ -1,19 +1,23 @@
-// What is done to a live attempt. The database is asked only to tell why an attempt is not live.
-ghost use Rattle.std.specs.Prelude.{◌≡◌, true, List, None, IfErr};
+// What is done to a live attempt. The database is asked for the next frame of its input, and to tell why an attempt is not live.
+ghost use Rattle.std.specs.Prelude.{◌≡◌, ◌≤◌, true, length, List, None, IfErr, IfOk, OnErr};
 ghost use Rattle.journal_model.specs.Event.{Event};
 ghost use Rattle.store_tables.specs.Looks.{Looks};
 ghost use Rattle.store_invocations.specs.Rows.{IsStoreOf};
 ghost use Rattle.store_refusals.specs.declared.refusal.Refusal.TheVariants.{OutOfMemory};
 ghost use Rattle.store_calls.specs.Calls.{ClosesInput, Feeds, HandsOut, Stops};
-ghost use Rattle.journal_store.specs.Attempts.{IsStale, has_closed, has_rest};
+ghost use Rattle.store_refusals.specs.Prepared.{Tells};
+ghost use Rattle.store_live.specs.Attempts.{Changes};
+ghost use Rattle.journal_store.specs.Attempts.{FitsNext, GivesOneFrame, HasRoomFor, IsStale, IsWanted, ReadsNext, after_wanted, has_closed, has_rest};
 ghost use Rattle.journal_store.specs.Stands.{IsQuiet, KeepsOutputs, Leads, WaitsAfter};
+ghost use Rattle.journal_store.specs.Stored.{stored};
 ghost use Rattle.journal_store.specs.Words.{state, HasCleanDisk, IsKept, attempt_of, has_number};
 
 use crate::store::Store;
 use bytes::{ByteStr, Bytes};
 use sqlite::Alter;
+use store_inputs::next_frame;
 use store_invocations::open_row;
-use store_live::LiveAttempts;
+use store_live::{FrameRead, LiveAttempts};
 use store_refusals::Refusal;
 use store_tables::StoreTables;
 
@@ -37,14 +41,60 @@ fn is_closed(live: &LiveAttempts, id: &ByteStr) -> bool
     }
 }
 
-/// Whether bytes of the live attempt's input were not handed out.
+/// Whether bytes that were read of the live attempt's input were not handed out.
 fn is_rest_left(live: &LiveAttempts, id: &ByteStr) -> bool
     ensures { result ≡ has_rest (attempt_of live.now.attempts id.now) }
 {
     match live.get(id) {
-        Some(one) => !one.input.is_empty(),
+        Some(one) => !one.input.is_read_out(),
         None => false,
     }
+}
+
+/// The next frame of the live attempt's input, from its row, once all before it was handed out.
+fn frame_wanted<S: Alter>(
+    tables: &mut StoreTables<S>,
+    live: &LiveAttempts,
+    id: &ByteStr,
+) -> Result<Option<FrameRead>, Refusal>
+    ensures told { HasCleanDisk (state S.Store tables.new) → (events : List Event) → IsStoreOf events (state S.Store tables.old) → FitsNext (attempt_of live.now.attempts id.now)
+        → Tells (IsWanted events id.now (attempt_of live.now.attempts id.now)) result }
+    ensures looks { Looks S.Store tables.old tables.new }
+{
+    let Some(one) = live.get(id) else {
+        return Ok(None);
+    };
+    if one.input.is_read_out() {
+        next_frame(tables, id, &one.input)
+    } else {
+        Ok(None)
+    }
+}
+
+/// Takes in the frame that was read.
+fn put_wanted(live: &mut LiveAttempts, id: &ByteStr, found: Option<FrameRead>)
+    ensures told { HasRoomFor found (attempt_of live.old.attempts id.now) → Changes id.now (after_wanted found) live.old.attempts live.new.attempts }
+    ensures waits { KeepsOutputs live.old.attempts live.new.attempts }
+{
+    if let Some(frame) = found {
+        live.put_frame(id, frame);
+    }
+}
+
+/// Reads the next frame of the live attempt's input, once all before it was handed out.
+fn read_next<S: Alter>(
+    tables: &mut StoreTables<S>,
+    live: &mut LiveAttempts,
+    id: &ByteStr,
+) -> Result<(), Refusal>
+    ensures reads { ReadsNext S.Store id.now result (stored tables.old live.old) (stored tables.new live.new) }
+    ensures stays { OnErr result (live.new ≡ live.old) }
+    ensures waits { KeepsOutputs live.old.attempts live.new.attempts }
+    ensures looks { Looks S.Store tables.old tables.new }
+{
+    let found = frame_wanted(tables, live, id)?;
+    put_wanted(live, id, found);
+    Ok(())
 }
 
 /// Why a call is refused on an attempt that is not live.
@@ -62,10 +112,14 @@ pub(crate) fn stale_refusal<S: Alter>(tables: &mut StoreTables<S>, id: &ByteStr)
 }
 
 impl<S: Alter + Drop> Store<S> {
-    /// The next bytes that the attempt is handed, at most so many: none only where `most` is 0 or none remain.
+    /// The next bytes that the attempt is handed, of one frame and at most so many: none only where `most` is 0 or none remain. One row
+    /// at most is read.
     pub fn next_input(&mut self, id: &ByteStr, attempt: u32, most: usize) -> Result<Bytes, Refusal>
         ensures does { Leads S.Store (HandsOut id.now attempt most result) self.old self.new }
+        ensures few { IfOk result (λ bytes. length bytes ≤ most) }
+        ensures frame { GivesOneFrame S.Store id.now result self.old self.new }
         ensures waits { KeepsOutputs self.old.live.attempts self.new.live.attempts }
+        ensures kept { IsKept (state S.Store self.old.connection) (state S.Store self.new.connection) }
         ensures crash { IsQuiet S.Store self.old self.new }
     {
         if !is_live(&self.live, id, attempt) {
@@ -74,19 +128,22 @@ impl<S: Alter + Drop> Store<S> {
         if is_closed(&self.live, id) {
             return Err(Refusal::InputAlreadyClosed);
         }
+        read_next(&mut self.tables, &mut self.live, id)?;
         let bytes = self.live.hand_out(id, most)?;
         Ok(bytes)
     }
 
-    /// No more is handed to the attempt. All of its input was.
+    /// No more is handed to the attempt. All of its input was: one row at most is read to tell.
     pub fn close_input(&mut self, id: &ByteStr, attempt: u32) -> Result<(), Refusal>
         ensures does { Leads S.Store (ClosesInput id.now attempt result) self.old self.new }
         ensures waits { KeepsOutputs self.old.live.attempts self.new.live.attempts }
+        ensures kept { IsKept (state S.Store self.old.connection) (state S.Store self.new.connection) }
         ensures crash { IsQuiet S.Store self.old self.new }
     {
         if !is_live(&self.live, id, attempt) {
             return Err(stale_refusal(&mut self.tables, id));
         }
+        read_next(&mut self.tables, &mut self.live, id)?;
         if is_rest_left(&self.live, id) {
             return Err(Refusal::InputRemains);
         }

@@ -1,12 +1,12 @@
 // Events that are recorded: each is made ready, and then written in one transaction.
-ghost use Rattle.std.specs.Prelude.{◌≡◌, Some, [], ◌+◌, ◌<◌, ◌^◌, false, length, IfOk, OnErr, OnOk};
+ghost use Rattle.std.specs.Prelude.{◌≡◌, Some, [], ◌<◌, IfOk, OnErr, OnOk};
 ghost use Rattle.journal_model.specs.Event.{Event};
-ghost use Rattle.store_live.specs.Attempts.{Changes, after_put};
+ghost use Rattle.store_live.specs.Attempts.{IsNow};
 ghost use Rattle.store_calls.specs.Standing.{Adds};
 ghost use Rattle.store_calls.specs.Calls.{BeginsAttempt, Completes, Invokes};
-ghost use Rattle.journal_store.specs.Attempts.{BeginsSome, IsToldAs, TakesIn, fresh};
+ghost use Rattle.journal_store.specs.Attempts.{BeginsSome, IsToldAs, fresh};
 ghost use Rattle.journal_store.specs.Stands.{EnduresAlways, KeepsOutputs, Leads, Settles, WaitsAfter};
-ghost use Rattle.journal_store.specs.Words.{state, IsKept, AreAsBefore};
+ghost use Rattle.journal_store.specs.Words.{state, IsKept};
 ghost use Rattle.journal_store.specs.Writing.{Writes};
 
 use crate::store::Store;
@@ -17,9 +17,7 @@ use sqlite::Alter;
 use std::alloc::{AllocError, Global};
 use store_arrivals::{PreparedArrival, prepare_result};
 use store_calls::BegunAttempt;
-use store_invocations::{
-    AttemptFrames, JournalFrames, PreparedAttempt, prepare_begin, prepare_invoke,
-};
+use store_invocations::{PreparedAttempt, prepare_begin, prepare_invoke};
 use store_live::{AttemptInput, AttemptOutput, LiveAttempt, LiveAttempts};
 use store_refusals::Refusal;
 use store_tables::{StoreTables, Write, commit_all};
@@ -43,26 +41,23 @@ fn commit_ready<S: Alter>(tables: &mut StoreTables<S>, writes: Vec<Write>) -> Re
     done
 }
 
-/// The attempt that is begun: all of its input is left, and it wrote nothing.
+/// The attempt that is begun: nothing of its input was read, and it wrote nothing.
 fn fresh_attempt(
     alloc: Global,
     number: u32,
     version: Version,
-    journal: JournalFrames,
-) -> Result<LiveAttempt, AllocError>
-    ensures output { IfOk result (λ attempt. attempt.output ≡ []) }
-    ensures fresh { IfOk result (λ attempt. length journal.frames.items < 2 ^ 32 → attempt ≡ fresh number version journal.bytes.items journal.frames.items) }
+    known: u32,
+    arrivals: u32,
+) -> LiveAttempt
+    ensures { result ≡ fresh number version known arrivals }
 {
-    let JournalFrames { bytes, frames } = journal;
-    let input = AttemptInput::of_journal(alloc, bytes, frames.as_slice());
-    drop(frames);
-    Ok(LiveAttempt {
+    LiveAttempt {
         number,
         version,
-        input: input?,
+        input: AttemptInput::new(alloc, known, arrivals),
         is_input_closed: false,
         output: AttemptOutput::new(alloc),
-    })
+    }
 }
 
 /// Makes room for one more attempt, and the id by which it is taken in.
@@ -76,43 +71,25 @@ fn room_for(live: &mut LiveAttempts, id: &ByteStr) -> Result<ByteStr, AllocError
 }
 
 impl<S: Alter + Drop> Store<S> {
-    /// Writes an arrival that was made ready, and puts its frame behind the input of the live attempt, if one is live: it is recorded
+    /// Writes an arrival that was made ready. A live attempt reads it from its row, once all before it was handed out: so it is recorded
     /// before a byte of it is handed out.
-    pub(crate) fn record_arrival(
-        &mut self,
-        id: &ByteStr,
-        made: PreparedArrival,
-    ) -> Result<u32, Refusal>
-        requires place { made.place + 1 < 2 ^ 32 }
+    pub(crate) fn record_arrival(&mut self, made: PreparedArrival) -> Result<u32, Refusal>
         ensures place { IfOk result (λ place. place ≡ made.place) }
         ensures made { Writes S.Store made.writes.items self.old.connection self.new.connection result }
-        ensures put { OnOk result (Changes id.now (after_put made.place made.frame) self.old.live.attempts self.new.live.attempts) }
-        ensures stays { OnErr result (AreAsBefore self.old.live.attempts self.new.live.attempts) }
+        ensures live { self.new.live ≡ self.old.live }
     {
-        let room = self.live.reserve(id, made.frame.len());
-        if room.is_err() {
-            drop(made);
-            return Err(Refusal::OutOfMemory);
-        }
-        match commit(&mut self.tables, made.writes.as_slice()) {
-            Ok(()) => {
-                let place = made.place;
-                self.live.put(id, place, made.frame.as_slice(), &[]);
-                drop(made);
-                Ok(place)
-            }
-            Err(why) => {
-                drop(made);
-                Err(why)
-            }
+        let PreparedArrival { writes, place } = made;
+        match commit_ready(&mut self.tables, writes) {
+            Ok(()) => Ok(place),
+            Err(why) => Err(why),
         }
     }
 
-    /// Makes the attempt that is begun, and room for it; then writes what was made ready of the begin, and takes the attempt in.
+    /// Makes room for the attempt that is begun; then writes what was made ready of the begin, and takes the attempt in.
     fn record_begin(&mut self, id: &ByteStr, made: PreparedAttempt) -> Result<BegunAttempt, Refusal>
         ensures told { IfOk result (IsToldAs made) }
         ensures made { Writes S.Store made.writes.items self.old.connection self.new.connection result }
-        ensures put { OnOk result (TakesIn id.now made.number made.version made.frames.journal self.old.live.attempts self.new.live.attempts) }
+        ensures put { OnOk result (IsNow id.now (Some (fresh made.number made.version made.known made.arrivals)) self.old.live.attempts self.new.live.attempts) }
         ensures waits { WaitsAfter id.now (Some []) result self.old.live.attempts self.new.live.attempts }
         ensures stays { OnErr result (self.new.live.attempts ≡ self.old.live.attempts) }
     {
@@ -120,16 +97,11 @@ impl<S: Alter + Drop> Store<S> {
             writes,
             number,
             version,
-            frames,
+            start,
+            known,
+            arrivals,
         } = made;
-        let AttemptFrames { start, journal } = frames;
-        let Ok(attempt) = fresh_attempt(self.tables.alloc(), number, version, journal) else {
-            drop(writes);
-            drop(start);
-            return Err(Refusal::OutOfMemory);
-        };
         let Ok(own) = room_for(&mut self.live, id) else {
-            drop(attempt);
             drop(writes);
             drop(start);
             return Err(Refusal::OutOfMemory);
@@ -138,6 +110,7 @@ impl<S: Alter + Drop> Store<S> {
         drop(writes);
         match done {
             Ok(()) => {
+                let attempt = fresh_attempt(self.tables.alloc(), number, version, known, arrivals);
                 self.live.put_begun(own, attempt);
                 Ok(BegunAttempt {
                     number,
@@ -147,7 +120,6 @@ impl<S: Alter + Drop> Store<S> {
             }
             Err(why) => {
                 drop(own);
-                drop(attempt);
                 drop(start);
                 Err(why)
             }
@@ -184,7 +156,7 @@ impl<S: Alter + Drop> Store<S> {
         ensures crash { EnduresAlways S.Store (Adds (Event.Complete id.now completion brought)) self.old self.new }
     {
         match prepare_result(&mut self.tables, id, completion, brought) {
-            Ok(made) => self.record_arrival(id, made),
+            Ok(made) => self.record_arrival(made),
             Err(why) => Err(why),
         }
     }

@@ -29,7 +29,7 @@ impl<S: Alter + Drop> Store<S> {
         ensures crash { EnduresAlways S.Store (Adds (Event.Signal id.now (key_of key) brought)) self.old self.new }
     {
         match prepare_signal(&mut self.tables, id, key, brought) {
-            Ok(made) => self.record_arrival(id, made),
+            Ok(made) => self.record_arrival(made),
             Err(why) => Err(why),
         }
     }
@@ -44,7 +44,7 @@ impl<S: Alter + Drop> Store<S> {
         ensures crash { EnduresAlways S.Store (Adds (Event.Cancel id.now)) self.old self.new }
     {
         match prepare_cancel(&mut self.tables, id) {
-            Ok(made) => self.record_arrival(id, made),
+            Ok(made) => self.record_arrival(made),
             Err(why) => Err(why),
         }
     }

@@ -1,11 +1,11 @@
 // Frames of an attempt are taken one by one: what a frame asks for is recorded, and then it is passed.
-ghost use Rattle.std.specs.Prelude.{◌≡◌, ◌≤◌, ◌<◌, ◌+◌, ◌^◌, true, length, option_map, Some, IfOk, IfSome, OnErr, OnOk};
+ghost use Rattle.std.specs.Prelude.{◌≡◌, ◌≤◌, true, length, option_map, Some, IfOk, OnErr, OnOk};
 ghost use Rattle.std.specs.Option.{ForSome};
 ghost use Rattle.store_steps.specs.Taken.{does_end, lies_in_frame};
 ghost use Rattle.store_live.specs.Attempts.{Changes, IsNow};
 ghost use Rattle.store_calls.specs.Frames.{Steps, TakesOne};
 ghost use Rattle.journal_store.specs.Stands.{Endures, Leads};
-ghost use Rattle.journal_store.specs.Taking.{HasMessage, HasMessageOf, HasRoomFor, IsEndedBy, IsFirstOf, IsFirstSeen, IsSeenOf, SettlesStep, after_answer, after_room, passed};
+ghost use Rattle.journal_store.specs.Taking.{HasMessage, HasMessageOf, HasRoomToNote, IsEndedBy, IsFirstOf, IsFirstSeen, IsSeenOf, SettlesStep, after_noted, after_room, passed};
 ghost use Rattle.journal_store.specs.Words.{state, IsKept, AreAsBefore, attempt_of, has_number};
 ghost use Rattle.journal_store.specs.Writing.{Writes};
 
@@ -18,9 +18,7 @@ use std::alloc::{AllocError, Global};
 use store_frames::{AttemptFrame, read_frame_at};
 use store_live::{FirstItem, HEADER_LEN, LiveAttempt, LiveAttempts};
 use store_refusals::Refusal;
-use store_steps::{
-    FrameReply, HandedAnswer, LiveFacts, PreparedFrame, prepare_frame, refusal_ends_attempt,
-};
+use store_steps::{FrameReply, LiveFacts, PreparedFrame, prepare_frame, refusal_ends_attempt};
 
 /// A whole frame that stands first.
 #[derive(Debug, Drop)]
@@ -57,7 +55,7 @@ fn first_seen(alloc: Global, attempt: &LiveAttempt) -> Result<FirstSeen, AllocEr
                 len: HEADER_LEN + payload.len(),
                 facts: LiveFacts {
                     handed: attempt.input.handed(),
-                    waiting: attempt.input.waiting(),
+                    heard: attempt.input.heard(),
                     is_input_closed: attempt.is_input_closed,
                 },
             }))
@@ -88,48 +86,45 @@ fn pass_frame(live: &mut LiveAttempts, id: &ByteStr, len: usize, reply: FrameRep
     }
 }
 
-/// Makes room in the input of an attempt for what the store answers to its frame.
-fn room_for_answer(
+/// Makes room for the outcome of a run that is to be acknowledged, if there is one.
+fn room_for_outcome(
     live: &mut LiveAttempts,
     id: &ByteStr,
-    answer: &Option<HandedAnswer>,
+    acknowledged: Option<u32>,
 ) -> Result<(), AllocError>
-    ensures ok { OnOk result (Changes id.now (after_room answer.now) live.old.attempts live.new.attempts) }
+    ensures ok { OnOk result (Changes id.now (after_room acknowledged) live.old.attempts live.new.attempts) }
     ensures err { OnErr result (live.new ≡ live.old) }
 {
-    match answer {
-        Some(answer) => live.reserve(id, answer.frame.len()),
+    match acknowledged {
+        Some(_) => live.reserve_outcome(id),
         None => Ok(()),
     }
 }
 
-/// Puts what the store answers to a frame behind the input of its attempt. Room was made for it.
-fn hand_answer(live: &mut LiveAttempts, id: &ByteStr, answer: Option<HandedAnswer>)
-    requires room { ForSome (attempt_of live.old.attempts id.now) (HasRoomFor answer) }
-    requires place { IfSome answer (λ answer. answer.place + 1 < 2 ^ 32) }
-    ensures { Changes id.now (after_answer answer) live.old.attempts live.new.attempts }
+/// The outcome of a run is to be acknowledged, if there is one. Room was made for it.
+fn note_acknowledged(live: &mut LiveAttempts, id: &ByteStr, acknowledged: Option<u32>)
+    requires { ForSome (attempt_of live.old.attempts id.now) (HasRoomToNote acknowledged) }
+    ensures { Changes id.now (after_noted acknowledged) live.old.attempts live.new.attempts }
 {
-    if let Some(answer) = answer {
-        live.put(id, answer.place, answer.frame.as_slice(), &[]);
-        drop(answer);
+    if let Some(completion) = acknowledged {
+        live.note_outcome(id, completion);
     }
 }
 
-/// Passes a frame that was taken, and hands its attempt what the store answers to it. Room was made for the answer.
-fn pass_answered(
+/// Passes a frame that was taken, whose outcome is to be acknowledged or is not. Room was made for that.
+fn pass_noted(
     live: &mut LiveAttempts,
     id: &ByteStr,
     len: usize,
     reply: FrameReply,
-    answer: Option<HandedAnswer>,
+    acknowledged: Option<u32>,
 )
     requires len { ForSome (attempt_of live.old.attempts id.now) (λ attempt. len ≤ length attempt.output) }
-    requires room { ForSome (attempt_of live.old.attempts id.now) (HasRoomFor answer) }
-    requires place { IfSome answer (λ answer. answer.place + 1 < 2 ^ 32) }
-    ensures { IsNow id.now (option_map (after_answer answer) (passed (does_end reply) len (attempt_of live.old.attempts id.now))) live.old.attempts live.new.attempts }
+    requires room { ForSome (attempt_of live.old.attempts id.now) (HasRoomToNote acknowledged) }
+    ensures { IsNow id.now (option_map (after_noted acknowledged) (passed (does_end reply) len (attempt_of live.old.attempts id.now))) live.old.attempts live.new.attempts }
 {
     pass_frame(live, id, len, reply);
-    hand_answer(live, id, answer);
+    note_acknowledged(live, id, acknowledged);
 }
 
 /// Ends the attempt whose frame was refused, where the cause lies in the frame.
@@ -142,8 +137,8 @@ fn end_refused(live: &mut LiveAttempts, id: &ByteStr, why: Refusal)
 }
 
 impl<S: Alter + Drop> Store<S> {
-    /// Writes what was made ready of a frame of so many bytes, passes the frame, and puts what the store answers to it behind the
-    /// input of its attempt: the answer is recorded before a byte of it is handed out.
+    /// Writes what was made ready of a frame of so many bytes, and passes the frame; the outcome of a run is acknowledged once it is
+    /// recorded.
     fn take_prepared(
         &mut self,
         id: &ByteStr,
@@ -151,33 +146,28 @@ impl<S: Alter + Drop> Store<S> {
         made: PreparedFrame,
     ) -> Result<Option<FrameReply>, Refusal>
         requires len { ForSome (attempt_of self.old.live.attempts id.now) (λ attempt. len ≤ length attempt.output) }
-        requires place { IfSome made.answer (λ answer. answer.place + 1 < 2 ^ 32) }
         ensures reply { IfOk result (λ reply. reply ≡ Some made.reply) }
         ensures made { Writes S.Store made.writes.items self.old.connection self.new.connection result }
-        ensures left { OnOk result (IsNow id.now (option_map (after_answer made.answer) (passed (does_end made.reply) len (attempt_of self.old.live.attempts id.now))) self.old.live.attempts self.new.live.attempts) }
+        ensures left { OnOk result (IsNow id.now (option_map (after_noted made.acknowledged) (passed (does_end made.reply) len (attempt_of self.old.live.attempts id.now))) self.old.live.attempts self.new.live.attempts) }
         ensures stays { OnErr result (AreAsBefore self.old.live.attempts self.new.live.attempts) }
     {
         let PreparedFrame {
             writes,
             reply,
-            answer,
+            acknowledged,
         } = made;
-        let Ok(()) = room_for_answer(&mut self.live, id, &answer) else {
+        let Ok(()) = room_for_outcome(&mut self.live, id, acknowledged) else {
             drop(writes);
-            drop(answer);
             return Err(Refusal::OutOfMemory);
         };
         let done = commit(&mut self.tables, writes.as_slice());
         drop(writes);
         match done {
             Ok(()) => {
-                pass_answered(&mut self.live, id, len, reply, answer);
+                pass_noted(&mut self.live, id, len, reply, acknowledged);
                 Ok(Some(reply))
             }
-            Err(why) => {
-                drop(answer);
-                Err(why)
-            }
+            Err(why) => Err(why),
         }
     }
 

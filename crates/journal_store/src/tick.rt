@@ -1,47 +1,31 @@
 // A tick is recorded: the ends of all sleeps that are due, of all open invocations, in one transaction.
 ghost use Rattle.std.specs.Prelude.{◌≡◌, IfOk, OnErr, OnOk};
-ghost use Rattle.std.specs.List.{AllByRecursion};
 ghost use Rattle.journal_model.specs.Event.{Event};
-ghost use Rattle.store_live.specs.Added.{HasPlaces};
 ghost use Rattle.store_calls.specs.Standing.{Adds};
 ghost use Rattle.store_calls.specs.Calls.{Ticks};
-ghost use Rattle.journal_store.specs.Attempts.{PutsAll};
 ghost use Rattle.journal_store.specs.Stands.{EnduresAlways, KeepsOutputs, Leads, Settles};
-ghost use Rattle.journal_store.specs.Words.{state, IsKept, AreAsBefore};
+ghost use Rattle.journal_store.specs.Words.{state, IsKept};
 ghost use Rattle.journal_store.specs.Writing.{Writes};
 
 use crate::events::commit;
 use crate::store::Store;
 use sqlite::Alter;
 use store_arrivals::{PreparedTick, prepare_tick};
-use store_live::{put_each, reserve_each};
 use store_refusals::Refusal;
 
 impl<S: Alter + Drop> Store<S> {
-    /// Makes room for the frames of the ends that were made ready; then writes what was, if anything, and puts the frames behind: they
-    /// are recorded before a byte of them is handed out.
+    /// Writes what was made ready, if anything. Live attempts read the ends from their rows.
     fn record_tick(&mut self, made: PreparedTick) -> Result<u64, Refusal>
-        requires { AllByRecursion HasPlaces made.ended.items }
         ensures count { IfOk result (λ count. count ≡ made.count) }
         ensures made { Writes S.Store made.writes.items self.old.connection self.new.connection result }
-        ensures put { OnOk result (PutsAll made.ended.items self.old.live.attempts self.new.live.attempts) }
-        ensures stays { OnErr result (AreAsBefore self.old.live.attempts self.new.live.attempts) }
+        ensures live { self.new.live ≡ self.old.live }
     {
-        let Ok(()) = reserve_each(&mut self.live, made.ended.as_slice()) else {
-            drop(made);
-            return Err(Refusal::OutOfMemory);
-        };
-        match commit(&mut self.tables, made.writes.as_slice()) {
-            Ok(()) => {
-                let count = made.count;
-                put_each(&mut self.live, made.ended.as_slice());
-                drop(made);
-                Ok(count)
-            }
-            Err(why) => {
-                drop(made);
-                Err(why)
-            }
+        let PreparedTick { writes, count } = made;
+        let done = commit(&mut self.tables, writes.as_slice());
+        drop(writes);
+        match done {
+            Ok(()) => Ok(count),
+            Err(why) => Err(why),
         }
     }
 

@@ -1,13 +1,12 @@
 pub mod Waiting
 pub mod Completing
-pub mod Framing
+pub mod Places
 pub mod Written
 pub mod Signalling
 pub mod SideBySide
 pub mod Ending
 pub mod Counting
 pub mod Grouping
-pub mod Short
 pub mod Ends
 pub mod Outcomes
 pub mod Ready

@@ -6,7 +6,7 @@ use Rattle.journal_model.specs.declared.notification.NotificationId.TheVariants.
 use Rattle.journal_model.specs.declared.value.NonEmptyValue.{NonEmptyValue}
 use Rattle.journal_model.specs.Value.{result_of_value}
 use Rattle.journal_model.specs.Request.{Request}
-use Rattle.journal_model.specs.Spelling.{request_type, frame_bytes, notification_payload}
+use Rattle.journal_model.specs.Spelling.{request_type, notification_payload}
 use Rattle.journal_model.specs.Event.{Frame, Event}
 use Rattle.journal_model.specs.Journal.{Entry, Arrived, completion, entries_of, object_of, open_request, is_open}
 use Rattle.journal_model.specs.Attempt.{notification_type, type_of_completion, is_live}
@@ -100,7 +100,7 @@ module _ (events : List Event) (accepted : IsAccepted events) (id : Text) (n : �
   ready : (number : ℕ) (value : NonEmptyValue) (asks : Bool) → is_open events id ≡ true → is_live events id number ≡ true → (r : Result PreparedArrival Refusal)
       → Decides (arrival_tests row (completion n (result_of_value value))) (IsArrival row types.RunCompletionNotification (completion n (result_of_value value))) r
       → Decides (frame_tests events id (Frame.RunOutcome n value asks) ++ adding_tests events id (Event.Take id number (Frame.RunOutcome n value asks)))
-      (IsMadeReady events (Event.Take id number (Frame.RunOutcome n value asks)) id (completion n (result_of_value value))) r
+      (IsMadeReady events (Event.Take id number (Frame.RunOutcome n value asks)) id) r
   ready number value asks opened live (Ok made) decided =
       let event = Event.Take id number (Frame.RunOutcome n value asks) in
       let brought = result_of_value value in
@@ -116,7 +116,6 @@ module _ (events : List Event) (accepted : IsAccepted events) (id : Text) (n : �
               ∷ SetProgress (named i) (grown 1 1 (far i)) ∷ [])
               ∙ sym (outcome_writes events id number n value asks (none_against number value asks opened live none, accepted));
           place = decided.1.place ∙ ap (λ (p : Progress). p.entries) far;
-          frame = decided.1.frame ∙ ap (λ (k : MessageType). frame_bytes k (notification_payload (completion n brought))) typed;
         },
       )
   ready number value asks opened live (Err why) refused =
@@ -127,7 +126,7 @@ module _ (events : List Event) (accepted : IsAccepted events) (id : Text) (n : �
       → Decides (arrival_tests row (completion n brought)) (IsArrival row types.RunCompletionNotification (completion n brought)) r → DecidesOutcome events id n brought r
   outcome_ready brought r decided number value asks opened live same =
       subst (λ (b : NotificationResult). Decides (frame_tests events id (Frame.RunOutcome n value asks) ++ adding_tests events id (Event.Take id number (Frame.RunOutcome n value asks)))
-      (IsMadeReady events (Event.Take id number (Frame.RunOutcome n value asks)) id (completion n b)) r) (sym same)
+      (IsMadeReady events (Event.Take id number (Frame.RunOutcome n value asks)) id) r) (sym same)
       (ready number value asks opened live r
       (subst (λ (b : NotificationResult). Decides (arrival_tests row (completion n b)) (IsArrival row types.RunCompletionNotification (completion n b)) r) same decided))
 

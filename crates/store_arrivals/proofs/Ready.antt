@@ -2,7 +2,7 @@
 use Rattle.std.proofs.Common.{ℕ, suc, ◌+◌, ◌≡◌, refl, sym, ap, ap₂, subst, ◌∙◌, Bool, true, false, ◌&&◌, not, if◌then◌else◌, List, [], ◌∷◌, ◌++◌, length, map, filter, flat_map, bytes_eq}
 use Rattle.std.specs.List.{AllByRecursion}
 use Rattle.sqlite_keyed.proofs.ListLemmas.{map-map}
-use Rattle.journal_model.specs.Notification.{Bytes, Text, Arrival}
+use Rattle.journal_model.specs.Notification.{Text, Arrival}
 use Rattle.journal_model.specs.Event.{Event}
 use Rattle.journal_model.specs.Journal.{is_open, is_over, requests_in, sleeps_in, sorted_by_moment, slept, entries_of}
 use Rattle.journal_model.specs.Cause.{IsAccepted, is_empty}
@@ -19,15 +19,14 @@ use Rattle.store_model.specs.Steps.{grown, noted_into}
 use Rattle.store_model.specs.Writes.{ends_sleep, invocation_writes, rows_added}
 use Rattle.store_model.proofs.Following.{ticks}
 use Rattle.store_model.proofs.States.{itself}
-use Rattle.store_lookups.specs.Lookups.{ended_sleeps, row_frame}
+use Rattle.store_lookups.specs.Lookups.{ended_sleeps}
 use Rattle.store_lookups.proofs.Sleeping.{answer_of_sleep}
 use Rattle.due_model.specs.Noted.{Noted}
 use Rattle.due_laws.proofs.Noting.{noted_ticks}
 use Rattle.store_arrivals.specs.Woken.{ends_of, flagged}
 use Rattle.store_arrivals.specs.Groups.{Group, group_of, those_ended}
-use Rattle.store_arrivals.specs.Ended.{end_frame, end_rows}
-use Rattle.store_live.specs.declared.added.AddedFrames.{AddedFrames}
-use Rattle.store_arrivals.specs.Made.{AreEnds, AreFrames, AreOpen, AreToldOf, arrivals_before, group_writes, ids_ended, next_place, ready_writes, until_writes}
+use Rattle.store_arrivals.specs.Ended.{end_rows}
+use Rattle.store_arrivals.specs.Made.{AreOpen, arrivals_before, group_writes, next_place, ready_writes, until_writes}
 use Rattle.store_arrivals.proofs.Ending.{found, id_of, rows_of_tick}
 
 abbrev pub named : Text → Group → Bool
@@ -120,30 +119,3 @@ module _ (events : List Event) (now : ℕ) where
   all_written accepted [] all = refl
   all_written accepted (group ∷ groups) all =
       ap (λ (writes : List Write). writes ++ CloseSleepsUntil (due_until now) ∷ []) (groups_written accepted (group ∷ groups) all)
-
-  -- ---- frames
-
-  frames_of : (id : Text) (place before : ℕ) (ns : List ℕ) → map end_frame ns ≡ map row_frame (end_rows id place before ns)
-  frames_of id place before [] = refl
-  frames_of id place before (n ∷ ns) = ap (λ (frames : List Bytes). end_frame n ∷ frames) (frames_of id (place + 1) (before + 1) ns)
-
-  one_framed : IsAccepted events → (group : Group) (one : AddedFrames) → IsGroupOf events now group → AreEnds group.0 (next_place events group.0) group.1 one
-      → AreFrames events now one
-  one_framed accepted group one it ends = record {
-    place_is = ends.place_is ∙ ap (next_place events) (sym ends.named);
-    frames = ends.frames ∙ frames_of group.0 (next_place events group.0) (arrivals_before events group.0) group.1 ∙ ap (map row_frame) (rows_are accepted group it)
-        ∙ ap (λ (id : Text). map row_frame (rows_added events (Event.Tick now) id)) (sym ends.named);
-  }
-
-  pub all_framed : IsAccepted events → (groups : List Group) (ended : List AddedFrames) → AllByRecursion (IsGroupOf events now) groups → AreToldOf events groups ended
-      → AllByRecursion (AreFrames events now) ended
-  all_framed accepted [] [] all told = tt
-  all_framed accepted [] (one ∷ others) all told = absurd told
-  all_framed accepted (group ∷ groups) [] all told = absurd told
-  all_framed accepted (group ∷ groups) (one ∷ others) all told = (one_framed accepted group one all.0 told.0, all_framed accepted groups others all.1 told.1)
-
-  pub all_named : (groups : List Group) (ended : List AddedFrames) → AreToldOf events groups ended → ids_ended ended ≡ map id_of groups
-  all_named [] [] told = refl
-  all_named [] (one ∷ others) told = absurd told
-  all_named (group ∷ groups) [] told = absurd told
-  all_named (group ∷ groups) (one ∷ others) told = ap₂ (λ (id : Text) (ids : List Text). id ∷ ids) told.0.named (all_named groups others told.1)

@@ -24,9 +24,7 @@ use Rattle.store_arrivals.specs.Ended.{end_rows}
 use Rattle.store_arrivals.proofs.Written.{few_arrivals, none_against_open}
 use Rattle.store_arrivals.specs.Groups.{Group}
 use Rattle.store_arrivals.specs.Woken.{ends_of, flagged, row_then}
-use Rattle.store_live.specs.declared.added.AddedFrames.{AddedFrames}
-use Rattle.store_arrivals.proofs.Ends.{was_ended}
-use Rattle.store_arrivals.specs.Made.{AreEnds, AreEndsOf, AreGroupsEnded, AreOpen, AreToldOf, IsGroupEnded, closed_until, group_tests, group_writes, next_place, room_tests, row_writes, tests_of, until_writes}
+use Rattle.store_arrivals.specs.Made.{AreEndsOf, AreGroupsEnded, AreOpen, IsGroupEnded, closed_until, group_tests, group_writes, room_tests, tests_of, until_writes}
 
 -- ---- by the events
 
@@ -36,19 +34,16 @@ row_id events id row of_it = ap (λ (r : InvocationRow). r.id) of_it.is ∙ of_i
 row_far : (events : List Event) (id : Text) (row : InvocationRow) → IsRowOf events id row → row.progress ≡ progress_of events id
 row_far events id row of_it = ap (λ (r : InvocationRow). r.progress) of_it.is ∙ ap (progress_of events) of_it.named
 
-pub group_ended : (events : List Event) (group : Group) (row : InvocationRow) (before after : List Write) (r : Result AddedFrames Refusal) → IsRowOf events group.0 row
-    → Decides (room_tests row.progress.entries (length group.1)) (AreEndsOf (row_then events group.0 (ends_of group.1) row) group.0 group.1 before after) r
-    → Decides (group_tests events group) (IsGroupEnded events group before after) r
-group_ended events group row before after (Ok ended) of_it decided =
+pub group_ended : (events : List Event) (group : Group) (row : InvocationRow) (before after : List Write) (r : Result (Unit {0}) Refusal) → IsRowOf events group.0 row
+    → Decides (room_tests row.progress.entries (length group.1)) (λ done. AreEndsOf (row_then events group.0 (ends_of group.1) row) group.1 before after) r
+    → Decides (group_tests events group) (λ done. IsGroupEnded events group before after) r
+group_ended events group row before after (Ok done) of_it decided =
     let id = group.0 in
     let named = row_id events id row of_it in
     let far = row_far events id row of_it in (
       ap (λ (p : Progress). those_that_hold (room_tests p.entries (length group.1))) (sym far) ∙ decided.0,
-      record {
-        ends = subst (λ (p : Progress). AreEnds id p.entries group.1 ended) far decided.1.ends;
-        written = decided.1.written (subst HasFewArrivals (sym far) (few_arrivals events id))
-            ∙ (λ i. before ++ (map AddEntry (end_rows (named i) (far i).entries (far i).arrivals group.1) ++ SetProgress (named i) (grown (length group.1) (length group.1) (flagged events id (ends_of group.1) (far i))) ∷ []));
-      },
+      decided.1 (subst HasFewArrivals (sym far) (few_arrivals events id))
+          ∙ (λ i. before ++ (map AddEntry (end_rows (named i) (far i).entries (far i).arrivals group.1) ++ SetProgress (named i) (grown (length group.1) (length group.1) (flagged events id (ends_of group.1) (far i))) ∷ [])),
     )
 group_ended events group row before after (Err why) of_it refused =
     subst (λ (p : Progress). IsRefused (those_that_hold (room_tests p.entries (length group.1))) why) (row_far events group.0 row of_it) refused
@@ -65,14 +60,14 @@ is_no_cause events id tests why opened (inr e) = inr e
 -- ---- one group after another
 
 -- so many groups were ended, and these are left
-pub record HasEnded (events : List Event) (all left : List Group) (before now : List Write) (ended : List AddedFrames) : Type 0 where
+pub record HasEnded (events : List Event) (all left : List Group) (before now : List Write) : Type 0 where
   pub done : List Group
   pub split : done ++ left ≡ all
   pub none : those_that_hold (tests_of events done) ≡ []
-  pub so_far : AreGroupsEnded events done before now ended
+  pub so_far : AreGroupsEnded events done before now
 
-pub none_ended : (events : List Event) (all : List Group) (before : List Write) → HasEnded events all all before before []
-none_ended events all before = record { done = []; split = refl; none = refl; so_far = record { told = tt; written = sym (append-nil before) } }
+pub none_ended : (events : List Event) (all : List Group) (before : List Write) → HasEnded events all all before before
+none_ended events all before = record { done = []; split = refl; none = refl; so_far = sym (append-nil before) }
 
 tests-append : (events : List Event) (xs ys : List Group) → tests_of events (xs ++ ys) ≡ tests_of events xs ++ tests_of events ys
 tests-append events [] ys = refl
@@ -84,38 +79,29 @@ writes-append events (x ∷ xs) group =
     append_assoc (group_writes events x) (flat_map (group_writes events) xs) (group_writes events group)
     ∙ ap (λ (writes : List Write). group_writes events x ++ writes) (writes-append events xs group)
 
-told-append : (events : List Event) (groups : List Group) (ended : List AddedFrames) (group : Group) (one : AddedFrames) → AreToldOf events groups ended
-    → AreEnds group.0 (next_place events group.0) group.1 one → AreToldOf events (groups ++ group ∷ []) (ended ++ one ∷ [])
-told-append events [] [] group one told is = (is, tt)
-told-append events [] (other ∷ others) group one told is = absurd told
-told-append events (x ∷ groups) [] group one told is = absurd told
-told-append events (x ∷ groups) (other ∷ others) group one told is = (told.0, told-append events groups others group one told.1 is)
-
-pub one_more_ended : (events : List Event) (all left : List Group) (group : Group) (before mid after : List Write) (ended : List AddedFrames) (one : AddedFrames)
-    → HasEnded events all (group ∷ left) before mid ended → Decides (group_tests events group) (IsGroupEnded events group mid after) (was_ended one)
-    → HasEnded events all left before after (ended ++ one ∷ [])
-one_more_ended events all left group before mid after ended one has decided = record {
+pub one_more_ended : (events : List Event) (all left : List Group) (group : Group) (before mid after : List Write)
+    → HasEnded events all (group ∷ left) before mid → (those_that_hold (group_tests events group) ≡ []) × IsGroupEnded events group mid after
+    → HasEnded events all left before after
+one_more_ended events all left group before mid after has decided = record {
   done = has.done ++ group ∷ [];
   split = append_assoc has.done (group ∷ []) left ∙ has.split;
   none = ap those_that_hold (tests-append events has.done (group ∷ [])) ∙ none_of_both (tests_of events has.done) (group_tests events group ++ []) has.none
       (ap those_that_hold (append-nil (group_tests events group)) ∙ decided.0);
-  so_far = record {
-    told = told-append events has.done ended group one has.so_far.told decided.1.ends;
-    written = decided.1.written ∙ ap (λ (writes : List Write). writes ++ group_writes events group) has.so_far.written
-        ∙ append_assoc before (flat_map (group_writes events) has.done) (group_writes events group)
-        ∙ ap (λ (writes : List Write). before ++ writes) (writes-append events has.done group);
-  };
+  so_far =
+      decided.1 ∙ ap (λ (writes : List Write). writes ++ group_writes events group) has.so_far
+      ∙ append_assoc before (flat_map (group_writes events) has.done) (group_writes events group)
+      ∙ ap (λ (writes : List Write). before ++ writes) (writes-append events has.done group);
 }
 
-pub all_ended : (events : List Event) (all : List Group) (before after : List Write) (ended : List AddedFrames) → HasEnded events all [] before after ended
-    → (those_that_hold (tests_of events all) ≡ []) × AreGroupsEnded events all before after ended
-all_ended events all before after ended has =
+pub all_ended : (events : List Event) (all : List Group) (before after : List Write) → HasEnded events all [] before after
+    → (those_that_hold (tests_of events all) ≡ []) × AreGroupsEnded events all before after
+all_ended events all before after has =
     let same : has.done ≡ all = sym (append-nil has.done) ∙ has.split in
-    (subst (λ (gs : List Group). those_that_hold (tests_of events gs) ≡ []) same has.none, subst (λ (gs : List Group). AreGroupsEnded events gs before after ended) same has.so_far)
+    (subst (λ (gs : List Group). those_that_hold (tests_of events gs) ≡ []) same has.none, subst (λ (gs : List Group). AreGroupsEnded events gs before after) same has.so_far)
 
-pub one_refused : (events : List Event) (all left : List Group) (group : Group) (before mid : List Write) (ended : List AddedFrames) (why : Refusal)
-    → HasEnded events all (group ∷ left) before mid ended → IsRefused (those_that_hold (group_tests events group)) why → IsRefused (those_that_hold (tests_of events all)) why
-one_refused events all left group before mid ended why has refused =
+pub one_refused : (events : List Event) (all left : List Group) (group : Group) (before mid : List Write) (why : Refusal)
+    → HasEnded events all (group ∷ left) before mid → IsRefused (those_that_hold (group_tests events group)) why → IsRefused (those_that_hold (tests_of events all)) why
+one_refused events all left group before mid why has refused =
     subst (λ (gs : List Group). IsRefused (those_that_hold (tests_of events gs)) why) has.split
     (subst (λ (tests : Tests). IsRefused (those_that_hold tests) why) (sym (tests-append events has.done (group ∷ left)))
     (refused_later (tests_of events has.done) (tests_of events (group ∷ left)) why has.none (refused_more (group_tests events group) (tests_of events left) why refused)))
@@ -125,46 +111,35 @@ next_open : (events : List Event) (group : Group) (left done : List Group) → A
 next_open events group left [] all = all.0
 next_open events group left (x ∷ done) all = next_open events group left done all.1
 
-module _ (events : List Event) (all lefts left : List Group) (group : Group) (before mid : List Write) (ended : List AddedFrames) (is : lefts ≡ group ∷ left)
-    (has : HasEnded events all lefts before mid ended) (open_all : AreOpen events all) where
-  here : HasEnded events all (group ∷ left) before mid ended
-  here = subst (λ (gs : List Group). HasEnded events all gs before mid ended) is has
+module _ (events : List Event) (all lefts left : List Group) (group : Group) (before mid : List Write) (is : lefts ≡ group ∷ left)
+    (has : HasEnded events all lefts before mid) (open_all : AreOpen events all) where
+  here : HasEnded events all (group ∷ left) before mid
+  here = subst (λ (gs : List Group). HasEnded events all gs before mid) is has
 
   opened : is_open events group.0 ≡ true
   opened = next_open events group left here.done (subst (AreOpen events) (sym here.split) open_all)
 
-  pub goes_on : (after : List Write) (more : List AddedFrames) (one : AddedFrames) → more ≡ ended ++ one ∷ []
-      → (is_open events group.0 ≡ true → Decides (group_tests events group) (IsGroupEnded events group mid after) (was_ended one))
-      → HasEnded events all left before after more
-  goes_on after more one pushed decided =
-      subst (HasEnded events all left before after) (sym pushed) (one_more_ended events all left group before mid after ended one here (decided opened))
+  pub goes_on : (after : List Write)
+      → (is_open events group.0 ≡ true → (those_that_hold (group_tests events group) ≡ []) × IsGroupEnded events group mid after) → HasEnded events all left before after
+  goes_on after decided = one_more_ended events all left group before mid after here (decided opened)
 
   pub stops : (why : Refusal) → (is_open events group.0 ≡ true → IsRefused (those_that_hold (group_tests events group)) why) → IsRefused (those_that_hold (tests_of events all)) why
-  stops why refused = one_refused events all left group before mid ended why here (refused opened)
+  stops why refused = one_refused events all left group before mid why here (refused opened)
 
-pub ends_all : (events : List Event) (all left : List Group) (before after : List Write) (ended : List AddedFrames) → left ≡ [] → HasEnded events all left before after ended
-    → (those_that_hold (tests_of events all) ≡ []) × AreGroupsEnded events all before after ended
-ends_all events all left before after ended none has = all_ended events all before after ended (subst (λ (gs : List Group). HasEnded events all gs before after ended) none has)
+pub ends_all : (events : List Event) (all left : List Group) (before after : List Write) → left ≡ [] → HasEnded events all left before after
+    → (those_that_hold (tests_of events all) ≡ []) × AreGroupsEnded events all before after
+ends_all events all left before after none has = all_ended events all before after (subst (λ (gs : List Group). HasEnded events all gs before after) none has)
 
 -- ---- all of them, and those that are due are closed
 
 more : (n : ℕ) → suc n ≡ 0 → ⊥
 more n e = omega (arith, e)
 
-pub closed_with : (events : List Event) (until : ℕ) (groups : List Group) (mid after : List Write) (ended : List AddedFrames) (some : Bool) → AreGroupsEnded events groups [] mid ended
-    → some ≡ not (length ended == 0) → after ≡ closed_until some until mid → after ≡ until_writes events until groups
-closed_with events until [] mid after [] some are is closed = closed ∙ ap (λ (b : Bool). closed_until b until mid) is ∙ are.written
-closed_with events until (group ∷ groups) mid after (one ∷ others) some are is closed =
-    closed ∙ ap (λ (b : Bool). closed_until b until mid) (is ∙ ap not (ne_eqb (length (one ∷ others)) 0 (more (length others)))) ∙ ap (λ (writes : List Write). writes ++ CloseSleepsUntil until ∷ []) are.written
-closed_with events until [] mid after (one ∷ others) some are is closed = absurd are.told
-closed_with events until (group ∷ groups) mid after [] some are is closed = absurd are.told
-
-all-append : {A : Type 0} (P : A → Type 0) (xs : List A) (x : A) → AllByRecursion P xs → P x → AllByRecursion P (xs ++ x ∷ [])
-all-append P [] x all it = (it, tt)
-all-append P (y ∷ xs) x all it = (all.0, all-append P xs x all.1 it)
-
-pub all_more : {A : Type 0} (P : A → Type 0) (xs ys : List A) (x : A) → ys ≡ xs ++ x ∷ [] → AllByRecursion P xs → P x → AllByRecursion P ys
-all_more P xs ys x is all it = subst (AllByRecursion P) (sym is) (all-append P xs x all it)
+pub closed_with : (events : List Event) (until : ℕ) (groups : List Group) (mid after : List Write) (some : Bool) → AreGroupsEnded events groups [] mid
+    → some ≡ not (length groups == 0) → after ≡ closed_until some until mid → after ≡ until_writes events until groups
+closed_with events until [] mid after some are is closed = closed ∙ ap (λ (b : Bool). closed_until b until mid) is ∙ are
+closed_with events until (group ∷ groups) mid after some are is closed =
+    closed ∙ ap (λ (b : Bool). closed_until b until mid) (is ∙ ap not (ne_eqb (length (group ∷ groups)) 0 (more (length groups)))) ∙ ap (λ (writes : List Write). writes ++ CloseSleepsUntil until ∷ []) are
 
 -- before anything was asked
 pub looks_first : {S : Type 0} (g : Ghosts S) (a : Held S) → Looks g a a

@@ -4,7 +4,7 @@ use Rattle.journal_model.specs.Notification.{Text, Arrival}
 use Rattle.journal_model.specs.declared.notification.NotificationResult.{NotificationResult}
 use Rattle.journal_model.specs.Request.{SignalKey}
 use Rattle.journal_model.specs.Event.{Event}
-use Rattle.journal_model.specs.Spelling.{frame_bytes, notification_payload}
+use Rattle.journal_model.specs.Spelling.{notification_payload}
 use Rattle.journal_model.specs.Journal.{Entry, Arrived, entries_of, entries_of_event, id_of_signal, object_of, starting_state}
 use Rattle.journal_model.specs.Attempt.{notification_type}
 use Rattle.journal_model.specs.Cause.{Cause, Tests, IsAccepted, adding_tests, causes_of, entry_tests, is_too_long, open_tests, own_tests, those_that_hold}
@@ -59,7 +59,7 @@ module _ (events : List Event) (event : Event) (id : Text) (arrival : Arrival) (
       ∷ (sym (or_nothing (is_too_long (notification_payload arrival))) i, Cause.PayloadTooLong) ∷ [])
       ∙ ap (entry_tests (entries_of events id)) (sym adds)
 
-  made_ready : (made : PreparedArrival) → causes_of events event ≡ [] → IsArrival (row_then events id (arrival ∷ []) row) kind arrival made → IsMadeReady events event id arrival made
+  made_ready : (made : PreparedArrival) → causes_of events event ≡ [] → IsArrival (row_then events id (arrival ∷ []) row) kind arrival made → IsMadeReady events event id made
   made_ready made none is =
       let named = row_named events id row of.0 in
       let far = row_progress events id row of.0 in
@@ -69,12 +69,11 @@ module _ (events : List Event) (event : Event) (id : Text) (arrival : Arrival) (
             ∷ SetProgress (named i) (grown 1 1 (flagged events id (arrival ∷ []) (far i))) ∷ [])
             ∙ sym (writes (none, accepted));
         place = is.place ∙ ap (λ (p : Progress). p.entries) far;
-        frame = is.frame ∙ ap (λ (k : MessageType). frame_bytes k (notification_payload arrival)) typed;
       }
 
   -- behind other tests of the event, of which none holds
   pub all_ready : those_that_hold first ≡ [] → (r : Result PreparedArrival Refusal) → Decides (arrival_tests row arrival) (IsArrival (row_then events id (arrival ∷ []) row) kind arrival) r
-      → Decides (first ++ adding_tests events id event) (IsMadeReady events event id arrival) r
+      → Decides (first ++ adding_tests events id event) (IsMadeReady events event id) r
   all_ready none (Ok made) decided =
       let own = none_of_both first (adding_tests events id event) none (ap those_that_hold (sym tests_are) ∙ decided.0) in
       (own, made_ready made (tests ∙ none_of_both (open_tests events id) (first ++ adding_tests events id event) (none_against_open events id of.1) own) decided.1)
@@ -99,7 +98,7 @@ signal_type entries (SignalKey.ByName name) = refl
 pub signal_ready : (events : List Event) (id : Text) (key : SignalKey) (brought : NotificationResult) (row : InvocationRow) → IsAccepted events → IsOpenRow events id row
     → those_that_hold (signal_tests key brought) ≡ [] → (r : Result PreparedArrival Refusal)
     → Decides (arrival_tests row (signal_arrival key brought)) (IsArrival (row_then events id (signal_arrival key brought ∷ []) row) SignalNotification (signal_arrival key brought)) r
-    → Decides (own_tests events (Event.Signal id key brought)) (IsMadeReady events (Event.Signal id key brought) id (signal_arrival key brought)) r
+    → Decides (own_tests events (Event.Signal id key brought)) (IsMadeReady events (Event.Signal id key brought) id) r
 signal_ready events id key brought row accepted of none r decided =
     all_ready events (Event.Signal id key brought) id (signal_arrival key brought) (signal_tests key brought) refl refl (signal_writes events id key brought) accepted row of
     SignalNotification (signal_type (entries_of events id) key) none r decided
@@ -119,6 +118,6 @@ cancel_writes events id accepted =
 
 pub cancel_ready : (events : List Event) (id : Text) (row : InvocationRow) → IsAccepted events → IsOpenRow events id row → (r : Result PreparedArrival Refusal)
     → Decides (arrival_tests row cancellation) (IsArrival (row_then events id (cancellation ∷ []) row) SignalNotification cancellation) r
-    → Decides (own_tests events (Event.Cancel id)) (IsMadeReady events (Event.Cancel id) id cancellation) r
+    → Decides (own_tests events (Event.Cancel id)) (IsMadeReady events (Event.Cancel id) id) r
 cancel_ready events id row accepted of r decided =
     all_ready events (Event.Cancel id) id cancellation [] refl refl (cancel_writes events id) accepted row of SignalNotification refl refl r decided

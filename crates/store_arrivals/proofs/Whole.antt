@@ -18,10 +18,10 @@ use Rattle.store_refusals.specs.Refused.{IsRefused, is_circumstance, reading_ref
 use Rattle.store_refusals.specs.Prepared.{Keeps, Prepares}
 use Rattle.store_invocations.specs.Rows.{Decides}
 use Rattle.store_arrivals.specs.Groups.{Group, grouped, those_ended}
-use Rattle.store_arrivals.specs.Made.{AreOpen, IsEndedUntil, IsTickReady, ready_writes, tests_of}
+use Rattle.store_arrivals.specs.Made.{AreOpen, IsEndedUntil, IsTickReady, tests_of}
 use Rattle.store_arrivals.specs.declared.tick.PreparedTick.{PreparedTick}
 use Rattle.store_arrivals.proofs.Ending.{all_ending, found, id_of}
-use Rattle.store_arrivals.proofs.Ready.{all_framed, all_groups, all_named, all_open, all_written}
+use Rattle.store_arrivals.proofs.Ready.{all_groups, all_open, all_written}
 use Rattle.store_arrivals.proofs.Counting.{all_ended_counted}
 use Rattle.store_arrivals.proofs.Using.{accepted_tick, refused_tick}
 
@@ -44,11 +44,10 @@ module _ (events : List Event) (now : ℕ) (s : State) (k : Keeps events s) wher
   ready : (count : ℕ) (made : PreparedTick) → count ≡ length (sort_by sleep_cmp (due_sleeps now k.records)) → IsEndedUntil events (due_until now) count due made → IsTickReady events now made
   ready count made counted is =
       let all = all_groups events now k.records k.accepted k.kept in
-      let names = all_named events now due made.ended.items is.told in
       record {
-        ending = subst (AreEnding events now) (sym names) (all_ending events now k.records k.accepted k.kept);
-        writes = is.writes ∙ all_written events now k.accepted due all ∙ ap (ready_writes events now) (sym names);
-        ended = all_framed events now k.accepted due made.ended.items all is.told;
+        ids = map id_of due;
+        ending = all_ending events now k.records k.accepted k.kept;
+        writes = is.writes ∙ all_written events now k.accepted due all;
         count = is.counted ∙ counted ∙ all_ended_counted events now k.records k.accepted k.kept;
       }
 

@@ -1,14 +1,13 @@
 -- What is made ready of an arrival is what its event writes.
-use Rattle.std.proofs.Common.{ℕ, Bool, true, false, ◌&&◌, not, is_some, ◌+◌, ◌-◌, ◌^◌, ◌≤◌, nat_lt, arith, ◌≡◌, refl, sym, ap, subst, ◌∙◌, List, [], ◌∷◌, ◌++◌, length, Option, Some, None, drop, Result, Ok, Err}
+use Rattle.std.proofs.Common.{ℕ, Bool, true, false, ◌&&◌, not, is_some, ◌+◌, ◌-◌, ◌^◌, ◌≤◌, nat_lt, arith, ◌≡◌, refl, sym, ap, subst, ◌∙◌, List, [], ◌∷◌, ◌++◌, length, Option, Some, None, Result, Ok, Err}
 use Rattle.journal_model.specs.Notification.{Bytes, Text, Arrival}
 use Rattle.journal_model.specs.declared.notification.NotificationResult.{NotificationResult}
 use Rattle.journal_model.specs.declared.notification.NotificationId.TheVariants.{CompletionId}
 use Rattle.journal_model.specs.Event.{Event}
-use Rattle.journal_model.specs.Spelling.{frame_bytes, notification_payload}
+use Rattle.journal_model.specs.Spelling.{notification_payload}
 use Rattle.journal_model.specs.Journal.{Entry, Arrived, Recorded, arrivals_in, completion, entries_of, invocation_begun, is_open, object_of}
 use Rattle.journal_model.specs.Attempt.{notification_type}
 use Rattle.journal_model.specs.Cause.{Cause, Tests, IsAccepted, adding_tests, causes_of, open_tests, own_tests, those_that_hold, is_too_long}
-use Rattle.protocol_stream.specs.declared.frame.TheConstants.{HEADER_LEN}
 use Rattle.store_tables.specs.declared.row.InvocationRow.{InvocationRow}
 use Rattle.store_tables.specs.declared.row.Progress.{Progress}
 use Rattle.store_tables.specs.declared.row.Write.{Write}
@@ -29,21 +28,8 @@ use Rattle.store_invocations.proofs.Refusing.{none_of_both, refused_later}
 use Rattle.store_arrivals.specs.Asked.{completion_tests}
 use Rattle.store_arrivals.specs.Woken.{flagged, row_then}
 use Rattle.store_arrivals.specs.declared.arrival.PreparedArrival.{PreparedArrival}
-use Rattle.store_arrivals.specs.Arrivals.{HasFewArrivals, IsWritten, IsArrival, IsMadeReady, arrival_tests, entry_of_arrival}
+use Rattle.store_arrivals.specs.Arrivals.{HasFewArrivals, IsArrival, IsMadeReady, arrival_tests}
 use Rattle.protocol_types.specs.declared.message_type.MessageType.{MessageType}
-
--- ---- a payload cut off its frame
-
-pub payload_cut : (kind : MessageType) (payload : Bytes) → drop HEADER_LEN (frame_bytes kind payload) ≡ payload
-payload_cut kind payload = refl
-
-pub arrival_made : (row : InvocationRow) (kind : MessageType) (arrival : Arrival) (frame : Bytes) (made : PreparedArrival)
-    → frame ≡ frame_bytes kind (notification_payload arrival) → IsWritten row kind (answered_by arrival.id) frame made → IsArrival row kind arrival made
-arrival_made row kind arrival frame made is w = record {
-  writes = λ few. w.writes few ∙ ap (λ (f : Bytes). AddEntry (entry_of_arrival row kind (answered_by arrival.id) (drop HEADER_LEN f)) ∷ SetProgress row.id (grown 1 1 row.progress) ∷ []) is;
-  place = w.place;
-  frame = w.frame ∙ is;
-}
 
 -- ---- the row, as the events tell it
 
@@ -100,7 +86,7 @@ writes_are events id n brought accepted =
 pub made_ready : (events : List Event) (id : Text) (n : ℕ) (brought : NotificationResult) (row : InvocationRow) (kind : MessageType) (made : PreparedArrival)
     → IsRowOf events id row → IsAccepted (Event.Complete id n brought ∷ events) → kind ≡ notification_type (entries_of events id) (CompletionId n)
     → IsArrival (row_then events id (completion n brought ∷ []) row) kind (completion n brought) made
-    → IsMadeReady events (Event.Complete id n brought) id (completion n brought) made
+    → IsMadeReady events (Event.Complete id n brought) id made
 made_ready events id n brought row kind made of accepted typed is =
     let named = row_named events id row of in
     let far = row_progress events id row of in
@@ -110,7 +96,6 @@ made_ready events id n brought row kind made of accepted typed is =
           ∷ SetProgress (named i) (grown 1 1 (flagged events id (completion n brought ∷ []) (far i))) ∷ [])
           ∙ sym (writes_are events id n brought accepted);
       place = is.place ∙ ap (λ (p : Progress). p.entries) far;
-      frame = is.frame ∙ ap (λ (k : MessageType). frame_bytes k (notification_payload (completion n brought))) typed;
     }
 
 -- ---- the whole call, of an open invocation
@@ -127,7 +112,7 @@ none_against_open events id opened = none_closed (is_some (invocation_begun even
 pub all_ready : (events : List Event) (id : Text) (n : ℕ) (brought : NotificationResult) (row : InvocationRow) (kind : MessageType) → IsAccepted events
     → IsOpenRow events id row → those_that_hold (completion_tests events id n brought) ≡ [] → kind ≡ notification_type (entries_of events id) (CompletionId n)
     → (r : Result PreparedArrival Refusal) → Decides (arrival_tests row (completion n brought)) (IsArrival (row_then events id (completion n brought ∷ []) row) kind (completion n brought)) r
-    → Decides (own_tests events (Event.Complete id n brought)) (IsMadeReady events (Event.Complete id n brought) id (completion n brought)) r
+    → Decides (own_tests events (Event.Complete id n brought)) (IsMadeReady events (Event.Complete id n brought) id) r
 all_ready events id n brought row kind accepted of none typed (Ok made) decided =
     let event = Event.Complete id n brought in
     let rest = ap those_that_hold (sym (tests_are events id n brought row of.0)) ∙ decided.0 in

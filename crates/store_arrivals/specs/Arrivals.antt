@@ -1,16 +1,15 @@
 -- What an arrival makes ready.
-use Rattle.std.specs.Prelude.{◌≡◌, ◌≤◌, ℕ, ◌+◌, ◌-◌, ◌^◌, nat_lt, Bool, true, List, [], ◌∷◌, ◌++◌, drop, length, Option, Some, Result}
+use Rattle.std.specs.Prelude.{◌≡◌, ◌≤◌, ℕ, ◌+◌, ◌-◌, ◌^◌, nat_lt, Bool, true, List, [], ◌∷◌, ◌++◌, length, Option, Some, Result}
 use Rattle.journal_model.specs.Notification.{Bytes, Text, Arrival}
 use Rattle.journal_model.specs.declared.notification.NotificationResult.{NotificationResult}
 use Rattle.journal_model.specs.declared.value.NonEmptyValue.{NonEmptyValue}
 use Rattle.journal_model.specs.Value.{result_of_value}
 use Rattle.journal_model.specs.Event.{Frame, Event}
-use Rattle.journal_model.specs.Spelling.{frame_bytes, notification_payload}
-use Rattle.journal_model.specs.Journal.{completion, entries_of, is_open}
-use Rattle.journal_model.specs.Attempt.{is_live, notification_type}
+use Rattle.journal_model.specs.Spelling.{notification_payload}
+use Rattle.journal_model.specs.Journal.{entries_of, is_open}
+use Rattle.journal_model.specs.Attempt.{is_live}
 use Rattle.journal_model.specs.Cause.{Cause, Tests, adding_tests, frame_tests}
 use Rattle.protocol_types.specs.declared.message_type.MessageType.{MessageType}
-use Rattle.protocol_stream.specs.declared.frame.TheConstants.{HEADER_LEN}
 use Rattle.store_tables.specs.declared.row.InvocationRow.{InvocationRow}
 use Rattle.store_tables.specs.declared.row.EntryRow.{EntryRow}
 use Rattle.store_tables.specs.declared.row.Progress.{Progress}
@@ -34,27 +33,23 @@ arrival_tests row arrival = (nat_lt (2 ^ 32 - 2) row.progress.entries, Cause.Num
 abbrev pub HasFewArrivals : Progress → Type 0
 HasFewArrivals p = p.arrivals ≤ p.entries
 
--- made ready by its frame, whose payload stands behind the header
-pub record IsWritten (row : InvocationRow) (kind : MessageType) (answered : Option ℕ) (bytes : Bytes) (made : PreparedArrival) : Type 0 where
-  pub writes : HasFewArrivals row.progress → made.writes.items ≡ AddEntry (entry_of_arrival row kind answered (drop HEADER_LEN bytes)) ∷ SetProgress row.id (grown 1 1 row.progress) ∷ []
+-- made ready by its payload
+pub record IsWritten (row : InvocationRow) (kind : MessageType) (answered : Option ℕ) (payload : Bytes) (made : PreparedArrival) : Type 0 where
+  pub writes : HasFewArrivals row.progress → made.writes.items ≡ AddEntry (entry_of_arrival row kind answered payload) ∷ SetProgress row.id (grown 1 1 row.progress) ∷ []
   pub place : made.place ≡ row.progress.entries
-  pub frame : made.frame ≡ bytes
 
 -- made ready of the invocation that has this row
-pub record IsArrival (row : InvocationRow) (kind : MessageType) (arrival : Arrival) (made : PreparedArrival) : Type 0 where
-  pub writes : HasFewArrivals row.progress → made.writes.items ≡ AddEntry (entry_of_arrival row kind (answered_by arrival.id) (notification_payload arrival)) ∷ SetProgress row.id (grown 1 1 row.progress) ∷ []
-  pub place : made.place ≡ row.progress.entries
-  pub frame : made.frame ≡ frame_bytes kind (notification_payload arrival)
+abbrev pub IsArrival : InvocationRow → MessageType → Arrival → PreparedArrival → Type 0
+IsArrival row kind arrival = IsWritten row kind (answered_by arrival.id) (notification_payload arrival)
 
--- made ready of an event that adds the arrival to an invocation: what the event writes, and the next frame of an attempt's input
-pub record IsMadeReady (events : List Event) (event : Event) (id : Text) (arrival : Arrival) (made : PreparedArrival) : Type 0 where
+-- made ready of an event that adds an arrival to an invocation: what the event writes
+pub record IsMadeReady (events : List Event) (event : Event) (id : Text) (made : PreparedArrival) : Type 0 where
   pub writes : made.writes.items ≡ writes_of events event
   pub place : made.place ≡ 1 + length (entries_of events id)
-  pub frame : made.frame ≡ frame_bytes (notification_type (entries_of events id) arrival.id) (notification_payload arrival)
 
 -- made ready of the outcome of a run, whichever live attempt of an open invocation proposes it, or refused
 abbrev pub DecidesOutcome : List Event → Text → ℕ → NotificationResult → Result PreparedArrival Refusal → Type 0
 DecidesOutcome events id n brought result = (number : ℕ) (value : NonEmptyValue) (asks : Bool)
     → is_open events id ≡ true → is_live events id number ≡ true → brought ≡ result_of_value value
     → Decides (frame_tests events id (Frame.RunOutcome n value asks) ++ adding_tests events id (Event.Take id number (Frame.RunOutcome n value asks)))
-    (IsMadeReady events (Event.Take id number (Frame.RunOutcome n value asks)) id (completion n brought)) result
+    (IsMadeReady events (Event.Take id number (Frame.RunOutcome n value asks)) id) result

@@ -1,9 +1,9 @@
--- What a tick writes of the sleeps of one invocation that it ends, and which frames a live attempt of it is handed.
+-- What a tick writes of the sleeps of one invocation that it ends.
 use Rattle.std.specs.Prelude.{◌≡◌, ℕ, ◌+◌, List, [], ◌∷◌, map, Some}
 use Rattle.journal_model.specs.Notification.{Bytes, Text}
 use Rattle.journal_model.specs.declared.notification.NotificationResult.{NotificationResult}
 use Rattle.journal_model.specs.Journal.{completion}
-use Rattle.journal_model.specs.Spelling.{frame_bytes, notification_payload}
+use Rattle.journal_model.specs.Spelling.{notification_payload}
 use Rattle.protocol_types.specs.declared.message_type.MessageType.TheVariants.{SleepCompletionNotification}
 use Rattle.store_tables.specs.declared.row.EntryRow.{EntryRow}
 use Rattle.store_model.specs.Kept.{plain_row}
@@ -20,6 +20,3 @@ end_row id place before n = record (plain_row id place SleepCompletionNotificati
 abbrev pub end_rows : Text → ℕ → ℕ → List ℕ → List EntryRow
 end_rows id place before [] = []
 end_rows id place before (n ∷ ns) = end_row id place before n ∷ end_rows id (place + 1) (before + 1) ns
-
-abbrev pub end_frame : ℕ → Bytes
-end_frame n = frame_bytes SleepCompletionNotification (end_payload n)

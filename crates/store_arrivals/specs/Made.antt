@@ -1,14 +1,12 @@
 -- What is made ready of a tick: the ends of the sleeps that are due, invocation by invocation.
-use Rattle.std.specs.Prelude.{◌≡◌, ℕ, ◌+◌, ◌-◌, ◌^◌, ◌<◌, nat_lt, Bool, true, false, bytes_eq, List, [], ◌∷◌, ◌++◌, length, map, flat_map, drop, Some}
+use Rattle.std.specs.Prelude.{◌≡◌, ℕ, ◌+◌, ◌-◌, ◌^◌, ◌<◌, nat_lt, Bool, true, false, bytes_eq, List, [], ◌∷◌, ◌++◌, length, map, flat_map}
 use Rattle.std.specs.List.{AllByRecursion}
-use Rattle.journal_model.specs.Notification.{Bytes, Text}
+use Rattle.journal_model.specs.Notification.{Text}
 use Rattle.journal_model.specs.Event.{Event}
 use Rattle.journal_model.specs.Journal.{is_open, entries_of, recorded_arrivals}
 use Rattle.journal_model.specs.Attempt.{completions_of_tick}
 use Rattle.journal_model.specs.Cause.{Cause, Tests, IsAccepted, causes_of}
-use Rattle.protocol_stream.specs.declared.frame.TheConstants.{HEADER_LEN}
 use Rattle.store_tables.specs.Records.{Records, applied_all}
-use Rattle.store_tables.specs.declared.row.EntryRow.{EntryRow}
 use Rattle.store_tables.specs.declared.row.InvocationRow.{InvocationRow}
 use Rattle.store_tables.specs.declared.row.Progress.{Progress}
 use Rattle.store_tables.specs.declared.row.Write.{Write}
@@ -16,25 +14,14 @@ use Rattle.store_tables.specs.declared.row.Write.TheVariants.{AddEntry, SetProgr
 use Rattle.store_model.specs.Kept.{IsKept}
 use Rattle.store_model.specs.Progress.{progress_of}
 use Rattle.store_model.specs.Steps.{grown}
-use Rattle.store_model.specs.Writes.{AreEnding, rows_added, tick_writes}
-use Rattle.store_lookups.specs.Lookups.{row_frame}
+use Rattle.store_model.specs.Writes.{AreEnding, tick_writes}
 use Rattle.store_arrivals.specs.Arrivals.{HasFewArrivals}
-use Rattle.store_arrivals.specs.Ended.{end_frame, end_row, end_rows}
+use Rattle.store_arrivals.specs.Ended.{end_rows}
 use Rattle.store_arrivals.specs.Groups.{Group}
 use Rattle.store_arrivals.specs.Woken.{ends_of, flagged}
-use Rattle.store_arrivals.specs.declared.ended.SleepEnd.{SleepEnd}
-use Rattle.store_live.specs.declared.added.AddedFrames.{AddedFrames}
 use Rattle.store_arrivals.specs.declared.tick.PreparedTick.{PreparedTick}
 
 -- ---- one invocation
-
--- its payload is cut off its frame
-abbrev pub end_row_of : Text → ℕ → ℕ → ℕ → Bytes → EntryRow
-end_row_of id place before n frame = record (end_row id place before n) { payload = drop HEADER_LEN frame }
-
-pub record IsEnd (id : Text) (place before n : ℕ) (end : SleepEnd) : Type 0 where
-  pub entry : end.entry ≡ end_row id place before n
-  pub frame : end.frame ≡ end_frame n
 
 -- so many more entries have places behind those that there are
 abbrev pub room_tests : (entries more : ℕ) → Tests
@@ -48,16 +35,9 @@ progress_writes id progress ns = map AddEntry (end_rows id progress.entries prog
 abbrev pub row_writes : InvocationRow → List ℕ → List Write
 row_writes row ns = progress_writes row.id row.progress ns
 
--- what is told of them, from a place on
-pub record AreEnds (id : Text) (place : ℕ) (ns : List ℕ) (ended : AddedFrames) : Type 0 where
-  pub named : ended.id ≡ id
-  pub place_is : ended.place ≡ place
-  pub frames : ended.frames.items ≡ map end_frame ns
-
--- told so, and written behind other writes
-pub record AreEndsOf (row : InvocationRow) (id : Text) (ns : List ℕ) (before after : List Write) (ended : AddedFrames) : Type 0 where
-  pub ends : AreEnds id row.progress.entries ns ended
-  pub written : HasFewArrivals row.progress → after ≡ before ++ row_writes row ns
+-- written behind other writes
+abbrev pub AreEndsOf : InvocationRow → List ℕ → (before after : List Write) → Type 0
+AreEndsOf row ns before after = HasFewArrivals row.progress → after ≡ before ++ row_writes row ns
 
 -- ---- by the accepted events
 
@@ -75,9 +55,8 @@ group_writes events group =
 abbrev pub group_tests : List Event → Group → Tests
 group_tests events group = room_tests (next_place events group.0) (length group.1)
 
-pub record IsGroupEnded (events : List Event) (group : Group) (before after : List Write) (ended : AddedFrames) : Type 0 where
-  pub ends : AreEnds group.0 (next_place events group.0) group.1 ended
-  pub written : after ≡ before ++ group_writes events group
+abbrev pub IsGroupEnded : List Event → Group → (before after : List Write) → Type 0
+IsGroupEnded events group before after = after ≡ before ++ group_writes events group
 
 -- one after another
 abbrev pub AreOpen : List Event → List Group → Type 0
@@ -86,14 +65,8 @@ AreOpen events = AllByRecursion (λ (group : Group). is_open events group.0 ≡ 
 abbrev pub tests_of : List Event → List Group → Tests
 tests_of events groups = flat_map (group_tests events) groups
 
-abbrev pub AreToldOf : List Event → List Group → List AddedFrames → Type 0
-AreToldOf events [] [] = Unit {0}
-AreToldOf events (group ∷ groups) (one ∷ others) = AreEnds group.0 (next_place events group.0) group.1 one × AreToldOf events groups others
-AreToldOf events _ _ = ⊥
-
-pub record AreGroupsEnded (events : List Event) (groups : List Group) (before after : List Write) (ended : List AddedFrames) : Type 0 where
-  pub told : AreToldOf events groups ended
-  pub written : after ≡ before ++ flat_map (group_writes events) groups
+abbrev pub AreGroupsEnded : List Event → List Group → (before after : List Write) → Type 0
+AreGroupsEnded events groups before after = after ≡ before ++ flat_map (group_writes events) groups
 
 -- ---- the tick
 
@@ -108,7 +81,6 @@ until_writes events until [] = []
 until_writes events until (group ∷ groups) = flat_map (group_writes events) (group ∷ groups) ++ CloseSleepsUntil until ∷ []
 
 pub record IsEndedUntil (events : List Event) (until count : ℕ) (groups : List Group) (made : PreparedTick) : Type 0 where
-  pub told : AreToldOf events groups made.ended.items
   pub writes : made.writes.items ≡ until_writes events until groups
   pub counted : made.count ≡ count
 
@@ -122,16 +94,9 @@ abbrev pub ReadyKeeps : Type 0
 ReadyKeeps = (events : List Event) (now : ℕ) (ids : List Text) (r : Records) → IsAccepted events → causes_of events (Event.Tick now) ≡ [] → AreEnding events now ids
     → IsKept events r → IsKept (Event.Tick now ∷ events) (applied_all (ready_writes events now ids) r)
 
-abbrev pub ids_ended : List AddedFrames → List Text
-ids_ended ended = map (λ (one : AddedFrames). one.id) ended
-
--- the frames of the entries that the tick adds, from the place of the first one on
-pub record AreFrames (events : List Event) (now : ℕ) (one : AddedFrames) : Type 0 where
-  pub place_is : one.place ≡ next_place events one.id
-  pub frames : one.frames.items ≡ map row_frame (rows_added events (Event.Tick now) one.id)
-
+-- of these invocations sleeps are ended
 pub record IsTickReady (events : List Event) (now : ℕ) (made : PreparedTick) : Type 0 where
-  pub ending : AreEnding events now (ids_ended made.ended.items)
-  pub writes : made.writes.items ≡ ready_writes events now (ids_ended made.ended.items)
-  pub ended : AllByRecursion (AreFrames events now) made.ended.items
+  pub ids : List Text
+  pub ending : AreEnding events now ids
+  pub writes : made.writes.items ≡ ready_writes events now ids
   pub count : made.count ≡ completions_of_tick events now

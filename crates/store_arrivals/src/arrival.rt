@@ -1,32 +1,27 @@
 //! What the arrival of a notification makes ready, of an open invocation.
 
-ghost use Rattle.std.specs.Prelude.{◌≡◌, ◌+◌, ◌<◌, ◌≤◌, ◌^◌, ◌∷◌, [], drop as without, length, IfOk};
-ghost use Rattle.journal_model.specs.Spelling.{frame_bytes, notification_payload};
-ghost use Rattle.protocol_types.specs.MessageType.{number_of};
-ghost use Rattle.protocol_stream.specs.declared.frame.TheConstants.{HEADER_LEN};
+ghost use Rattle.std.specs.Prelude.{◌≡◌, ◌+◌, ◌<◌, ◌^◌, ◌∷◌, [], IfOk};
+ghost use Rattle.journal_model.specs.Spelling.{notification_payload};
 ghost use Rattle.store_tables.specs.declared.row.Write.{Write as RowWrite};
 ghost use Rattle.store_model.specs.Kept.{answered_by};
 ghost use Rattle.store_model.specs.Steps.{grown};
 ghost use Rattle.store_invocations.specs.Rows.{Decides, payload_tests};
 ghost use Rattle.store_arrivals.specs.Arrivals.{HasFewArrivals, IsArrival, IsWritten, arrival_tests, entry_of_arrival};
 
-use crate::payload::payload_of;
+use crate::payload::{kept_bytes, payload_of};
 use bytes::{ByteStr, Bytes};
 use journal_model::{Notification, NotificationId};
-use protocol_stream::{MessageType, payload_of_frame};
+use protocol_stream::MessageType;
 use std::alloc::{AllocError, Global};
-use store_invocations::payload_frame;
 use store_refusals::Refusal;
 use store_tables::{EntryRow, InvocationRow, Progress, Write};
 
-/// What an arrival writes, and what it adds to the input of a live attempt.
+/// What an arrival writes.
 #[derive(Debug, Drop)]
 pub struct PreparedArrival {
     pub writes: Vec<Write>,
     /// The place of its entry.
     pub place: u32,
-    /// Its frame, which comes behind the input of the live attempt.
-    pub frame: Bytes,
 }
 
 fn answered_id(id: &NotificationId) -> Option<u32>
@@ -38,30 +33,28 @@ fn answered_id(id: &NotificationId) -> Option<u32>
     }
 }
 
-/// The frame of an arrival, as a message of this type.
-pub(crate) fn arrival_frame(
-    alloc: Global,
-    ty: MessageType,
-    arrival: Notification,
-) -> Result<Bytes, Refusal>
-    ensures { Decides (payload_tests (notification_payload arrival)) (λ frame. frame ≡ frame_bytes ty (notification_payload arrival)) result }
+/// The payload of an arrival, if its length fits 32 bits.
+fn arrival_payload(alloc: Global, arrival: Notification) -> Result<Bytes, Refusal>
+    ensures { Decides (payload_tests (notification_payload arrival)) (λ payload. payload ≡ notification_payload arrival) result }
 {
     let payload = payload_of(alloc, arrival)?;
-    payload_frame(alloc, ty, payload.as_slice())
+    if payload.len() > u32::MAX as usize {
+        return Err(Refusal::PayloadTooLong);
+    }
+    let kept = kept_bytes(payload)?;
+    Ok(kept)
 }
 
-/// The entry of an arrival, whose payload is cut off its frame.
+/// The entry of an arrival that has this payload.
 fn entry_of(
     row: &InvocationRow,
     ty: MessageType,
     answered: Option<u32>,
-    frame: &Bytes,
+    payload: Bytes,
 ) -> Result<EntryRow, AllocError>
-    requires framed { HEADER_LEN ≤ length frame.now }
-    requires room { row.now.progress.entries + 1 < 2 ^ 32 }
-    ensures { HasFewArrivals row.now.progress → IfOk result (λ entry. entry ≡ entry_of_arrival row.now ty answered (without HEADER_LEN frame.now)) }
+    requires { row.now.progress.entries + 1 < 2 ^ 32 }
+    ensures { HasFewArrivals row.now.progress → IfOk result (λ entry. entry ≡ entry_of_arrival row.now ty answered payload) }
 {
-    let payload = payload_of_frame(frame)?;
     Ok(EntryRow {
         invocation: row.id.clone()?,
         place: row.progress.entries,
@@ -117,25 +110,22 @@ fn writes_of(alloc: Global, row: InvocationRow, entry: EntryRow) -> Result<Vec<W
     two_writes(alloc, entry, id, with_arrival(progress))
 }
 
-/// The writes of an arrival whose frame stands.
+/// The writes of an arrival that has this payload.
 fn arrival_with(
     alloc: Global,
     row: InvocationRow,
     ty: MessageType,
     answered: Option<u32>,
-    frame: Bytes,
+    payload: Bytes,
 ) -> Result<PreparedArrival, AllocError>
-    requires room { row.progress.entries + 1 < 2 ^ 32 }
-    requires framed { HEADER_LEN ≤ length frame }
-    ensures written { IfOk result (IsWritten row ty answered frame) }
-    ensures place { IfOk result (λ made. made.place + 1 < 2 ^ 32) }
+    requires { row.progress.entries + 1 < 2 ^ 32 }
+    ensures { IfOk result (IsWritten row ty answered payload) }
 {
     let place = row.progress.entries;
-    match entry_of(&row, ty, answered, &frame) {
+    match entry_of(&row, ty, answered, payload) {
         Ok(entry) => Ok(PreparedArrival {
             writes: writes_of(alloc, row, entry)?,
             place,
-            frame,
         }),
         Err(refused) => {
             drop(row);
@@ -152,13 +142,12 @@ fn arrival_in(
     arrival: Notification,
 ) -> Result<PreparedArrival, Refusal>
     requires { row.progress.entries + 1 < 2 ^ 32 }
-    ensures decided { Decides (payload_tests (notification_payload arrival)) (IsArrival row ty arrival) result }
-    ensures place { IfOk result (λ made. made.place + 1 < 2 ^ 32) }
+    ensures { Decides (payload_tests (notification_payload arrival)) (IsArrival row ty arrival) result }
 {
     let answered = answered_id(&arrival.id);
-    match arrival_frame(alloc, ty, arrival) {
-        Ok(frame) => {
-            let made = arrival_with(alloc, row, ty, answered, frame)?;
+    match arrival_payload(alloc, arrival) {
+        Ok(payload) => {
+            let made = arrival_with(alloc, row, ty, answered, payload)?;
             Ok(made)
         }
         Err(why) => {
@@ -176,8 +165,7 @@ pub fn prepare_arrival(
     ty: MessageType,
     arrival: Notification,
 ) -> Result<PreparedArrival, Refusal>
-    ensures decided { Decides (arrival_tests row arrival) (IsArrival row ty arrival) result }
-    ensures place { IfOk result (λ made. made.place + 1 < 2 ^ 32) }
+    ensures { Decides (arrival_tests row arrival) (IsArrival row ty arrival) result }
 {
     let has_room = row.progress.entries < u32::MAX;
     if has_room {

@@ -1,6 +1,6 @@
 //! What is made ready of arrivals of any kind: of a result, of a signal, of a cancellation, of the outcome of a run, of another
-//! notification, and of a tick, which ends the sleeps that are due. That is why it is refused, or by which writes it is recorded and
-//! which frames live attempts are handed. Nothing is written here.
+//! notification, and of a tick, which ends the sleeps that are due. That is why it is refused, or by which writes it is recorded. A live
+//! attempt reads it from its row. Nothing is written here.
 #![tactic(auto)]
 
 mod arrival;

@@ -1,6 +1,6 @@
 //! What the outcome of a run makes ready.
 
-ghost use Rattle.std.specs.Prelude.{◌≡◌, ◌+◌, ◌<◌, ◌^◌, List, IfOk};
+ghost use Rattle.std.specs.Prelude.{◌≡◌, List};
 ghost use Rattle.sqlite.specs.Held.{state};
 ghost use Rattle.sqlite.specs.State.{HasCleanDisk};
 ghost use Rattle.journal_model.specs.Event.{Event};
@@ -37,8 +37,8 @@ fn is_run_open<S: Alter>(
     }
 }
 
-/// What the outcome of a run makes ready, of the open invocation that has this row, or why it is refused: its entry, and its
-/// notification. Whether the attempt that proposes it is told more than that it is recorded is the caller's to know.
+/// What the outcome of a run makes ready, of the open invocation that has this row, or why it is refused. Whether the attempt that
+/// proposes it is told only that it came is the caller's to know.
 pub fn prepare_outcome<S: Alter>(
     tables: &mut StoreTables<S>,
     row: InvocationRow,
@@ -47,7 +47,6 @@ pub fn prepare_outcome<S: Alter>(
     brought: NotificationResult,
 ) -> Result<PreparedArrival, Refusal>
     ensures decided { HasCleanDisk (state S.Store tables.new) → (events : List Event) → IsStoreOf events (state S.Store tables.old) → IsRowOf events id.now row → DecidesOutcome events id.now completion brought result }
-    ensures place { IfOk result (λ made. made.place + 1 < 2 ^ 32) }
     ensures looks { Looks S.Store tables.old tables.new }
 {
     match is_run_open(tables, id, completion) {

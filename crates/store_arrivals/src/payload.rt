@@ -5,7 +5,7 @@ ghost use Rattle.journal_model.specs.Spelling.{notification_payload};
 ghost use Rattle.protocol_stream.specs.Records.{pair_record};
 ghost use Rattle.protocol_spellings.specs.Records.{arrived_failure_record, id_record, notification_record, result_record};
 
-use bytes::ByteStr;
+use bytes::{ByteStr, Bytes};
 use journal_model::{Failure, Notification, NotificationId, NotificationResult};
 use protocol_controls::{NotificationMessage, NotificationMessageId, NotificationMessageResult};
 use protocol_records::{Failure as FailureRecord, FailureMetadata, StateKeys, Value, Void};
@@ -101,4 +101,17 @@ pub(crate) fn payload_of(alloc: Global, arrival: Notification) -> Result<Vec<u8>
     drop(message);
     let payload = spelled?;
     Ok(payload)
+}
+
+/// A payload as it is kept.
+pub(crate) fn kept_bytes(payload: Vec<u8>) -> Result<Bytes, AllocError>
+    ensures { IfOk result (λ bytes. bytes ≡ payload.items) }
+{
+    match Bytes::from_vec(payload) {
+        Ok(bytes) => Ok(bytes),
+        Err(refused) => {
+            drop(refused);
+            Err(AllocError)
+        }
+    }
 }

@@ -1,11 +1,11 @@
 //! What the result of a request makes ready.
 
-ghost use Rattle.std.specs.Prelude.{◌≡◌, ◌+◌, ◌<◌, ◌^◌, List, IfOk};
+ghost use Rattle.std.specs.Prelude.{◌≡◌, List};
 ghost use Rattle.sqlite.specs.Held.{state};
 ghost use Rattle.sqlite.specs.State.{HasCleanDisk};
 ghost use Rattle.journal_model.specs.declared.notification.NotificationId.TheVariants.{CompletionId as ModelId};
 ghost use Rattle.journal_model.specs.Event.{Event};
-ghost use Rattle.journal_model.specs.Journal.{completion as arrival_of, entries_of};
+ghost use Rattle.journal_model.specs.Journal.{entries_of};
 ghost use Rattle.journal_model.specs.Attempt.{notification_type};
 ghost use Rattle.journal_model.specs.Cause.{own_tests};
 ghost use Rattle.store_tables.specs.Looks.{Looks};
@@ -53,8 +53,7 @@ fn prepare_for<S: Alter>(
     brought: NotificationResult,
 ) -> Result<PreparedArrival, Refusal>
     ensures decided { HasCleanDisk (state S.Store tables.new) → (events : List Event) → IsStoreOf events (state S.Store tables.old) → IsOpenRow events id.now row
-        → Decides (own_tests events (Event.Complete id.now completion brought)) (IsMadeReady events (Event.Complete id.now completion brought) id.now (arrival_of completion brought)) result }
-    ensures place { IfOk result (λ made. made.place + 1 < 2 ^ 32) }
+        → Decides (own_tests events (Event.Complete id.now completion brought)) (IsMadeReady events (Event.Complete id.now completion brought) id.now) result }
     ensures looks { Looks S.Store tables.old tables.new }
 {
     match type_of_result(tables, id, completion, &brought) {
@@ -75,7 +74,7 @@ fn prepare_for<S: Alter>(
     }
 }
 
-/// What a result of a recorded request makes ready, or why it is refused: its entry, and its frame for a live attempt.
+/// What a result of a recorded request makes ready, or why it is refused.
 pub fn prepare_result<S: Alter>(
     tables: &mut StoreTables<S>,
     id: &ByteStr,
@@ -83,8 +82,7 @@ pub fn prepare_result<S: Alter>(
     brought: NotificationResult,
 ) -> Result<PreparedArrival, Refusal>
     ensures prepared { HasCleanDisk (state S.Store tables.new) → (events : List Event) → IsStoreOf events (state S.Store tables.old)
-        → Prepares events (Event.Complete id.now completion brought) (IsMadeReady events (Event.Complete id.now completion brought) id.now (arrival_of completion brought)) result }
-    ensures place { IfOk result (λ made. made.place + 1 < 2 ^ 32) }
+        → Prepares events (Event.Complete id.now completion brought) (IsMadeReady events (Event.Complete id.now completion brought) id.now) result }
     ensures looks { Looks S.Store tables.old tables.new }
 {
     match open_row(tables, id) {

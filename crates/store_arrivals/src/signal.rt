@@ -1,6 +1,6 @@
 //! What a signal makes ready, and a cancellation.
 
-ghost use Rattle.std.specs.Prelude.{◌≡◌, ◌+◌, ◌<◌, ◌^◌, List, IfOk};
+ghost use Rattle.std.specs.Prelude.{◌≡◌, List};
 ghost use Rattle.sqlite.specs.Held.{state};
 ghost use Rattle.sqlite.specs.State.{HasCleanDisk};
 ghost use Rattle.journal_model.specs.Notification.{Text};
@@ -13,7 +13,7 @@ ghost use Rattle.store_refusals.specs.Prepared.{Prepares};
 ghost use Rattle.store_refusals.specs.Refused.{refusal_by};
 ghost use Rattle.store_invocations.specs.Rows.{Decides, IsOpenRow, IsStoreOf};
 ghost use Rattle.store_arrivals.specs.Arrivals.{IsMadeReady};
-ghost use Rattle.store_arrivals.specs.Signals.{cancellation, key_of, signal_arrival, signal_tests};
+ghost use Rattle.store_arrivals.specs.Signals.{key_of, signal_tests};
 
 use crate::arrival::PreparedArrival;
 use crate::woken::prepare_woken;
@@ -95,8 +95,7 @@ fn signal_for<S: Alter>(
     brought: NotificationResult,
 ) -> Result<PreparedArrival, Refusal>
     ensures decided { HasCleanDisk (state S.Store tables.new) → (events : List Event) (id : Text) → IsStoreOf events (state S.Store tables.old) → IsOpenRow events id row
-        → Decides (own_tests events (Event.Signal id (key_of key) brought)) (IsMadeReady events (Event.Signal id (key_of key) brought) id (signal_arrival (key_of key) brought)) result }
-    ensures place { IfOk result (λ made. made.place + 1 < 2 ^ 32) }
+        → Decides (own_tests events (Event.Signal id (key_of key) brought)) (IsMadeReady events (Event.Signal id (key_of key) brought) id) result }
     ensures looks { Looks S.Store tables.old tables.new }
 {
     match signal_refusal(&key, &brought) {
@@ -124,8 +123,7 @@ fn cancel_for<S: Alter>(
     row: InvocationRow,
 ) -> Result<PreparedArrival, Refusal>
     ensures decided { HasCleanDisk (state S.Store tables.new) → (events : List Event) (id : Text) → IsStoreOf events (state S.Store tables.old) → IsOpenRow events id row
-        → Decides (own_tests events (Event.Cancel id)) (IsMadeReady events (Event.Cancel id) id cancellation) result }
-    ensures place { IfOk result (λ made. made.place + 1 < 2 ^ 32) }
+        → Decides (own_tests events (Event.Cancel id)) (IsMadeReady events (Event.Cancel id) id) result }
     ensures looks { Looks S.Store tables.old tables.new }
 {
     prepare_woken(
@@ -139,7 +137,7 @@ fn cancel_for<S: Alter>(
     )
 }
 
-/// What a signal from outside makes ready, or why it is refused: its entry, and its frame for a live attempt.
+/// What a signal from outside makes ready, or why it is refused.
 pub fn prepare_signal<S: Alter>(
     tables: &mut StoreTables<S>,
     id: &ByteStr,
@@ -147,8 +145,7 @@ pub fn prepare_signal<S: Alter>(
     brought: NotificationResult,
 ) -> Result<PreparedArrival, Refusal>
     ensures prepared { HasCleanDisk (state S.Store tables.new) → (events : List Event) → IsStoreOf events (state S.Store tables.old)
-        → Prepares events (Event.Signal id.now (key_of key) brought) (IsMadeReady events (Event.Signal id.now (key_of key) brought) id.now (signal_arrival (key_of key) brought)) result }
-    ensures place { IfOk result (λ made. made.place + 1 < 2 ^ 32) }
+        → Prepares events (Event.Signal id.now (key_of key) brought) (IsMadeReady events (Event.Signal id.now (key_of key) brought) id.now) result }
     ensures fits { SignalKeyFits (key_of key) }
     ensures looks { Looks S.Store tables.old tables.new }
 {
@@ -169,8 +166,7 @@ pub fn prepare_cancel<S: Alter>(
     id: &ByteStr,
 ) -> Result<PreparedArrival, Refusal>
     ensures prepared { HasCleanDisk (state S.Store tables.new) → (events : List Event) → IsStoreOf events (state S.Store tables.old)
-        → Prepares events (Event.Cancel id.now) (IsMadeReady events (Event.Cancel id.now) id.now cancellation) result }
-    ensures place { IfOk result (λ made. made.place + 1 < 2 ^ 32) }
+        → Prepares events (Event.Cancel id.now) (IsMadeReady events (Event.Cancel id.now) id.now) result }
     ensures looks { Looks S.Store tables.old tables.new }
 {
     match open_row(tables, id) {

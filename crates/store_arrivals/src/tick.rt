@@ -1,7 +1,6 @@
 //! What a tick makes ready.
 
-ghost use Rattle.std.specs.Prelude.{◌≡◌, List, length, map, true, IfOk, OnOk, IsTrue};
-ghost use Rattle.std.specs.List.{AllByRecursion};
+ghost use Rattle.std.specs.Prelude.{◌≡◌, ℕ, List, length, map, true, IfOk, OnOk, IsTrue};
 ghost use Rattle.sqlite.specs.Held.{state};
 ghost use Rattle.sqlite.specs.State.{HasCleanDisk};
 ghost use Rattle.journal_model.specs.Event.{Event};
@@ -12,29 +11,24 @@ ghost use Rattle.store_refusals.specs.Prepared.{Prepares};
 ghost use Rattle.store_arrivals.specs.Grouped.{as_group};
 ghost use Rattle.store_invocations.specs.Rows.{Decides, IsRowOf, IsStoreOf};
 ghost use Rattle.store_arrivals.specs.Woken.{ends_of as the_ends_of, row_then};
-ghost use Rattle.store_live.specs.Added.{HasPlaces};
 ghost use Rattle.store_arrivals.specs.Made.{AreEndsOf, AreGroupsEnded, AreOpen, IsEndedUntil, IsGroupEnded, IsTickReady, closed_until, group_tests, room_tests, tests_of};
 
 use crate::ended::end_sleeps;
 use crate::groups::{SleepGroup, groups_of};
 use crate::woken::woken_row;
-use bytes::ByteStr;
 use journal_model::{Notification, NotificationId, NotificationResult};
 use sqlite::Alter;
 use std::alloc::{AllocError, Global};
 use std::collections::VecDeque;
 use store_invocations::open_row;
-use store_live::AddedFrames;
 use store_refusals::Refusal;
 use store_tables::{InvocationRow, StoreTables, Write, sleeps_until};
 
-/// What a tick writes, and what it adds to the input of live attempts.
+/// What a tick writes.
 #[derive(Debug, Drop)]
 pub struct PreparedTick {
     /// All in one transaction. Nothing where no sleep is ended.
     pub writes: Vec<Write>,
-    /// The frames of the ends, of each invocation of which sleeps are ended once.
-    pub ended: Vec<AddedFrames>,
     /// How many sleeps are ended, over all.
     pub count: u64,
 }
@@ -62,29 +56,23 @@ fn ends_of(alloc: Global, completions: &[u32]) -> Result<Vec<Notification>, Allo
 /// Ends the sleeps of the open invocation that has this row.
 fn end_open<S: Alter>(
     tables: &mut StoreTables<S>,
-    invocation: ByteStr,
     row: InvocationRow,
     completions: &[u32],
     writes: &mut Vec<Write>,
-) -> Result<AddedFrames, Refusal>
-    ensures decided { HasCleanDisk (state S.Store tables.new) → (events : List Event) → IsStoreOf events (state S.Store tables.old) → IsRowOf events invocation row
-        → Decides (room_tests row.progress.entries (length completions.now)) (AreEndsOf (row_then events invocation (the_ends_of completions.now) row) invocation completions.now writes.old.items writes.new.items) result }
-    ensures places { IfOk result HasPlaces }
+) -> Result<(), Refusal>
+    ensures decided { HasCleanDisk (state S.Store tables.new) → (events : List Event) → (id : List ℕ) → IsStoreOf events (state S.Store tables.old) → IsRowOf events id row
+        → Decides (room_tests row.progress.entries (length completions.now)) (λ _. AreEndsOf (row_then events id (the_ends_of completions.now) row) completions.now writes.old.items writes.new.items) result }
     ensures looks { Looks S.Store tables.old tables.new }
 {
     let Ok(ends) = ends_of(tables.alloc(), completions) else {
-        drop(invocation);
         drop(row);
         return Err(Refusal::OutOfMemory);
     };
     let woken = woken_row(tables, row, ends.as_slice());
     drop(ends);
     match woken {
-        Ok(row) => end_sleeps(tables.alloc(), invocation, row, completions, writes),
-        Err(why) => {
-            drop(invocation);
-            Err(why)
-        }
+        Ok(row) => end_sleeps(tables.alloc(), row, completions, writes),
+        Err(why) => Err(why),
     }
 }
 
@@ -93,10 +81,9 @@ fn end_group<S: Alter>(
     tables: &mut StoreTables<S>,
     group: SleepGroup,
     writes: &mut Vec<Write>,
-) -> Result<AddedFrames, Refusal>
+) -> Result<(), Refusal>
     ensures decided { HasCleanDisk (state S.Store tables.new) → (events : List Event) → IsStoreOf events (state S.Store tables.old) → is_open events group.invocation ≡ true
-        → Decides (group_tests events (as_group group)) (IsGroupEnded events (as_group group) writes.old.items writes.new.items) result }
-    ensures places { IfOk result HasPlaces }
+        → Decides (group_tests events (as_group group)) (λ _. IsGroupEnded events (as_group group) writes.old.items writes.new.items) result }
     ensures looks { Looks S.Store tables.old tables.new }
 {
     let SleepGroup {
@@ -106,7 +93,8 @@ fn end_group<S: Alter>(
     let completions = completions.into_vec();
     match open_row(tables, &invocation) {
         Ok(row) => {
-            let ended = end_open(tables, invocation, row, completions.as_slice(), writes);
+            drop(invocation);
+            let ended = end_open(tables, row, completions.as_slice(), writes);
             drop(completions);
             ended
         }
@@ -123,18 +111,15 @@ fn end_groups<S: Alter>(
     tables: &mut StoreTables<S>,
     mut groups: VecDeque<SleepGroup>,
     writes: &mut Vec<Write>,
-) -> Result<Vec<AddedFrames>, Refusal>
+) -> Result<(), Refusal>
     ensures decided { HasCleanDisk (state S.Store tables.new) → (events : List Event) → IsStoreOf events (state S.Store tables.old) → AreOpen events (map as_group groups.items)
-        → Decides (tests_of events (map as_group groups.items)) (λ ended. AreGroupsEnded events (map as_group groups.items) writes.old.items writes.new.items ended.items) result }
-    ensures places { IfOk result (λ ended. AllByRecursion HasPlaces ended.items) }
+        → Decides (tests_of events (map as_group groups.items)) (λ _. AreGroupsEnded events (map as_group groups.items) writes.old.items writes.new.items) result }
     ensures looks { Looks S.Store tables.old tables.new }
 {
-    let mut ended = Vec::new(tables.alloc());
     while let Some(group) = groups.pop_front() {
-        let one = end_group(tables, group, writes)?;
-        ended.push(one)?;
+        end_group(tables, group, writes)?;
     }
-    Ok(ended)
+    Ok(())
 }
 
 /// Closes the sleeps that are due, where there are any.
@@ -156,17 +141,13 @@ fn end_due<S: Alter>(
 ) -> Result<PreparedTick, Refusal>
     ensures decided { HasCleanDisk (state S.Store tables.new) → (events : List Event) → IsStoreOf events (state S.Store tables.old) → AreOpen events (map as_group groups.items)
         → Decides (tests_of events (map as_group groups.items)) (IsEndedUntil events until count (map as_group groups.items)) result }
-    ensures places { IfOk result (λ made. AllByRecursion HasPlaces made.ended.items) }
     ensures looks { Looks S.Store tables.old tables.new }
 {
     let mut writes = Vec::new(tables.alloc());
-    let ended = end_groups(tables, groups, &mut writes)?;
-    close_due(until, !ended.is_empty(), &mut writes)?;
-    Ok(PreparedTick {
-        writes,
-        ended,
-        count,
-    })
+    let is_any = !groups.is_empty();
+    end_groups(tables, groups, &mut writes)?;
+    close_due(until, is_any, &mut writes)?;
+    Ok(PreparedTick { writes, count })
 }
 
 /// What a tick at this moment makes ready, in milliseconds, or why it is refused: the ends of all sleeps of open invocations that are
@@ -178,7 +159,6 @@ pub fn prepare_tick<S: Alter>(
     ensures prepared { HasCleanDisk (state S.Store tables.new) → (events : List Event) → IsStoreOf events (state S.Store tables.old)
         → Prepares events (Event.Tick now) (IsTickReady events now) result }
     ensures asked { HasCleanDisk (state S.Store tables.new) → OnOk result (IsTrue (state S.Store tables.old).is_open) }
-    ensures places { IfOk result (λ made. AllByRecursion HasPlaces made.ended.items) }
     ensures looks { Looks S.Store tables.old tables.new }
 {
     let until = due_until(now);

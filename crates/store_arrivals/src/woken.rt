@@ -1,6 +1,6 @@
 //! The flag of an open invocation to which arrivals come.
 
-ghost use Rattle.std.specs.Prelude.{◌≡◌, ◌∷◌, [], ◌+◌, ◌<◌, ◌^◌, List, IfOk};
+ghost use Rattle.std.specs.Prelude.{◌≡◌, ◌∷◌, [], List};
 ghost use Rattle.sqlite.specs.Held.{state};
 ghost use Rattle.sqlite.specs.State.{HasCleanDisk};
 ghost use Rattle.journal_model.specs.Notification.{Text};
@@ -79,7 +79,6 @@ pub fn prepare_woken<S: Alter>(
 ) -> Result<PreparedArrival, Refusal>
     ensures decided { HasCleanDisk (state S.Store tables.new) → (events : List Event) (id : Text) → IsStoreOf events (state S.Store tables.old) → IsRowOf events id row
         → Decides (arrival_tests row arrival) (IsArrival (row_then events id (arrival ∷ []) row) ty arrival) result }
-    ensures place { IfOk result (λ made. made.place + 1 < 2 ^ 32) }
     ensures looks { Looks S.Store tables.old tables.new }
 {
     match woken_row(tables, row, slice::from_ref(&arrival)) {

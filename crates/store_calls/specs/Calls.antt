@@ -1,5 +1,5 @@
 -- What each call of a store answers, and what the store stands for then.
-use Rattle.std.specs.Prelude.{◌≡◌, ◌+◌, ℕ, Bool, true, false, length, [], ◌++◌, take, Some, None, Result, Ok, Err}
+use Rattle.std.specs.Prelude.{◌≡◌, ◌+◌, ℕ, Bool, true, false, length, [], ◌++◌, Some, None, Result, Ok, Err}
 use Rattle.journal_model.specs.Notification.{Bytes, Text}
 use Rattle.journal_model.specs.declared.invocation.NewInvocation.{NewInvocation}
 use Rattle.journal_model.specs.declared.notification.NotificationResult.{NotificationResult}
@@ -10,6 +10,7 @@ use Rattle.journal_model.specs.Journal.{version_of, entries_of}
 use Rattle.journal_model.specs.Attempt.{attempts_begun, completions_of_tick, is_live, input_left}
 use Rattle.journal_model.specs.Start.{start_payload}
 use Rattle.journal_model.specs.Cause.{causes_of}
+use Rattle.due_laws.specs.Handing.{HandsPart}
 use Rattle.protocol_types.specs.declared.message_type.MessageType.{MessageType}
 use Rattle.protocol_types.specs.Version.{version_number}
 use Rattle.store_refusals.specs.declared.refusal.Refusal.{Refusal}
@@ -53,9 +54,10 @@ abbrev pub BeginsAttempt : Text → (now : ℕ) → Result BegunAttempt Refusal 
 BeginsAttempt id now (Ok begun) old new = Begins id now begun old new
 BeginsAttempt id now (Err why) old new = Refuses (Event.Begin id now) why old new
 
--- the next bytes of its input are handed to the live attempt
+-- The next bytes of its input are handed to the live attempt: a beginning of what is left, and none only where none was asked for or is
+-- left. The event says how many they are.
 abbrev pub HandsOut : Text → (attempt most : ℕ) → Result Bytes Refusal → Standing → Standing → Type 0
-HandsOut id attempt most (Ok bytes) old new = (bytes ≡ take most (input_left old.events id)) × Adds (Event.HandOut id attempt most) old new
+HandsOut id attempt most (Ok bytes) old new = HandsPart (input_left old.events id) most bytes × Adds (Event.HandOut id attempt (length bytes)) old new
 HandsOut id attempt most (Err why) old new = Refuses (Event.HandOut id attempt most) why old new
 
 -- no more is handed to it

@@ -13,18 +13,16 @@ use Rattle.protocol_types.specs.Version.{version_number}
 use Rattle.store_tables.specs.declared.row.InvocationRow.{InvocationRow}
 use Rattle.store_tables.specs.declared.row.Progress.{Progress}
 use Rattle.store_tables.specs.declared.row.Write.TheVariants.{SetProgress}
-use Rattle.store_model.specs.Kept.{journal_rows}
 use Rattle.store_refusals.specs.declared.refusal.Refusal.{Refusal}
 use Rattle.store_refusals.specs.declared.refusal.Refusal.TheVariants.{NumbersUsedUp}
 use Rattle.store_refusals.specs.Refused.{IsRefused}
 use Rattle.store_invocations.specs.Rows.{IsRowOf, payload_tests}
 use Rattle.store_invocations.proofs.Refusing.{none_of_both, refused_by, refused_later}
 use Rattle.store_invocations.specs.declared.attempt.PreparedAttempt.{PreparedAttempt}
-use Rattle.store_invocations.specs.Begun.{AreHanded, IsBegun, begun_at, shown_states}
-use Rattle.store_invocations.specs.Frames.{AreFrames}
+use Rattle.store_invocations.specs.Begun.{IsBegun, begun_at, shown_states}
 use Rattle.store_invocations.specs.Start.{start_of}
 use Rattle.store_invocations.proofs.Attempts.{attempts_among}
-use Rattle.store_invocations.proofs.AttemptBeginning.{attempts_is, begin_writes_are, progress_is, row_named, start_payload_is, version_is}
+use Rattle.store_invocations.proofs.AttemptBeginning.{attempts_is, begin_writes_are, progress_is, start_payload_is, version_is}
 use Rattle.store_invocations.proofs.Deciding.{none_at_least}
 
 module _ (events : List Event) (id : Text) (now : ℕ) (row : InvocationRow) (it : IsRowOf events id row) where
@@ -59,12 +57,13 @@ module _ (events : List Event) (id : Text) (now : ℕ) (row : InvocationRow) (it
       ]
 
   pub next_made : IsAccepted events → is_open events id ≡ true → (made : PreparedAttempt) → made.writes.items ≡ SetProgress row.id (begun_at now row.progress) ∷ [] → made.number ≡ row.progress.attempts + 1 → made.version ≡ row.version
-      → AreHanded events row now made.frames → IsBegun events id now made
-  next_made accepted opened made writes number version frames =
+      → made.start ≡ frame_bytes MessageType.Start (start_of row (shown_states events row) now) → made.known ≡ row.progress.entries → made.arrivals ≡ row.progress.arrivals → IsBegun events id now made
+  next_made accepted opened made writes number version start known arrivals =
       let same = attempts_is events id now row it in record {
         writes = writes ∙ begin_writes_are events id now row it opened;
         number = omega arith;
         version = ap version_number version ∙ version_is events id now row it accepted;
-        start = frames.0 ∙ ap (frame_bytes MessageType.Start) (start_payload_is events id now row it);
-        journal = subst (λ (x : Text). AreFrames (journal_rows events x) made.frames.journal) (row_named events id now row it) frames.1;
+        start = start ∙ ap (frame_bytes MessageType.Start) (start_payload_is events id now row it);
+        known = known ∙ ap (λ (p : Progress). p.entries) (progress_is events id now row it);
+        arrivals = arrivals ∙ ap (λ (p : Progress). p.arrivals) (progress_is events id now row it);
       }

@@ -2,6 +2,5 @@ pub mod Rows
 pub mod New
 pub mod Told
 pub mod Answered
-pub mod Frames
 pub mod Start
 pub mod Begun

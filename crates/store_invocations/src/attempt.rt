@@ -1,18 +1,8 @@
 //! An attempt that is to be begun.
 
-use crate::frames::JournalFrames;
 use bytes::Bytes;
 use protocol_stream::Version;
 use store_tables::Write;
-
-/// What an attempt is handed first.
-#[derive(Debug, Drop)]
-pub struct AttemptFrames {
-    /// The start frame.
-    pub start: Bytes,
-    /// What follows it.
-    pub journal: JournalFrames,
-}
 
 /// An attempt that can be begun: it is, once this is written.
 #[derive(Debug, Drop)]
@@ -22,5 +12,9 @@ pub struct PreparedAttempt {
     pub number: u32,
     /// The version of the protocol that the attempt speaks.
     pub version: Version,
-    pub frames: AttemptFrames,
+    /// The start frame.
+    pub start: Bytes,
+    /// How many frames follow it that are recorded already, the input's first, and how many arrivals are among them.
+    pub known: u32,
+    pub arrivals: u32,
 }

@@ -18,8 +18,8 @@ use std::alloc::Global;
 use store_refusals::Refusal;
 use store_tables::StoreTables;
 
-/// What a begin of an attempt makes ready: what is to be written of the invocation, and the frames that the attempt is handed. Of
-/// an invocation that is shown its object's state that state is read, and the journal of every one.
+/// What a begin of an attempt makes ready: what is to be written of the invocation, and the start frame. Of an invocation that is shown
+/// its object's state that state is read. The journal is counted, and no entry of it is read.
 pub fn prepare_begin<S: Alter>(
     tables: &mut StoreTables<S>,
     id: &ByteStr,

@@ -3,8 +3,8 @@
 //!
 //! A call that changes an invocation begins with its row. A store tells of one whether it is open, its requests and arrivals by
 //! place, what it answers once it is closed, and the last error that an attempt of it told. A new invocation, and a begun attempt,
-//! is refused for its least cause, or made ready: with the writes by which it is recorded, and with the frames that the attempt is
-//! handed.
+//! is refused for its least cause, or made ready: with the writes by which it is recorded, and with the start frame. What follows that is
+//! counted, and not read.
 #![tactic(auto)]
 
 mod answering;
@@ -12,7 +12,6 @@ mod attempt;
 mod begin;
 mod begun;
 mod frame;
-mod frames;
 mod input;
 mod invoke;
 mod prepare;
@@ -23,10 +22,9 @@ mod start;
 mod states;
 
 pub use answering::answer;
-pub use attempt::{AttemptFrames, PreparedAttempt};
+pub use attempt::PreparedAttempt;
 pub use begin::prepare_begin;
 pub use frame::payload_frame;
-pub use frames::JournalFrames;
 pub use invoke::prepare_invoke;
 pub use progress::{failure, is_open};
 pub use recorded::{EntryKind, RecordedEntry, entries};

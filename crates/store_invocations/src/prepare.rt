@@ -7,25 +7,21 @@ ghost use Rattle.journal_model.specs.Spelling.{frame_bytes};
 ghost use Rattle.journal_model.specs.Event.{Event};
 ghost use Rattle.journal_model.specs.Cause.{own_tests};
 ghost use Rattle.store_tables.specs.Looks.{Looks};
-ghost use Rattle.store_model.specs.Kept.{journal_rows};
-ghost use Rattle.store_lookups.specs.Lookups.{row_frame};
 ghost use Rattle.store_refusals.specs.Prepared.{Tells};
 ghost use Rattle.store_invocations.specs.Rows.{Decides, IsOpenRow, IsStoreOf, payload_tests};
-ghost use Rattle.store_invocations.specs.Begun.{AreHanded, IsBegun, shown_states};
+ghost use Rattle.store_invocations.specs.Begun.{IsBegun, shown_states};
 ghost use Rattle.protocol_types.specs.declared.message_type.MessageType.{MessageType};
-ghost use Rattle.store_invocations.specs.Frames.{AreFrames};
 ghost use Rattle.store_invocations.specs.Start.{start_of};
 
-use crate::attempt::{AttemptFrames, PreparedAttempt};
+use crate::attempt::PreparedAttempt;
 use crate::begun::begun_writes;
-use crate::frames::{JournalFrames, journal_frames};
 use crate::start::start_frame;
 use crate::states::object_states;
 use bytes::{ByteStr, Bytes};
 use sqlite::Alter;
 use std::alloc::Global;
 use store_refusals::Refusal;
-use store_tables::{InvocationRow, StateRow, StoreTables, journal};
+use store_tables::{InvocationRow, StateRow, StoreTables};
 
 /// The state that an attempt is shown: all of its object's, or none.
 fn shown_states<S: Alter>(
@@ -56,35 +52,6 @@ fn begun_start<S: Alter>(
     start
 }
 
-/// The frames of an invocation's journal.
-fn read_journal<S: Alter>(
-    tables: &mut StoreTables<S>,
-    id: &ByteStr,
-) -> Result<JournalFrames, Refusal>
-    ensures told { HasCleanDisk (state S.Store tables.new) → (events : List Event) → IsStoreOf events (state S.Store tables.old) → Tells (AreFrames (journal_rows events id.now)) result }
-    ensures looks { Looks S.Store tables.old tables.new }
-{
-    let rows = journal(tables, id)?;
-    let frames = journal_frames(tables.alloc(), rows.as_slice());
-    drop(rows);
-    let frames = frames?;
-    Ok(frames)
-}
-
-/// All frames that an attempt is handed which is begun at this moment.
-fn attempt_frames<S: Alter>(
-    tables: &mut StoreTables<S>,
-    row: &InvocationRow,
-    now: u64,
-) -> Result<AttemptFrames, Refusal>
-    ensures decided { HasCleanDisk (state S.Store tables.new) → (events : List Event) → IsStoreOf events (state S.Store tables.old) → Decides (payload_tests (start_of row.now (shown_states events row.now) now)) (AreHanded events row.now now) result }
-    ensures looks { Looks S.Store tables.old tables.new }
-{
-    let start = begun_start(tables, row, now)?;
-    let journal = read_journal(tables, &row.id)?;
-    Ok(AttemptFrames { start, journal })
-}
-
 /// The next attempt of an open invocation.
 pub(crate) fn prepare_next<S: Alter>(
     tables: &mut StoreTables<S>,
@@ -99,14 +66,18 @@ pub(crate) fn prepare_next<S: Alter>(
         return Err(Refusal::NumbersUsedUp);
     };
     let version = row.version;
-    let read = attempt_frames(tables, &row, now);
+    let known = row.progress.entries;
+    let arrivals = row.progress.arrivals;
+    let read = begun_start(tables, &row, now);
     let made = begun_writes(tables.alloc(), row, now);
-    let frames = read?;
+    let start = read?;
     let writes = made?;
     Ok(PreparedAttempt {
         writes,
         number,
         version,
-        frames,
+        start,
+        known,
+        arrivals,
     })
 }

@@ -2,7 +2,9 @@
 use Rattle.std.specs.Prelude.{◌≡◌, ℕ, true, false, List, [], ◌++◌, take, drop, Option, Some, None, option_map, bytes_eq}
 use Rattle.std.specs.Map.{lookup}
 use Rattle.store_live.specs.declared.attempt.LiveAttempt.{LiveAttempt}
-use Rattle.store_live.specs.Input.{handed_out, one_frame, put_in_room, room_of, with_frame, with_frames, with_room}
+use Rattle.std.specs.Option.{ForSome}
+use Rattle.store_live.specs.declared.input.FrameRead.{FrameRead}
+use Rattle.store_live.specs.Input.{CanCount, InputKept, handed_out, with_frame, with_outcome, with_room}
 
 -- live attempts, each behind its invocation's id
 abbrev pub ByInvocation : Type 0
@@ -29,26 +31,31 @@ Changes id change old new = IsNow id (option_map change (attempt_of old id)) old
 -- the bytes that are handed out of an attempt's input, none where no attempt is live
 abbrev pub bytes_out : ℕ → Option LiveAttempt → List ℕ
 bytes_out most None = []
-bytes_out most (Some attempt) = take most attempt.input.bytes
+bytes_out most (Some attempt) = take most attempt.input.rest
+
+-- nothing is changed but the input of the invocation's live attempt
+abbrev pub after_input : InputKept → LiveAttempt → LiveAttempt
+after_input input attempt = record attempt { input = input }
+
+abbrev pub ChangesInput : List ℕ → ByInvocation → ByInvocation → Type 0
+ChangesInput id old new = (input : InputKept) × Changes id (after_input input) old new
+
+-- that a frame is counted, if an attempt is live
+abbrev pub CountsFrame : FrameRead → Option LiveAttempt → Type 0
+CountsFrame frame o = ForSome o (λ (attempt : LiveAttempt). CanCount attempt.input frame)
 
 -- what is done to one
 abbrev pub after_hand_out : ℕ → LiveAttempt → LiveAttempt
 after_hand_out most attempt = record attempt { input = handed_out most attempt.input }
 
-abbrev pub after_reserve : ℕ → LiveAttempt → LiveAttempt
-after_reserve len attempt = record attempt { input = with_room (one_frame len) attempt.input }
+abbrev pub after_frame : FrameRead → LiveAttempt → LiveAttempt
+after_frame frame attempt = record attempt { input = with_frame frame attempt.input }
 
-abbrev pub after_reserve_all : List (List ℕ) → LiveAttempt → LiveAttempt
-after_reserve_all frames attempt = record attempt { input = with_room (room_of frames) attempt.input }
+abbrev pub after_reserve : LiveAttempt → LiveAttempt
+after_reserve attempt = record attempt { input = with_room attempt.input }
 
-abbrev pub after_put : ℕ → List ℕ → LiveAttempt → LiveAttempt
-after_put place frame attempt = record attempt { input = with_frame place frame attempt.input }
-
-abbrev pub after_put_all : ℕ → List (List ℕ) → LiveAttempt → LiveAttempt
-after_put_all place frames attempt = record attempt { input = with_frames place frames attempt.input }
-
-abbrev pub after_put_in_room : ℕ → List (List ℕ) → LiveAttempt → LiveAttempt
-after_put_in_room place frames attempt = record attempt { input = put_in_room place frames attempt.input }
+abbrev pub after_outcome : ℕ → LiveAttempt → LiveAttempt
+after_outcome completion attempt = record attempt { input = with_outcome completion attempt.input }
 
 abbrev pub after_close : LiveAttempt → LiveAttempt
 after_close attempt = record attempt { is_input_closed = true }

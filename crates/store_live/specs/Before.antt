@@ -6,7 +6,7 @@ use Rattle.store_live.specs.Attempts.{ByInvocation, attempt_of}
 -- a live attempt is as before, but for room that was made for its input
 abbrev pub IsAsBefore : Option LiveAttempt → Option LiveAttempt → Type 0
 IsAsBefore None None = Unit {0}
-IsAsBefore (Some one) (Some other) = other ≡ record one { input = record (one.input) { reserved = other.input.reserved } }
+IsAsBefore (Some one) (Some other) = other ≡ record one { input = record (one.input) { room = other.input.room } }
 IsAsBefore _ _ = ⊥
 
 abbrev pub AreAsBefore : ByInvocation → ByInvocation → Type 0

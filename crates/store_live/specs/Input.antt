@@ -1,101 +1,76 @@
--- What is left of an attempt's input.
-use Rattle.std.specs.Prelude.{ℕ, ◌+◌, ◌-◌, ◌==◌, ◌&&◌, min, nat_le, Bool, true, false, if◌then◌else◌, List, [], ◌∷◌, ◌++◌, length, map, filter, drop, Option, None, Some}
-use Rattle.store_live.specs.declared.input.FrameKept.{FrameKept}
-use Rattle.store_live.specs.declared.input.PieceLeft.{PieceLeft}
-use Rattle.store_live.specs.declared.input.Room.{Room}
+-- What is kept in memory of an attempt's input, whose frames are read from the store one at a time.
+use Rattle.std.specs.Prelude.{ℕ, ◌+◌, ◌-◌, ◌<◌, ◌^◌, ◌==◌, nat_le, Bool, false, if◌then◌else◌, List, [], ◌∷◌, ◌++◌, take, drop}
+use Rattle.store_live.specs.declared.input.FrameRead.{FrameRead}
+use Rattle.store_live.specs.declared.input.NextRow.{NextRow}
 
-pub record InputLeft : Type 0 where
-  pub bytes : List ℕ
-  -- the frames that these bytes are, or the ends of them
-  pub pieces : List PieceLeft
-  -- the place behind the last frame that was handed whole, 0 where none was
+pub record InputKept : Type 0 where
+  -- how many frames and arrivals were known at the begin
+  pub known : ℕ
+  pub arrivals : ℕ
+  -- how many frames were read, the place behind the last of them, how many arrivals are among them, and what of the last was not handed out
+  pub read : ℕ
+  pub behind : ℕ
+  pub counted : ℕ
+  pub rest : List ℕ
+  -- the place behind the last that was handed out whole, and how many arrivals are among these
   pub handed : ℕ
-  -- for what frames room was made
-  pub reserved : Option Room
+  pub heard : ℕ
+  -- the completions of the outcomes that are to be acknowledged, until their rows are read
+  pub unread : List ℕ
+  -- for how many more of them room was made
+  pub room : ℕ
 
--- the frames that are left when so many more bytes were handed out
-abbrev pub pieces_after : ℕ → List PieceLeft → List PieceLeft
-pieces_after count [] = []
-pieces_after count (piece ∷ pieces) =
-    if nat_le piece.len count then pieces_after (count - piece.len) pieces else record piece { len = piece.len - count } ∷ pieces
+-- at a begin
+abbrev pub at_begin : (known arrivals : ℕ) → InputKept
+at_begin known arrivals =
+    record { known = known; arrivals = arrivals; read = 0; behind = 0; counted = 0; rest = []; handed = 0; heard = 0; unread = []; room = 0 }
 
--- the place behind the last of them that is then handed whole
-abbrev pub place_after : ℕ → List PieceLeft → ℕ → ℕ
-place_after count [] handed = handed
-place_after count (piece ∷ pieces) handed =
-    if nat_le piece.len count then place_after (count - piece.len) pieces piece.behind else handed
+-- the ordinal of the next arrival that was not known at the begin
+abbrev pub next_ordinal : InputKept → ℕ
+next_ordinal m = (m.arrivals + (m.read - m.known)) + 1
 
--- how many of these are frames of arrivals
-abbrev pub arrivals_left : List PieceLeft → ℕ
-arrivals_left pieces = length (filter (λ (piece : PieceLeft). piece.is_arrival) pieces)
+-- from which row the next frame is read
+abbrev pub next_row : InputKept → NextRow
+next_row m = if nat_le m.known m.read then NextRow.Arrival (next_ordinal m) else NextRow.Entry m.read
 
-abbrev pub count_out : ℕ → InputLeft → ℕ
-count_out most input = min (length input.bytes) most
+-- whether the next arrival is the first of the outcomes that are to be acknowledged, if it is this one
+abbrev pub is_first : List ℕ → ℕ → Bool
+is_first [] n = false
+is_first (m ∷ rest) n = m == n
 
--- when at most so many bytes were handed out
-abbrev pub handed_out : ℕ → InputLeft → InputLeft
-handed_out most input = record {
-  bytes = drop most input.bytes;
-  pieces = pieces_after (count_out most input) input.pieces;
-  handed = place_after (count_out most input) input.pieces input.handed;
-  reserved = None;
+-- once the next frame was read
+abbrev pub with_frame : FrameRead → InputKept → InputKept
+with_frame frame m = record m {
+  read = m.read + 1;
+  behind = frame.place + 1;
+  counted = m.counted + (if frame.is_arrival then 1 else 0);
+  rest = frame.bytes;
+  unread = if frame.is_acknowledgement then drop 1 m.unread else m.unread;
 }
 
--- the bytes of frames, one behind the other
-abbrev pub all_bytes : List (List ℕ) → List ℕ
-all_bytes [] = []
-all_bytes (frame ∷ frames) = frame ++ all_bytes frames
+-- that all are counted in 32 bits
+pub record CanCount (m : InputKept) (frame : FrameRead) : Type 0 where
+  pub read : m.read + 1 < 2 ^ 32
+  pub place : frame.place + 1 < 2 ^ 32
+  pub counted : m.counted + 1 < 2 ^ 32
 
--- room for a frame of this length, and for frames
-abbrev pub one_frame : ℕ → Room
-one_frame len = record { frames = 1; bytes = len }
+-- once bytes were handed out of what was left of it
+abbrev pub with_rest : List ℕ → InputKept → InputKept
+with_rest [] m = record m { rest = []; handed = m.behind; heard = m.counted }
+with_rest (x ∷ rest) m = record m { rest = x ∷ rest }
 
-abbrev pub room_of : List (List ℕ) → Room
-room_of frames = record { frames = length frames; bytes = length (all_bytes frames) }
+-- these, and this is left
+abbrev pub after_bytes : (bytes rest : List ℕ) → InputKept → InputKept
+after_bytes [] rest m = m
+after_bytes (x ∷ bytes) rest m = with_rest rest m
 
-abbrev pub with_room : Room → InputLeft → InputLeft
-with_room room input = record input { reserved = Some room }
+-- once at most so many were
+abbrev pub handed_out : ℕ → InputKept → InputKept
+handed_out most m = after_bytes (take most m.rest) (drop most m.rest) m
 
--- with the frame of the arrival at this place behind
-abbrev pub with_frame : ℕ → List ℕ → InputLeft → InputLeft
-with_frame place frame input = record input {
-  bytes = input.bytes ++ frame;
-  pieces = input.pieces ++ record { behind = place + 1; len = length frame; is_arrival = true } ∷ [];
-  reserved = None;
-}
+-- room was made for one more outcome that is to be acknowledged; and one is
+abbrev pub with_room : InputKept → InputKept
+with_room m = record m { room = 1 }
 
--- nothing is left, and nothing was handed out
-abbrev pub no_input : InputLeft
-no_input = record { bytes = []; pieces = []; handed = 0; reserved = None }
-
--- the frames of a journal from a place on
-abbrev pub pieces_from : ℕ → List FrameKept → List PieceLeft
-pieces_from place [] = []
-pieces_from place (frame ∷ frames) = record { behind = place + 1; len = frame.len; is_arrival = frame.is_arrival } ∷ pieces_from (place + 1) frames
-
--- all of a journal is left
-abbrev pub journal_left : List ℕ → List FrameKept → InputLeft
-journal_left bytes frames = record { bytes = bytes; pieces = pieces_from 0 frames; handed = 0; reserved = None }
-
--- the frame of an arrival
-abbrev pub arrived_frame : List ℕ → FrameKept
-arrived_frame frame = record { len = length frame; is_arrival = true }
-
--- with the frames of arrivals behind, of which the first is at this place
-abbrev pub with_frames : ℕ → List (List ℕ) → InputLeft → InputLeft
-with_frames place frames input = record input {
-  bytes = input.bytes ++ all_bytes frames;
-  pieces = input.pieces ++ pieces_from place (map arrived_frame frames);
-  reserved = None;
-}
-
--- whether this is room for frames, and whether it was made; where it was they are put behind
-abbrev pub does_fit : Room → List (List ℕ) → Bool
-does_fit room frames = (room.frames == length frames) && (room.bytes == length (all_bytes frames))
-
-abbrev pub is_reserved : Option Room → List (List ℕ) → Bool
-is_reserved None frames = false
-is_reserved (Some room) frames = does_fit room frames
-
-abbrev pub put_in_room : ℕ → List (List ℕ) → InputLeft → InputLeft
-put_in_room place frames input = if is_reserved input.reserved frames then with_frames place frames input else input
+abbrev pub with_outcome : ℕ → InputKept → InputKept
+with_outcome completion m = record m { unread = m.unread ++ completion ∷ []; room = 0 }

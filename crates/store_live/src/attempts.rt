@@ -1,10 +1,10 @@
 // The live attempts by their invocations.
-ghost use Rattle.std.specs.Prelude.{◌≡◌, ◌+◌, ◌^◌, ◌<◌, ◌≤◌, ◌++◌, [], length, Some, None, IfOk, OnOk, OnErr};
+ghost use Rattle.std.specs.Prelude.{◌≡◌, ◌<◌, ◌≤◌, [], length, Some, None, IfOk, OnOk, OnErr};
 ghost use Rattle.std.specs.Option.{ForSome, option_copied};
-ghost use Rattle.store_live.specs.Input.{one_frame};
-ghost use Rattle.store_live.specs.Attempts.{attempt_of, IsNow, Changes, bytes_out, after_hand_out, after_reserve, after_reserve_all, after_put, after_put_in_room, after_close, after_output, after_take};
+ghost use Rattle.store_live.specs.Attempts.{attempt_of, ChangesInput, CountsFrame, IsNow, Changes, bytes_out, after_hand_out, after_frame, after_outcome, after_reserve, after_close, after_output, after_take};
 
 use crate::attempt::LiveAttempt;
+use crate::input::FrameRead;
 use bytes::{ByteStr, Bytes};
 use indexmap::IndexMap;
 use std::alloc::{AllocError, Global};
@@ -80,7 +80,7 @@ impl LiveAttempts {
         drop(self.attempts.swap_remove(id));
     }
 
-    /// Hands out the next bytes of an attempt's input: as many as are left, and at most so many.
+    /// Hands out the next bytes of the frame of an attempt's input that was read last: as many as are left of it, and at most so many.
     #[tactic(auto, using(std::proofs::lemmas::Map::Steps::set_value_same))]
     pub fn hand_out(&mut self, id: &ByteStr, most: usize) -> Result<Bytes, AllocError>
         ensures bytes { IfOk result (λ bytes. bytes ≡ bytes_out most (attempt_of self.old.attempts id.now)) }
@@ -93,50 +93,37 @@ impl LiveAttempts {
         }
     }
 
-    /// Makes room for one more frame of an attempt's input, of this length.
+    /// Takes in the next frame of an attempt's input, which was read from its row.
+    pub fn put_frame(&mut self, id: &ByteStr, frame: FrameRead)
+        ensures counted { CountsFrame frame (attempt_of self.old.attempts id.now) → Changes id.now (after_frame frame) self.old.attempts self.new.attempts }
+        ensures input { ChangesInput id.now self.old.attempts self.new.attempts }
+    {
+        match self.attempts.get_mut(id) {
+            Some(attempt) => attempt.input.put_frame(frame),
+            None => drop(frame),
+        }
+    }
+
+    /// Makes room for one more outcome that an attempt is to be told of by an acknowledgement.
     #[tactic(auto, using(std::proofs::lemmas::Map::Steps::set_value_same))]
-    pub fn reserve(&mut self, id: &ByteStr, len: usize) -> Result<(), AllocError>
-        ensures ok { OnOk result (Changes id.now (after_reserve len) self.old.attempts self.new.attempts) }
-        ensures room { OnOk result (ForSome (attempt_of self.new.attempts id.now) (λ attempt. attempt.input.reserved ≡ Some (one_frame len))) }
+    pub fn reserve_outcome(&mut self, id: &ByteStr) -> Result<(), AllocError>
+        ensures ok { OnOk result (Changes id.now after_reserve self.old.attempts self.new.attempts) }
+        ensures room { OnOk result (ForSome (attempt_of self.new.attempts id.now) (λ attempt. attempt.input.room ≡ 1)) }
         ensures err { OnErr result (self.new ≡ self.old) }
     {
         match self.attempts.get_mut(id) {
-            Some(attempt) => attempt.input.reserve(len),
+            Some(attempt) => attempt.input.reserve_outcome(),
             None => Ok(()),
         }
     }
 
-    /// Makes room for these frames in an attempt's input.
-    #[tactic(auto, using(std::proofs::lemmas::Map::Steps::set_value_same))]
-    pub fn reserve_all(&mut self, id: &ByteStr, frames: &[Bytes]) -> Result<(), AllocError>
-        ensures ok { OnOk result (Changes id.now (after_reserve_all frames.now) self.old.attempts self.new.attempts) }
-        ensures err { OnErr result (self.new ≡ self.old) }
-    {
-        match self.attempts.get_mut(id) {
-            Some(attempt) => attempt.input.reserve_all(frames),
-            None => Ok(()),
-        }
-    }
-
-    /// Puts frames behind an attempt's input, of which that of the first entry is at this place, where room was made for them.
-    pub fn put_all(&mut self, id: &ByteStr, place: u32, frames: &[Bytes])
-        requires { place + length frames.now < 2 ^ 32 }
-        ensures { Changes id.now (after_put_in_room place frames.now) self.old.attempts self.new.attempts }
+    /// The outcome of this completion is to be acknowledged to an attempt. Room was made for it.
+    pub fn note_outcome(&mut self, id: &ByteStr, completion: u32)
+        requires { ForSome (attempt_of self.old.attempts id.now) (λ attempt. 0 < attempt.input.room) }
+        ensures { Changes id.now (after_outcome completion) self.old.attempts self.new.attempts }
     {
         if let Some(attempt) = self.attempts.get_mut(id) {
-            attempt.input.put_all(place, frames);
-        }
-    }
-
-    /// Puts the frame of the entry at this place behind an attempt's input. Room was made for it.
-    pub fn put(&mut self, id: &ByteStr, place: u32, header: &[u8], payload: &[u8])
-        requires room { ForSome (attempt_of self.old.attempts id.now)
-            (λ attempt. attempt.input.reserved ≡ Some (one_frame (length header.now + length payload.now))) }
-        requires place { place + 1 < 2 ^ 32 }
-        ensures { Changes id.now (after_put place (header.now ++ payload.now)) self.old.attempts self.new.attempts }
-    {
-        if let Some(attempt) = self.attempts.get_mut(id) {
-            attempt.input.put(place, header, payload);
+            attempt.input.note_outcome(completion);
         }
     }
 

@@ -1,10 +1,6 @@
-pub mod Counting
-pub mod Whole
 pub mod Growing
 pub mod Opened
-pub mod Added
-pub mod Ticked
 pub mod Steps
 pub mod Begun
+pub mod Left
 pub mod Tests
-pub mod Waiting

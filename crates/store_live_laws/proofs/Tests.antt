@@ -1,5 +1,5 @@
 -- Why an event of an attempt is refused.
-use Rattle.std.proofs.Common.{ℕ, ◌≡◌, refl, sym, ap, ap₂, ◌∙◌, Bool, true, false, ◌&&◌, not, if◌then◌else◌, List, [], ◌∷◌, ◌++◌, Some, None, is_some}
+use Rattle.std.proofs.Common.{ℕ, ◌≡◌, refl, sym, ap, ◌∙◌, Bool, true, false, ◌&&◌, not, if◌then◌else◌, List, [], ◌∷◌, ◌++◌, Some, None, is_some}
 use Rattle.std.proofs.lemmas.Bool.{eq-eqb}
 use Rattle.journal_model.specs.Notification.{Text}
 use Rattle.journal_model.specs.Event.{Event}
@@ -44,7 +44,7 @@ causes_told events id attempt accepted kept =
           ∙ ap (λ (b : Bool). those_that_hold ((b, InputAlreadyClosed) ∷ [])) (sym kept.closed);
       of_close =
           pass (those_that_hold ((not (is_empty (input_left events id)), InputRemains) ∷ (is_input_closed events id, InputAlreadyClosed) ∷ []))
-          ∙ ap₂ (λ (left : List ℕ) (b : Bool). those_that_hold ((not (is_empty left), InputRemains) ∷ (b, InputAlreadyClosed) ∷ [])) (sym kept.bytes) (sym kept.closed);
+          ∙ ap (λ (b : Bool). those_that_hold ((not (is_empty (input_left events id)), InputRemains) ∷ (b, InputAlreadyClosed) ∷ [])) (sym kept.closed);
       of_stop = pass [];
     }
 

@@ -2,7 +2,7 @@
 //! events is refused. Each function does nothing: its contract is the law.
 #![tactic(auto)]
 
-ghost use Rattle.store_live_laws.specs.Agrees.{AgreesAtFirst, AgreesElsewhere, AgreesInvoked, AgreesBegun, LiveIsTold, LiveIsOpen, WaitingIsTold, CausesAreTold, StaleIsTold, KeepsInput, KeepsAdded, KeepsTaken};
+ghost use Rattle.store_live_laws.specs.Agrees.{AgreesAtFirst, AgreesElsewhere, AgreesInvoked, AgreesBegun, AllLeftIsTold, LiveIsTold, LiveIsOpen, PartIsTold, CausesAreTold, StaleIsTold, KeepsEnded, KeepsInput, KeepsRecorded};
 
 /// Before any event no attempt is live; and an event of another invocation, that is no tick, changes nothing.
 pub fn elsewhere_kept()
@@ -10,33 +10,37 @@ pub fn elsewhere_kept()
     ensures elsewhere { AgreesElsewhere }
 {}
 
-/// A new invocation has no live attempt, and one that is begun is handed the rows of its journal.
+/// A new invocation has no live attempt; and of one that is begun it is kept how many entries and arrivals are recorded then.
 pub fn begun_kept()
     ensures invoked { AgreesInvoked }
     ensures begun { AgreesBegun }
 {}
 
-/// An arrival, or that a run's outcome came, is put behind, bytes are handed out, and the input is closed.
+/// Rows are read, bytes of them are handed out, and the input is closed.
 pub fn input_kept()
     ensures { KeepsInput }
 {}
 
-/// What a tick and a request add to the journal is put behind.
-pub fn added_kept()
-    ensures { KeepsAdded }
+/// What is recorded changes nothing, but that an outcome is to be acknowledged.
+pub fn recorded_kept()
+    ensures { KeepsRecorded }
 {}
 
-/// A frame that was taken changes nothing, or ends the attempt, as a stop does.
-pub fn taken_kept()
-    ensures { KeepsTaken }
+/// A frame ends the attempt, as a stop does.
+pub fn ended_kept()
+    ensures { KeepsEnded }
 {}
 
-/// Which attempt is live is told by its number, and then the invocation is open; and how many arrivals it was not handed whole, by what
-/// is left of its input.
+/// Which attempt is live is told by its number, and then the invocation is open.
 pub fn live_told()
     ensures live { LiveIsTold }
     ensures is_open { LiveIsOpen }
-    ensures waiting { WaitingIsTold }
+{}
+
+/// Whether anything of its input is left, and what is handed out of it.
+pub fn left_told()
+    ensures left { AllLeftIsTold }
+    ensures part { PartIsTold }
 {}
 
 /// Why an event of an attempt is refused is told by whether it is live, what is left of its input, and whether that is closed.

@@ -1,25 +1,29 @@
 -- What is kept in memory of an input agrees with the accepted events, step by step.
-use Rattle.std.proofs.Common.{ℕ, zero, suc, ◌+◌, ◌-◌, ◌≤◌, ◌<◌, arith, ◌≡◌, refl, sym, ap, subst, ◌∙◌, Bool, true, false, if◌then◌else◌, List, [], ◌∷◌, ◌++◌, length, map, take, Option, Some, None, option_map}
+use Rattle.std.proofs.Common.{ℕ, zero, suc, ◌+◌, ◌-◌, ◌≤◌, ◌<◌, arith, ◌≡◌, refl, sym, ap, ap₂, subst, ◌∙◌, Bool, true, false, if◌then◌else◌, List, [], ◌∷◌, ◌++◌, append-nil, length, length-append, map, take, drop, Option, Some, None, option_map}
 use Rattle.std.specs.List.{slice_get}
-use Rattle.std.proofs.lemmas.List.{take-append-le}
+use Rattle.std.proofs.lemmas.List.{length-drop, length-map, length-take-le, take-append-drop, take-append-le}
 use Rattle.std.proofs.lemmas.Option.{slice_get-map}
 use Rattle.journal_model.specs.declared.invocation.NewInvocation.{NewInvocation}
 use Rattle.journal_model.specs.Notification.{Bytes, Text, Arrival}
 use Rattle.journal_model.specs.State.{StateMap}
 use Rattle.journal_model.specs.Event.{Event}
-use Rattle.journal_model.specs.Journal.{Entry, Recorded, Arrived, begins, invocation_begun, entries_of, recorded_arrivals}
-use Rattle.journal_model.specs.Attempt.{Piece, begins_attempt, notification_type, entry_piece, journal_pieces, input_pieces}
+use Rattle.journal_model.specs.Journal.{Entry, Recorded, Arrived, begins, invocation_begun, version_of, entries_of, recorded_arrivals}
+use Rattle.journal_model.specs.Attempt.{Piece, begins_attempt, bytes_asked, acknowledged, notification_type, entry_piece, journal_pieces, input_pieces}
+use Rattle.journal_model.specs.Cause.{IsAccepted}
 use Rattle.input_laws.specs.Reading.{arrivals_among}
 use Rattle.input_laws.proofs.Events.{added_by, start_same, itself}
 use Rattle.input_laws.proofs.Handed.{among-append, pieces_now, brought}
-use Rattle.due_laws.specs.Rows.{frames_known, arrivals_known, with_outcome, outcomes_noted, noted_number, as_told, later_piece}
+use Rattle.due_laws.specs.Rows.{frames_known, arrivals_known, with_outcome as with_noted, outcomes_noted, noted_number, outcomes_unread, as_told, later_piece}
 use Rattle.due_laws.specs.Handing.{ReadsRows, frames_whole}
 use Rattle.due_laws.proofs.Rows.{all_known_stays, pieces_are_rows}
+use Rattle.due_laws.proofs.Outcomes.{outcomes_are_read}
 use Rattle.due_laws.proofs.Handing.{rows_are_read, rows_tell, take_next}
+use Rattle.store_live.specs.declared.input.FrameRead.{FrameRead}
+use Rattle.store_live.specs.Input.{InputKept, at_begin, after_bytes, handed_out, with_frame, with_outcome, with_rest}
 use Rattle.store_model.specs.Places.{places_of_arrivals, journal_places, places_from, input_places}
-use Rattle.store_live_laws.proofs.Counting.{same_count}
+use Rattle.store_row_laws.proofs.Counting.{same_count}
 use Rattle.store_row_laws.specs.Read.{behind_place, place_after}
-use Rattle.store_row_laws.specs.Memory.{InputKept, Agrees, with_rest, InputAgrees, is_arrived, AllArrivalsAreTold}
+use Rattle.store_row_laws.specs.Memory.{IsInputOf, is_arrived, AllArrivalsAreTold}
 use Rattle.store_row_laws.proofs.Places.{known_at_begin, handed_is_read}
 
 -- ---- places behind an event
@@ -70,7 +74,24 @@ grows events event id old going =
       arrivals = stay.arrivals;
     }
 
-module _ (events others : List Event) (id : Text) (m : InputKept) (grown : Grown events others id) (was : Agrees events id m) where
+-- how many arrivals were read, or known at the begin
+pub arrivals_read : (events : List Event) (id : Text) (m : InputKept) → IsAccepted events → IsInputOf events id m → m.arrivals + (m.read - m.known) ≤ length (recorded_arrivals events id)
+arrivals_read events id m accepted was =
+    let rows = pieces_are_rows events id accepted in
+    let known = rows.known in
+    let arrived = rows.arrived in
+    let within = was.reads.within in
+    let journal = journal_pieces (invocation_begun events id) (entries_of events id) in
+    let later = map (later_piece (entries_of events id) (outcomes_noted events id)) (drop (arrivals_known events id) (recorded_arrivals events id)) in
+    let all = ap (λ (pieces : List Piece). length pieces) rows.all ∙ length-append (take (frames_known events id) journal) later in
+    let first = length-take-le (frames_known events id) journal known in
+    let second = length-map (drop (arrivals_known events id) (recorded_arrivals events id)) (later_piece (entries_of events id) (outcomes_noted events id)) in
+    let third = length-drop (arrivals_known events id) (recorded_arrivals events id) in
+    let a = was.known in
+    let b = was.arrivals in
+    omega (arith, known, arrived, within, all, first, second, third, a, b)
+
+module _ (events others : List Event) (id : Text) (m : InputKept) (grown : Grown events others id) (was : IsInputOf events id m) where
   taken : (n : ℕ) → n ≤ m.read → arrivals_among (take n (input_pieces others id)) ≡ arrivals_among (take n (input_pieces events id))
   taken n few =
       let within = was.reads.within in
@@ -84,8 +105,9 @@ module _ (events others : List Event) (id : Text) (m : InputKept) (grown : Grown
       ap (place_after n) grown.places_are ∙ after_more n (input_places events id) grown.places (omega (arith, few, within, counts))
 
   -- with the same rest
-  keeps : ReadsRows others id m.read m.rest → (noted : List ℕ) → noted ≡ outcomes_noted others id → Agrees others id (record m { noted = noted })
-  keeps reads noted e =
+  keeps : ReadsRows others id m.read m.rest → (unread : List ℕ) (room : ℕ) → unread ≡ outcomes_unread others id (m.arrivals + (m.read - m.known))
+      → IsInputOf others id (record m { unread = unread; room = room })
+  keeps reads unread room e =
       let few = whole_few m.read m.rest in record {
         known = was.known ∙ sym grown.known;
         arrivals = was.arrivals ∙ sym grown.arrivals;
@@ -98,11 +120,12 @@ module _ (events others : List Event) (id : Text) (m : InputKept) (grown : Grown
         heard =
             was.heard ∙ rows_tell.heard events id m.read m.rest was.reads ∙ sym (taken (frames_whole m.read m.rest) few)
             ∙ sym (rows_tell.heard others id m.read m.rest reads);
-        noted = e;
+        unread = e;
       }
 
   -- with less of it
-  hands_on : (x : ℕ) (bytes rest : Bytes) → m.rest ≡ (x ∷ bytes) ++ rest → ReadsRows others id m.read rest → m.noted ≡ outcomes_noted others id → Agrees others id (with_rest rest m)
+  hands_on : (x : ℕ) (bytes rest : Bytes) → m.rest ≡ (x ∷ bytes) ++ rest → ReadsRows others id m.read rest
+      → m.unread ≡ outcomes_unread others id (m.arrivals + (m.read - m.known)) → IsInputOf others id (with_rest rest m)
   hands_on x bytes [] e reads f = record {
     known = was.known ∙ sym grown.known;
     arrivals = was.arrivals ∙ sym grown.arrivals;
@@ -111,7 +134,7 @@ module _ (events others : List Event) (id : Text) (m : InputKept) (grown : Grown
     counted = was.counted ∙ sym (taken m.read (omega arith));
     handed = was.behind ∙ sym (placed m.read (omega arith)) ∙ sym (handed_is_read others id m.read [] reads);
     heard = was.counted ∙ sym (taken m.read (omega arith)) ∙ sym (rows_tell.heard others id m.read [] reads);
-    noted = f;
+    unread = f;
   }
   hands_on x bytes (y ∷ rest) e reads f =
       let same : frames_whole m.read m.rest ≡ m.read - 1 = ap (frames_whole m.read) e in record {
@@ -126,55 +149,95 @@ module _ (events others : List Event) (id : Text) (m : InputKept) (grown : Grown
         heard =
             was.heard ∙ rows_tell.heard events id m.read m.rest was.reads ∙ ap (λ (n : ℕ). arrivals_among (take n (input_pieces events id))) same ∙ sym (taken (m.read - 1) (omega arith))
             ∙ sym (rows_tell.heard others id m.read (y ∷ rest) reads);
-        noted = f;
+        unread = f;
       }
 
 -- ---- step by step
 
-none_noted : (events : List Event) (id : Text) (attempt count : ℕ) → outcomes_noted (Event.HandOut id attempt count ∷ events) id ≡ outcomes_noted events id
-none_noted events id attempt count = refl
+pub input_begun : (events : List Event) (id : Text) (now : ℕ) → IsInputOf (Event.Begin id now ∷ events) id (at_begin (1 + length (entries_of events id)) (length (recorded_arrivals events id)))
+input_begun events id now =
+    let event = Event.Begin id now in
+    let reads : ReadsRows (event ∷ events) id 0 [] = rows_are_read.begun events event id refl (itself id) in record {
+      known = sym (known_at_begin events id now).0;
+      arrivals = sym (known_at_begin events id now).1;
+      reads = reads;
+      behind = refl;
+      counted = refl;
+      handed = sym (handed_is_read (event ∷ events) id 0 [] reads);
+      heard = sym (rows_tell.heard (event ∷ events) id 0 [] reads);
+      unread = sym (outcomes_are_read.begun events event id refl (itself id) (length (recorded_arrivals events id) + (0 - (1 + length (entries_of events id)))));
+    }
 
-pub input_agrees : InputAgrees
-input_agrees = record {
-  begun = λ events id now.
-      let event = Event.Begin id now in
-      let reads : ReadsRows (Event.Begin id now ∷ events) id 0 [] = rows_are_read.begun events (Event.Begin id now) id refl (itself id) in record {
-        known = sym (known_at_begin events id now).0;
-        arrivals = sym (known_at_begin events id now).1;
-        reads = reads;
-        behind = refl;
-        counted = refl;
-        handed = sym (handed_is_read (Event.Begin id now ∷ events) id 0 [] reads);
-        heard = sym (rows_tell.heard (Event.Begin id now ∷ events) id 0 [] reads);
-        noted = sym (ap (λ (b : Bool). if b then [] else outcomes_noted events id) (itself id));
-      };
-  stays = λ events event id m old going asks none was.
-      keeps events (event ∷ events) id m (grows events event id old going) was (rows_are_read.stays events event id m.read m.rest old going asks was.reads) m.noted
-      (was.noted ∙ sym ((all_known_stays events event id old going).noted ∙ ap (λ (o : Option ℕ). with_outcome o (outcomes_noted events id)) none));
-  notes = λ events event id m n old going asks some was.
-      keeps events (event ∷ events) id m (grows events event id old going) was (rows_are_read.stays events event id m.read m.rest old going asks was.reads) (n ∷ m.noted)
-      (ap (λ (noted : List ℕ). n ∷ noted) was.noted ∙ sym ((all_known_stays events event id old going).noted ∙ ap (λ (o : Option ℕ). with_outcome o (outcomes_noted events id)) some));
-  reads = λ events id m piece place e f none was. record {
-    known = was.known;
-    arrivals = was.arrivals;
-    reads = rows_are_read.next events id m.read piece e (subst (λ (rest : Bytes). ReadsRows events id m.read rest) none was.reads);
-    behind = after_next m.read (input_places events id) place f;
-    counted =
-        (let sum = among-append (take m.read (input_pieces events id)) (piece ∷ []) in
-        let before = was.counted in
-        let all : m.counted + (if piece.is_arrival then 1 else 0) ≡ arrivals_among (take m.read (input_pieces events id) ++ piece ∷ []) = omega (arith, sum, before) in
-        all)
-        ∙ ap arrivals_among (sym (take_next (input_pieces events id) m.read piece e));
-    handed = was.handed;
-    heard = was.heard;
-    noted = was.noted;
-  };
-  hands = λ events id attempt m x bytes rest e was.
-      hands_on events (Event.HandOut id attempt (length (x ∷ bytes)) ∷ events) id m (grows events (Event.HandOut id attempt (length (x ∷ bytes))) id refl refl) was x bytes rest e
-      (rows_are_read.hands events id attempt m.read (x ∷ bytes) rest (subst (λ (all : Bytes). ReadsRows events id m.read all) e was.reads)) was.noted;
-  hands_nothing = λ events id attempt m was.
-      keeps events (Event.HandOut id attempt 0 ∷ events) id m (grows events (Event.HandOut id attempt 0) id refl refl) was
-      (rows_are_read.hands events id attempt m.read [] m.rest was.reads) m.noted was.noted;
+module _ (events : List Event) (event : Event) (id : Text) (m : InputKept) (accepted : IsAccepted (event ∷ events)) (old : begins id event ≡ false) (going : begins_attempt id event ≡ false)
+    (asks : bytes_asked id event ≡ None) (was : IsInputOf events id m) where
+  behind_them : (o : Option ℕ) → acknowledged (version_of events id) id event ≡ o → m.unread ++ with_noted o [] ≡ outcomes_unread (event ∷ events) id (m.arrivals + (m.read - m.known))
+  behind_them o e =
+      ap₂ (λ (some more : List ℕ). some ++ more) was.unread (ap (λ (one : Option ℕ). with_noted one []) (sym e))
+      ∙ sym (outcomes_are_read.stays events event id accepted old going (m.arrivals + (m.read - m.known)) (arrivals_read events id m accepted.1 was))
+
+  after : (o : Option ℕ) (room : ℕ) → acknowledged (version_of events id) id event ≡ o → IsInputOf (event ∷ events) id (record m { unread = m.unread ++ with_noted o []; room = room })
+  after o room e =
+      keeps events (event ∷ events) id m (grows events event id old going) was (rows_are_read.stays events event id m.read m.rest old going asks was.reads) (m.unread ++ with_noted o []) room
+      (behind_them o e)
+
+  pub input_stays : acknowledged (version_of events id) id event ≡ None → IsInputOf (event ∷ events) id m
+  input_stays e = subst (λ (unread : List ℕ). IsInputOf (event ∷ events) id (record m { unread = unread })) (append-nil m.unread) (after None m.room e)
+
+  pub input_notes : (n : ℕ) → acknowledged (version_of events id) id event ≡ Some n → IsInputOf (event ∷ events) id (with_outcome n m)
+  input_notes n e = after (Some n) 0 e
+
+pub input_makes_room : (events : List Event) (id : Text) (m : InputKept) (room : ℕ) → IsInputOf events id m → IsInputOf events id (record m { room = room })
+input_makes_room events id m room was = record {
+  known = was.known;
+  arrivals = was.arrivals;
+  reads = was.reads;
+  behind = was.behind;
+  counted = was.counted;
+  handed = was.handed;
+  heard = was.heard;
+  unread = was.unread;
+}
+
+-- bytes are handed out
+pub input_hands : (events : List Event) (id : Text) (attempt most : ℕ) (m : InputKept) → IsAccepted (Event.HandOut id attempt (length (take most m.rest)) ∷ events) → IsInputOf events id m
+    → IsInputOf (Event.HandOut id attempt (length (take most m.rest)) ∷ events) id (handed_out most m)
+input_hands events id attempt most m accepted was = by_bytes (take most m.rest) (drop most m.rest) (sym (take-append-drop most m.rest)) accepted
+  where
+    by_bytes : (bytes rest : Bytes) → m.rest ≡ bytes ++ rest → IsAccepted (Event.HandOut id attempt (length bytes) ∷ events)
+        → IsInputOf (Event.HandOut id attempt (length bytes) ∷ events) id (after_bytes bytes rest m)
+    by_bytes [] rest e fine =
+        let event = Event.HandOut id attempt 0 in
+        subst (λ (unread : List ℕ). IsInputOf (event ∷ events) id (record m { unread = unread })) (append-nil m.unread)
+        (keeps events (event ∷ events) id m (grows events event id refl refl) was (rows_are_read.hands events id attempt m.read [] m.rest was.reads) (m.unread ++ []) m.room
+        (ap (λ (some : List ℕ). some ++ []) was.unread ∙ sym (outcomes_are_read.stays events event id fine refl refl (m.arrivals + (m.read - m.known)) (arrivals_read events id m fine.1 was))))
+    by_bytes (x ∷ bytes) rest e fine =
+        let event = Event.HandOut id attempt (length (x ∷ bytes)) in
+        hands_on events (event ∷ events) id m (grows events event id refl refl) was x bytes rest e
+        (rows_are_read.hands events id attempt m.read (x ∷ bytes) rest (subst (λ (all : Bytes). ReadsRows events id m.read all) e was.reads))
+        (was.unread ∙ sym (outcomes_are_read.stays events event id fine refl refl (m.arrivals + (m.read - m.known)) (arrivals_read events id m fine.1 was)
+        ∙ append-nil (outcomes_unread events id (m.arrivals + (m.read - m.known)))))
+
+-- a frame is read, that of the next of the input's pieces at its place
+pub input_reads : (events : List Event) (id : Text) (m : InputKept) (frame : FrameRead) (piece : Piece) → m.rest ≡ [] → slice_get (input_pieces events id) m.read ≡ Some piece
+    → slice_get (input_places events id) m.read ≡ Some frame.place → piece.bytes ≡ frame.bytes → piece.is_arrival ≡ frame.is_arrival
+    → (with_frame frame m).unread ≡ outcomes_unread events id (m.arrivals + ((m.read + 1) - m.known)) → IsInputOf events id m → IsInputOf events id (with_frame frame m)
+input_reads events id m frame piece none e at bytes flag unread was = record {
+  known = was.known;
+  arrivals = was.arrivals;
+  reads =
+      subst (λ (some : Bytes). ReadsRows events id (m.read + 1) some) bytes
+      (rows_are_read.next events id m.read piece e (subst (λ (rest : Bytes). ReadsRows events id m.read rest) none was.reads));
+  behind = after_next m.read (input_places events id) frame.place at;
+  counted =
+      (let sum = among-append (take m.read (input_pieces events id)) (piece ∷ []) in
+      let before = was.counted in
+      let all : m.counted + (if piece.is_arrival then 1 else 0) ≡ arrivals_among (take m.read (input_pieces events id) ++ piece ∷ []) = omega (arith, sum, before) in
+      ap (λ (b : Bool). m.counted + (if b then 1 else 0)) (sym flag) ∙ all)
+      ∙ ap arrivals_among (sym (take_next (input_pieces events id) m.read piece e));
+  handed =
+      was.handed;
+  heard = was.heard;
+  unread = unread;
 }
 
 -- ---- which frames are arrivals'

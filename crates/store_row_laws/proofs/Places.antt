@@ -21,7 +21,7 @@ use Rattle.due_laws.proofs.Handing.{IsPartial, rows_cut}
 use Rattle.store_tables.specs.declared.row.EntryRow.{EntryRow}
 use Rattle.store_model.specs.Places.{places_of, places_of_arrivals, journal_places, places_from, input_places, place_behind}
 use Rattle.store_lookups.specs.Lookups.{arrival_rows, rows_of_arrivals}
-use Rattle.store_live_laws.proofs.Counting.{same_count}
+use Rattle.store_row_laws.proofs.Counting.{same_count}
 use Rattle.store_row_laws.specs.Read.{AllFramesAreRead, KnownAtBegin, behind_place, place_after, HandedIsRead}
 use Rattle.store_row_laws.proofs.Frames.{frame_known, frame_later}
 

@@ -1,33 +1,26 @@
--- What is kept in memory of the live attempt's input, where it is read by the row, and that it agrees with the accepted events.
-use Rattle.std.specs.Prelude.{◌≡◌, ℕ, ◌+◌, ◌<◌, Bool, true, false, if◌then◌else◌, List, [], ◌∷◌, ◌++◌, length, map, take, slice_get, Some, None, option_map}
-use Rattle.journal_model.specs.Notification.{Bytes, Text}
+-- What is kept in memory of an attempt's input, which is read by the row, agrees with the accepted events.
+use Rattle.std.specs.Prelude.{◌≡◌, ℕ, ◌+◌, ◌-◌, ◌<◌, ◌^◌, Bool, true, false, if◌then◌else◌, List, [], ◌∷◌, length, map, take, slice_get, Option, Some, None, is_some, option_map}
+use Rattle.protocol_types.specs.declared.message_type.MessageType.TheVariants.{ProposeRunCompletionAck}
+use Rattle.journal_model.specs.Notification.{Text}
+use Rattle.journal_model.specs.Spelling.{frame_bytes, acknowledgement_payload}
 use Rattle.journal_model.specs.Event.{Event}
 use Rattle.journal_model.specs.Journal.{Entry, Recorded, Arrived, begins, version_of, entries_of, recorded_arrivals}
-use Rattle.journal_model.specs.Attempt.{Piece, begins_attempt, bytes_asked, acknowledged, input_pieces}
+use Rattle.journal_model.specs.Attempt.{Piece, begins_attempt, bytes_asked, acknowledged, input_pieces, input_left}
 use Rattle.journal_model.specs.Cause.{IsAccepted}
 use Rattle.input_laws.specs.Reading.{arrivals_among}
 use Rattle.due_laws.specs.Awake.{arrivals_heard}
-use Rattle.due_laws.specs.Rows.{frames_known, arrivals_known, outcomes_noted}
+use Rattle.due_laws.specs.Rows.{frames_known, arrivals_known, outcomes_unread}
 use Rattle.due_laws.specs.Handing.{ReadsRows}
+use Rattle.store_tables.specs.declared.row.EntryRow.{EntryRow}
 use Rattle.store_model.specs.Places.{input_places, handed_place}
+use Rattle.store_model.specs.Kept.{journal_rows}
+use Rattle.store_lookups.specs.Lookups.{arrival_rows, row_frame}
+use Rattle.store_live.specs.declared.input.FrameRead.{FrameRead}
+use Rattle.store_live.specs.declared.input.NextRow.{NextRow}
+use Rattle.store_live.specs.Input.{CanCount, InputKept, at_begin, handed_out, is_first, next_ordinal, next_row, with_frame, with_outcome}
 use Rattle.store_row_laws.specs.Read.{place_after}
 
-pub record InputKept : Type 0 where
-  -- how many frames and arrivals were known at the begin
-  pub known : ℕ
-  pub arrivals : ℕ
-  -- how many frames were read, the place behind the last of them and how many arrivals are among them, and what of the last was not handed out
-  pub read : ℕ
-  pub behind : ℕ
-  pub counted : ℕ
-  pub rest : Bytes
-  -- the place behind the last that was handed out whole, and how many arrivals are among these
-  pub handed : ℕ
-  pub heard : ℕ
-  -- the outcomes that are to be acknowledged
-  pub noted : List ℕ
-
-pub record Agrees (events : List Event) (id : Text) (m : InputKept) : Type 0 where
+pub record IsInputOf (events : List Event) (id : Text) (m : InputKept) : Type 0 where
   pub known : m.known ≡ frames_known events id
   pub arrivals : m.arrivals ≡ arrivals_known events id
   pub reads : ReadsRows events id m.read m.rest
@@ -35,47 +28,70 @@ pub record Agrees (events : List Event) (id : Text) (m : InputKept) : Type 0 whe
   pub counted : m.counted ≡ arrivals_among (take m.read (input_pieces events id))
   pub handed : m.handed ≡ handed_place events id
   pub heard : m.heard ≡ arrivals_heard events id
-  pub noted : m.noted ≡ outcomes_noted events id
+  -- those whose arrivals were not read
+  pub unread : m.unread ≡ outcomes_unread events id (m.arrivals + (m.read - m.known))
 
--- at a begin
-abbrev pub at_begin : (known arrivals : ℕ) → InputKept
-at_begin known arrivals =
-    record { known = known; arrivals = arrivals; read = 0; behind = 0; counted = 0; rest = []; handed = 0; heard = 0; noted = [] }
+-- ---- the next row
 
--- once the next frame was read, from its row
-abbrev pub with_frame : (place : ℕ) → Piece → InputKept → InputKept
-with_frame place piece m = record m {
-  read = m.read + 1;
-  behind = place + 1;
-  counted = m.counted + (if piece.is_arrival then 1 else 0);
-  rest = piece.bytes;
+-- the row that is asked for, where there is one
+abbrev pub row_asked : List Event → Text → NextRow → Option EntryRow
+row_asked events id (NextRow.Entry place) = slice_get (journal_rows events id) place
+row_asked events id (NextRow.Arrival ordinal) = slice_get (arrival_rows events id) (ordinal - 1)
+
+-- its frame: what is recorded, or that the outcome came
+abbrev pub plain_read : EntryRow → FrameRead
+plain_read row = record { place = row.place; is_arrival = is_some row.arrival; is_acknowledgement = false; bytes = row_frame row }
+
+abbrev pub told_read : ℕ → EntryRow → FrameRead
+told_read completion row = record {
+  place = row.place;
+  is_arrival = is_some row.arrival;
+  is_acknowledgement = true;
+  bytes = frame_bytes ProposeRunCompletionAck (acknowledgement_payload completion);
 }
 
--- once bytes were handed out of what was left of it
-abbrev pub with_rest : Bytes → InputKept → InputKept
-with_rest [] m = record m { rest = []; handed = m.behind; heard = m.counted }
-with_rest (x ∷ rest) m = record m { rest = x ∷ rest }
+abbrev pub arrival_read : (unread : List ℕ) → Option ℕ → EntryRow → FrameRead
+arrival_read unread None row = plain_read row
+arrival_read unread (Some completion) row = if is_first unread completion then told_read completion row else plain_read row
 
--- how each event, and each row that is read, changes it
+-- of those that were known at the begin the first, and of later arrivals the second where the attempt is to acknowledge it
+abbrev pub frame_read : (unread : List ℕ) → NextRow → EntryRow → FrameRead
+frame_read unread (NextRow.Entry place) row = plain_read row
+frame_read unread (NextRow.Arrival ordinal) row = arrival_read unread row.answered row
+
+-- ---- how each event, and each row that is read, changes it
+
 pub record InputAgrees : Type 0 where
   pub begun : (events : List Event) (id : Text) (now : ℕ)
-      → Agrees (Event.Begin id now ∷ events) id (at_begin (1 + length (entries_of events id)) (length (recorded_arrivals events id)))
+      → IsInputOf (Event.Begin id now ∷ events) id (at_begin (1 + length (entries_of events id)) (length (recorded_arrivals events id)))
   -- commands, notes, arrivals and ticks leave it
-  pub stays : (events : List Event) (event : Event) (id : Text) (m : InputKept) → begins id event ≡ false → begins_attempt id event ≡ false → bytes_asked id event ≡ None
-      → acknowledged (version_of events id) id event ≡ None → Agrees events id m → Agrees (event ∷ events) id m
-  -- an outcome that is to be acknowledged is noted
-  pub notes : (events : List Event) (event : Event) (id : Text) (m : InputKept) (n : ℕ) → begins id event ≡ false → begins_attempt id event ≡ false → bytes_asked id event ≡ None
-      → acknowledged (version_of events id) id event ≡ Some n → Agrees events id m → Agrees (event ∷ events) id (record m { noted = n ∷ m.noted })
-  -- the next row
-  pub reads : (events : List Event) (id : Text) (m : InputKept) (piece : Piece) (place : ℕ) → slice_get (input_pieces events id) m.read ≡ Some piece
-      → slice_get (input_places events id) m.read ≡ Some place → m.rest ≡ [] → Agrees events id m → Agrees events id (with_frame place piece m)
-  -- bytes of what is left of the frame that was read
-  pub hands : (events : List Event) (id : Text) (attempt : ℕ) (m : InputKept) (x : ℕ) (bytes rest : Bytes) → m.rest ≡ (x ∷ bytes) ++ rest → Agrees events id m
-      → Agrees (Event.HandOut id attempt (length (x ∷ bytes)) ∷ events) id (with_rest rest m)
-  -- a call that hands nothing out
-  pub hands_nothing : (events : List Event) (id : Text) (attempt : ℕ) (m : InputKept) → Agrees events id m → Agrees (Event.HandOut id attempt 0 ∷ events) id m
+  pub stays : (events : List Event) (event : Event) (id : Text) (m : InputKept) → IsAccepted (event ∷ events) → begins id event ≡ false → begins_attempt id event ≡ false
+      → bytes_asked id event ≡ None → acknowledged (version_of events id) id event ≡ None → IsInputOf events id m → IsInputOf (event ∷ events) id m
+  -- an outcome that is to be acknowledged is put behind the others
+  pub notes : (events : List Event) (event : Event) (id : Text) (m : InputKept) (n : ℕ) → IsAccepted (event ∷ events) → begins id event ≡ false → begins_attempt id event ≡ false
+      → bytes_asked id event ≡ None → acknowledged (version_of events id) id event ≡ Some n → IsInputOf events id m → IsInputOf (event ∷ events) id (with_outcome n m)
+  -- room is made
+  pub makes_room : (events : List Event) (id : Text) (m : InputKept) (room : ℕ) → IsInputOf events id m → IsInputOf events id (record m { room = room })
+  -- the next row is read, once all before it was handed out
+  pub reads : (events : List Event) (id : Text) (m : InputKept) (row : EntryRow) → IsAccepted events → m.rest ≡ [] → row_asked events id (next_row m) ≡ Some row
+      → IsInputOf events id m → IsInputOf events id (with_frame (frame_read m.unread (next_row m) row) m)
+  -- there is none where nothing is left
+  pub ends : (events : List Event) (id : Text) (m : InputKept) → IsAccepted events → m.rest ≡ [] → row_asked events id (next_row m) ≡ None
+      → IsInputOf events id m → input_left events id ≡ []
+  -- bytes of what is left of the frame that was read last are handed out
+  pub hands : (events : List Event) (id : Text) (attempt most : ℕ) (m : InputKept) → IsAccepted (Event.HandOut id attempt (length (take most m.rest)) ∷ events) → IsInputOf events id m
+      → IsInputOf (Event.HandOut id attempt (length (take most m.rest)) ∷ events) id (handed_out most m)
 
--- whether a frame is an arrival's, from its row: of those known at the begin by the entry, and of the others each
+-- and all is counted in 32 bits, where the entries are
+pub record InputCounts (events : List Event) (id : Text) (m : InputKept) : Type 0 where
+  pub ordinal : next_ordinal m < 2 ^ 32
+  pub frame : (row : EntryRow) → row_asked events id (next_row m) ≡ Some row → CanCount m (frame_read m.unread (next_row m) row)
+
+abbrev pub AllInputsCount : Type 0
+AllInputsCount = (events : List Event) (id : Text) (m : InputKept) → IsAccepted events → 1 + length (entries_of events id) < 2 ^ 32 → IsInputOf events id m → InputCounts events id m
+
+-- ---- whether a frame is an arrival's, from its row: of those known at the begin by the entry, and of the others each
+
 abbrev pub is_arrived : Entry → Bool
 is_arrived (Recorded request) = false
 is_arrived (Arrived arrival) = true

@@ -4,7 +4,7 @@
 #![tactic(auto)]
 
 ghost use Rattle.store_row_laws.specs.Kept.{AwakeAreArranged, ChangedCovers, DueFromRecords, DueFromRows, NextFromRecords, RowsAreNotHeard};
-ghost use Rattle.store_row_laws.specs.Memory.{AllArrivalsAreTold, InputAgrees};
+ghost use Rattle.store_row_laws.specs.Memory.{AllArrivalsAreTold, AllInputsCount, InputAgrees};
 ghost use Rattle.store_row_laws.specs.Read.{AllFramesAreRead, HandedIsRead, KnownAtBegin};
 
 /// Each frame of an attempt's input is read from one row, by its place or by its ordinal among the arrivals.
@@ -35,5 +35,6 @@ pub fn kept_records_tell()
 /// What is kept in memory of an input that is read by the row agrees with the accepted events.
 pub fn inputs_agree()
     ensures steps { InputAgrees }
+    ensures counts { AllInputsCount }
     ensures arrivals { AllArrivalsAreTold }
 {}

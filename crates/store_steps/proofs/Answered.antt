@@ -42,7 +42,7 @@ use Rattle.store_arrivals.specs.Arrivals.{HasFewArrivals, entry_of_arrival}
 use Rattle.store_arrivals.proofs.Written.{few_arrivals}
 use Rattle.store_steps.specs.declared.frame.PreparedFrame.{PreparedFrame}
 use Rattle.store_steps.specs.declared.reads.ReadAnswer.{ReadAnswer}
-use Rattle.store_steps.specs.Reads.{IsHanded, IsReadMade, answer_rows, answer_told, frame_handed, with_read}
+use Rattle.store_steps.specs.Reads.{IsReadMade, answer_told, with_read}
 use Rattle.store_steps.specs.Taken.{IsReply, IsTaken}
 use Rattle.store_steps.specs.Told.{after_recorded, answers_told, asked_by, command_row, tests_of_told}
 use Rattle.store_steps.proofs.Tests.{asked_same, command_tests, tests_left}
@@ -243,15 +243,6 @@ module _ (events : List Event) (accepted : IsAccepted events) (id : Text) (numbe
       by_first true e = refl
       by_first false e = cc
 
-  -- the row of the answer is what the attempt is handed
-  handed_is : do_ascend (last_completion (requests_in (entries_of events id))) (is.number ∷ []) ≡ true → (made : PreparedFrame) → IsReadMade row command answer made
-      → IsHanded (frame_handed (version_of events id) (Frame.Command request)) (answer_rows events id (Frame.Command request)) made.answer
-  handed_is up made of =
-      subst₂ (IsHanded (frame_handed (version_of events id) (Frame.Command request)))
-      (sym (ap (λ (answers : List Arrival). rows_of_arrivals id entries place (Recorded request ∷ map Arrived answers)) is.answers
-      ∙ ap (λ (one : EntryRow). one ∷ []) (answer_row_is up)))
-      (sym of.answer) (refl, refl)
-
   pub prepared_read : causes_of events event ≡ those_that_hold (tests_left events id number (Frame.Command request))
       → refusal_by (tests_of_told (progress_of events id) true (told.Command command)) ≡ None
       → (result : Result PreparedFrame Refusal) → Decides (payload_tests (notification_payload answer.arrival)) (IsReadMade row command answer) result
@@ -261,7 +252,7 @@ module _ (events : List Event) (accepted : IsAccepted events) (id : Text) (numbe
     record {
       writes = decided.1.writes (subst HasFewArrivals (sym far) (few_arrivals events id)) ∙ sym (read_written (causes ∙ causes_left_over none ∙ decided.0) (up_then none));
       reply = subst (IsReply events id (Frame.Command request)) (sym decided.1.reply) (ap (λ (p : Progress). p.entries) far);
-      answer = handed_is (up_then none) made decided.1;
+      acknowledged = decided.1.acknowledged;
     },
   )
   prepared_read causes none (Err why) decided = subst (λ (all : List Cause). IsRefused all why) (sym (causes ∙ causes_left_over none)) decided

@@ -5,11 +5,11 @@ use Rattle.std.proofs.lemmas.Slice.Eq.{bytes_eq-Decides}
 use Rattle.sqlite.specs.State.{State}
 use Rattle.sql_tables.specs.declared.read.ReadError.{ReadError}
 use Rattle.sql_tables.specs.declared.read.ReadError.TheVariants as reading
-use Rattle.journal_model.specs.Notification.{Text, Arrival}
-use Rattle.journal_model.specs.State.{state_after}
+use Rattle.journal_model.specs.Notification.{Text}
 use Rattle.journal_model.specs.declared.invocation.NewInvocation.{NewInvocation}
 use Rattle.journal_model.specs.Event.{Frame, Event}
-use Rattle.journal_model.specs.Journal.{Recorded, Arrived, invoked_by, invocation_begun, version_of, is_open, starting_state, requests_in, entries_of}
+use Rattle.journal_model.specs.Journal.{invoked_by, invocation_begun, version_of, is_open}
+use Rattle.journal_model.specs.Attempt.{acknowledged}
 use Rattle.journal_model.specs.Cause.{IsAccepted, causes_of, those_that_hold}
 use Rattle.journal_laws.proofs.ObjectState.{find-passes}
 use Rattle.protocol_types.specs.Version.{version_number}
@@ -21,7 +21,6 @@ use Rattle.store_tables.specs.declared.row.Progress.{Progress}
 use Rattle.store_model.specs.Progress.{progress_of}
 use Rattle.store_model.specs.Kept.{invocation_row}
 use Rattle.store_model.proofs.Versions.{begun_number}
-use Rattle.store_lookups.specs.Lookups.{rows_of_arrivals}
 use Rattle.store_lookups.proofs.Only.{only_found, only_one}
 use Rattle.store_lookups.proofs.Finding.{all_found}
 use Rattle.store_invocations.specs.Rows.{IsRowOf}
@@ -32,10 +31,9 @@ use Rattle.store_refusals.specs.Prepared.{Keeps, Prepares}
 use Rattle.store_refusals.proofs.First.{first_holds, none_holds}
 use Rattle.store_steps.specs.declared.frame.LiveFacts.{LiveFacts}
 use Rattle.store_steps.specs.declared.frame.PreparedFrame.{PreparedFrame}
-use Rattle.store_steps.specs.Reads.{IsHanded, answer_rows, frame_handed}
 use Rattle.store_steps.specs.Told.{tests_of_told, writes_of_told}
 use Rattle.store_steps.specs.Taken.{IsAwakeAtOnce, IsLive, IsReply, IsTaken, Takes, IsMade, IsWhy, WakesAtOnce}
-use Rattle.store_steps.proofs.LazyReads.{IsByRow, no_answer}
+use Rattle.store_steps.proofs.LazyReads.{IsByRow}
 use Rattle.store_steps.proofs.Live.{begun_open, live_open}
 use Rattle.store_steps.proofs.Tests.{tests_left, causes_left, tests_same}
 use Rattle.store_steps.proofs.Writes.{written, replied}
@@ -44,13 +42,10 @@ use Rattle.store_steps.proofs.Writes.{written, replied}
 abbrev pub IsUnread : AttemptFrame → Type 0
 IsUnread read = (frame : Frame) → IsFrame frame read → IsByRow frame
 
--- such a frame brings nothing with it
-none_answered : (events : List Event) (id : Text) (frame : Frame) (read : AttemptFrame) → IsByRow frame → IsFrame frame read → answer_rows events id frame ≡ []
-none_answered events id (Frame.Command request) read unread h =
-    ap (λ (answers : List Arrival). rows_of_arrivals id (entries_of events id) (1 + length (entries_of events id)) (Recorded request ∷ map Arrived answers))
-    (no_answer (state_after (requests_in (entries_of events id)) (starting_state events id)) request unread)
-none_answered events id (Frame.RunOutcome n value is_acknowledged) read unread h = absurd unread
-none_answered events id _ read unread h = refl
+-- such a frame is not acknowledged
+none_acknowledged : (version : ℕ) (id : Text) (number : ℕ) (frame : Frame) → IsByRow frame → acknowledged version id (Event.Take id number frame) ≡ None
+none_acknowledged version id number (Frame.RunOutcome n value asks) unread = absurd unread
+none_acknowledged version id number _ unread = refl
 
 -- ---- a frame of a live attempt of an invocation that was begun so
 
@@ -79,7 +74,7 @@ module _ (events : List Event) (accepted : IsAccepted events) (id : Text) (numbe
           ∙ sym (written events accepted id number new.object attempt is_awake frame read (ap (option_map (λ (begun : NewInvocation). begun.object)) is) live awake
           (none_of made is_awake ok) unread h ok.accepted);
       reply = subst (IsReply events id frame) (sym ok.reply) (replied events accepted id number attempt.is_input_closed frame read unread h ok.accepted);
-      answer = subst₂ (IsHanded (frame_handed (version_of events id) frame)) (sym (none_answered events id frame read unread h)) (sym ok.answer) tt;
+      acknowledged = ok.acknowledged ∙ sym (none_acknowledged (version_of events id) id number frame unread);
     },
   )
   prepared is_awake awake (Err why) ok err = by_first (refusal_by (tests_of_told (progress_of events id) attempt.is_input_closed read)) refl

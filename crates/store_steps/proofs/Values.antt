@@ -18,7 +18,6 @@ use Rattle.store_frames.specs.declared.frame.AttemptFrame.{AttemptFrame}
 use Rattle.store_invocations.proofs.Reading.{KeepsOnly, found_is}
 use Rattle.store_refusals.specs.declared.refusal.Refusal.{Refusal}
 use Rattle.store_refusals.specs.Prepared.{Keeps}
-use Rattle.store_steps.specs.declared.frame.HandedAnswer.{HandedAnswer}
 use Rattle.store_steps.specs.declared.frame.LiveFacts.{LiveFacts}
 use Rattle.store_steps.specs.declared.frame.PreparedFrame.{PreparedFrame}
 use Rattle.store_steps.specs.Taken.{IsMade}
@@ -61,10 +60,3 @@ module _ (events : List Event) (s : State) (keeps : Keeps events s) (object : Te
 pub keys_read : (object : Text) (state : StateMap) → map (λ (row : StateRow). row.key) (map (state_row object) state) ≡ state_keys state
 keys_read object [] = refl
 keys_read object (entry ∷ state) = ap (λ (keys : List Bytes). entry.0 ∷ keys) (keys_read object state)
-
--- ---- what has no answer has no place for one
-
-pub unanswered : (id object : Text) (version : ℕ) (p : Progress) (attempt : LiveFacts) (is_awake : Bool) (read : AttemptFrame) (result : Result PreparedFrame Refusal)
-    → IfOk result (IsMade id object version p attempt is_awake read) → IfOk result (λ made. IfSome made.answer (λ (answer : HandedAnswer). answer.place + 1 < 2 ^ 32))
-unanswered id object version p attempt is_awake read (Ok made) is = subst (λ (o : Option HandedAnswer). IfSome o (λ (answer : HandedAnswer). answer.place + 1 < 2 ^ 32)) (sym is.answer) tt
-unanswered id object version p attempt is_awake read (Err why) is = tt

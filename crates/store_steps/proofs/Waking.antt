@@ -21,9 +21,7 @@ use Rattle.store_refusals.specs.Refused.{IsRefused}
 use Rattle.store_refusals.specs.Prepared.{Tells}
 use Rattle.store_steps.specs.declared.frame.LiveFacts.{LiveFacts}
 use Rattle.store_steps.specs.Taken.{IsAwakeAtOnce, IsLive, IsOther, Takes, WakesAtOnce}
-use Rattle.store_steps.specs.Told.{heard_by}
 use Rattle.store_steps.proofs.Taking.{IsUnread}
-use Rattle.store_steps.proofs.Writes.{heard_is}
 
 -- a command is no suspension
 pub other_frames : (events : List Event) (id : Text) (attempt : LiveFacts) (command : RecordedCommand) → WakesAtOnce events id attempt (told.Command command) (Ok false)
@@ -52,14 +50,14 @@ module _ (events : List Event) (accepted : IsAccepted events) (id : Text) (row :
   spoken : version_number row.version ≡ version_of events id
   spoken = ap (λ (r : InvocationRow). version_number r.version) of.is ∙ kept_number events id of.new accepted of.begun
 
-  pub wakes_by : (payload slice : Bytes) (heard : ℕ) (result : Result Bool Refusal) → slice ≡ payload → heard ≡ heard_by attempt row.progress
+  pub wakes_by : (payload slice : Bytes) (heard : ℕ) (result : Result Bool Refusal) → slice ≡ payload → heard ≡ attempt.heard
       → ((suspended : Suspension) → IsFrameRead (version_number row.version) (Frame.Suspend (Some suspended)) → KeepsSuspension suspended slice
       → Tells (λ woken. woken ≡ is_woken (drop heard (recorded_arrivals events id) ++ []) (Some suspended)) result)
       → WakesAtOnce events id attempt (told.Suspension payload) result
   wakes_by payload slice heard result same is tells number (Frame.Suspend (Some suspension)) live from h =
       subst (λ (arrivals : List Arrival). Tells (λ woken. woken ≡ is_woken arrivals (Some suspension)) result)
       (append-nil (drop heard (recorded_arrivals events id))
-      ∙ ap (λ (n : ℕ). drop n (recorded_arrivals events id)) (is ∙ ap (heard_by attempt) far ∙ heard_is events accepted id number attempt live))
+      ∙ ap (λ (n : ℕ). drop n (recorded_arrivals events id)) (is ∙ live.heard))
       (tells suspension (subst (λ (version : ℕ). IsFrameRead version (Frame.Suspend (Some suspension))) (sym spoken) from) (subst (KeepsSuspension suspension) (sym same) h))
   wakes_by payload slice heard result same is tells number (Frame.Suspend None) live from h = absurd h
   wakes_by payload slice heard result same is tells number (Frame.Command request) live from h = absurd h

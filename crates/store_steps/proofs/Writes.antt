@@ -38,7 +38,7 @@ use Rattle.store_model.proofs.States.{itself}
 use Rattle.store_steps.specs.declared.frame.LiveFacts.{LiveFacts}
 use Rattle.store_steps.specs.Taken.{IsAwakeAtOnce, IsLive, IsReply}
 use Rattle.protocol_stream.specs.CommandFacts.{facts_of}
-use Rattle.store_steps.specs.Told.{puts_out, value_put_out, command_row, keeps_moment, sleep_if, sleep_told, state_told, closing_writes, tests_of_told, reply_to_told, after_recorded, number_of_behavior, does_fail, after_suspension, after_error, after_end, error_told, heard_by, writes_of_told}
+use Rattle.store_steps.specs.Told.{puts_out, value_put_out, command_row, keeps_moment, sleep_if, sleep_told, state_told, closing_writes, tests_of_told, reply_to_told, after_recorded, number_of_behavior, does_fail, after_suspension, after_error, after_end, error_told, writes_of_told}
 use Rattle.store_steps.proofs.LazyReads.{is_lazy_read, IsByRow, no_answer, none_at_once}
 use Rattle.store_steps.proofs.Tests.{asked_same}
 use Rattle.store_steps.proofs.Lists.{payload_kept}
@@ -201,13 +201,6 @@ module _ (events : List Event) (accepted : IsAccepted events) (id : Text) (numbe
       shape ∙ ap₂ (λ (q : Progress) (writes : List Write). SetProgress id q ∷ writes) (progress_is frame p none e)
       (ap₂ (λ (c : Bool) (writes : List Write). closing_writes c id ++ writes) f (nothing_written (object frame)) ∙ append-nil (closing_writes is_closed id))
 
-  -- how many arrivals the attempt was handed whole, by how many are left
-  pub heard_is : (attempt : LiveFacts) → IsLive events id number attempt → heard_by attempt (progress_of events id) ≡ arrivals_heard events id
-  heard_is attempt live =
-      let left = length-drop (arrivals_heard events id) (recorded_arrivals events id) in
-      let few = heard_few events id accepted in
-      omega (arith, live.waiting, left, few)
-
   command_written : (kept : Text) (request : Request) (command : RecordedCommand) → object (Frame.Command request) ≡ Some kept → IsTakenIn (Frame.Command request) → is_lazy_read request ≡ false → IsCommand request command
       → writes_of events (Event.Take id number (Frame.Command request))
       ≡ AddEntry (command_row id (1 + length (entries_of events id)) command) ∷ SetProgress id (after_recorded command (progress_of events id))
@@ -238,7 +231,7 @@ module _ (events : List Event) (accepted : IsAccepted events) (id : Text) (numbe
       (λ i. record (progress_of events id) {
         suspension = Some (payload_kept suspension payload h i);
         handed = Some (sym live.handed i);
-        heard = Some (sym (heard_is attempt live) i);
+        heard = Some (sym live.heard i);
         is_awake = sym awake i;
       })
       refl
@@ -252,7 +245,7 @@ module _ (events : List Event) (accepted : IsAccepted events) (id : Text) (numbe
         open_object = None;
         closing = Some Ended;
         handed = Some (sym live.handed i);
-        heard = Some (sym (heard_is attempt live) i);
+        heard = Some (sym live.heard i);
         is_awake = false;
       })
       refl

@@ -1,4 +1,4 @@
--- What the store answers to a read of an object's state, what is made ready of the read, and what its attempt is handed.
+-- What the store answers to a read of an object's state, and what is made ready of the read.
 use Rattle.std.specs.Prelude.{◌≡◌, ℕ, ◌+◌, Bool, ◌&&◌, if◌then◌else◌, List, [], ◌∷◌, length, Option, Some, None}
 use Rattle.journal_model.specs.Notification.{Bytes, Text}
 use Rattle.journal_model.specs.declared.notification.NotificationResult.{NotificationResult}
@@ -21,33 +21,13 @@ use Rattle.store_model.specs.Steps.{grown}
 use Rattle.store_lookups.specs.Lookups.{row_frame, rows_of_arrivals}
 use Rattle.store_arrivals.specs.Arrivals.{HasFewArrivals, entry_of_arrival}
 use Rattle.store_steps.specs.declared.frame.FrameReply.TheVariants as replies
-use Rattle.store_steps.specs.declared.frame.HandedAnswer.{HandedAnswer}
 use Rattle.store_steps.specs.declared.frame.PreparedFrame.{PreparedFrame}
 use Rattle.store_steps.specs.declared.reads.ReadAnswer.{ReadAnswer}
 use Rattle.store_steps.specs.Told.{after_recorded, command_row}
 
--- ---- by the events
-
--- the rows of what a frame brings at once: of the answer to a read, or of the outcome of a run
-abbrev pub answer_rows : List Event → Text → Frame → List EntryRow
-answer_rows events id frame =
-    rows_of_arrivals id (entries_of events id) (1 + length (entries_of events id)) (entries_of_frame (starting_state events id) (entries_of events id) frame)
-
 -- an attempt that asks for it is told only that the outcome is recorded, where its version has acknowledgements
-abbrev pub outcome_frame : ℕ → ℕ → Bool → Bytes → Bytes
-outcome_frame version n asks notification =
-    if asks && has_feature version Acknowledgement then frame_bytes types.ProposeRunCompletionAck (acknowledgement_payload n) else notification
-
--- the frame by which an attempt of this version is told of a row that its own frame brings
-abbrev pub frame_handed : ℕ → Frame → EntryRow → Bytes
-frame_handed version (Frame.RunOutcome n value asks) row = outcome_frame version n asks (row_frame row)
-frame_handed version _ row = row_frame row
-
--- the attempt is handed such a frame of the one row, if there is one
-abbrev pub IsHanded : (EntryRow → Bytes) → List EntryRow → Option HandedAnswer → Type 0
-IsHanded handed [] None = Unit {0}
-IsHanded handed (row ∷ []) (Some answer) = (answer.place ≡ row.place) × (answer.frame ≡ handed row)
-IsHanded handed _ _ = ⊥
+abbrev pub acknowledged_if : (version n : ℕ) (asks : Bool) → Option ℕ
+acknowledged_if version n asks = if asks && has_feature version Acknowledgement then Some n else None
 
 -- ---- by what is kept of the read and of the object
 
@@ -70,4 +50,4 @@ pub record IsReadMade (row : InvocationRow) (command : RecordedCommand) (told : 
       ∷ AddEntry (entry_of_arrival (with_read command row) told.ty (answered_by told.arrival.id) (notification_payload told.arrival))
       ∷ SetProgress row.id (grown 1 1 (after_recorded command row.progress)) ∷ []
   pub reply : made.reply ≡ replies.Recorded row.progress.entries
-  pub answer : made.answer ≡ Some (record { place = row.progress.entries + 1; frame = frame_bytes told.ty (notification_payload told.arrival) })
+  pub acknowledged : made.acknowledged ≡ None

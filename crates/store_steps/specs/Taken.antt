@@ -3,7 +3,8 @@ use Rattle.std.specs.Prelude.{◌≡◌, ℕ, ◌+◌, Bool, true, false, List, 
 use Rattle.journal_model.specs.Notification.{Text}
 use Rattle.journal_model.specs.Event.{Frame, Event}
 use Rattle.journal_model.specs.Journal.{version_of, entries_of, ends_attempt}
-use Rattle.journal_model.specs.Attempt.{is_live, is_input_closed, arrivals_not_handed, is_woken}
+use Rattle.journal_model.specs.Attempt.{acknowledged, is_live, is_input_closed, arrivals_not_handed, is_woken}
+use Rattle.due_laws.specs.Awake.{arrivals_heard}
 use Rattle.journal_model.specs.Cause.{Cause, is_of_frame}
 use Rattle.store_frames.specs.Answer.{IsFrame}
 use Rattle.store_frames.specs.Read.{IsFrameRead}
@@ -20,7 +21,6 @@ use Rattle.store_steps.specs.declared.frame.FrameReply.{FrameReply}
 use Rattle.store_steps.specs.declared.frame.FrameReply.TheVariants as replies
 use Rattle.store_steps.specs.declared.frame.LiveFacts.{LiveFacts}
 use Rattle.store_steps.specs.declared.frame.PreparedFrame.{PreparedFrame}
-use Rattle.store_steps.specs.Reads.{IsHanded, answer_rows, frame_handed}
 use Rattle.store_steps.specs.Told.{tests_of_told, writes_of_told, reply_to_told}
 
 -- ---- by the events
@@ -30,7 +30,7 @@ pub record IsLive (events : List Event) (id : Text) (number : ℕ) (attempt : Li
   pub live : is_live events id number ≡ true
   pub closed : attempt.is_input_closed ≡ is_input_closed events id
   pub handed : attempt.handed ≡ handed_place events id
-  pub waiting : attempt.waiting ≡ length (arrivals_not_handed events id)
+  pub heard : attempt.heard ≡ arrivals_heard events id
 
 -- whether a suspension is awake at once, under what its attempt was not handed
 abbrev pub IsAwakeAtOnce : List Event → Text → Frame → Bool → Type 0
@@ -50,7 +50,7 @@ IsReply events id _ _ = ⊥
 pub record IsTaken (events : List Event) (id : Text) (number : ℕ) (frame : Frame) (made : PreparedFrame) : Type 0 where
   pub writes : made.writes.items ≡ writes_of events (Event.Take id number frame)
   pub reply : IsReply events id frame made.reply
-  pub answer : IsHanded (frame_handed (version_of events id) frame) (answer_rows events id frame) made.answer
+  pub acknowledged : made.acknowledged ≡ acknowledged (version_of events id) id (Event.Take id number frame)
 
 -- whichever frame this is, and whatever number the live attempt has
 abbrev pub Takes : List Event → Text → LiveFacts → AttemptFrame → Result PreparedFrame Refusal → Type 0
@@ -74,7 +74,7 @@ pub record IsMade (id object : Text) (version : ℕ) (p : Progress) (attempt : L
   pub accepted : refusal_by (tests_of_told p attempt.is_input_closed read) ≡ None
   pub writes : made.writes.items ≡ writes_of_told id object version attempt is_awake p read
   pub reply : made.reply ≡ reply_to_told p read
-  pub answer : made.answer ≡ None
+  pub acknowledged : made.acknowledged ≡ None
 
 -- the refusal of the first test that holds; where none does, memory was refused
 abbrev pub IsWhy : Progress → LiveFacts → AttemptFrame → Refusal → Type 0

@@ -105,16 +105,12 @@ abbrev pub does_fail : ℕ → ErrorBehavior → Bool
 does_fail version behaviors.Fail = has_feature version features.ErrorBehavior
 does_fail version _ = false
 
--- how many arrivals an attempt was handed whole, of those that have come
-abbrev pub heard_by : LiveFacts → Progress → ℕ
-heard_by attempt p = p.arrivals - attempt.waiting
-
 -- it is awake at once where what it was not handed wakes it
 abbrev pub after_suspension : Bytes → LiveFacts → Bool → Progress → Progress
 after_suspension payload attempt is_awake p = record p {
   suspension = Some payload;
   handed = Some attempt.handed;
-  heard = Some (heard_by attempt p);
+  heard = Some (attempt.heard);
   is_awake = is_awake;
 }
 
@@ -131,7 +127,7 @@ after_end attempt p = record p {
   open_object = None;
   closing = Some Ended;
   handed = Some attempt.handed;
-  heard = Some (heard_by attempt p);
+  heard = Some (attempt.heard);
   is_awake = false;
 }
 

@@ -1,5 +1,4 @@
 // What is known of a live attempt, and what is made ready of its frame.
-use bytes::Bytes;
 use store_tables::Write;
 
 /// What only memory knows of a live attempt.
@@ -7,8 +6,8 @@ use store_tables::Write;
 pub struct LiveFacts {
     /// The place behind the last entry that it was handed whole, 0 where there is none.
     pub handed: u32,
-    /// How many arrivals have come that it was not handed whole.
-    pub waiting: usize,
+    /// How many arrivals it was handed whole.
+    pub heard: u32,
     pub is_input_closed: bool,
 }
 
@@ -27,20 +26,11 @@ pub enum FrameReply {
     Ended,
 }
 
-/// What a frame brings its attempt at once: the answer to a read, or that the outcome of a run is recorded.
-#[derive(Debug, Drop)]
-pub struct HandedAnswer {
-    /// The place of its entry.
-    pub place: u32,
-    /// The frame that comes behind the input of the attempt.
-    pub frame: Bytes,
-}
-
 /// What is written of an accepted frame, in one transaction, and its answer.
 #[derive(Debug, Drop)]
 pub struct PreparedFrame {
     pub writes: Vec<Write>,
     pub reply: FrameReply,
-    /// Of a read of the state that the store answers, and of the outcome of a run.
-    pub answer: Option<HandedAnswer>,
+    /// The completion of a run whose outcome this is, where the attempt is told only that it came.
+    pub acknowledged: Option<u32>,
 }

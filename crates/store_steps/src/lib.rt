@@ -14,6 +14,6 @@ mod refuse;
 mod write;
 
 pub use end::refusal_ends_attempt;
-pub use frame::{FrameReply, HandedAnswer, LiveFacts, PreparedFrame};
+pub use frame::{FrameReply, LiveFacts, PreparedFrame};
 pub use laws::live_are_open;
 pub use prepare::prepare_frame;

@@ -15,7 +15,7 @@ use crate::frame::{LiveFacts, PreparedFrame};
 use crate::outcome::outcome_by_row;
 use crate::reads::{ReadAnswer, answer_to, read_with};
 use crate::refuse::{command_refusal, frame_refusal};
-use crate::write::{frame_writes, heard_so_far, reply_to};
+use crate::write::{frame_writes, reply_to};
 use bytes::ByteStr;
 use protocol_stream::Version;
 use sqlite::Alter;
@@ -54,7 +54,7 @@ fn decide(
             Ok(PreparedFrame {
                 writes,
                 reply,
-                answer: None,
+                acknowledged: None,
             })
         }
     }
@@ -110,7 +110,6 @@ fn command_by_row<S: Alter>(
 ) -> Result<PreparedFrame, Refusal>
     ensures prepared { HasCleanDisk (state S.Store tables.new) → (events : List Event) → IsStoreOf events (state S.Store tables.old) → IsRowOf events id.now row → Takes events id.now attempt (AttemptFrame.Command command) result }
     ensures looks { Looks S.Store tables.old tables.new }
-    ensures place { IfOk result (λ made. IfSome made.answer (λ answer. answer.place + 1 < 2 ^ 32)) }
 {
     match answer_at_once(tables, &row, &command) {
         Ok(Some(answer)) => read_with(tables.alloc(), row, command, answer),
@@ -139,8 +138,14 @@ fn wakes_at_once<S: Alter>(
 {
     match frame {
         AttemptFrame::Suspension { payload } => {
-            let heard = heard_so_far(row.progress.arrivals, attempt.waiting);
-            is_woken(tables, id, row.version, payload.as_slice(), heard, &[])
+            is_woken(
+                tables,
+                id,
+                row.version,
+                payload.as_slice(),
+                attempt.heard,
+                &[],
+            )
         }
         _ => Ok(false),
     }
@@ -156,7 +161,6 @@ fn other_by_row<S: Alter>(
 ) -> Result<PreparedFrame, Refusal>
     ensures prepared { HasCleanDisk (state S.Store tables.new) → (events : List Event) → IsStoreOf events (state S.Store tables.old) → IsRowOf events id.now row → IsOther frame → Takes events id.now attempt frame result }
     ensures looks { Looks S.Store tables.old tables.new }
-    ensures place { IfOk result (λ made. IfSome made.answer (λ answer. answer.place + 1 < 2 ^ 32)) }
 {
     match wakes_at_once(tables, id, &row, attempt, &frame) {
         Ok(is_awake) => decide_by_row(tables.alloc(), id, row, attempt, is_awake, frame),
@@ -180,7 +184,6 @@ pub fn prepare_frame<S: Alter>(
     ensures prepared { HasCleanDisk (state S.Store tables.new) → (events : List Event) → IsStoreOf events (state S.Store tables.old) → Takes events id.now attempt frame result }
     ensures asked { HasCleanDisk (state S.Store tables.new) → OnOk result (IsTrue (state S.Store tables.old).is_open) }
     ensures looks { Looks S.Store tables.old tables.new }
-    ensures place { IfOk result (λ made. IfSome made.answer (λ answer. answer.place + 1 < 2 ^ 32)) }
 {
     match invocation_by_id(tables, id) {
         Ok(Some(row)) => match frame {

@@ -17,7 +17,7 @@ ghost use Rattle.store_invocations.specs.Rows.{Decides, IsStoreOf, payload_tests
 ghost use Rattle.store_steps.specs.Reads.{IsReadMade, answer_told, with_read};
 ghost use Rattle.store_steps.specs.Told.{answers_told, command_row};
 
-use crate::frame::{FrameReply, HandedAnswer, PreparedFrame};
+use crate::frame::{FrameReply, PreparedFrame};
 use crate::write::{entry_of, note_command};
 use bytes::{ByteStr, Bytes};
 use journal_model::{Notification, NotificationId, NotificationResult};
@@ -161,25 +161,15 @@ pub(crate) fn read_with(
 ) -> Result<PreparedFrame, Refusal>
     requires { row.progress.entries + 1 < 2 ^ 32 - 1 }
     ensures decided { Decides (payload_tests (notification_payload answer.arrival)) (IsReadMade row command answer) result }
-    ensures place { IfOk result (λ made. IfSome made.answer (λ answer. answer.place + 1 < 2 ^ 32)) }
 {
     let place = row.progress.entries;
     let ReadAnswer { ty, arrival } = answer;
     match record_read(row, command) {
         Ok((entry, row)) => match prepare_arrival(alloc, row, ty, arrival) {
-            Ok(
-                PreparedArrival {
-                    writes,
-                    place: behind,
-                    frame,
-                },
-            ) => Ok(PreparedFrame {
+            Ok(PreparedArrival { writes, place: _ }) => Ok(PreparedFrame {
                 writes: with_entry(entry, writes)?,
                 reply: FrameReply::Recorded { place },
-                answer: Some(HandedAnswer {
-                    place: behind,
-                    frame,
-                }),
+                acknowledged: None,
             }),
             Err(why) => {
                 drop(entry);

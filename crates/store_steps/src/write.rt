@@ -282,23 +282,12 @@ fn ending_writes(
     Ok(writes)
 }
 
-/// How many arrivals an attempt was handed whole, by how many have come and how many of these it was not.
-pub(crate) fn heard_so_far(arrivals: u32, waiting: usize) -> u32
-    ensures { result ≡ arrivals - waiting }
-{
-    match u32::try_from(waiting) {
-        Ok(waiting) => arrivals.saturating_sub(waiting),
-        Err(_) => 0,
-    }
-}
-
 fn suspend(progress: &mut Progress, payload: Bytes, attempt: LiveFacts, is_awake: bool)
     ensures { progress.new ≡ after_suspension payload attempt is_awake progress.old }
 {
-    let heard = heard_so_far(progress.arrivals, attempt.waiting);
     drop(progress.suspension.replace(payload));
     progress.handed = Some(attempt.handed);
-    progress.heard = Some(heard);
+    progress.heard = Some(attempt.heard);
     progress.is_awake = is_awake;
 }
 
@@ -342,10 +331,9 @@ fn fail(progress: &mut Progress, error: LastError, is_closed: bool)
 fn end(progress: &mut Progress, attempt: LiveFacts)
     ensures { progress.new ≡ after_end attempt progress.old }
 {
-    let heard = heard_so_far(progress.arrivals, attempt.waiting);
     close(progress, Closing::Ended);
     progress.handed = Some(attempt.handed);
-    progress.heard = Some(heard);
+    progress.heard = Some(attempt.heard);
 }
 
 /// What is written of a frame that is accepted, other than the outcome of a run. A suspension is awake at once or not.

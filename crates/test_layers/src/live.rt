@@ -1,35 +1,31 @@
 //! A live attempt from its begin to its end.
 
-use bytes::ByteStr;
+use bytes::{ByteStr, Bytes};
 use protocol_types::Version;
 use std::alloc::{AllocError, Global};
 use std::test::Fail;
-use store_live::{AttemptInput, AttemptOutput, LiveAttempt, LiveAttempts};
+use store_live::{AttemptInput, AttemptOutput, FrameRead, LiveAttempt, LiveAttempts, NextRow};
 
 /// The frame of an input that is empty.
 const INPUT: [u8; 8] = [0x04, 0, 0, 0, 0, 0, 0, 0];
 
-/// The header of the cancellation's frame, and its payload.
-const CANCEL: [u8; 8] = [0xfb, 0xff, 0, 0, 0, 0, 0, 4];
-
-const PAYLOAD: [u8; 4] = [0x10, 1, 0x22, 0];
+/// The cancellation's frame.
+const CANCEL: [u8; 12] = [0xfb, 0xff, 0, 0, 0, 0, 0, 4, 0x10, 1, 0x22, 0];
 
 /// The first attempt of an invocation that has its input alone.
-fn begun(alloc: Global) -> Result<LiveAttempt, AllocError> {
-    let mut input = AttemptInput::new(alloc);
-    input.push(0, &INPUT, &[])?;
-    Ok(LiveAttempt {
+fn begun(alloc: Global) -> LiveAttempt {
+    LiveAttempt {
         number: 1,
         version: Version::V7,
-        input,
+        input: AttemptInput::new(alloc, 1, 0),
         is_input_closed: false,
         output: AttemptOutput::new(alloc),
-    })
+    }
 }
 
 fn begin(alloc: Global, live: &mut LiveAttempts) -> Result<(), AllocError> {
     live.reserve_one()?;
-    live.put_begun(ByteStr::from_static("i1"), begun(alloc)?);
+    live.put_begun(ByteStr::from_static("i1"), begun(alloc));
     Ok(())
 }
 
@@ -61,13 +57,42 @@ fn handed(live: &LiveAttempts, id: &ByteStr) -> Option<u32> {
     }
 }
 
-/// Puts the cancellation behind, at place 1.
-fn cancel(live: &mut LiveAttempts, id: &ByteStr) -> bool {
-    if live.reserve(id, CANCEL.len() + PAYLOAD.len()).is_err() {
-        return false;
+/// Takes in the frame of the row that is asked for, where it is this one.
+fn reads(live: &mut LiveAttempts, id: &ByteStr, wanted: NextRow, frame: FrameRead) -> bool {
+    let is_next = match live.get(id) {
+        Some(attempt) => attempt.input.is_read_out() && attempt.input.next_row() == wanted,
+        None => false,
+    };
+    live.put_frame(id, frame);
+    is_next
+}
+
+/// The frame of the input.
+fn input() -> FrameRead {
+    FrameRead {
+        place: 0,
+        is_arrival: false,
+        is_acknowledgement: false,
+        bytes: Bytes::from_static(&INPUT),
     }
-    live.put(id, 1, &CANCEL, &PAYLOAD);
-    true
+}
+
+/// That of a cancellation, at place 1.
+fn cancellation() -> FrameRead {
+    FrameRead {
+        place: 1,
+        is_arrival: true,
+        is_acknowledgement: false,
+        bytes: Bytes::from_static(&CANCEL),
+    }
+}
+
+/// How many arrivals were handed out whole.
+fn heard(live: &LiveAttempts, id: &ByteStr) -> Option<u32> {
+    match live.get(id) {
+        Some(attempt) => Some(attempt.input.heard()),
+        None => None,
+    }
 }
 
 /// Whether the input of the invocation's live attempt is closed.
@@ -88,19 +113,35 @@ fn waiting(live: &LiveAttempts, id: &ByteStr) -> usize {
 
 /// Whether the input is handed out in parts.
 fn comes_in_parts(live: &mut LiveAttempts, id: &ByteStr) -> bool {
-    hands_out(live, id, 5, &INPUT[..5])
+    reads(live, id, NextRow::Entry(0), input())
+        && hands_out(live, id, 5, &INPUT[..5])
         && handed(live, id) == Some(0)
         && hands_out(live, id, 5, &INPUT[5..])
         && handed(live, id) == Some(1)
 }
 
-/// Whether an arrival comes behind the input.
+/// Whether an arrival comes behind the input, by its ordinal.
 fn brings_an_arrival(live: &mut LiveAttempts, id: &ByteStr) -> bool {
-    cancel(live, id)
-        && hands_out(live, id, 12, b"\x04\0\0\0\0\0\0\0\xfb\xff\0\0")
-        && handed(live, id) == Some(1)
-        && hands_out(live, id, 100, b"\0\0\0\x04\x10\x01\x22\0")
+    reads(live, id, NextRow::Arrival(1), cancellation())
+        && hands_out(live, id, 4, &CANCEL[..4])
+        && heard(live, id) == Some(0)
+        && hands_out(live, id, 100, &CANCEL[4..])
         && handed(live, id) == Some(2)
+        && heard(live, id) == Some(1)
+}
+
+/// Whether an outcome is acknowledged where it is the first of those that are to be.
+fn acknowledges(live: &mut LiveAttempts, id: &ByteStr) -> bool {
+    if live.reserve_outcome(id).is_err() {
+        return false;
+    }
+    live.note_outcome(id, 3);
+    match live.get(id) {
+        Some(attempt) => {
+            attempt.input.is_to_acknowledge(3) && !attempt.input.is_to_acknowledge(2)
+        }
+        None => false,
+    }
 }
 
 /// Whether output waits.
@@ -126,11 +167,12 @@ fn a_live_attempt(rt: HostRuntime) -> Result<(), Fail> {
     let id = ByteStr::from_static("i1");
     let mut live = live_alone(rt.alloc())?;
     assert!(rt; comes_in_parts(&mut live, &id));
+    assert!(rt; brings_an_arrival(&mut live, &id));
     assert!(rt; keeps_output(&mut live, &id));
     assert!(rt; is_over_when_told(&mut live, &id));
     drop(live);
     let mut live = live_alone(rt.alloc())?;
-    assert!(rt; brings_an_arrival(&mut live, &id));
+    assert!(rt; acknowledges(&mut live, &id));
     drop(live);
     Ok(())
 }

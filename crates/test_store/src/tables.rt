@@ -125,7 +125,15 @@ fn row_of(tables: &mut Tables) -> Option<InvocationRow> {
     }
 }
 
-/// Makes the signal 17 ready, and prints its place and its frame.
+/// The payload of the entry that is written first.
+fn first_payload(writes: &[Write]) -> &[u8] {
+    match writes.first() {
+        Some(Write::AddEntry(entry)) => entry.payload.as_slice(),
+        _ => &[],
+    }
+}
+
+/// Makes the signal 17 ready, and prints its place and its payload.
 fn print_signal<R: Print>(rt: &R, alloc: Global, tables: &mut Tables) -> Result<(), Fault> {
     let row = row_of(tables).ok_or(Fault::Memory)?;
     let signal = Notification {
@@ -134,8 +142,8 @@ fn print_signal<R: Print>(rt: &R, alloc: Global, tables: &mut Tables) -> Result<
     };
     match prepare_arrival(alloc, row, MessageType::SignalNotification, signal) {
         Ok(made) => {
-            let frame = Hex(made.frame.as_slice());
-            let printed = println!(rt; "signal 17 -> place {} {frame}", made.place);
+            let payload = Hex(first_payload(made.writes.as_slice()));
+            let printed = println!(rt; "signal 17 -> place {} {payload}", made.place);
             drop(made);
             Ok(printed?)
         }

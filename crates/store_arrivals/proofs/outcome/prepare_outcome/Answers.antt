@@ -5,7 +5,7 @@ use Rattle.store_arrivals.proofs.outcome.prepare_outcome.Goals as goal
 pub returns-in-Ok-true-clause-decided : goal.returns-in-Ok-true-clause-decided
 returns-in-Ok-true-clause-decided g c clean events store of =
     outcome_ready events store.accepted c.args.id.now c.args.completion c.args.row of (sym (c.in-Ok-true.ensures.told clean events store) ∙ c.in-Ok-true.field-0-test)
-    c.args.brought c.prepare_arrival.result c.prepare_arrival.ensures.decided
+    c.args.brought c.prepare_arrival.result c.prepare_arrival.ensures
 
 pub returns-in-Ok-false-clause-decided : goal.returns-in-Ok-false-clause-decided
 returns-in-Ok-false-clause-decided g c clean events store of =

@@ -3,7 +3,6 @@ use Rattle.sqlite.specs.Held.{state}
 use Rattle.sqlite.specs.State.{State, HasCleanDisk}
 use Rattle.journal_model.specs.Event.{Event}
 use Rattle.journal_model.specs.Cause.{open_tests, own_tests}
-use Rattle.journal_model.specs.Journal.{completion}
 use Rattle.store_invocations.proofs.Refusing.{decided_later, refused_more}
 use Rattle.store_invocations.proofs.Standing.{store_kept}
 use Rattle.store_arrivals.specs.Arrivals.{IsMadeReady}
@@ -16,7 +15,7 @@ returns-in-Ok-clause-prepared g c clean events store =
     let early : HasCleanDisk mid = omega (arith, c.prepare_for.ensures.looks.crash.clean) in
     let event = Event.Complete c.args.id.now c.args.completion c.args.brought in
     let found = c.in-Ok.ensures.decided early events store in
-    decided_later (open_tests events c.args.id.now) (own_tests events event) (IsMadeReady events event c.args.id.now (completion c.args.completion c.args.brought)) c.prepare_for.result found.0
+    decided_later (open_tests events c.args.id.now) (own_tests events event) (IsMadeReady events event c.args.id.now) c.prepare_for.result found.0
     (c.prepare_for.ensures.decided clean events (store_kept events old mid c.open_row.ensures.looks.crash c.open_row.ensures.looks.kept store) found.1)
 
 pub returns-in-Err-clause-prepared : goal.returns-in-Err-clause-prepared

@@ -6,7 +6,6 @@ use Rattle.journal_model.specs.Cause.{open_tests, own_tests}
 use Rattle.store_invocations.proofs.Refusing.{decided_later, refused_more}
 use Rattle.store_invocations.proofs.Standing.{store_kept}
 use Rattle.store_arrivals.specs.Arrivals.{IsMadeReady}
-use Rattle.store_arrivals.specs.Signals.{cancellation}
 use Rattle.store_arrivals.proofs.signal.prepare_cancel.Goals as goal
 
 pub returns-in-Ok-clause-prepared : goal.returns-in-Ok-clause-prepared
@@ -17,7 +16,7 @@ returns-in-Ok-clause-prepared g c clean events store =
     let mid : State = state g.S.Store c.open_row.new.tables in
     let early : HasCleanDisk mid = omega (arith, c.cancel_for.ensures.looks.crash.clean, clean) in
     let found = c.in-Ok.ensures.decided early events store in
-    decided_later (open_tests events id) (own_tests events event) (IsMadeReady events event id cancellation) c.cancel_for.result found.0
+    decided_later (open_tests events id) (own_tests events event) (IsMadeReady events event id) c.cancel_for.result found.0
     (c.cancel_for.ensures.decided clean events id (store_kept events old mid c.open_row.ensures.looks.crash c.open_row.ensures.looks.kept store) found.1)
 
 pub returns-in-Err-clause-prepared : goal.returns-in-Err-clause-prepared

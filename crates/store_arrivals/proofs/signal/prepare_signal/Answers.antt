@@ -6,7 +6,7 @@ use Rattle.journal_model.specs.Cause.{open_tests, own_tests}
 use Rattle.store_invocations.proofs.Refusing.{decided_later, refused_more}
 use Rattle.store_invocations.proofs.Standing.{store_kept}
 use Rattle.store_arrivals.specs.Arrivals.{IsMadeReady}
-use Rattle.store_arrivals.specs.Signals.{key_of, signal_arrival}
+use Rattle.store_arrivals.specs.Signals.{key_of}
 use Rattle.store_arrivals.proofs.signal.prepare_signal.Goals as goal
 
 pub returns-in-Ok-clause-prepared : goal.returns-in-Ok-clause-prepared
@@ -17,7 +17,7 @@ returns-in-Ok-clause-prepared g c clean events store =
     let mid : State = state g.S.Store c.open_row.new.tables in
     let early : HasCleanDisk mid = omega (arith, c.signal_for.ensures.looks.crash.clean, clean) in
     let found = c.in-Ok.ensures.decided early events store in
-    decided_later (open_tests events id) (own_tests events event) (IsMadeReady events event id (signal_arrival (key_of c.args.key) c.args.brought)) c.signal_for.result found.0
+    decided_later (open_tests events id) (own_tests events event) (IsMadeReady events event id) c.signal_for.result found.0
     (c.signal_for.ensures.decided clean events id (store_kept events old mid c.open_row.ensures.looks.crash c.open_row.ensures.looks.kept store) found.1)
 
 pub returns-in-Err-clause-prepared : goal.returns-in-Err-clause-prepared

@@ -1,4 +1,6 @@
-use Rattle.std.proofs.Common.{◌≡◌, [], refl, sym, subst, map, not, ◌==◌, length, arith, rules, List}
+use Rattle.std.proofs.Common.{◌≡◌, ◌∙◌, [], refl, sym, ap, subst, map, not, ◌==◌, ℕ, length, arith, List}
+use Rattle.std.specs.VecDeque.{deque_len}
+use Rattle.std.proofs.lemmas.List.{length-map}
 use Rattle.journal_model.specs.Cause.{those_that_hold}
 use Rattle.store_tables.specs.declared.row.Write.{Write}
 use Rattle.store_refusals.specs.Refused.{IsRefused}
@@ -12,24 +14,23 @@ use Rattle.store_arrivals.proofs.tick.end_due.Goals as goal
 pub returns-clause-decided : goal.returns-clause-decided
 returns-clause-decided g c clean events store opened =
     let groups = map as_group c.args.groups.items in
-    let ended = c.in_ok-ended.ended.items in
-    let made = c.in_ok-ended.ensures.decided clean events store opened in
+    let made = c.in_ok-end_groups.ensures.decided clean events store opened in
     let nothing : c.new-writes.result.items ≡ [] = c.new-writes.ensures.items in
-    let are : AreGroupsEnded events groups [] c.end_groups.new.writes.items ended =
-    subst (λ (before : List Write). AreGroupsEnded events groups before c.end_groups.new.writes.items ended) nothing made.1 in (
+    let counted : deque_len c.args.groups ≡ length groups = omega (arith, c.args.groups.ok.0, length-map c.args.groups.items as_group) in
+    let are : AreGroupsEnded events groups [] c.end_groups.new.writes.items =
+    subst (λ (before : List Write). AreGroupsEnded events groups before c.end_groups.new.writes.items) nothing made.1 in (
       made.0,
       record {
-        told = are.told;
-        writes = closed_with events c.args.until groups c.end_groups.new.writes.items c.close_due.new.writes.items ended _ are (search rules) c.in_ok-close_due.ensures;
+        writes = closed_with events c.args.until groups c.end_groups.new.writes.items c.close_due.new.writes.items _ are (ap not (c.is_empty-is_any.ensures ∙ ap (λ (n : ℕ). n == 0) counted)) c.in_ok-close_due.ensures;
         counted = refl;
       },
     )
 
-pub returns-in_err-ended-clause-decided : goal.returns-in_err-ended-clause-decided
-returns-in_err-ended-clause-decided g c clean events store opened =
+pub returns-in_err-end_groups-clause-decided : goal.returns-in_err-end_groups-clause-decided
+returns-in_err-end_groups-clause-decided g c clean events store opened =
     let groups = map as_group c.args.groups.items in
     decided_err (tests_of events groups) (IsEndedUntil events c.args.until c.args.count groups) c.from_residual.result c.from_residual.ensures.1 (λ why gives.
-    subst (IsRefused (those_that_hold (tests_of events groups))) (sym gives) (c.in_err-ended.ensures.decided clean events store opened))
+    subst (IsRefused (those_that_hold (tests_of events groups))) (sym gives) (c.in_err-end_groups.ensures.decided clean events store opened))
 
 pub returns-in_err-close_due-clause-decided : goal.returns-in_err-close_due-clause-decided
 returns-in_err-close_due-clause-decided g c clean events store opened =

@@ -1,13 +1,11 @@
--- So many groups were ended; each has its places.
+-- So many groups were ended.
 use Rattle.std.proofs.Common.{length, map, List}
-use Rattle.std.specs.List.{AllByRecursion}
 use Rattle.sqlite.specs.Held.{state}
 use Rattle.sqlite.specs.State.{HasCleanDisk}
 use Rattle.journal_model.specs.Event.{Event}
 use Rattle.store_tables.specs.Looks.{Looks}
 use Rattle.store_invocations.specs.Rows.{IsStoreOf}
 use Rattle.store_arrivals.specs.Grouped.{as_group}
-use Rattle.store_live.specs.Added.{HasPlaces}
 use Rattle.store_arrivals.specs.Made.{AreOpen}
 use Rattle.store_arrivals.proofs.Rowed.{HasEnded}
 use Rattle.store_arrivals.proofs.tick.end_groups.Given as goal
@@ -15,8 +13,7 @@ use Rattle.store_arrivals.proofs.tick.end_groups.Given as goal
 abbrev pub invariant-loop-group : goal.invariant-loop-group
 invariant-loop-group g l = record {
   ended : HasCleanDisk (state g.S.Store l.tables) → (events : List Event) → IsStoreOf events (state g.S.Store l.initial.tables) → AreOpen events (map as_group l.initial.groups.items)
-      → HasEnded events (map as_group l.initial.groups.items) (map as_group l.groups.items) l.initial.writes.items l.writes.items l.ended.items;
-  places : AllByRecursion HasPlaces l.ended.items;
+      → HasEnded events (map as_group l.initial.groups.items) (map as_group l.groups.items) l.initial.writes.items l.writes.items;
   looks : Looks g.S.Store l.initial.tables l.tables;
 }
 

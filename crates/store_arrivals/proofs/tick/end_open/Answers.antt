@@ -8,14 +8,13 @@ use Rattle.store_arrivals.specs.Woken.{ends_of, row_then}
 use Rattle.store_arrivals.proofs.tick.end_open.Goals as goal
 
 pub returns-in-Ok-woken-clause-decided : goal.returns-in-Ok-woken-clause-decided
-returns-in-Ok-woken-clause-decided g c clean events store of =
-    let id = c.args.invocation in
+returns-in-Ok-woken-clause-decided g c clean events id store of =
     let ns = c.args.completions.now in
     let same : c.in-Ok-woken.row ≡ row_then events id (ends_of ns) c.args.row =
     c.in-Ok-woken.ensures.told clean events id store of ∙ ap (λ (new : List Arrival). row_then events id new c.args.row) (c.as_slice.ensures.value ∙ c.in-Ok.ensures) in
-    subst (λ (row : InvocationRow). Decides (room_tests row.progress.entries (length ns)) (AreEndsOf row id ns c.args.writes.now.items c.end_sleeps.new.writes.items) c.end_sleeps.result) same
-    c.end_sleeps.ensures.decided
+    subst (λ (row : InvocationRow). Decides (room_tests row.progress.entries (length ns)) (λ done. AreEndsOf row ns c.args.writes.now.items c.end_sleeps.new.writes.items) c.end_sleeps.result) same
+    c.end_sleeps.ensures
 
 pub returns-in-Err-clause-decided : goal.returns-in-Err-clause-decided
-returns-in-Err-clause-decided g c clean events store of =
-    refused_anyway (room_tests c.args.row.progress.entries (length c.args.completions.now)) c.in-Err.why (c.in-Err.ensures.told clean events c.args.invocation store of)
+returns-in-Err-clause-decided g c clean events id store of =
+    refused_anyway (room_tests c.args.row.progress.entries (length c.args.completions.now)) c.in-Err.why (c.in-Err.ensures.told clean events id store of)

@@ -12,7 +12,7 @@ returns-in-Ok-clause-decided g c clean events id store of =
     let arrival = c.args.arrival in
     let same : c.in-Ok.row ≡ row_then events id (arrival ∷ []) c.args.row =
     c.in-Ok.ensures.told clean events id store of ∙ ap (λ (new : List Arrival). row_then events id new c.args.row) c.from_ref.ensures.value in
-    subst (λ (row : InvocationRow). Decides (arrival_tests row arrival) (IsArrival row c.args.ty arrival) c.prepare_arrival.result) same c.prepare_arrival.ensures.decided
+    subst (λ (row : InvocationRow). Decides (arrival_tests row arrival) (IsArrival row c.args.ty arrival) c.prepare_arrival.result) same c.prepare_arrival.ensures
 
 pub returns-in-Err-clause-decided : goal.returns-in-Err-clause-decided
 returns-in-Err-clause-decided g c clean events id store of =

@@ -2,11 +2,9 @@
 use Rattle.std.proofs.Common.{◌∙◌, false, sym}
 use Rattle.journal_model.specs.Journal.{object_state}
 use Rattle.store_frames.specs.declared.frame.AttemptFrame.TheVariants as told
-use Rattle.protocol_types.specs.Version.{version_number}
 use Rattle.store_steps.proofs.Commands.{command_answered, command_refused, unread_command}
 use Rattle.store_steps.proofs.Taking.{taken_by_row}
 use Rattle.store_steps.proofs.Waking.{other_frames}
-use Rattle.store_steps.proofs.Values.{unanswered}
 use Rattle.store_steps.proofs.prepare.command_by_row.Goals as goal
 
 pub returns-in-Ok-Some-clause-prepared : goal.returns-in-Ok-Some-clause-prepared
@@ -24,7 +22,3 @@ returns-in-Ok-None-clause-prepared g c clean events store of =
 pub returns-in-Err-clause-prepared : goal.returns-in-Err-clause-prepared
 returns-in-Err-clause-prepared g c clean events store of =
     command_refused events store.accepted c.args.id.now c.args.row of c.args.attempt c.args.command c.in-Err.why (c.in-Err.ensures.decided clean events store)
-
-pub returns-in-Ok-None-clause-place : goal.returns-in-Ok-None-clause-place
-returns-in-Ok-None-clause-place g c =
-    unanswered c.args.id.now c.args.row.object (version_number c.args.row.version) c.args.row.progress c.args.attempt false (told.Command c.args.command) c.decide_by_row.result c.decide_by_row.ensures.ok

@@ -1,9 +1,7 @@
 -- It is decided by the row, once it is known whether a suspension is awake at once.
-use Rattle.protocol_types.specs.Version.{version_number}
 use Rattle.std.proofs.Common.{subst, Ok, Result}
 use Rattle.store_steps.specs.Taken.{WakesAtOnce}
 use Rattle.store_steps.proofs.Taking.{taken_by_row}
-use Rattle.store_steps.proofs.Values.{unanswered}
 use Rattle.store_steps.proofs.Waking.{test_refused, unread_here}
 use Rattle.store_steps.proofs.prepare.other_by_row.Goals as goal
 
@@ -15,7 +13,3 @@ returns-in-Ok-clause-prepared g c clean events store of none =
 pub returns-in-Err-clause-prepared : goal.returns-in-Err-clause-prepared
 returns-in-Err-clause-prepared g c clean events store of none =
     test_refused events store.accepted c.args.id.now c.args.row of c.args.attempt c.args.frame c.in-Err.why (c.in-Err.ensures.told clean events store of)
-
-pub returns-in-Ok-clause-place : goal.returns-in-Ok-clause-place
-returns-in-Ok-clause-place g c =
-    unanswered c.args.id.now c.args.row.object (version_number c.args.row.version) c.args.row.progress c.args.attempt c.in-Ok.is_awake c.args.frame c.decide_by_row.result c.decide_by_row.ensures.ok

@@ -2,8 +2,6 @@ use Rattle.std.proofs.Common.{refl, arith}
 use Rattle.sqlite.specs.State.{State, HasCleanDisk}
 use Rattle.sqlite.specs.Held.{state}
 use Rattle.journal_model.specs.Event.{Event}
-use Rattle.store_arrivals.specs.Signals.{cancellation}
-use Rattle.store_live_laws.specs.Agrees.{cancelled}
 use Rattle.store_calls.specs.Standing.{Adds}
 use Rattle.store_calls.specs.Calls.{Cancels}
 use Rattle.journal_store.specs.Stored.{stored}
@@ -13,7 +11,7 @@ use Rattle.journal_store.proofs.Leading.{arrives}
 use Rattle.journal_store.proofs.Recording.{looked}
 use Rattle.journal_store.proofs.Arriving.{arrival_recorded}
 use Rattle.journal_store.proofs.Standing.{commits_after}
-use Rattle.journal_store.proofs.Waiting.{arrived_waits}
+use Rattle.journal_store.proofs.Waiting.{still_waits}
 use Rattle.journal_store.proofs.store.Store.cancel.Goals as goal
 
 pub returns-in-Ok-clause-does : goal.returns-in-Ok-clause-does
@@ -25,12 +23,11 @@ returns-in-Ok-clause-does g c =
     rw (← c.self.view_is) (arrives g.S.Store (stored c.self.inside.tables c.self.inside.live) c.record_arrival.new.self (Event.Cancel id) id c.record_arrival.result
     (λ clean events stands.
     let early : HasCleanDisk mid = omega (arith, c.record_arrival.ensures.made.crash.clean, clean) in
-    arrival_recorded events (Event.Cancel id) id cancellation old mid new _ _
-    c.self.inside.live.attempts c.record_arrival.new.self.live.attempts c.in-Ok.made c.record_arrival.result refl refl (cancelled id) refl tt
+    arrival_recorded events (Event.Cancel id) id old mid new _ _
+    c.self.inside.live c.record_arrival.new.self.live c.in-Ok.made c.record_arrival.result refl (λ one. refl) tt
     c.prepare_cancel.ensures.looks.crash c.prepare_cancel.ensures.looks.kept c.record_arrival.ensures.made.crash clean (c.in-Ok.ensures.prepared early events stands.kept)
-    c.record_arrival.ensures.place (c.record_arrival.ensures.made.done clean) c.record_arrival.ensures.put c.record_arrival.ensures.made.why c.record_arrival.ensures.made.undone c.record_arrival.ensures.stays stands)
-    (arrived_waits id c.in-Ok.made.place c.in-Ok.made.frame c.self.inside.live.attempts c.record_arrival.new.self.live.attempts c.record_arrival.result
-    c.record_arrival.ensures.put c.record_arrival.ensures.stays))
+    c.record_arrival.ensures.place (c.record_arrival.ensures.made.done clean) c.record_arrival.ensures.made.why c.record_arrival.ensures.made.undone c.record_arrival.ensures.live stands)
+    (still_waits c.self.inside.live c.record_arrival.new.self.live c.record_arrival.ensures.live))
 
 pub returns-in-Err-clause-does : goal.returns-in-Err-clause-does
 returns-in-Err-clause-does g c =
@@ -46,8 +43,7 @@ returns-in-Ok-clause-crash g c =
 
 pub returns-in-Ok-clause-waits : goal.returns-in-Ok-clause-waits
 returns-in-Ok-clause-waits g c =
-    rw (← c.self.view_is) (arrived_waits c.args.id.now c.in-Ok.made.place c.in-Ok.made.frame c.self.inside.live.attempts c.record_arrival.new.self.live.attempts c.record_arrival.result
-    c.record_arrival.ensures.put c.record_arrival.ensures.stays)
+    rw (← c.self.view_is) (still_waits c.self.inside.live c.record_arrival.new.self.live c.record_arrival.ensures.live)
 
 pub returns-in-Ok-clause-settled : goal.returns-in-Ok-clause-settled
 returns-in-Ok-clause-settled g c =

@@ -4,13 +4,14 @@ use Rattle.sqlite.specs.Held.{state}
 use Rattle.journal_model.specs.Event.{Event}
 use Rattle.journal_store.proofs.Lasting.{undone_kept}
 use Rattle.journal_store.proofs.Recording.{looked}
-use Rattle.journal_store.proofs.Ticking.{tick_lands, tick_settled, tick_waits, ticks}
+use Rattle.journal_store.proofs.Ticking.{tick_lands, tick_settled, ticks}
+use Rattle.journal_store.proofs.Waiting.{still_waits}
 use Rattle.journal_store.proofs.store.Store.tick.Goals as goal
 
 pub returns-in-Ok-clause-does : goal.returns-in-Ok-clause-does
 returns-in-Ok-clause-does g c =
     rw (← c.self.view_is) (ticks g.S.Store c.self.inside.tables c.prepare_tick.new.tables c.record_tick.new.self.connection c.self.inside.live c.record_tick.new.self.live c.args.now c.in-Ok.made
-    c.prepare_tick.ensures.looks c.in-Ok.ensures.prepared c.record_tick.result c.record_tick.ensures.made c.record_tick.ensures.count c.record_tick.ensures.put c.record_tick.ensures.stays)
+    c.prepare_tick.ensures.looks c.in-Ok.ensures.prepared c.record_tick.result c.record_tick.ensures.made c.record_tick.ensures.count c.record_tick.ensures.live)
 
 pub returns-in-Err-clause-does : goal.returns-in-Err-clause-does
 returns-in-Err-clause-does g c =
@@ -18,8 +19,7 @@ returns-in-Err-clause-does g c =
 
 pub returns-in-Ok-clause-waits : goal.returns-in-Ok-clause-waits
 returns-in-Ok-clause-waits g c =
-    rw (← c.self.view_is) (tick_waits g.S.Store c.self.inside.tables c.prepare_tick.new.tables c.record_tick.new.self.connection c.self.inside.live c.record_tick.new.self.live c.args.now c.in-Ok.made
-    c.prepare_tick.ensures.looks c.in-Ok.ensures.prepared c.record_tick.result c.record_tick.ensures.put c.record_tick.ensures.stays)
+    rw (← c.self.view_is) (still_waits c.self.inside.live c.record_tick.new.self.live c.record_tick.ensures.live)
 
 pub returns-in-Ok-clause-crash : goal.returns-in-Ok-clause-crash
 returns-in-Ok-clause-crash g c =
@@ -31,7 +31,7 @@ returns-in-Ok-clause-settled g c =
     rw (← c.self.view_is) (tick_settled g.S.Store c.self.inside.tables c.prepare_tick.new.tables c.record_tick.new.self.connection c.self.inside.live c.record_tick.new.self.live c.args.now c.in-Ok.made
     c.prepare_tick.ensures.looks c.in-Ok.ensures.prepared c.record_tick.result c.record_tick.ensures.made c.is_settled-settled.ensures.settled c.in-Ok.ensures.asked
     (ticks g.S.Store c.self.inside.tables c.prepare_tick.new.tables c.record_tick.new.self.connection c.self.inside.live c.record_tick.new.self.live c.args.now c.in-Ok.made
-    c.prepare_tick.ensures.looks c.in-Ok.ensures.prepared c.record_tick.result c.record_tick.ensures.made c.record_tick.ensures.count c.record_tick.ensures.put c.record_tick.ensures.stays))
+    c.prepare_tick.ensures.looks c.in-Ok.ensures.prepared c.record_tick.result c.record_tick.ensures.made c.record_tick.ensures.count c.record_tick.ensures.live))
 
 pub returns-in-Ok-clause-kept : goal.returns-in-Ok-clause-kept
 returns-in-Ok-clause-kept g c =
