@@ -12,8 +12,8 @@ use Rattle.schedule_model.specs.declared.event.Refusal.TheVariants as refusal
 use Rattle.schedule_model.specs.declared.held.HeldAttempt.{HeldAttempt}
 use Rattle.store_steps.specs.declared.frame.FrameReply.{FrameReply}
 use Rattle.schedule_model.specs.Schedule.{MovesOne}
-use Rattle.schedule_model.specs.Attempts.{Attempt, output_of, Advances, Gathers, LetsGo, ShowsFirst}
-use Rattle.vm_attempt.proofs.Advancing.{advances, lets_first_go, shown_count, shown_bytes, without}
+use Rattle.schedule_model.specs.Attempts.{Attempt, output_of, Advances, Gathers, ShowsFirst}
+use Rattle.vm_attempt.proofs.Advancing.{gathered_advances, lets_first_go, shown_count, shown_bytes, without}
 use Rattle.store_calls.specs.Standing.{Standing, Stays}
 use Rattle.store_calls.specs.Calls.{PutsBehind, RefusesBytes}
 use Rattle.store_calls.specs.Frames.{Accepts, AcceptsFirst, Rests}
@@ -26,7 +26,7 @@ use Rattle.durable_schedule.specs.Scheduled.{MovesSome}
 -- these bytes were moved, and leave the attempt; or they are refused, and it is as it was
 abbrev AcceptsOne : {H : Type 0} → Bytes → HeldAttempt H → Standing → Reply → Standing → Attempt H → Type 0
 AcceptsOne bytes one old (reply.Moved moved frames why) new changed =
-    (replies : List FrameReply) × (frames ≡ length replies) × (moved ≡ length bytes) × Accepts one.invocation one.number bytes (Ok (replies, why)) old new × LetsGo moved one.attempt changed
+    (replies : List FrameReply) × (frames ≡ length replies) × (moved ≡ length bytes) × Accepts one.invocation one.number bytes (Ok (replies, why)) old new × Advances moved one.attempt changed
 AcceptsOne bytes one old (reply.Refused (refusal.Store why)) new changed = Accepts one.invocation one.number bytes (Err why) old new × (changed ≡ one.attempt)
 AcceptsOne bytes one old _ new changed = ⊥
 
@@ -38,8 +38,7 @@ moves_shown {H} count bytes one between shows s t (reply.Moved moved frames why)
   it.1,
   it.2 ∙ shown_count count bytes one.attempt between shows,
   subst (λ (some : Bytes). Accepts one.invocation one.number some (Ok (it.0, why)) s t) (shown_bytes count bytes one.attempt between shows ∙ ap (λ (n : ℕ). take n (output_of one.attempt)) (sym it.2)) it.3,
-  subst (λ (n : ℕ). Advances n one.attempt changed) (sym it.2)
-      (advances count bytes one.attempt between changed shows (subst (λ (n : ℕ). LetsGo n between changed) it.2 it.4)),
+  gathered_advances moved one.attempt between changed shows.gathers it.4,
 )
 moves_shown {H} count bytes one between shows s t (reply.Refused (refusal.Store why)) changed it = (
   subst (λ (some : Bytes). Accepts one.invocation one.number some (Err why) s t)

@@ -1,9 +1,9 @@
 -- What a scheduler stands for, and what its calls make of that.
-use Rattle.std.specs.Prelude.{◌≡◌, ◌≢◌, ℕ, true, List, Option, Result, Ok, Err}
+use Rattle.std.specs.Prelude.{◌≡◌, ◌≢◌, ◌==◌, ℕ, true, if◌then◌else◌, List, length, Option, Some, Result, Ok, Err}
 use Rattle.sqlite_trees.specs.declared.store.Store.{Ghosts}
 use Rattle.sqlite.specs.Held.{state}
 use Rattle.sqlite.specs.State.{State, HasCleanDisk}
-use Rattle.journal_model.specs.Notification.{Text}
+use Rattle.journal_model.specs.Notification.{Bytes, Text}
 use Rattle.journal_model.specs.Event.{Event}
 use Rattle.journal_model.specs.Run.{Handler}
 use Rattle.vm_types.specs.declared.options.VMOptions.{VMOptions}
@@ -15,6 +15,7 @@ use Rattle.journal_store.specs.Accepting.{OutlastsFrames}
 use Rattle.journal_store.specs.Stored.{Stored}
 use Rattle.journal_store.specs.Words.{attempt_of, has_number}
 use Rattle.journal_store.specs.Stands.{Endures, IsQuiet, IsStanding, Leads, Outlasts}
+use Rattle.schedule_model.specs.Attempts.attempts
 use Rattle.schedule_model.specs.Attempts.{Attempt}
 use Rattle.schedule_model.specs.declared.event.Event as scheduled
 use Rattle.schedule_model.specs.declared.event.Event.TheVariants as event
@@ -23,6 +24,7 @@ use Rattle.schedule_model.specs.declared.event.Reply.TheVariants as reply
 use Rattle.schedule_model.specs.declared.event.Refusal as own
 use Rattle.schedule_model.specs.declared.event.Refusal.TheVariants as refusal
 use Rattle.schedule_model.specs.declared.held.HeldAttempt.{HeldAttempt}
+use Rattle.store_calls.specs.Calls.{HandsOut}
 use Rattle.store_calls.specs.Frames.{Rests}
 use Rattle.store_calls.specs.Standing.{Standing}
 use Rattle.schedule_model.specs.Schedule.{Scheduled, MovesOne, Does}
@@ -60,6 +62,18 @@ IsWritten (event.Tick now) answer = HasTicked answer
 IsWritten (event.Begin id handler now) answer = HasBegun answer
 IsWritten (event.Move id attempt count) answer = HasTakenFrames answer
 IsWritten _ answer = ⊥
+
+-- ---- a part of a feed
+
+-- the store hands it out, and the attempt is fed it; or the store refuses it
+abbrev pub FeedsPart : {H : Type 0} → (most : ℕ) → HeldAttempt H → Result ℕ Refusal → Standing → Standing → Attempt H → Type 0
+FeedsPart most one (Ok len) old new changed =
+    (bytes : Bytes) × (len ≡ length bytes) × HandsOut one.invocation one.number most (Ok bytes) old new × attempts.Feeds bytes one.attempt changed
+FeedsPart most one (Err why) old new changed = HandsOut one.invocation one.number most (Err why) old new × (changed ≡ one.attempt)
+
+-- what is answered where the store refuses a part behind so many bytes
+abbrev pub refused_behind : (fed : ℕ) → Refusal → Reply
+refused_behind fed why = if fed == 0 then reply.Refused (refusal.Store why) else reply.Fed fed (Some why)
 
 -- ---- a live attempt
 

@@ -10,20 +10,26 @@ use bytes::{ByteStr, Bytes};
 use journal_model::Handler;
 use journal_store::Store;
 use protocol_types::Version;
-use schedule_model::{Attempt, Refusal, Reply};
+use schedule_model::{Attempt, KeptAttempt, Refusal, Reply};
 use sqlite::Alter;
 use std::alloc::Global;
 use vm_types::VMOptions;
 
-/// An attempt, if it goes on.
-fn going<H: Handler + Drop>(attempt: Attempt<H>) -> Option<Attempt<H>>
+/// An attempt, if it goes on, and there is memory for keeping it.
+fn going<H: Handler + Drop>(alloc: Global, attempt: Attempt<H>) -> Option<KeptAttempt<H>>
     ensures { IfSome result (λ going. (going ≡ attempt) × (has_stopped going.vm.state.phase ≡ false)) }
 {
     if attempt.has_stopped() {
         drop(attempt);
         return None;
     }
-    Some(attempt)
+    match KeptAttempt::new(alloc, attempt) {
+        Ok(kept) => Some(kept),
+        Err(refused) => {
+            drop(refused);
+            None
+        }
+    }
 }
 
 /// An attempt that speaks this version, and was fed its start frame; none where memory is refused, to the attempt too.
@@ -33,7 +39,7 @@ pub(crate) fn make<H: Handler + Drop>(
     options: VMOptions,
     handler: H,
     start: Bytes,
-) -> Option<Attempt<H>>
+) -> Option<KeptAttempt<H>>
     ensures fed { IfSome result (IsMadeAndFed version options handler start) }
     ensures goes_on { IfSome result (λ attempt. has_stopped attempt.vm.state.phase ≡ false) }
 {
@@ -41,7 +47,7 @@ pub(crate) fn make<H: Handler + Drop>(
         Ok(made) => {
             let mut attempt = made;
             attempt.feed(start);
-            going(attempt)
+            going(alloc, attempt)
         }
         Err(error) => {
             drop(error);
@@ -52,11 +58,11 @@ pub(crate) fn make<H: Handler + Drop>(
 }
 
 /// Moves the next bytes of its output from an attempt to the store, at most so many, and takes the whole frames.
-pub(crate) fn take_in<H: Handler, S: Alter + Drop>(
+pub(crate) fn take_in<H: Handler + Drop, S: Alter + Drop>(
     store: &mut Store<S>,
     invocation: &ByteStr,
     number: u32,
-    attempt: &mut Attempt<H>,
+    attempt: &mut KeptAttempt<H>,
     count: usize,
 ) -> Reply
     ensures does { Leads S.Store (λ s t. MovesOne count (held_as invocation.now number attempt.old) s result t attempt.new) store.old store.new }

@@ -1,6 +1,7 @@
 //! Invocations and their attempts, from one event to what is recorded.
 #![tactic(auto)]
 
+mod feeding;
 mod held;
 mod replies;
 mod scheduler;

@@ -15,6 +15,7 @@ ghost use Rattle.schedule_model.specs.Schedule.{BeginDoes, Applies, Scheduled};
 ghost use Rattle.schedule_model.specs.Fitting.{FitsEvent};
 ghost use Rattle.durable_schedule.specs.Scheduled.{AppliesWith, HasBegun, IsScheduled, IsTakenUp, IsWritten, OutlastsEvent, Performs, Spares, TakesLive, TellsAlways, TellsOf};
 
+use crate::feeding::feed_in;
 use crate::held::{make, take_in};
 use crate::replies::{done, placed, ticked};
 use bytes::ByteStr;
@@ -150,16 +151,9 @@ impl<H: Handler + Drop, S: Alter + Drop> Scheduler<H, S> {
     fn feed(&mut self, invocation: &ByteStr, number: u32, count: usize) -> Reply
         ensures { Performs S.Store H.next_call (Event.Feed invocation.now number count) result self.old self.new }
     {
-        let Some(attempt) = self.held.get_mut(invocation, number) else {
-            return Reply::Refused(Refusal::AttemptNotHeld);
-        };
-        match self.store.next_input(invocation, number, count) {
-            Ok(bytes) => {
-                let len = bytes.len();
-                attempt.feed(bytes);
-                Reply::Fed(len)
-            }
-            Err(refusal) => Reply::Refused(Refusal::Store(refusal)),
+        match self.held.get_mut(invocation, number) {
+            None => Reply::Refused(Refusal::AttemptNotHeld),
+            Some(attempt) => feed_in(&mut self.store, invocation, number, attempt, count),
         }
     }
 

@@ -86,6 +86,15 @@ module _ {A : Type 0} (test : A → Bool) where
         | inr q ↦ rw q (ap (λ (s : List A). z ∷ s) (with_same zs x (rw q at e)))
       ]
 
+  -- one that is replaced twice
+  pub with_twice : (xs : List A) (x y : A) → test x ≡ true → with_first test (with_first test xs x) y ≡ with_first test xs y
+  with_twice [] x y p = refl
+  with_twice (z ∷ zs) x y p =
+      elim (true_or_false (test z)) [
+        | inl q ↦ rw (q, p) refl
+        | inr q ↦ rw q (rw q (ap (λ (s : List A). z ∷ s) (with_twice zs x y p)))
+      ]
+
   pub first_with : (xs : List A) (x y : A) → find test xs ≡ Some x → test y ≡ true → find test (with_first test xs y) ≡ Some y
   first_with [] x y e p = absurd cc
   first_with (z ∷ zs) x y e p =

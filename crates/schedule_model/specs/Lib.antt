@@ -1,5 +1,7 @@
 pub mod First
 pub mod Held
+pub mod Kept
+pub mod Feeding
 pub mod Schedule
 pub mod Fitting
 pub mod Laws

@@ -22,6 +22,7 @@ use Rattle.store_calls.specs.declared.begun.BegunAttempt.{BegunAttempt}
 use Rattle.store_calls.specs.Standing.{Standing, Stays}
 use Rattle.store_calls.specs.Calls.{Invokes, Completes, Signals, Cancels, Ticks, Begins, BeginsAttempt, HandsOut, ClosesInput, Stops}
 use Rattle.store_calls.specs.Frames.{Accepts}
+use Rattle.schedule_model.specs.Feeding.{given_in, FeedsParts}
 use Rattle.schedule_model.specs.Held.{held_of, with_attempt}
 use Rattle.schedule_model.specs.Outcomes.{tells_mismatch}
 
@@ -70,10 +71,9 @@ module _ {H : Type 0} where
 
   -- ---- what is done with an attempt that is held
 
-  -- the next bytes go from the store to it, so many at most
+  -- The next bytes go from the store to it, so many at most, in one part after another. A refusal of the first part is answered as such.
   abbrev pub FeedsOne : ℕ → HeldAttempt H → Standing → Reply → Standing → Attempt H → Type 0
-  FeedsOne count one old (reply.Fed bytes) new changed =
-      (given : Bytes) × (bytes ≡ length given) × HandsOut one.invocation one.number count (Ok given) old new × attempts.Feeds given one.attempt changed
+  FeedsOne count one old (reply.Fed bytes why) new changed = (parts : List Bytes) × (bytes ≡ length (given_in parts)) × FeedsParts count parts why one old new changed
   FeedsOne count one old (reply.Refused (refusal.Store why)) new changed = HandsOut one.invocation one.number count (Err why) old new × (changed ≡ one.attempt)
   FeedsOne count one old _ new changed = ⊥
 

@@ -6,11 +6,11 @@ ghost use Rattle.schedule_model.specs.Held.{held_of};
 ghost use Rattle.schedule_model.specs.Lends.{held_as, lends_attempt};
 
 use crate::held::HeldAttempt;
+use crate::kept::KeptAttempt;
 use crate::places::AttemptPlaces;
 use bytes::ByteStr;
 use std::alloc::{AllocFailed, Global};
 use std::marker::Model;
-use vm_attempt::Attempt;
 
 /// The attempts that a scheduler began, in the order of their begins, each found by its invocation and number.
 ///
@@ -83,7 +83,7 @@ impl<H> HeldAttempts<H> {
     /// The first attempt of this invocation and number.
     ///
     /// A look-up takes the same time however many attempts are held, and asks for no memory.
-    pub fn get_mut(&mut self, invocation: &ByteStr, number: u32) -> Option<&mut Attempt<H>>
+    pub fn get_mut(&mut self, invocation: &ByteStr, number: u32) -> Option<&mut KeptAttempt<H>>
         ensures* writes_back { sem 𝓛 (lends_attempt H.row self.entry invocation.now number result) }
         ensures found { option_map (held_as invocation.now number) (option_copied_mut result) ≡ held_of self.old invocation.now number }
     {

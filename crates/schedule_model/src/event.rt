@@ -104,8 +104,11 @@ pub enum Reply {
     Ticked(u64),
     /// An attempt of this number was begun.
     Begun(u32),
-    /// So many bytes were handed out.
-    Fed(usize),
+    /// So many bytes were handed out, and why no further one was, where it was refused. A refusal of the first is `Refused`.
+    Fed {
+        bytes: usize,
+        refusal: Option<store_refusals::Refusal>,
+    },
     Turned(Turn),
     /// So many bytes were moved, so many frames taken, and why no further one was, where it was refused.
     Moved {

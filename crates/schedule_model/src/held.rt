@@ -1,11 +1,11 @@
 //! The attempts that a scheduler holds.
+use crate::kept::KeptAttempt;
 use bytes::ByteStr;
-use vm_attempt::Attempt;
 
 /// An attempt that the scheduler began, by its invocation and its number.
 #[derive(Drop)]
 pub struct HeldAttempt<H> {
     pub invocation: ByteStr,
     pub number: u32,
-    pub attempt: Attempt<H>,
+    pub attempt: KeptAttempt<H>,
 }

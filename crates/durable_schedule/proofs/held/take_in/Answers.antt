@@ -28,6 +28,9 @@ pub returns-in-Err-clause-crash : goal.returns-in-Err-clause-crash
 returns-in-Err-clause-crash g c = same_endures g.S.Store (MovesSome c.args.count (held_as c.args.invocation.now c.args.number c.args.attempt.now)) c.args.store.now
 
 -- they are accepted
+pub advance_output-requires : goal.advance_output-requires
+advance_output-requires g c = omega (arith, c.len-len.ensures.value, c.in-Ok.ensures.taken)
+
 pub returns-in-Ok-accepted-clause-does : goal.returns-in-Ok-accepted-clause-does
 returns-in-Ok-accepted-clause-does g c clean s is =
     let one = held_as c.args.invocation.now c.args.number c.args.attempt.now in

@@ -5,25 +5,17 @@ use Rattle.durable_schedule.proofs.Holding.{misses, finds}
 use Rattle.durable_schedule.proofs.Scheduling.{performs_quiet, performs_unheld, same_quiet, spares_taken_up}
 use Rattle.durable_schedule.proofs.scheduler.Scheduler.feed.Goals as goal
 
-pub returns-in_default : goal.returns-in_default
-returns-in_default g c =
+pub returns-in-None : goal.returns-in-None
+returns-in-None g c =
     let old = c.args.self.now in
     performs_unheld g.S.Store g.H.Handler.next_call (event.Feed c.args.invocation.now c.args.number c.args.count) old (λ never. never) tt tt (same_quiet g.S.Store old.store)
-    (misses g.S.Store (FeedsOne c.args.count) c.args.invocation.now c.args.number old.held c.get_mut.result c.get_mut.ensures.found c.in_default.is old.store)
+    (misses g.S.Store (FeedsOne c.args.count) c.args.invocation.now c.args.number old.held c.get_mut.result c.get_mut.ensures.found c.in-None.is old.store)
 
-pub returns-in-Ok : goal.returns-in-Ok
-returns-in-Ok g c =
+pub returns-in-Some : goal.returns-in-Some
+returns-in-Some g c =
     let old = c.args.self.now in
-    performs_quiet g.S.Store g.H.Handler.next_call (event.Feed c.args.invocation.now c.args.number c.args.count) old _ _ (λ never. never) refl tt tt (spares_taken_up _ _ _ tt)
-    c.next_input.ensures.crash c.next_input.ensures.crash
-    (finds g.S.Store (FeedsOne c.args.count) c.args.invocation.now c.args.number old.held c.get_mut.result c.get_mut.ensures.found c.in-Some.attempt c.in-Some.is old.store c.next_input.new.self c.feed.new.self _
-    (λ clean s is. let it = c.in-Ok.ensures.does clean s is in (it.0, it.1, (c.in-Ok.bytes, c.len-len.ensures.value, it.2, c.feed.ensures))))
-
-pub returns-in-Err : goal.returns-in-Err
-returns-in-Err g c =
-    let old = c.args.self.now in
-    let attempt = c.in-Some.attempt in
-    performs_quiet g.S.Store g.H.Handler.next_call (event.Feed c.args.invocation.now c.args.number c.args.count) old _ _ (λ never. never) refl tt tt (spares_taken_up _ _ _ tt)
-    c.next_input.ensures.crash c.next_input.ensures.crash
-    (finds g.S.Store (FeedsOne c.args.count) c.args.invocation.now c.args.number old.held c.get_mut.result c.get_mut.ensures.found attempt c.in-Some.is old.store c.next_input.new.self attempt.now _
-    (λ clean s is. let it = c.in-Err.ensures.does clean s is in (it.0, it.1, (it.2, refl))))
+    let fed = c.feed_in in
+    performs_quiet g.S.Store g.H.Handler.next_call (event.Feed c.args.invocation.now c.args.number c.args.count) old fed.result _ (λ never. never) refl tt tt (spares_taken_up _ _ _ fed.ensures.held)
+    fed.ensures.crash fed.ensures.crash
+    (finds g.S.Store (FeedsOne c.args.count) c.args.invocation.now c.args.number old.held c.get_mut.result c.get_mut.ensures.found c.in-Some.attempt c.in-Some.is old.store fed.new.store fed.new.attempt fed.result
+    fed.ensures.does)

@@ -1,0 +1,144 @@
+// An attempt that is held, and what is kept of it once it is over.
+ghost use Rattle.std.specs.Prelude.{◌≡◌, ◌≤◌, length, IfErr, IfOk, IfSome};
+ghost use Rattle.vm_attempt.specs.Attempt.{ClosesInput, Feeds};
+ghost use Rattle.vm_attempt.specs.Output.{taken_of, Advances, Gathers, Shows};
+ghost use Rattle.vm_attempt.specs.Turning.{Turns};
+ghost use Rattle.schedule_model.specs.Kept.{attempt_kept, IsKept};
+
+use bytes::Bytes;
+use journal_model::Handler;
+use std::alloc::{AllocError, AllocFailed, Global};
+use std::marker::Model;
+use std::mem::replace;
+use std::snapshot::Snapshot;
+use vm_attempt::{Attempt, Finish, RunOutcome, Turn, turn_again};
+
+/// What memory has of an attempt.
+#[derive(Drop)]
+enum Kept<H> {
+    Whole(Box<Attempt<H>>),
+    /// It is over so, and its bytes were taken. Of the rest clauses alone know.
+    Over(Finish, Snapshot<Attempt<H>>),
+}
+
+/// An attempt that is held. Once it is over and its bytes were taken, memory has its last answer and nothing else of it.
+///
+/// Contracts see the attempt, also behind that: as it was then, of which no call tells more than that answer. So none says what memory
+/// has let go of.
+#[derive(Drop)]
+pub struct KeptAttempt<H> {
+    kept: Kept<H>,
+}
+
+impl<H> Model for KeptAttempt<H> {
+    ghost use Rattle.vm_attempt.specs.Coding.{attempt_code};
+    ghost use Rattle.vm_attempt.specs.declared.attempt.Attempt.{Attempt};
+    ghost use Rattle.schedule_model.specs.Kept.{attempt_kept, IsKept};
+
+    ghost Value = { Attempt H };
+
+    ghost coded = { attempt_code H.code };
+
+    ghost view = { λ a. attempt_kept a.kept };
+
+    ghost invariant = { λ a. IsKept a.kept };
+}
+
+// How it is over is all that is kept of it, if it is over and no byte waits.
+fn over_alone<H: Handler>(attempt: &mut Attempt<H>) -> Option<Kept<H>>
+    ensures same { Gathers attempt.old attempt.new }
+    ensures kept { IfSome result (λ kept. (attempt_kept kept ≡ attempt.new) × IsKept kept) }
+{
+    let finish = attempt.finished()?;
+    Some(Kept::Over(finish, Snapshot::of(attempt)))
+}
+
+impl<H: Handler> KeptAttempt<H> {
+    /// A whole attempt. Where there is no memory for keeping it, it is given back.
+    pub fn new(
+        alloc: Global,
+        attempt: Attempt<H>,
+    ) -> Result<KeptAttempt<H>, AllocFailed<Attempt<H>>>
+        ensures ok { IfOk result (λ kept. kept ≡ attempt) }
+        ensures value { IfErr result (λ refused. refused.value ≡ attempt) }
+    {
+        match Box::new(alloc, attempt) {
+            Ok(attempt) => Ok(KeptAttempt {
+                kept: Kept::Whole(attempt),
+            }),
+            Err(refused) => Err(refused),
+        }
+    }
+
+    /// Bytes of its input come.
+    pub fn feed(&mut self, bytes: Bytes)
+        ensures { Feeds bytes self.old self.new }
+    {
+        match &mut self.kept {
+            Kept::Whole(attempt) => attempt.feed(bytes),
+            Kept::Over(..) => drop(bytes),
+        }
+    }
+
+    /// No more of its input comes.
+    pub fn close_input(&mut self)
+        ensures { ClosesInput self.old self.new }
+    {
+        match &mut self.kept {
+            Kept::Whole(attempt) => attempt.close_input(),
+            Kept::Over(..) => (),
+        }
+    }
+
+    /// One turn.
+    pub fn turn(&mut self, outcome: RunOutcome) -> Turn
+        ensures { Turns H.next_call outcome self.old result self.new }
+    {
+        match &mut self.kept {
+            Kept::Whole(attempt) => attempt.turn(outcome),
+            Kept::Over(finish, _) => {
+                drop(outcome);
+                turn_again(*finish)
+            }
+        }
+    }
+
+    /// The first bytes that were written and were not handed out, so many at most. They stay, also where memory is refused.
+    pub fn first_output(&mut self, max: usize) -> Result<Bytes, AllocError>
+        ensures { Shows max self.old result self.new }
+    {
+        match &mut self.kept {
+            Kept::Whole(attempt) => attempt.first_output(max),
+            Kept::Over(..) => Ok(Bytes::new()),
+        }
+    }
+
+    // Has memory let go of all but its last answer, if it is over and no byte waits.
+    fn let_go(&mut self)
+    where
+        H: Drop,
+        ensures { Gathers self.old self.new }
+    {
+        let Kept::Whole(attempt) = &mut self.kept else {
+            return;
+        };
+        let Some(over) = over_alone(attempt) else {
+            return;
+        };
+        drop(replace(&mut self.kept, over));
+    }
+
+    /// Lets the first bytes go, which `first_output` has shown. If it is over, and no byte waits then, memory keeps its last answer alone.
+    pub fn advance_output(&mut self, count: usize)
+    where
+        H: Drop,
+        requires { count ≤ length (taken_of self.old) }
+        ensures { Advances count self.old self.new }
+    {
+        match &mut self.kept {
+            Kept::Whole(attempt) => attempt.advance_output(count),
+            Kept::Over(..) => (),
+        }
+        self.let_go();
+    }
+}
