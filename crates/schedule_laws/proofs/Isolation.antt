@@ -22,6 +22,7 @@ use Rattle.journal_laws.proofs.ObjectState.{accepted_followed, open_when_accepte
 use Rattle.journal_laws.proofs.Refusing.{first_cause, left_alike, refused_alike}
 use Rattle.input_laws.proofs.Events.{itself}
 use Rattle.piece_laws.proofs.Replies.{taken_alike}
+use Rattle.schedule_laws.proofs.Feeding.{parts_taken}
 use Rattle.schedule_laws.specs.Isolation.{AllAnswerAlone, AllKeepState, AllReplyAlike, AllStandAlone, IsOwn}
 -- passed on, so that crates above name this one alone
 pub use Rattle.journal_laws.proofs.ObjectState.{own_followed}
@@ -107,7 +108,8 @@ reply_alike id old other it = record {
     begins.version ∙ ap (λ (o : Option NewInvocation). unwrap_or (option_map (λ (begun : NewInvocation). begun.version) o) 0) it.0.begun ∙ sym begun.version,
     begins.start ∙ ap (λ (payload : Bytes). frame_bytes MessageType.Start payload) (it.1.start now (begins_open id now one old new begins)) ∙ sym begun.start,
   );
-  handed = λ attempt most bytes others new more hands handed. hands.0 ∙ ap (take most) it.0.left ∙ sym handed.0;
+  handed = λ attempt count parts others new more hands all handed both.
+      parts_taken id attempt count parts old new hands all ∙ ap (take count) it.0.left ∙ sym (parts_taken id attempt count others other more handed both);
   placed = λ completion brought place at new more completes completed. completes.0 ∙ ap (λ (entries : List Entry). 1 + length entries) it.0.entries ∙ sym completed.0;
   signalled = λ key brought place at new more signals signalled. signals.0 ∙ ap (λ (entries : List Entry). 1 + length entries) it.0.entries ∙ sym signalled.0;
   cancelled = λ place at new more cancels cancelled. cancels.0 ∙ ap (λ (entries : List Entry). 1 + length entries) it.0.entries ∙ sym cancelled.0;

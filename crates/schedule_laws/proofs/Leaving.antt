@@ -99,9 +99,9 @@ frames_taken {H} function next options laws old new held count bytes frames why 
     by_rest : Rests one.invocation one.number (Some why) d.3.2.between new → lies_in_frame why ≡ false
     by_rest (inl room) = no_room why room.memory
     by_rest (inr r) =
-        none_refused function next options one.invocation one.number now why d.3.2.between new (with_attempt held one changed) here r
-        (took_each function next options one.invocation laws one.invocation one.number now d.0 d.3.0 d.3.2.between (with_attempt held one changed) here d.3.2.taken
-        (moved function next options one.invocation laws one bytes changed old d.3.0 held there d.3.1 d.4 f))
+        none_refused function next options one.invocation f.0 one.number now why d.3.2.between new (with_attempt held one changed) here r
+        (took_each function next options one.invocation f.0 laws one.invocation one.number now d.0 d.3.0 d.3.2.between (with_attempt held one changed) here d.3.2.taken
+        (moved function next options one.invocation f.0 laws one bytes changed old d.3.0 held there d.3.1 d.4 f.1))
 
 pub holds_headline : HoldsHeadline
 holds_headline next options id events accepted holds = headline next (run_options options) options.fallback_random_seed events id accepted (λ new is. (holds new is).holds)

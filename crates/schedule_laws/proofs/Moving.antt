@@ -21,8 +21,8 @@ use Rattle.store_calls.specs.Standing.{Standing, Leaves}
 use Rattle.store_calls.specs.Calls.{PutsBehind}
 use Rattle.store_calls.specs.Frames.{LeavesRefused, RefusesFrame, Rests}
 use Rattle.store_calls.proofs.Live.{live_when}
-use Rattle.schedule_laws.specs.Following.{given_of, Flies, FollowsBegun, FollowsWhere, Follows, OutcomesFly}
-use Rattle.schedule_laws.proofs.Acting.{advanced}
+use Rattle.schedule_laws.specs.Following.{given_of, Flies, FollowsBegun, FollowsWhere, FollowsTold, OutcomesFly, ToldOf}
+use Rattle.schedule_laws.proofs.Advancing.{advanced}
 use Rattle.schedule_laws.proofs.Events.{IsPlain, where_on}
 use Rattle.fitting_laws.proofs.Fits.{apart}
 use Rattle.schedule_laws.proofs.Following.{same_held}
@@ -59,20 +59,20 @@ lies_not [] why none (inl first) = some_none (sym first)
 lies_not (c ∷ causes) why none (inl first) =
     let same : refusal_of c ≡ why = cc in ap lies_in_frame (sym same) ∙ lies_as c ∙ not-either (is_of_frame c) (list_any is_of_frame causes) none
 
-module _ {H : Type 0} (function : H → Handler) (next : Handler) (options : VMOptions) (id : Text) where
+module _ {H : Type 0} (function : H → Handler) (next : Handler) (options : VMOptions) (id : Text) (told : ToldOf) where
   -- no frame of the attempt that is held is refused for a cause that lies in it
   pub none_refused : (n : ℕ) (one : HeldAttempt H) (why : Refusal) (s t : Standing) (held : List (HeldAttempt H)) → held_of held id n ≡ Some one → RefusesFrame id n why s t
-      → Follows function next options id s held → lies_in_frame why ≡ false
+      → FollowsTold function next options id told s held → lies_in_frame why ≡ false
   none_refused n one why s t held there r f = by_begun (invocation_begun s.events id) refl f
     where
       live : live_attempt s.events id ≡ Some n
       live = live_when s.events id n r.live
 
-      by_begun : (o : Option NewInvocation) → invocation_begun s.events id ≡ o → FollowsWhere function next options id s.events (s.outputs id) held o → lies_in_frame why ≡ false
-      by_begun None is f = some_none (sym there ∙ f n)
+      by_begun : (o : Option NewInvocation) → invocation_begun s.events id ≡ o → FollowsWhere function next options id told s.events (s.outputs id) held o → lies_in_frame why ≡ false
+      by_begun None is f = some_none (sym there ∙ (f n).0)
       by_begun (Some new) is f =
-          let F : Flies function next options id s.events new f.version f.coming r.next.output one.attempt = f.flies n r.next.output one live r.next.waits there in
-          let it = first_on_its_way function next options id s new f.version f.coming (output_of one.attempt) r.frame r.rest r.next is F.version_is f.fit F.bytes in
+          let F : Flies new f.version f.coming r.next.output one.attempt = f.flies n r.next.output one live r.next.waits there in
+          let it = first_on_its_way function next options id told s new f.version f.coming (output_of one.attempt) r.frame r.rest r.next is F.version_is f.fit F.bytes in
           let sends : SendsOfRun next (given_of options id s.events new) (arrivals_handed s.events id) (is_input_closed s.events id) (recorded_requests s.events id) (map (frame_meant f.version) (it.first ∷ it.others)) =
           subst (λ (frames : List Sent). SendsOfRun next (given_of options id s.events new) (arrivals_handed s.events id) (is_input_closed s.events id) (recorded_requests s.events id) (map (frame_meant f.version) frames))
           it.frames (f.follows.flies n live) in
@@ -91,55 +91,55 @@ module _ {H : Type 0} (function : H → Handler) (next : Handler) (options : VMO
   module _ (laws : ServingLaws function next options) where
     -- ---- a stop
 
-    stopped_own : (n : ℕ) (s t : Standing) (held : List (HeldAttempt H)) → Leaves (Event.Stop id n) id None s t → Follows function next options id s held → Follows function next options id t held
+    stopped_own : (n : ℕ) (s t : Standing) (held : List (HeldAttempt H)) → Leaves (Event.Stop id n) id None s t → FollowsTold function next options id told s held → FollowsTold function next options id told t held
     stopped_own n s t held leaves f =
         let accepted : IsAccepted (Event.Stop id n ∷ s.events) = subst IsAccepted leaves.events t.accepted in
-        into function next options id t (Event.Stop id n ∷ s.events) None held leaves.events leaves.own
-        (where_on function next options id (Event.Stop id n) s.events (stop_plain n) accepted.0 accepted.1 tt laws (s.outputs id) None held (λ frames. refl) (λ now is. some_none (sym is)) f)
+        into function next options id told t (Event.Stop id n ∷ s.events) None held leaves.events leaves.own
+        (where_on function next options id (Event.Stop id n) s.events (stop_plain n) accepted.0 accepted.1 tt laws told (s.outputs id) None held (λ frames. refl) (λ now is. some_none (sym is)) f)
 
-    pub stopped : (other : Text) (n : ℕ) (s t : Standing) (held : List (HeldAttempt H)) → Leaves (Event.Stop other n) other None s t → Follows function next options id s held → Follows function next options id t held
+    pub stopped : (other : Text) (n : ℕ) (s t : Standing) (held : List (HeldAttempt H)) → Leaves (Event.Stop other n) other None s t → FollowsTold function next options id told s held → FollowsTold function next options id told t held
     stopped other n s t held leaves f = by_id (bytes_eq other id) refl
       where
-        by_id : (b : Bool) → bytes_eq other id ≡ b → Follows function next options id t held
+        by_id : (b : Bool) → bytes_eq other id ≡ b → FollowsTold function next options id told t held
         by_id true e = stopped_own n s t held (subst (λ (x : Text). Leaves (Event.Stop x n) x None s t) ((bytes_eq-Decides other id).0 e) leaves) f
-        by_id false e = other_on function next options id laws (Event.Stop other n) s t held e leaves.events (leaves.others id e) f
+        by_id false e = other_on function next options id told laws (Event.Stop other n) s t held e leaves.events (leaves.others id e) f
 
     -- ---- where no further frame is taken
 
-    refused : (b : Bool) (other : Text) (n : ℕ) (s t : Standing) (held : List (HeldAttempt H)) → LeavesRefused b other n s t → Follows function next options id s held → Follows function next options id t held
+    refused : (b : Bool) (other : Text) (n : ℕ) (s t : Standing) (held : List (HeldAttempt H)) → LeavesRefused b other n s t → FollowsTold function next options id told s held → FollowsTold function next options id told t held
     refused true other n s t held left f = stopped other n s t held left f
-    refused false other n s t held stays f = stands_still function next options id s t held stays f
+    refused false other n s t held stays f = stands_still function next options id told s t held stays f
 
-    pub rested : (other : Text) (n : ℕ) (why : Option Refusal) (s t : Standing) (held : List (HeldAttempt H)) → Rests other n why s t → Follows function next options id s held → Follows function next options id t held
-    rested other n None s t held (inl ended) f = stands_still function next options id s t held ended.stays f
-    rested other n None s t held (inr none) f = stands_still function next options id s t held none.stays f
-    rested other n (Some why) s t held (inl room) f = stands_still function next options id s t held room.stays f
+    pub rested : (other : Text) (n : ℕ) (why : Option Refusal) (s t : Standing) (held : List (HeldAttempt H)) → Rests other n why s t → FollowsTold function next options id told s held → FollowsTold function next options id told t held
+    rested other n None s t held (inl ended) f = stands_still function next options id told s t held ended.stays f
+    rested other n None s t held (inr none) f = stands_still function next options id told s t held none.stays f
+    rested other n (Some why) s t held (inl room) f = stands_still function next options id told s t held room.stays f
     rested other n (Some why) s t held (inr r) f = refused (lies_in_frame why) other n s t held r.left f
 
     -- ---- bytes are put behind those that wait
 
     moved_own : (one : HeldAttempt H) (count : ℕ) (changed : Attempt H) (s t : Standing) (held : List (HeldAttempt H)) → one.invocation ≡ id → held_of held one.invocation one.number ≡ Some one
-        → PutsBehind one.invocation one.number (take count (output_of one.attempt)) s t → Advances count one.attempt changed → Follows function next options id s held
-        → Follows function next options id t (with_attempt held one changed)
+        → PutsBehind one.invocation one.number (take count (output_of one.attempt)) s t → Advances count one.attempt changed → FollowsTold function next options id told s held
+        → FollowsTold function next options id told t (with_attempt held one changed)
     moved_own one count changed s t held same there puts advances f =
-        into function next options id t s.events (t.outputs id) (with_attempt held one changed) puts.events refl (by_begun (invocation_begun s.events id) f)
+        into function next options id told t s.events (t.outputs id) (with_attempt held one changed) puts.events refl (by_begun (invocation_begun s.events id) f)
       where
-        by_begun : (o : Option NewInvocation) → FollowsWhere function next options id s.events (s.outputs id) held o → FollowsWhere function next options id s.events (t.outputs id) (with_attempt held one changed) o
-        by_begun None f = some_none (sym there ∙ ap (λ (x : Text). held_of held x one.number) same ∙ f one.number)
+        by_begun : (o : Option NewInvocation) → FollowsWhere function next options id told s.events (s.outputs id) held o → FollowsWhere function next options id told s.events (t.outputs id) (with_attempt held one changed) o
+        by_begun None f = some_none (sym there ∙ ap (λ (x : Text). held_of held x one.number) same ∙ (f one.number).0)
         by_begun (Some new) f =
             subst (λ (x : Text). (held_of held x one.number ≡ Some one) → PutsBehind x one.number (take count (output_of one.attempt)) s t
-            → FollowsBegun function next options id s.events (t.outputs id) (with_first (is_held x one.number) held (record one { attempt = changed })) new) (sym same)
-            (λ here put. advanced function next options id laws s.events (s.outputs id) (t.outputs id) held new one.number one count changed (live_when s.events id one.number put.live) here advances
+            → FollowsBegun function next options id told s.events (t.outputs id) (with_first (is_held x one.number) held (record one { attempt = changed })) new) (sym same)
+            (λ here put. advanced function next options id laws told s.events held new one.number one changed s.accepted here (s.outputs id) (t.outputs id) count (live_when s.events id one.number put.live) advances
             (record { waited = put.before; waited_is = put.waits; now_is = put.own }) f) there puts
 
     pub moved : (one : HeldAttempt H) (count : ℕ) (changed : Attempt H) (s t : Standing) (held : List (HeldAttempt H)) → held_of held one.invocation one.number ≡ Some one
-        → PutsBehind one.invocation one.number (take count (output_of one.attempt)) s t → Advances count one.attempt changed → Follows function next options id s held
-        → Follows function next options id t (with_attempt held one changed)
+        → PutsBehind one.invocation one.number (take count (output_of one.attempt)) s t → Advances count one.attempt changed → FollowsTold function next options id told s held
+        → FollowsTold function next options id told t (with_attempt held one changed)
     moved one count changed s t held there puts advances f = by_id (bytes_eq one.invocation id) refl
       where
-        by_id : (b : Bool) → bytes_eq one.invocation id ≡ b → Follows function next options id t (with_attempt held one changed)
+        by_id : (b : Bool) → bytes_eq one.invocation id ≡ b → FollowsTold function next options id told t (with_attempt held one changed)
         by_id true e = moved_own one count changed s t held ((bytes_eq-Decides one.invocation id).0 e) there puts advances f
         by_id false e =
-            into function next options id t s.events (s.outputs id) (with_attempt held one changed) puts.events (puts.others id e)
-            (same_held function next options id s.events (s.outputs id) held (with_attempt held one changed) (invocation_begun s.events id)
+            into function next options id told t s.events (s.outputs id) (with_attempt held one changed) puts.events (puts.others id e)
+            (same_held function next options id told s.events (s.outputs id) held (with_attempt held one changed) (invocation_begun s.events id)
             (λ m. held_other_invocation one.invocation id one.number m held one (record one { attempt = changed }) there refl (λ same. apart one.invocation id e (sym same))) f)

@@ -11,7 +11,7 @@ use Rattle.turn_laws.specs.Sending.{PassesOn}
 use Rattle.vm_types.specs.declared.options.VMOptions.{VMOptions}
 use Rattle.store_calls.specs.Standing.{Standing, Stays}
 use Rattle.schedule_model.specs.declared.held.HeldAttempt.{HeldAttempt}
-use Rattle.schedule_laws.specs.Following.{FollowsIn, Follows}
+use Rattle.schedule_laws.specs.Following.{FollowsIn, FollowsTold, ToldOf}
 use Rattle.schedule_laws.proofs.Events.{IsPlain, where_on}
 use Rattle.fitting_laws.proofs.Fits.{other_fits}
 use Rattle.schedule_laws.proofs.Serving.{ServingLaws}
@@ -33,24 +33,24 @@ other_passes id (Event.Begin other now) e frames = (λ same. absurd (true≢fals
 other_passes id (Event.Take other attempt frame) e frames = (λ same. absurd (true≢false (sym same ∙ e)), λ far. refl)
 other_passes id event e frames = refl
 
-module _ {H : Type 0} (function : H → Handler) (next : Handler) (options : VMOptions) (id : Text) where
+module _ {H : Type 0} (function : H → Handler) (next : Handler) (options : VMOptions) (id : Text) (told : ToldOf) where
   -- what the store stands for, as it is known
   pub into : (t : Standing) (events : List Event) (output : Option Bytes) (held : List (HeldAttempt H)) → t.events ≡ events → t.outputs id ≡ output
-      → FollowsIn function next options id events output held → Follows function next options id t held
+      → FollowsIn function next options id told events output held → FollowsTold function next options id told t held
   into t events output held e o f =
-      subst (λ (some : Option Bytes). FollowsIn function next options id t.events some held) (sym o)
-      (subst (λ (some : List Event). FollowsIn function next options id some output held) (sym e) f)
+      subst (λ (some : Option Bytes). FollowsIn function next options id told t.events some held) (sym o)
+      (subst (λ (some : List Event). FollowsIn function next options id told some output held) (sym e) f)
 
   -- nothing has changed
-  pub stands_still : (s t : Standing) (held : List (HeldAttempt H)) → Stays s t → Follows function next options id s held → Follows function next options id t held
+  pub stands_still : (s t : Standing) (held : List (HeldAttempt H)) → Stays s t → FollowsTold function next options id told s held → FollowsTold function next options id told t held
   stands_still s t held stays f = into t s.events (s.outputs id) held stays.events (stays.outputs id) f
 
   module _ (laws : ServingLaws function next options) where
     -- an event of another invocation, or of none
     pub other_on : (event : Event) (s t : Standing) (held : List (HeldAttempt H)) → is_of id event ≡ false → t.events ≡ event ∷ s.events → t.outputs id ≡ s.outputs id
-        → Follows function next options id s held → Follows function next options id t held
+        → FollowsTold function next options id told s held → FollowsTold function next options id told t held
     other_on event s t held other e o f =
         let accepted : IsAccepted (event ∷ s.events) = subst IsAccepted e t.accepted in
         into t (event ∷ s.events) (s.outputs id) held e o
-        (where_on function next options id event s.events (other_plain id event other) accepted.0 accepted.1 (other_fits id event other) laws (s.outputs id) (s.outputs id) held
+        (where_on function next options id event s.events (other_plain id event other) accepted.0 accepted.1 (other_fits id event other) laws told (s.outputs id) (s.outputs id) held
         (other_passes id event other) (λ now is. is) f)

@@ -6,6 +6,7 @@ use Rattle.executor_laws.specs.Living.{ExecutorsBegin, ExecutorsStayLive}
 use Rattle.replay_laws.specs.Laws.{LivesReplay, LivesStay}
 use Rattle.turning_laws.specs.Keeping.{BeginsServing, StaysServing, FeedsServing, ClosesServing, TakesServing, OversStay}
 use Rattle.turning_laws.specs.Laws.{OfEach}
+use Rattle.turning_laws.specs.Telling.{TurnsTell}
 use Rattle.turning_laws.specs.Turning.{TurnServes}
 
 pub record ServingLaws {H : Type 0} (function : H → Handler) (next : Handler) (options : VMOptions) : Type 0 where
@@ -15,6 +16,7 @@ pub record ServingLaws {H : Type 0} (function : H → Handler) (next : Handler) 
   pub closes : (version : Version) → ClosesServing function next version options
   pub takes : (version : Version) → TakesServing function next version options
   pub turns : (version : Version) → TurnServes function next version options
+  pub tells : (version : Version) → TurnsTell function next version options
   pub over : OversStay function
   pub live_begins : ExecutorsBegin
   pub stays : ExecutorsStayLive
@@ -22,15 +24,16 @@ pub record ServingLaws {H : Type 0} (function : H → Handler) (next : Handler) 
   pub lives : LivesStay
 
 pub serving_laws : {H : Type 0} (function : H → Handler) (next : Handler) (options : VMOptions) → OfEach (BeginsServing function) → OfEach (StaysServing function) → OfEach (FeedsServing function)
-    → OfEach (ClosesServing function) → OfEach (TakesServing function) → OfEach (TurnServes function) → OversStay function → ExecutorsBegin → ExecutorsStayLive → LivesReplay → LivesStay
+    → OfEach (ClosesServing function) → OfEach (TakesServing function) → OfEach (TurnServes function) → OfEach (TurnsTell function) → OversStay function → ExecutorsBegin → ExecutorsStayLive → LivesReplay → LivesStay
     → ServingLaws function next options
-serving_laws function next options begins events feeds closes takes turns over live_begins stays replays lives = record {
+serving_laws function next options begins events feeds closes takes turns tells over live_begins stays replays lives = record {
   begins = λ version. begins next version options;
   events = λ version. events next version options;
   feeds = λ version. feeds next version options;
   closes = λ version. closes next version options;
   takes = λ version. takes next version options;
   turns = λ version. turns next version options;
+  tells = λ version. tells next version options;
   over = over;
   live_begins = live_begins;
   stays = stays;

@@ -27,7 +27,7 @@ use Rattle.schedule_model.specs.declared.held.HeldAttempt.{HeldAttempt}
 use Rattle.schedule_model.specs.Held.{held_of}
 use Rattle.schedule_model.proofs.Holding.{some_is, some_none}
 use Rattle.fitting_laws.specs.Fitting.{FrameFits}
-use Rattle.schedule_laws.specs.Following.{Flies, FollowsWhere, FollowsIn, Follows}
+use Rattle.schedule_laws.specs.Following.{Flies, FollowsWhere, FollowsIn, FollowsTold, ToldOf}
 use Rattle.schedule_laws.proofs.Events.{IsPlain, begun_on}
 use Rattle.fitting_laws.proofs.Fits.{apart, not_same}
 use Rattle.fitting_laws.proofs.Outcomes.{outcome_fits}
@@ -57,7 +57,7 @@ version_begun events id new is = ap (λ (o : Option NewInvocation). unwrap_or (o
 same_tail : {A : Type 0} (x y : A) (xs ys : List A) → x ∷ xs ≡ y ∷ ys → xs ≡ ys
 same_tail x y xs ys e = cc
 
-module _ {H : Type 0} (function : H → Handler) (next : Handler) (options : VMOptions) (id : Text) where
+module _ {H : Type 0} (function : H → Handler) (next : Handler) (options : VMOptions) (id : Text) (told : ToldOf) where
   -- the frame at the front of what waits is the first of those on their way
   pub record IsFirst (events : List Event) (version : Version) (coming : List Sent) (output : Bytes) (frame : Frame) (rest : Bytes) : Type 0 where
     pub first : Sent
@@ -92,9 +92,9 @@ module _ {H : Type 0} (function : H → Handler) (next : Handler) (options : VMO
   module _ (laws : ServingLaws function next options) where
     -- a frame of the attempt that is held
     pub took_own : (n : ℕ) (one : HeldAttempt H) (reply : FrameReply) (s t : Standing) (held : List (HeldAttempt H)) → held_of held id n ≡ Some one → TakesFrame id n reply s t
-        → Follows function next options id s held → Follows function next options id t held
+        → FollowsTold function next options id told s held → FollowsTold function next options id told t held
     took_own n one reply s t held there takes f =
-        into function next options id t (event ∷ s.events) (rest_after (does_end reply) takes.rest) held takes.leaves.events takes.leaves.own (by_begun (invocation_begun s.events id) refl f)
+        into function next options id told t (event ∷ s.events) (rest_after (does_end reply) takes.rest) held takes.leaves.events takes.leaves.own (by_begun (invocation_begun s.events id) refl f)
       where
         event : Event
         event = Event.Take id n takes.frame
@@ -102,16 +102,16 @@ module _ {H : Type 0} (function : H → Handler) (next : Handler) (options : VMO
         accepted : IsAccepted (event ∷ s.events)
         accepted = subst IsAccepted takes.leaves.events t.accepted
 
-        by_begun : (o : Option NewInvocation) → invocation_begun s.events id ≡ o → FollowsWhere function next options id s.events (s.outputs id) held o
-            → FollowsIn function next options id (event ∷ s.events) (rest_after (does_end reply) takes.rest) held
-        by_begun None is f = some_none (sym there ∙ f n)
+        by_begun : (o : Option NewInvocation) → invocation_begun s.events id ≡ o → FollowsWhere function next options id told s.events (s.outputs id) held o
+            → FollowsIn function next options id told (event ∷ s.events) (rest_after (does_end reply) takes.rest) held
+        by_begun None is f = some_none (sym there ∙ (f n).0)
         by_begun (Some new) is f =
-            let F : Flies function next options id s.events new f.version f.coming takes.next.output one.attempt =
+            let F : Flies new f.version f.coming takes.next.output one.attempt =
             f.flies n takes.next.output one (taken_live s.events id n takes.frame accepted.0) takes.next.waits there in
             let it = first_on_its_way s new f.version f.coming (output_of one.attempt) takes.frame takes.rest takes.next is F.version_is f.fit F.bytes in
             let fits : FrameFits takes.frame = subst FrameFits (sym it.frame_is) (meant_fits f.version it.first it.fits) in
-            subst (λ (o : Option NewInvocation). FollowsWhere function next options id (event ∷ s.events) (rest_after (does_end reply) takes.rest) held o) (sym is)
-            (begun_on function next options id event s.events (take_plain n takes.frame) accepted.0 accepted.1 (λ same. fits) laws (s.outputs id) (rest_after (does_end reply) takes.rest) held new f (record {
+            subst (λ (o : Option NewInvocation). FollowsWhere function next options id told (event ∷ s.events) (rest_after (does_end reply) takes.rest) held o) (sym is)
+            (begun_on function next options id event s.events (take_plain n takes.frame) accepted.0 accepted.1 (λ same. fits) laws told (s.outputs id) (rest_after (does_end reply) takes.rest) held new f (record {
               left = it.others;
               fit = it.others_fit;
               of_store = (subst (λ (frames : List Sent). AllByRecursion IsOfStore frames) it.frames f.of_store).1;
@@ -134,15 +134,15 @@ module _ {H : Type 0} (function : H → Handler) (next : Handler) (options : VMO
 
     -- of another invocation
     took_other : (other : Text) (n : ℕ) (reply : FrameReply) (s t : Standing) (held : List (HeldAttempt H)) → other ≢ id → TakesFrame other n reply s t
-        → Follows function next options id s held → Follows function next options id t held
+        → FollowsTold function next options id told s held → FollowsTold function next options id told t held
     took_other other n reply s t held far takes f =
-        other_on function next options id laws (Event.Take other n takes.frame) s t held (not_same other id far) takes.leaves.events (takes.leaves.others id (not_same other id far)) f
+        other_on function next options id told laws (Event.Take other n takes.frame) s t held (not_same other id far) takes.leaves.events (takes.leaves.others id (not_same other id far)) f
 
     pub took : (other : Text) (n : ℕ) (one : HeldAttempt H) (reply : FrameReply) (s t : Standing) (held : List (HeldAttempt H)) → held_of held other n ≡ Some one → TakesFrame other n reply s t
-        → Follows function next options id s held → Follows function next options id t held
+        → FollowsTold function next options id told s held → FollowsTold function next options id told t held
     took other n one reply s t held there takes f = by_id (bytes_eq other id) refl
       where
-        by_id : (b : Bool) → bytes_eq other id ≡ b → Follows function next options id t held
+        by_id : (b : Bool) → bytes_eq other id ≡ b → FollowsTold function next options id told t held
         by_id true e =
             let same : other ≡ id = (bytes_eq-Decides other id).0 e in
             took_own n one reply s t held (ap (λ (x : Text). held_of held x n) (sym same) ∙ there) (subst (λ (x : Text). TakesFrame x n reply s t) same takes) f
@@ -150,6 +150,6 @@ module _ {H : Type 0} (function : H → Handler) (next : Handler) (options : VMO
 
     -- one after another
     pub took_each : (other : Text) (n : ℕ) (one : HeldAttempt H) (replies : List FrameReply) (s t : Standing) (held : List (HeldAttempt H)) → held_of held other n ≡ Some one
-        → TakesEach other n replies s t → Follows function next options id s held → Follows function next options id t held
-    took_each other n one [] s t held there stays f = stands_still function next options id s t held stays f
+        → TakesEach other n replies s t → FollowsTold function next options id told s held → FollowsTold function next options id told t held
+    took_each other n one [] s t held there stays f = stands_still function next options id told s t held stays f
     took_each other n one (reply ∷ replies) s t held there each f = took_each other n one replies each.0 t held there each.2 (took other n one reply s each.0 held there each.1 f)

@@ -17,7 +17,8 @@ use Rattle.store_steps.specs.declared.frame.FrameReply.{FrameReply}
 use Rattle.store_steps.specs.Taken.{IsReply}
 use Rattle.store_calls.specs.declared.begun.BegunAttempt.{BegunAttempt}
 use Rattle.store_calls.specs.Standing.{Standing}
-use Rattle.store_calls.specs.Calls.{Begins, Cancels, Completes, Signals, HandsOut}
+use Rattle.store_calls.specs.Calls.{Begins, Cancels, Completes, Signals}
+use Rattle.schedule_model.specs.Feeding.{given_in, IsAskedFor, HandsOutEach}
 
 -- The same stands of an invocation behind two lists of events: how it was begun and the state of its object then, its entries, how it was
 -- closed and what it answers, whether it is open, whether it is due, how many attempts were begun, which of them is live, the frames that
@@ -78,11 +79,13 @@ IsAlike events others id = StandsAlike events others id × AnswersAlike events o
 
 -- ---- the replies to its own events
 
--- What two stores reply to one event of an invocation that both accept is the same: to a begin, a hand-out, a result, a signal, a cancellation, and a frame.
+-- What two stores reply to one event of an invocation that both accept is the same: to a begin, a feed, a result, a signal, a cancellation, and a frame.
 pub record RepliesAlike (id : Text) (old other : Standing) : Type 0 where
   pub begun : (now : ℕ) (one two : BegunAttempt) (new more : Standing) → Begins id now one old new → Begins id now two other more
       → (one.number ≡ two.number) × (version_number one.version ≡ version_number two.version) × (one.start ≡ two.start)
-  pub handed : (attempt most : ℕ) (bytes others : Bytes) (new more : Standing) → HandsOut id attempt most (Ok bytes) old new → HandsOut id attempt most (Ok others) other more → bytes ≡ others
+  -- a feed that is not refused, in whatever parts the store hands out what is asked for
+  pub handed : (attempt count : ℕ) (parts others : List Bytes) (new more : Standing) → HandsOutEach id attempt count parts old new → IsAskedFor count parts
+      → HandsOutEach id attempt count others other more → IsAskedFor count others → given_in parts ≡ given_in others
   pub placed : (completion : ℕ) (brought : NotificationResult) (place at : ℕ) (new more : Standing) → Completes id completion brought (Ok place) old new
       → Completes id completion brought (Ok at) other more → place ≡ at
   pub signalled : (key : SignalKey) (brought : NotificationResult) (place at : ℕ) (new more : Standing) → Signals id key brought (Ok place) old new → Signals id key brought (Ok at) other more

@@ -1,8 +1,8 @@
 -- What schedules keep, and what they leave.
-use Rattle.std.specs.Prelude.{◌≡◌, ℕ, false, List, [], ◌∷◌, Some}
+use Rattle.std.specs.Prelude.{◌≡◌, ℕ, false, List, [], ◌∷◌, length, Some, None}
 use Rattle.std.specs.List.{AllByRecursion}
 use Rattle.journal_model.specs.declared.invocation.NewInvocation.{NewInvocation}
-use Rattle.journal_model.specs.Notification.{Text}
+use Rattle.journal_model.specs.Notification.{Bytes, Text}
 use Rattle.journal_model.specs.Event as model
 use Rattle.journal_model.specs.Journal.{invocation_begun}
 use Rattle.journal_model.specs.Cause.{IsAccepted}
@@ -13,11 +13,14 @@ use Rattle.vm_types.specs.declared.options.VMOptions.{VMOptions}
 use Rattle.store_calls.specs.Standing.{Standing}
 use Rattle.store_refusals.specs.declared.refusal.Refusal.{Refusal}
 use Rattle.store_steps.specs.Taken.{lies_in_frame}
+use Rattle.turning_laws.specs.Telling.{Told}
 use Rattle.schedule_laws.specs.Attempts.{Attempt}
-use Rattle.schedule_laws.specs.Following.{ReplaysInLine, HoldsOf, given_of, Follows}
+use Rattle.schedule_laws.specs.Attending.{Tracked}
+use Rattle.schedule_laws.specs.Following.{ReplaysInLine, HoldsOf, given_of, ToldOf, FollowsTold, Follows}
 use Rattle.schedule_laws.specs.Schedules.event
 use Rattle.schedule_laws.specs.Schedules.reply
-use Rattle.schedule_laws.specs.Schedules.{Event, Reply, HeldAttempt, held_of, MovesOne, Does, Scheduled, AppliesAll, Brings, FitsEvent}
+use Rattle.schedule_laws.specs.Schedules.{Event, Reply, HeldAttempt, held_of, with_attempt, given_in, FeedsParts, MovesOne, Does, Scheduled, AppliesAll, Brings, FitsEvent}
+use Rattle.schedule_laws.specs.Turned.{Tells, is_of_attempt, start_of, told_start}
 
 -- ---- what is answered of frames
 
@@ -31,12 +34,46 @@ abbrev pub RefuseNoFrame : {H : Type 0} → Text → List (Event H) → List Rep
 RefuseNoFrame id (one ∷ events) (answer ∷ replies) = RefusesNoFrame id one answer × RefuseNoFrame id events replies
 RefuseNoFrame id _ replies = Unit {0}
 
+-- ---- what replies tell of attempts
+
+-- behind a begin that was answered, the attempt was handed its start frame
+abbrev pub BeginsTold : {H : Type 0} → VMOptions → Text → Event H → Reply → (earlier : List model.Event) → (now : ToldOf) → Type 0
+BeginsTold options id (event.Begin other handler now) (reply.Begun number) earlier told =
+    other ≡ id → (new : NewInvocation) → invocation_begun earlier id ≡ Some new
+    → told number ≡ Some (record { start = start_of options id earlier now new; told = told_start (start_of options id earlier now new) })
+BeginsTold options id one answer earlier told = Unit {0}
+
+module _ {H : Type 0} (function : H → Handler) where
+  -- what an event does, where these are the bytes of a feed that its attempt was fed
+  abbrev pub DoesFeeding : VMOptions → Event H → Reply → (bytes : Bytes) → Standing → List (HeldAttempt H) → Standing → List (HeldAttempt H) → Type 0
+  DoesFeeding options (event.Feed id number count) (reply.Fed fed why) bytes old held new more =
+      (one : HeldAttempt H) × (changed : Attempt H) × (parts : List Bytes) × (held_of held id number ≡ Some one) × (fed ≡ length bytes) × (bytes ≡ given_in parts)
+      × FeedsParts count parts why one old new changed × (more ≡ with_attempt held one changed)
+  DoesFeeding options one answer bytes old held new more = Does function options one old held answer new more
+
 module _ {H : Type 0} (function : H → Handler) where
   -- ---- event by event
 
   -- where nothing is held, an invocation is in its run whose records are, and so is one that was not begun
   abbrev pub HoldsFollows : Type 0
   HoldsFollows = (next : Handler) (options : VMOptions) (id : Text) (s : Standing) → HoldsOf next options id s.events → Follows function next options id s []
+
+  -- so it is where nothing was told of any attempt
+  abbrev pub HoldsTold : Type 0
+  HoldsTold = (next : Handler) (options : VMOptions) (id : Text) (s : Standing) → HoldsOf next options id s.events → FollowsTold function next options id (λ number. None) s []
+
+  -- So it is with whatever was told of its attempts, and each reply tells of them what the run does; a begin tells what is begun.
+  pub record KeepsTold (next : Handler) (options : VMOptions) (id : Text) (one : Event H) (answer : Reply) (bytes : Bytes) (old new : Standing) (more : List (HeldAttempt H)) (told : ToldOf) : Type 0 where
+    pub now : ToldOf
+    pub follows : FollowsTold function next options id now new more
+    pub tells : (number : ℕ) (t : Tracked) → told number ≡ Some t
+        → (after : Told) × (now number ≡ Some (record { start = t.start; told = after })) × Tells next t.start (is_of_attempt id number one) one answer bytes t.told after
+    pub begins : BeginsTold options id one answer old.events now
+
+  abbrev pub ToldByEach : Type 0
+  ToldByEach = (next : Handler) (options : VMOptions) (id : Text) (one : Event H) (answer : Reply) (bytes : Bytes) (old new : Standing) (held more : List (HeldAttempt H)) (told : ToldOf) → ReplaysInLine options
+      → FitsEvent one → Brings function id next one → DoesFeeding function options one answer bytes old held new more → FollowsTold function next options id told old held
+      → KeepsTold next options id one answer bytes old new more told
 
   -- what an event does keeps an invocation in its run, if begins of it bring the run's function
   abbrev pub KeptByEach : Type 0

@@ -1,5 +1,6 @@
 -- Schedules and their events, passed on, so that crates above name this one alone.
 pub use Rattle.schedule_model.specs.First.{with_first}
+pub use Rattle.schedule_model.specs.Feeding.{given_in, HandsOutEach, StopsHandingOut, FeedsEach, FeedsParts}
 pub use Rattle.schedule_model.specs.Fitting.{FitsEvent}
 pub use Rattle.schedule_model.specs.Held.{is_held, held_of, with_attempt}
 pub use Rattle.schedule_model.specs.Outcomes.{tells_mismatch}

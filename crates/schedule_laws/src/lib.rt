@@ -5,7 +5,7 @@
 #![tactic(auto)]
 
 ghost use Rattle.schedule_laws.specs.Isolation.{AllAnswerAlone, AllKeepState, AllReplyAlike, AllStandAlone};
-ghost use Rattle.schedule_laws.specs.Laws.{FollowsHolds, FramesAreTaken, HoldsFollows, HoldsHeadline, HoldsNeverLate, HoldsWakesExactly, KeptByEach, LeavesHolds, NoneRefused};
+ghost use Rattle.schedule_laws.specs.Laws.{FollowsHolds, FramesAreTaken, HoldsFollows, HoldsHeadline, HoldsNeverLate, HoldsTold, HoldsWakesExactly, KeptByEach, LeavesHolds, NoneRefused, ToldByEach};
 
 use executor_laws::executors_live;
 pub use fitting_laws::inputs_are_handed_out;
@@ -14,12 +14,16 @@ use journal_model::Handler;
 use replay_laws::live_attempts_replay;
 use turning_laws::{
     attempts_begin, closes_keep, events_keep, feeds_keep, overs_stay, takes_keep, turns_keep,
+    turns_tell,
 };
 
 /// Each event keeps an invocation in its run, whatever is stopped, overtaken or refused, and no frame of it is refused for a cause that
-/// lies in the frame.
+/// lies in the frame. What each reply to a turn says of an attempt is what the run does, over the bytes that this attempt was handed: of a
+/// live one, of one that was stopped or overtaken, and of one that is over.
 pub fn schedules_keep<H: Handler>()
     ensures begins { HoldsFollows H.next_call }
+    ensures begins_told { HoldsTold H.next_call }
+    ensures told { ToldByEach H.next_call }
     ensures each { KeptByEach H.next_call }
     ensures holds { FollowsHolds H.next_call }
     ensures frames { NoneRefused H.next_call }
@@ -32,6 +36,7 @@ pub fn schedules_keep<H: Handler>()
     closes_keep::<H>();
     takes_keep::<H>();
     turns_keep::<H>();
+    turns_tell::<H>();
     overs_stay::<H>();
 }
 

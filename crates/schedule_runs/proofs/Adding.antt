@@ -24,6 +24,7 @@ use Rattle.schedule_laws.specs.Schedules.reply
 use Rattle.schedule_laws.specs.Schedules.refusal
 use Rattle.schedule_laws.specs.Schedules.{Reply, HeldAttempt, held_of, RepliesDone, RepliesPlace, RepliesCount, BeginDoes, FeedsOne, ClosesOne, StopsOne, TurnsOne, MovesOne, IfHeld, UnlessMismatch, tells_mismatch, Does, Scheduled, AppliesAll}
 use Rattle.schedule_runs.specs.Front.{AreAcceptedOf, IsAcceptedOf, stop_for}
+use Rattle.schedule_runs.proofs.Feeding.{parts_events, some_parts, stopped_events, sum_given}
 
 -- these were accepted of the event, and put in front
 abbrev pub Adds : {H : Type 0} → scheduled.Event H → Reply → Standing → Standing → Type 0
@@ -104,7 +105,14 @@ module _ {H : Type 0} (function : H → Handler) (options : VMOptions) where
 
   feed_adds : (count : ℕ) (one : HeldAttempt H) (s t : Standing) (answer : Reply) (changed : Attempt H) → FeedsOne count one s answer t changed
       → Adds {H = H} (event.Feed one.invocation one.number count) answer s t
-  feed_adds count one s t (reply.Fed bytes) changed it = (Event.HandOut one.invocation one.number count ∷ [], refl, it.2.1.events)
+  feed_adds count one s t (reply.Fed bytes why) changed it =
+      let id = one.invocation in
+      let n = one.number in
+      let lengths : List ℕ = map length it.0 in (
+        map (Event.HandOut id n) lengths,
+        (lengths, some_parts id n count it.0 why it.2.0 t it.2.3, sum_given it.0 ∙ sym it.1, refl),
+        stopped_events id n count it.0 why it.2.0 t it.2.3 ∙ parts_events id n count it.0 s it.2.0 it.2.1,
+      )
   feed_adds count one s t (reply.Refused (refusal.Store why)) changed it = ([], refl, it.0.stays.events)
   feed_adds count one s t _ changed it = absurd it
 

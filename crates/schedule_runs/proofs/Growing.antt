@@ -1,6 +1,6 @@
 -- The accepted events stay, and more are put in front of them, each of the invocation that the event of the schedule names. A begin and a
 -- feed alone add one that begins an attempt or hands bytes to one.
-use Rattle.std.proofs.Common.{◌≡◌, refl, sym, ap, subst, ◌∙◌, ℕ, Bool, true, false, ◌++◌, append_assoc, take, List, [], ◌∷◌, Option, Some, None, inl, inr, Result, Ok, Err}
+use Rattle.std.proofs.Common.{◌≡◌, refl, sym, ap, subst, ◌∙◌, ℕ, Bool, true, false, ◌++◌, append_assoc, length, take, List, [], ◌∷◌, Option, Some, None, inl, inr, Result, Ok, Err}
 use Rattle.std.specs.List.{AllByRecursion}
 use Rattle.journal_model.specs.Notification.{Bytes, Text}
 use Rattle.journal_model.specs.Request.{SignalKey}
@@ -18,7 +18,7 @@ use Rattle.schedule_laws.specs.Schedules.scheduled
 use Rattle.schedule_laws.specs.Schedules.event
 use Rattle.schedule_laws.specs.Schedules.reply
 use Rattle.schedule_laws.specs.Schedules.refusal
-use Rattle.schedule_laws.specs.Schedules.{Reply, HeldAttempt, held_of, RepliesDone, RepliesPlace, RepliesCount, BeginDoes, FeedsOne, ClosesOne, StopsOne, TurnsOne, MovesOne, IfHeld, UnlessMismatch, tells_mismatch, Does, Scheduled, AppliesAll}
+use Rattle.schedule_laws.specs.Schedules.{Reply, HeldAttempt, held_of, RepliesDone, RepliesPlace, RepliesCount, BeginDoes, FeedsOne, ClosesOne, StopsOne, TurnsOne, MovesOne, IfHeld, UnlessMismatch, tells_mismatch, HandsOutEach, Does, Scheduled, AppliesAll}
 use Rattle.store_steps.specs.declared.frame.FrameReply.{FrameReply}
 use Rattle.store_steps.specs.Taken.{lies_in_frame}
 use Rattle.store_calls.specs.Standing.{Standing, Stays, Refuses}
@@ -26,6 +26,7 @@ use Rattle.store_calls.specs.Calls.{Cancels, Completes, Invokes, Signals, Stops,
 use Rattle.store_calls.specs.Frames.{Accepts, LeavesRefused, Rests, TakesEach}
 use Rattle.store_calls.proofs.Taking.{bytes_stay}
 use Rattle.schedule_runs.specs.Runs.{AppliesEach, IsOneOf, invocation_named}
+use Rattle.schedule_runs.proofs.Feeding.{stopped_events}
 
 -- whether an accepted event begins an attempt, or hands bytes to one
 abbrev pub does_hand : Event → Bool
@@ -73,6 +74,12 @@ more_grows s t last more = (last ∷ [], more, (refl, tt))
 
 stays_grows : (kind : Kind) (s t : Standing) → Stays s t → GrowsBy kind s t
 stays_grows kind s t it = same_grows kind s t it.events
+
+-- parts of an input that are handed out one after another
+parts_grow : (id : Text) (n count : ℕ) (parts : List Bytes) (s t : Standing) → HandsOutEach id n count parts s t → GrowsBy (Some id, true) s t
+parts_grow id n count [] s t it = same_grows (Some id, true) s t (ap (λ (m : Standing). m.events) it)
+parts_grow id n count (last ∷ earlier) s t it =
+    grows_on (Some id, true) s it.0 t (parts_grow id n count earlier s it.0 it.1) (more_grows it.0 t (Event.HandOut id n (length last)) it.3.1.events)
 
 each_grows : (id : Text) (n : ℕ) (replies : List FrameReply) (s t : Standing) → TakesEach id n replies s t → GrowsBy (Some id, false) s t
 each_grows id n [] s t it = stays_grows (Some id, false) s t it
@@ -146,7 +153,9 @@ module _ {H : Type 0} (function : H → Handler) (options : VMOptions) where
   begin_grows id handler now s t held more _ it = absurd it
 
   feed_grows : (count : ℕ) (one : HeldAttempt H) (s t : Standing) (answer : Reply) (changed : Attempt H) → FeedsOne count one s answer t changed → GrowsBy (Some one.invocation, true) s t
-  feed_grows count one s t (reply.Fed n) changed it = more_grows s t (Event.HandOut one.invocation one.number count) it.2.1.events
+  feed_grows count one s t (reply.Fed n why) changed it =
+      grows_on (Some one.invocation, true) s it.2.0 t (parts_grow one.invocation one.number count it.0 s it.2.0 it.2.1)
+      (same_grows (Some one.invocation, true) it.2.0 t (stopped_events one.invocation one.number count it.0 why it.2.0 t it.2.3))
   feed_grows count one s t (reply.Refused (refusal.Store why)) changed it = refuses_grows (Event.HandOut one.invocation one.number count) why s t it.0
   feed_grows count one s t _ changed it = absurd it
 

@@ -1,5 +1,5 @@
 -- What each attempt is handed is of its start frame and its input.
-use Rattle.std.proofs.Common.{◌≡◌, refl, sym, ap, subst, ◌∙◌, ℕ, ◌+◌, ◌≤◌, ◌==◌, eqb-true, eq-eqb, arith, Bool, true, false, ◌&&◌, if◌then◌else◌, bytes_eq, ◌++◌, append_assoc, append-nil, take, List, [], ◌∷◌, Option, Some, None, ◌⊎◌, inl, inr}
+use Rattle.std.proofs.Common.{◌≡◌, refl, sym, ap, subst, ◌∙◌, ℕ, ◌+◌, ◌-◌, ◌≤◌, ◌==◌, eqb-true, eq-eqb, arith, Bool, true, false, ◌&&◌, if◌then◌else◌, bytes_eq, ◌++◌, append_assoc, append-nil, length, take, List, [], ◌∷◌, Option, Some, None, ◌⊎◌, inl, inr}
 use Rattle.std.proofs.lemmas.Bool.{and_from, and_parts}
 use Rattle.std.proofs.lemmas.Slice.Eq.{bytes_eq-Decides}
 use Rattle.std.specs.List.{AllByRecursion}
@@ -25,9 +25,12 @@ use Rattle.schedule_laws.specs.Schedules.scheduled
 use Rattle.schedule_laws.specs.Schedules.event
 use Rattle.schedule_laws.specs.Schedules.reply
 use Rattle.schedule_laws.specs.Schedules.refusal
-use Rattle.schedule_laws.specs.Schedules.{Reply, HeldAttempt, held_of, BeginDoes, FeedsOne, ClosesOne, StopsOne, TurnsOne, MovesOne, IfHeld, UnlessMismatch, tells_mismatch, Scheduled, Applies}
+use Rattle.schedule_laws.specs.Schedules.{Reply, HeldAttempt, held_of, BeginDoes, given_in, HandsOutEach, FeedsOne, ClosesOne, StopsOne, TurnsOne, MovesOne, IfHeld, UnlessMismatch, tells_mismatch, Scheduled, Applies}
+use Rattle.due_laws.proofs.Handing.{part_is_taken}
+use Rattle.store_refusals.specs.declared.refusal.Refusal.{Refusal}
 use Rattle.schedule_runs.specs.Runs.{AppliesEach}
 use Rattle.schedule_runs.specs.Handed.{AreOfInput, HandsEach, HandsOne, IsHandedInput, handed_to, start_frame, while_last}
+use Rattle.schedule_runs.proofs.Feeding.{stopped_events}
 use Rattle.schedule_runs.proofs.Growing.{GrowsBy, IsOfKind, Kind, does_grow, does_hand}
 
 itself : (id : Text) → bytes_eq id id ≡ true
@@ -142,6 +145,27 @@ module _ (id : Text) where
           ap (λ (b : Bytes). b ++ bytes) (it.1 ∙ ap (λ (events : List Event). told events) (all_last all last)) ∙ append_assoc (start_frame all id) (handed_out all id) bytes ∙ sym more
               ∙ ap (λ (events : List Event). told events) (sym (all_last (event ∷ all) still)),
         )
+
+    -- so are parts of an input, one after another
+    parts_others : (other : Text) (k count : ℕ) (parts : List Bytes) (s t : Standing) (before : Bytes) → (bytes_eq other id && (k == n)) ≡ false → HandsOutEach other k count parts s t
+        → WasHanded before s.events → WasHanded before t.events
+    parts_others other k count [] s t before apart hands was = subst (λ (m : Standing). WasHanded before m.events) (sym hands) was
+    parts_others other k count (last ∷ earlier) s t before apart hands was =
+        let accepted : IsAccepted (Event.HandOut other k (length last) ∷ hands.0.events) = subst (λ (es : List Event). IsAccepted es) hands.3.1.events t.accepted in
+        subst (λ (es : List Event). WasHanded before es) (sym hands.3.1.events)
+        (others_handed other k (length last) hands.0.events before accepted apart (parts_others other k count earlier s hands.0 before apart hands.1 was))
+
+    parts_on : (count : ℕ) (parts : List Bytes) (s t : Standing) (before : Bytes) → HandsOutEach id n count parts s t → WasHanded before s.events → WasHanded (before ++ given_in parts) t.events
+    parts_on count [] s t before hands was =
+        subst (λ (m : Standing). WasHanded (before ++ []) m.events) (sym hands) (subst (λ (b : Bytes). WasHanded b s.events) (sym (append-nil before)) was)
+    parts_on count (last ∷ earlier) s t before hands was =
+        let all : List Event = hands.0.events in
+        let accepted : IsAccepted (Event.HandOut id n (length last) ∷ all) = subst (λ (es : List Event). IsAccepted es) hands.3.1.events t.accepted in
+        let out : last ≡ take (length last) (input_left all id) = part_is_taken (input_left all id) last (count - length (given_in earlier)) hands.3.0 in
+        subst (λ (es : List Event). WasHanded (before ++ given_in (last ∷ earlier)) es) (sym hands.3.1.events)
+        (subst (λ (b : Bytes). WasHanded b (Event.HandOut id n (length last) ∷ all)) (append_assoc before (given_in earlier) last)
+        (subst (λ (b : Bytes). WasHanded ((before ++ given_in earlier) ++ b) (Event.HandOut id n (length last) ∷ all)) (sym out)
+        (handed_on (length last) all (before ++ given_in earlier) accepted (parts_on count earlier s hands.0 before hands.1 was))))
 
     was_of_input : (all : List Event) (before : Bytes) → IsAccepted all → WasHanded before all → AreOfInput id before (while_last id n all)
     was_of_input all before accepted it =
@@ -260,52 +284,48 @@ module _ (id : Text) where
                 none_more before new.standing.events new.held
                 (inr (subst (λ (es : List Event). WasHanded before es) (sym of_begin) (begun_on other now old.standing.events before was)))
 
-        feed_step : (other : Text) (k count fed : ℕ) (bytes : Bytes) (old new : Scheduled H) (before : Bytes) → HandsOne function options (event.Feed other k count) (reply.Fed fed) bytes old new
-            → Handed before old.standing.events old.held
+        feed_step : (other : Text) (k count fed : ℕ) (why : Option Refusal) (bytes : Bytes) (old new : Scheduled H) (before : Bytes)
+            → HandsOne function options (event.Feed other k count) (reply.Fed fed why) bytes old new → Handed before old.standing.events old.held
             → Handed (before ++ (if bytes_eq other id && (k == n) then bytes else [])) new.standing.events new.held
-        feed_step other k count fed bytes old new before it at = by_id (bytes_eq other id && (k == n)) refl at
+        feed_step other k count fed why bytes old new before it at = by_id (bytes_eq other id && (k == n)) refl at
           where
-            names : (it.0.invocation ≡ other) × (it.0.number ≡ k)
-            names = held_is other k it.0 (found_is other k old.held it.0 it.2)
+            between : Standing
+            between = it.6.0
 
-            of_feed : ◌≡◌ {A = List Event} new.standing.events (Event.HandOut other k count ∷ old.standing.events)
-            of_feed = it.4.1.events ∙ ap (λ (x : Text). Event.HandOut x it.0.number count ∷ old.standing.events) names.0 ∙ ap (λ (m : ℕ). Event.HandOut other m count ∷ old.standing.events) names.1
+            hands : HandsOutEach other k count it.2 old.standing between
+            hands =
+                let names = held_is other k it.0 (found_is other k old.held it.0 it.3) in
+                subst (λ (x : Text). HandsOutEach x k count it.2 old.standing between) names.0 (subst (λ (m : ℕ). HandsOutEach it.0.invocation m count it.2 old.standing between) names.1 it.6.1)
 
-            accepted : IsAccepted (Event.HandOut other k count ∷ old.standing.events)
-            accepted = subst (λ (es : List Event). IsAccepted es) of_feed new.standing.accepted
+            then_none : (b : Bytes) → WasHanded b between.events → WasHanded b new.standing.events
+            then_none b was = subst (λ (es : List Event). WasHanded b es) (sym (stopped_events it.0.invocation it.0.number count it.2 why between new.standing it.6.3)) was
 
             by_id : (c : Bool) → (bytes_eq other id && (k == n)) ≡ c → Handed before old.standing.events old.held
                 → Handed (before ++ (if c then bytes else [])) new.standing.events new.held
             by_id true e (inl none) =
-                let parts = and_parts (bytes_eq other id) (k == n) e in
+                let names = and_parts (bytes_eq other id) (k == n) e in
                 let here : held_of old.held id n ≡ Some it.0 =
-                subst (λ (x : Text). held_of old.held x n ≡ Some it.0) (same_text other id parts.0) (subst (λ (m : ℕ). held_of old.held other m ≡ Some it.0) (eqb-true k n parts.1) it.2) in
+                subst (λ (x : Text). held_of old.held x n ≡ Some it.0) (same_text other id names.0) (subst (λ (m : ℕ). held_of old.held other m ≡ Some it.0) (eqb-true k n names.1) it.3) in
                 some_none (sym here ∙ none.0)
             by_id true e (inr was) =
-                let parts = and_parts (bytes_eq other id) (k == n) e in
-                let text : other ≡ id = same_text other id parts.0 in
-                let events_are : ◌≡◌ {A = List Event} (Event.HandOut other k count ∷ old.standing.events) (Event.HandOut id n count ∷ old.standing.events) =
-                ap (λ (x : Text). Event.HandOut x k count ∷ old.standing.events) text ∙ ap (λ (m : ℕ). Event.HandOut id m count ∷ old.standing.events) (eqb-true k n parts.1) in
-                let out : bytes ≡ take count (input_left old.standing.events id) = it.4.0 ∙ ap (λ (x : Text). take count (input_left old.standing.events x)) (names.0 ∙ text) in
-                inr
-                (subst (λ (b : Bytes). WasHanded (before ++ b) new.standing.events) (sym out)
-                (subst (λ (es : List Event). WasHanded (before ++ take count (input_left old.standing.events id)) es) (sym (of_feed ∙ events_are))
-                (handed_on count old.standing.events before (subst (λ (es : List Event). IsAccepted es) events_are accepted) was)))
+                let names = and_parts (bytes_eq other id) (k == n) e in
+                let own : HandsOutEach id n count it.2 old.standing between =
+                subst (λ (x : Text). HandsOutEach x n count it.2 old.standing between) (same_text other id names.0)
+                (subst (λ (m : ℕ). HandsOutEach other m count it.2 old.standing between) (eqb-true k n names.1) hands) in
+                inr (subst (λ (b : Bytes). WasHanded (before ++ b) new.standing.events) (sym it.5) (then_none (before ++ given_in it.2) (parts_on count it.2 old.standing between before own was)))
             by_id false e (inl none) =
                 none_more before new.standing.events new.held
-                (inl (ap (λ (hs : List (HeldAttempt H)). held_of hs id n) it.6 ∙ changed_unheld other k old.held it.0 it.1 it.2 none.0, none.1))
-            by_id false e (inr was) =
-                none_more before new.standing.events new.held
-                (inr (subst (λ (es : List Event). WasHanded before es) (sym of_feed) (others_handed other k count old.standing.events before accepted e was)))
+                (inl (ap (λ (hs : List (HeldAttempt H)). held_of hs id n) it.7 ∙ changed_unheld other k old.held it.0 it.1 it.3 none.0, none.1))
+            by_id false e (inr was) = none_more before new.standing.events new.held (inr (then_none before (parts_others other k count it.2 old.standing between before e hands was)))
 
         -- a feed that is refused hands nothing out
         refused_feed : (other : Text) (k count : ℕ) (answer : Reply) (old new : Scheduled H) (before : Bytes) → Applies function options (event.Feed other k count) answer old new
-            → ((fed : ℕ) → answer ≡ reply.Fed fed → ⊥) → Handed before old.standing.events old.held → Handed (before ++ []) new.standing.events new.held
+            → ((fed : ℕ) (why : Option Refusal) → answer ≡ reply.Fed fed why → ⊥) → Handed before old.standing.events old.held → Handed (before ++ []) new.standing.events new.held
         refused_feed other k count answer old new before it never at = by_at at
           where
-            of_one : (one : HeldAttempt H) (changed : Attempt H) (said : Reply) → ((fed : ℕ) → said ≡ reply.Fed fed → ⊥) → FeedsOne count one old.standing said new.standing changed
+            of_one : (one : HeldAttempt H) (changed : Attempt H) (said : Reply) → ((fed : ℕ) (why : Option Refusal) → said ≡ reply.Fed fed why → ⊥) → FeedsOne count one old.standing said new.standing changed
                 → ◌≡◌ {A = List Event} new.standing.events old.standing.events
-            of_one one changed (reply.Fed fed) never does = absurd (never fed refl)
+            of_one one changed (reply.Fed fed why) never does = absurd (never fed why refl)
             of_one one changed (reply.Refused (refusal.Store why)) never does = does.0.stays.events
             of_one one changed _ never does = absurd does
 
@@ -329,9 +349,9 @@ module _ (id : Text) where
         step : (one : scheduled.Event H) (answer : Reply) (bytes : Bytes) (old new : Scheduled H) (before : Bytes) → HandsOne function options one answer bytes old new
             → Handed before old.standing.events old.held → Handed (before ++ handed_to id n one answer bytes) new.standing.events new.held
         step (event.Begin other handler now) (reply.Begun number) bytes old new before it at = begin_step other handler now number bytes old new before it at
-        step (event.Feed other k count) (reply.Fed fed) bytes old new before it at = feed_step other k count fed bytes old new before it at
+        step (event.Feed other k count) (reply.Fed fed why) bytes old new before it at = feed_step other k count fed why bytes old new before it at
         step (event.Begin other handler now) answer bytes old new before it at = refused_begin other handler now answer old new before it.0 (λ number e. cc) at
-        step (event.Feed other k count) answer bytes old new before it at = refused_feed other k count answer old new before it.0 (λ fed e. cc) at
+        step (event.Feed other k count) answer bytes old new before it at = refused_feed other k count answer old new before it.0 (λ fed why e. cc) at
         step (event.Close other k) answer bytes old new before it at =
             quiet_step (event.Close other k) answer old new before it.0 (Some other, false) refl (does_grow function options (event.Close other k) old.standing new.standing old.held new.held answer it.0)
             (if_unheld ClosesOne other k old.held new.held old.standing new.standing answer it.0) at
@@ -383,12 +403,12 @@ module _ (id : Text) where
 module _ {H : Type 0} (function : H → Handler) (options : VMOptions) where
   one_hands : (one : scheduled.Event H) (answer : Reply) (old new : Scheduled H) → Applies function options one answer old new → (bytes : Bytes) × HandsOne function options one answer bytes old new
   one_hands (event.Begin id handler now) (reply.Begun number) old new it = (it.0.start, (it.0, it.1, it.2, it.3, refl))
-  one_hands (event.Feed id k count) (reply.Fed fed) old new it = by_held (held_of old.held id k) refl it
+  one_hands (event.Feed id k count) (reply.Fed fed why) old new it = by_held (held_of old.held id k) refl it
     where
-      by_held : (o : Option (HeldAttempt H)) → held_of old.held id k ≡ o → IfHeld (FeedsOne count) o old.standing old.held (reply.Fed fed) new.standing new.held
-          → (bytes : Bytes) × HandsOne function options (event.Feed id k count) (reply.Fed fed) bytes old new
-      by_held None is it = absurd (let e : reply.Fed fed ≡ reply.Refused refusal.AttemptNotHeld = it.0 in cc)
-      by_held (Some one) is it = (it.1.0, (one, it.0, is, it.1.1, it.1.2, it.1.3, it.2))
+      by_held : (o : Option (HeldAttempt H)) → held_of old.held id k ≡ o → IfHeld (FeedsOne count) o old.standing old.held (reply.Fed fed why) new.standing new.held
+          → (bytes : Bytes) × HandsOne function options (event.Feed id k count) (reply.Fed fed why) bytes old new
+      by_held None is it = absurd (let e : reply.Fed fed why ≡ reply.Refused refusal.AttemptNotHeld = it.0 in cc)
+      by_held (Some one) is it = (given_in it.1.0, (one, it.0, it.1.0, is, it.1.1, refl, it.1.2, it.2))
   one_hands one answer old new it = ([], (it, refl))
 
   pub all_hand : (events : List (scheduled.Event H)) (replies : List Reply) (added : List (List Event)) (old new : Scheduled H) → AppliesEach function options events replies added old new

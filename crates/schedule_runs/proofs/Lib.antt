@@ -1,6 +1,8 @@
+pub mod Feeding
 pub mod Growing
 mod Apart
 mod Handing
+mod Telling
 pub mod Running
 pub mod Quieting
 pub mod Refusing

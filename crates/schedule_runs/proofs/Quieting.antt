@@ -1,8 +1,8 @@
 -- Events of which nothing is written: what the tables keep, they keep with such an event too.
-use Rattle.std.proofs.Common.{◌≡◌, refl, sym, subst, Bool, true, false, ℕ, List, [], ◌∷◌, Option, Some, None}
+use Rattle.std.proofs.Common.{◌≡◌, refl, sym, ap, subst, Bool, true, false, ℕ, List, [], ◌∷◌, length, Option, Some, None}
 use Rattle.sqlite_trees.specs.Tree.{Trees}
 use Rattle.sqlite.specs.State.{State, HasCleanDisk}
-use Rattle.journal_model.specs.Notification.{Text}
+use Rattle.journal_model.specs.Notification.{Bytes, Text}
 use Rattle.journal_model.specs.Event.{Event as Accepted}
 use Rattle.journal_model.specs.Cause.{IsAccepted}
 use Rattle.journal_model.specs.Journal.{object_of}
@@ -15,7 +15,8 @@ use Rattle.store_calls.specs.Calls.{Stops}
 use Rattle.schedule_laws.specs.Attempts.{Attempt, RunOutcome}
 use Rattle.schedule_laws.specs.Schedules.reply
 use Rattle.schedule_laws.specs.Schedules.refusal
-use Rattle.schedule_laws.specs.Schedules.{Reply, HeldAttempt, RepliesDone, IfHeld, UnlessMismatch, FeedsOne, ClosesOne, StopsOne, TurnsOne}
+use Rattle.schedule_laws.specs.Schedules.{Reply, HeldAttempt, RepliesDone, IfHeld, UnlessMismatch, HandsOutEach, FeedsOne, ClosesOne, StopsOne, TurnsOne}
+use Rattle.schedule_runs.proofs.Feeding.{stopped_events}
 
 -- whatever tables keep of one, they keep of the other
 abbrev pub KeepsAsWell : Standing → Standing → Type 0
@@ -52,21 +53,28 @@ module _ (database : State) (clean : HasCleanDisk database) where
         (record { accepted = accepted.1; read = it.read; keeps = λ _ _. record { accepted = accepted.1; records = it.records; held = it.held; kept = it.kept } })
         tt clean accepted.0 (sym (none_written (object_of s.events (Accepted.Stop id n)))) refl (λ r holds. holds))
 
-    -- ---- calls that commit nothing
+  -- parts of an input that are handed out one after another
+  parts_kept : (id : Text) (n count : ℕ) (parts : List Bytes) (s t : Standing) → HandsOutEach id n count parts s t → KeepsAsWell s t
+  parts_kept id n count [] s t it = same_kept s t (ap (λ (m : Standing). m.events) it)
+  parts_kept id n count (last ∷ earlier) s t it = λ trees kept. handed_kept it.0 t id n (length last) it.3.1.events trees (parts_kept id n count earlier s it.0 it.1 trees kept)
 
+  -- ---- calls that commit nothing
+
+  module _ (s t : Standing) where
     stop_kept : (id : Text) (n : ℕ) (answer : Reply) → RepliesDone (λ result. Stops id n result s t) answer → KeepsAsWell s t
-    stop_kept id n reply.Done it = stopped_kept id n it.events
+    stop_kept id n reply.Done it = stopped_kept s t id n it.events
     stop_kept id n (reply.Refused (refusal.Store why)) it = same_kept s t it.stays.events
     stop_kept id n _ it = absurd it
 
     module _ {H : Type 0} where
       feed_kept : (count : ℕ) (one : HeldAttempt H) (answer : Reply) (changed : Attempt H) → FeedsOne count one s answer t changed → KeepsAsWell s t
-      feed_kept count one (reply.Fed bytes) changed it = handed_kept one.invocation one.number count it.2.1.events
+      feed_kept count one (reply.Fed bytes why) changed it = λ trees kept.
+          same_kept it.2.0 t (stopped_events one.invocation one.number count it.0 why it.2.0 t it.2.3) trees (parts_kept one.invocation one.number count it.0 s it.2.0 it.2.1 trees kept)
       feed_kept count one (reply.Refused (refusal.Store why)) changed it = same_kept s t it.0.stays.events
       feed_kept count one _ changed it = absurd it
 
       close_kept : (one : HeldAttempt H) (answer : Reply) (changed : Attempt H) → ClosesOne one s answer t changed → KeepsAsWell s t
-      close_kept one reply.Done changed it = closed_kept one.invocation one.number it.0.events
+      close_kept one reply.Done changed it = closed_kept s t one.invocation one.number it.0.events
       close_kept one (reply.Refused (refusal.Store why)) changed it = same_kept s t it.0.stays.events
       close_kept one _ changed it = absurd it
 

@@ -17,7 +17,7 @@ use Rattle.journal_store.specs.Stands.{IsStanding, Keeps, Endures, Outlasts}
 use Rattle.store_calls.specs.Standing.{Standing}
 use Rattle.schedule_laws.proofs.Schedules.{schedules_grow}
 use Rattle.schedule_laws.specs.Isolation.{AllAnswerAlone, AllKeepState, AllStandAlone}
-use Rattle.schedule_laws.specs.Laws.{FramesAreTaken, HoldsHeadline, HoldsNeverLate, HoldsWakesExactly, LeavesHolds}
+use Rattle.schedule_laws.specs.Laws.{FramesAreTaken, HoldsHeadline, HoldsNeverLate, HoldsTold, HoldsWakesExactly, LeavesHolds, ToldByEach}
 use Rattle.schedule_laws.specs.Schedules.{Event, Reply, HeldAttempt, Scheduled, AppliesAll, Brings, FitsEvent}
 use Rattle.schedule_laws.specs.Following.{HoldsOf, ReplaysInLine}
 use Rattle.durable_schedule.specs.declared.scheduler.Scheduler.{Scheduler}
@@ -28,6 +28,7 @@ use Rattle.journal_store.proofs.Enduring.{endures_on}
 use Rattle.schedule_runs.proofs.Apart.{stands_apart, stands_still}
 use Rattle.schedule_runs.proofs.Growing.{all_add, each_grow}
 use Rattle.schedule_runs.proofs.Handing.{all_hand, each_handed}
+use Rattle.schedule_runs.proofs.Telling.{begins_tell}
 
 pub each_more : {A : Type 0} (P : A → Type 0) (xs : List A) (x : A) → AllByRecursion P xs → P x → AllByRecursion P (xs ++ x ∷ [])
 each_more P [] x all one = (one, tt)
@@ -53,7 +54,7 @@ module _ {H : Type 0} (function : H → Handler) (options : VMOptions) where
 
   -- what the laws of schedules give of all that is applied
   module _ (leaves : LeavesHolds function) (headline : HoldsHeadline) (late : HoldsNeverLate) (exact : HoldsWakesExactly) (taken : FramesAreTaken function)
-      (stand : AllStandAlone) (keep : AllKeepState) (answer : AllAnswerAlone) where
+      (stand : AllStandAlone) (keep : AllKeepState) (answer : AllAnswerAlone) (first_told : HoldsTold function) (each_told : ToldByEach function) where
     leaves_in_run : (events : List (Event H)) (replies : List Reply) (s : Standing) (new : Scheduled H) → AllByRecursion FitsEvent events → AppliesAll function options events replies (at_first s) new
         → (next : Handler) (id : Text) → ReplaysInLine options → AllByRecursion (Brings function id next) events → HoldsOf next options id s.events → StandsInRun next options id events replies new.standing.events
     leaves_in_run events replies s new fits applies next id in_line brings before =
@@ -84,6 +85,8 @@ module _ {H : Type 0} (function : H → Handler) (options : VMOptions) where
           handed = hand.0;
           hands = hand.1;
           fed = λ id number. each_handed id number function options events replies each.0 hand.0 (at_first s) new [] hand.1 (inl (refl, refl));
+          turns = λ next id in_line brings before.
+              begins_tell function options next id each_told in_line events replies each.0 hand.0 (at_first s) new (λ number. None) hand.1 fits brings (first_told next options id s before);
         }
 
     -- and of the first of the events

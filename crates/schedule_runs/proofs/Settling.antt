@@ -111,7 +111,7 @@ module _ {H : Type 0} (function : H → Handler) (options : VMOptions) where
       by_move id n count (reply.Placed place) spares lives from to applies = absurd (move_replies count from.standing to.standing (held_of from.held id n) from.held to.held (reply.Placed place) applies)
       by_move id n count (reply.Ticked ended) spares lives from to applies = absurd (move_replies count from.standing to.standing (held_of from.held id n) from.held to.held (reply.Ticked ended) applies)
       by_move id n count (reply.Begun number) spares lives from to applies = absurd (move_replies count from.standing to.standing (held_of from.held id n) from.held to.held (reply.Begun number) applies)
-      by_move id n count (reply.Fed bytes) spares lives from to applies = absurd (move_replies count from.standing to.standing (held_of from.held id n) from.held to.held (reply.Fed bytes) applies)
+      by_move id n count (reply.Fed bytes why) spares lives from to applies = absurd (move_replies count from.standing to.standing (held_of from.held id n) from.held to.held (reply.Fed bytes why) applies)
       by_move id n count (reply.Turned turn) spares lives from to applies = absurd (move_replies count from.standing to.standing (held_of from.held id n) from.held to.held (reply.Turned turn) applies)
 
       by_event : (one : Event H) (answer : Reply) → Told one answer

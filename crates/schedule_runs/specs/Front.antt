@@ -1,6 +1,6 @@
 -- What a schedule over a new store has recorded, in terms of accepted events: the statement in front of all others.
-use Rattle.std.specs.Prelude.{◌≡◌, ◌⊎◌, ℕ, ◌||◌, if◌then◌else◌, List, [], ◌∷◌, ◌++◌, length, map, Option, Some, None, bytes_eq}
-use Rattle.std.specs.List.{AllByRecursion, list_any}
+use Rattle.std.specs.Prelude.{◌≡◌, ◌≢◌, ◌⊎◌, ℕ, ◌||◌, if◌then◌else◌, List, [], ◌∷◌, ◌++◌, length, map, Option, Some, None, bytes_eq}
+use Rattle.std.specs.List.{AllByRecursion, list_any, sum}
 use Rattle.sqlite_trees.specs.declared.store.Store.{Ghosts}
 use Rattle.sqlite_trees.specs.Tree.{Trees}
 use Rattle.sqlite.specs.Held.{state}
@@ -39,8 +39,8 @@ abbrev pub stop_for : Text → (attempt : ℕ) → Option Refusal → List Event
 stop_for id attempt None = []
 stop_for id attempt (Some why) = if lies_in_frame why then Event.Stop id attempt ∷ [] else []
 
--- What is accepted of one event of a schedule, the last one first, by its reply. A begin for whose attempt the scheduler had no memory may
--- have been accepted; anything else that was refused was not.
+-- What is accepted of one event of a schedule, the last one first, by its reply. A feed is handed out in parts. A begin for whose attempt the
+-- scheduler had no memory may have been accepted; anything else that was refused was not.
 abbrev pub IsAcceptedOf : {H : Type 0} → scheduled.Event H → Reply → List Event → Type 0
 IsAcceptedOf (event.Invoke new) reply.Done accepted = accepted ≡ Event.Invoke new ∷ []
 IsAcceptedOf (event.Result id completion value) (reply.Placed place) accepted = accepted ≡ Event.Complete id completion value ∷ []
@@ -50,7 +50,8 @@ IsAcceptedOf (event.Tick now) (reply.Ticked count) accepted = accepted ≡ Event
 IsAcceptedOf (event.Begin id handler now) (reply.Begun number) accepted = accepted ≡ Event.Begin id now ∷ []
 IsAcceptedOf (event.Begin id handler now) (reply.Refused why) accepted =
     (accepted ≡ []) ⊎ ((why ≡ refusal.Store OutOfMemory) × (accepted ≡ Event.Begin id now ∷ []))
-IsAcceptedOf (event.Feed id attempt count) (reply.Fed bytes) accepted = accepted ≡ Event.HandOut id attempt count ∷ []
+IsAcceptedOf (event.Feed id attempt count) (reply.Fed bytes why) accepted =
+    (parts : List ℕ) × (parts ≢ []) × (sum parts ≡ bytes) × (accepted ≡ map (Event.HandOut id attempt) parts)
 IsAcceptedOf (event.Close id attempt) reply.Done accepted = accepted ≡ Event.CloseInput id attempt ∷ []
 IsAcceptedOf (event.Turn id attempt outcome) (reply.Turned turn) accepted = accepted ≡ []
 IsAcceptedOf (event.Move id attempt count) (reply.Moved bytes frames why) accepted =

@@ -1,5 +1,5 @@
 -- The bytes that the attempts of a schedule are handed, and what these are of their input.
-use Rattle.std.specs.Prelude.{◌≡◌, ◌⊎◌, ℕ, ◌==◌, ◌&&◌, if◌then◌else◌, List, [], ◌∷◌, ◌++◌, length, Some, Ok, bytes_eq}
+use Rattle.std.specs.Prelude.{◌≡◌, ◌⊎◌, ℕ, ◌==◌, ◌&&◌, if◌then◌else◌, List, [], ◌∷◌, ◌++◌, length, Some, bytes_eq}
 use Rattle.journal_model.specs.Notification.{Bytes, Text}
 use Rattle.journal_model.specs.Event.{Event}
 use Rattle.journal_model.specs.Attempt.{attempts_begun, input_bytes, input_left, input_pieces}
@@ -9,9 +9,9 @@ use Rattle.journal_model.specs.Start.{start_payload}
 use Rattle.protocol_types.specs.declared.message_type.MessageType.{MessageType}
 use Rattle.vm_types.specs.declared.options.VMOptions.{VMOptions}
 use Rattle.store_calls.specs.declared.begun.BegunAttempt.{BegunAttempt}
-use Rattle.store_calls.specs.Calls.{Begins, HandsOut}
-use Rattle.schedule_model.specs.Attempts.attempts
+use Rattle.store_calls.specs.Calls.{Begins}
 use Rattle.schedule_model.specs.Attempts.{Attempt}
+use Rattle.schedule_model.specs.Feeding.{given_in, FeedsParts}
 use Rattle.schedule_model.specs.Held.{with_attempt}
 use Rattle.schedule_model.specs.Schedule.{HoldsBegun}
 use Rattle.schedule_laws.specs.Schedules.scheduled
@@ -41,13 +41,13 @@ AreOfInput id handed events = (handed ≡ []) ⊎ (handed ++ input_left events i
 
 module _ {H : Type 0} (function : H → Handler) (options : VMOptions) where
   -- What an event does, by what it hands to the attempt that it names: a begin the start frame, and a feed so many bytes as it is answered
-  -- with, which the store hands out and the machine of the attempt that is held is fed. Any other hands nothing.
+  -- with, which the store hands out in parts and the machine of the attempt that is held is fed. Any other hands nothing.
   abbrev pub HandsOne : scheduled.Event H → Reply → (bytes : Bytes) → Scheduled H → Scheduled H → Type 0
   HandsOne (event.Begin id handler now) (reply.Begun number) bytes old new =
       (begun : BegunAttempt) × (number ≡ begun.number) × Begins id now begun old.standing new.standing × HoldsBegun options id handler begun old.held new.held × (bytes ≡ begun.start)
-  HandsOne (event.Feed id number count) (reply.Fed fed) bytes old new =
-      (one : HeldAttempt H) × (changed : Attempt H) × (held_of old.held id number ≡ Some one) × (fed ≡ length bytes) × HandsOut one.invocation one.number count (Ok bytes) old.standing new.standing
-      × attempts.Feeds bytes one.attempt changed × (new.held ≡ with_attempt old.held one changed)
+  HandsOne (event.Feed id number count) (reply.Fed fed why) bytes old new =
+      (one : HeldAttempt H) × (changed : Attempt H) × (parts : List Bytes) × (held_of old.held id number ≡ Some one) × (fed ≡ length bytes) × (bytes ≡ given_in parts)
+      × FeedsParts count parts why one old.standing new.standing changed × (new.held ≡ with_attempt old.held one changed)
   HandsOne one answer bytes old new = Applies function options one answer old new × (bytes ≡ [])
 
   -- events one after another, with their replies; each adds these to the accepted events, and hands these bytes
@@ -62,7 +62,7 @@ module _ {H : Type 0} (function : H → Handler) (options : VMOptions) where
 -- those of an event's bytes that this attempt is handed
 abbrev pub handed_to : {H : Type 0} → Text → (number : ℕ) → scheduled.Event H → Reply → Bytes → Bytes
 handed_to id number (event.Begin other handler now) (reply.Begun begun) bytes = if bytes_eq other id && (begun == number) then bytes else []
-handed_to id number (event.Feed other attempt count) (reply.Fed fed) bytes = if bytes_eq other id && (attempt == number) then bytes else []
+handed_to id number (event.Feed other attempt count) (reply.Fed fed why) bytes = if bytes_eq other id && (attempt == number) then bytes else []
 handed_to id number one answer bytes = []
 
 -- Behind each event of a schedule, all that this attempt was handed by then, one behind the other, is of its input, as far as it was

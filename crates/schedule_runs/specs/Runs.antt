@@ -22,6 +22,7 @@ use Rattle.schedule_laws.specs.Schedules.reply
 use Rattle.schedule_laws.specs.Schedules.refusal
 use Rattle.schedule_laws.specs.Schedules.{Reply, HeldAttempt, Scheduled, Applies, AppliesAll, Brings}
 use Rattle.schedule_laws.specs.Following.{ReplaysInLine, HoldsOf, given_of}
+use Rattle.schedule_laws.specs.Turned.{EachBegunTells}
 use Rattle.schedule_runs.specs.Handed.{HandsEach, IsHandedInput}
 
 -- ---- its events, one after another
@@ -144,6 +145,12 @@ module _ {H : Type 0} (function : H → Handler) (options : VMOptions) where
     -- beginning of its start frame, the journal as it was when it was begun, and then each later arrival by place, as far as recorded by
     -- then, and all of that where nothing is left.
     pub fed : (id : Text) → (number : ℕ) → IsHandedInput id number events replies added handed [] old.standing.events
+    -- Of each attempt that is begun of such an invocation, live, stopped or overtaken, what each reply to a turn says is what the one
+    -- uninterrupted run of its function does at that turn over the bytes that were handed to the attempt by then. That is said of its start:
+    -- the run of the invocation, with these options and its object's state at its begin, and the journal as it was then; of the replies to its
+    -- turns so far, by how many have answered and what they have proposed; and of whether its input was closed.
+    pub turns : (next : Handler) (id : Text) → ReplaysInLine options → AllByRecursion (Brings function id next) events → HoldsOf next options id old.standing.events
+        → EachBegunTells next options id events replies added handed old.standing.events
 
   -- what the first of these events leave, which were applied one after another with some answers
   pub record LeavesFirst (events : List (scheduled.Event H)) (s t : Standing) : Type 0 where

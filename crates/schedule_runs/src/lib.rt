@@ -63,7 +63,8 @@ pub fn run_schedule<H: Handler + Drop, S: Alter + Drop>(
     // is never late, and from version 7 on exact; and none of its frames was refused for a cause that lies in the frame. Of each invocation,
     // whatever its begins bring, at each moment the same stands, and its own events are refused alike, as if only these and the ticks had
     // come since the schedule or it was begun (`isolated`). Of each attempt, at each moment what it was handed is a beginning of its start
-    // frame, the journal and each later arrival (`fed`).
+    // frame, the journal and each later arrival (`fed`). And what each reply to a turn says is what the one uninterrupted run does at that
+    // turn, over what its attempt was handed by then, whether that attempt is the live one, was stopped, or was overtaken (`turns`).
     // All of this list lasts: whatever a crash leaves from then on, up to the next call, the tables keep it. That is so unless memory or a
     // statement was refused in the last event that may have written anything; where none may, what was handed in has to last.
     ensures applies { IfOk result (λ done. HasCleanDisk (state S.Store done.0.store.connection) → (s : Standing) → IsStanding S.Store s store →
@@ -81,6 +82,7 @@ pub fn run_schedule<H: Handler + Drop, S: Alter + Drop>(
     let Ok(mut replies) = Vec::with_capacity(alloc, events.len()) else {
         return Err(NoRoom { store });
     };
+    schedules_keep::<H>();
     schedules_leave::<H>();
     frames_are_taken::<H>();
     records_of_runs();

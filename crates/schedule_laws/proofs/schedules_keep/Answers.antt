@@ -1,19 +1,31 @@
--- The laws are proved in `Beginning`, `Keeping` and `Leaving`, from those of attempts that serve.
-use Rattle.schedule_laws.proofs.Beginning.{holds_follows, follows_holds}
+-- The laws are proved in `Beginning`, `Replying` and `Leaving`, from those of attempts that serve.
+use Rattle.schedule_laws.proofs.Beginning.{holds_told, holds_follows, follows_holds}
 use Rattle.schedule_laws.proofs.Serving.{serving_laws}
-use Rattle.schedule_laws.proofs.Keeping.{keeps}
+use Rattle.schedule_laws.proofs.Replying.{feeds_by, told_by}
 use Rattle.schedule_laws.proofs.Leaving.{frames_taken}
 use Rattle.schedule_laws.proofs.schedules_keep.Goals as goal
 
 pub returns-clause-begins : goal.returns-clause-begins
 returns-clause-begins g c = λ next options id s holds. holds_follows g.H.Handler.next_call next options id s holds
 
+pub returns-clause-begins_told : goal.returns-clause-begins_told
+returns-clause-begins_told g c = λ next options id s holds. holds_told g.H.Handler.next_call next options id s holds
+
+pub returns-clause-told : goal.returns-clause-told
+returns-clause-told g c = λ next options id one answer bytes old new held more told covered fits brings does follows.
+    told_by g.H.Handler.next_call next options id
+    (serving_laws g.H.Handler.next_call next options c.attempts_begin.ensures c.events_keep.ensures c.feeds_keep.ensures c.closes_keep.ensures c.takes_keep.ensures c.turns_keep.ensures c.turns_tell.ensures c.overs_stay.ensures c.executors_live.ensures.begins c.executors_live.ensures.stays
+    c.live_attempts_replay.ensures.replays c.live_attempts_replay.ensures.stays)
+    told one answer bytes old new held more covered fits brings does follows
+
 pub returns-clause-each : goal.returns-clause-each
 returns-clause-each g c = λ next options id one answer old new held more covered fits brings does follows.
-    keeps g.H.Handler.next_call next options id
-    (serving_laws g.H.Handler.next_call next options c.attempts_begin.ensures c.events_keep.ensures c.feeds_keep.ensures c.closes_keep.ensures c.takes_keep.ensures c.turns_keep.ensures c.overs_stay.ensures c.executors_live.ensures.begins c.executors_live.ensures.stays
+    let known = feeds_by g.H.Handler.next_call options one answer old new held more does in
+    let it = told_by g.H.Handler.next_call next options id
+    (serving_laws g.H.Handler.next_call next options c.attempts_begin.ensures c.events_keep.ensures c.feeds_keep.ensures c.closes_keep.ensures c.takes_keep.ensures c.turns_keep.ensures c.turns_tell.ensures c.overs_stay.ensures c.executors_live.ensures.begins c.executors_live.ensures.stays
     c.live_attempts_replay.ensures.replays c.live_attempts_replay.ensures.stays)
-    one answer old new held more covered fits brings does follows
+    follows.0 one answer known.0 old new held more covered fits brings known.1 follows.1 in
+    (it.now, it.follows)
 
 pub returns-clause-holds : goal.returns-clause-holds
 returns-clause-holds g c = λ next options id s held follows. follows_holds g.H.Handler.next_call next options id s held follows
@@ -21,6 +33,6 @@ returns-clause-holds g c = λ next options id s held follows. follows_holds g.H.
 pub returns-clause-frames : goal.returns-clause-frames
 returns-clause-frames g c = λ next options old new held count bytes frames why one changed covered there moves follows.
     frames_taken g.H.Handler.next_call next options
-    (serving_laws g.H.Handler.next_call next options c.attempts_begin.ensures c.events_keep.ensures c.feeds_keep.ensures c.closes_keep.ensures c.takes_keep.ensures c.turns_keep.ensures c.overs_stay.ensures c.executors_live.ensures.begins c.executors_live.ensures.stays
+    (serving_laws g.H.Handler.next_call next options c.attempts_begin.ensures c.events_keep.ensures c.feeds_keep.ensures c.closes_keep.ensures c.takes_keep.ensures c.turns_keep.ensures c.turns_tell.ensures c.overs_stay.ensures c.executors_live.ensures.begins c.executors_live.ensures.stays
     c.live_attempts_replay.ensures.replays c.live_attempts_replay.ensures.stays)
     old new held count bytes frames why one changed there moves follows

@@ -59,7 +59,7 @@ returns-clause-applies g c clean s is =
       it.1,
       it.2,
       all_left function c.args.options c.schedules_leave.ensures c.records_of_runs.ensures.headline c.records_of_runs.ensures.never_late c.records_of_runs.ensures.wakes_exactly c.frames_are_taken.ensures
-          c.invocations_stand_alone.ensures.stand c.invocations_stand_alone.ensures.state c.invocations_stand_alone.ensures.answer c.args.events.items c.loop-event.replies.items s it.0 (subst (λ (es : List (Event g.row.H.Denot)). AllByRecursion FitsEvent es) all c.loop-event.invariant.fits) it.2,
+          c.invocations_stand_alone.ensures.stand c.invocations_stand_alone.ensures.state c.invocations_stand_alone.ensures.answer c.schedules_keep.ensures.begins_told c.schedules_keep.ensures.told c.args.events.items c.loop-event.replies.items s it.0 (subst (λ (es : List (Event g.row.H.Denot)). AllByRecursion FitsEvent es) all c.loop-event.invariant.fits) it.2,
       it.3,
     )
 
@@ -75,7 +75,7 @@ returns-clause-crash g c =
     let all = all_yielded c.into_iter-event-iterator.result c.args.events.items h.0 (h.1 ∙ c.args.events.ok.0) c.loop-event.yielded c.loop-event.event-iterator c.loop-event.yielded_by c.next.result c.next.new.self c.in-None.is c.next.ensures.steps in
     let function = g.H.Handler.next_call in
     all_kept function c.args.options c.schedules_leave.ensures c.records_of_runs.ensures.headline c.records_of_runs.ensures.never_late c.records_of_runs.ensures.wakes_exactly c.frames_are_taken.ensures
-    c.invocations_stand_alone.ensures.stand c.invocations_stand_alone.ensures.state c.invocations_stand_alone.ensures.answer g.S.Store c.args.events.items (subst (λ (es : List (Event g.row.H.Denot)). AllByRecursion FitsEvent es) all c.loop-event.invariant.fits) c.args.store c.loop-event.scheduler.store
+    c.invocations_stand_alone.ensures.stand c.invocations_stand_alone.ensures.state c.invocations_stand_alone.ensures.answer c.schedules_keep.ensures.begins_told c.schedules_keep.ensures.told g.S.Store c.args.events.items (subst (λ (es : List (Event g.row.H.Denot)). AllByRecursion FitsEvent es) all c.loop-event.invariant.fits) c.args.store c.loop-event.scheduler.store
     (subst (λ (es : List (Event g.row.H.Denot)). Endures g.S.Store (AppliesFirst function c.args.options es) c.args.store c.loop-event.scheduler.store) all c.loop-event.invariant.crash)
 
 pub returns-clause-count : goal.returns-clause-count

@@ -1,0 +1,80 @@
+-- What each reply to a turn says of the run, of an attempt that is live, that was stopped, or that was overtaken.
+use Rattle.std.specs.Prelude.{◌≡◌, ◌⊎◌, ℕ, ◌==◌, ◌&&◌, Bool, true, false, List, ◌∷◌, ◌++◌, Option, Some, None, bytes_eq}
+use Rattle.journal_model.specs.declared.invocation.NewInvocation.{NewInvocation}
+use Rattle.journal_model.specs.Notification.{Bytes, Text}
+use Rattle.journal_model.specs.Event as model
+use Rattle.journal_model.specs.Journal.{invocation_begun}
+use Rattle.journal_model.specs.Run.{Handler}
+use Rattle.position_laws.specs.Beginning.{AttemptStart, start_after}
+use Rattle.protocol_errors.specs.declared.error.Error.{Error}
+use Rattle.vm_start.specs.Failing.{out_of_memory}
+use Rattle.vm_types.specs.Options.{run_options}
+use Rattle.vm_types.specs.declared.options.VMOptions.{VMOptions}
+use Rattle.turning_laws.specs.Bodies.{RunOutcome}
+use Rattle.turning_laws.specs.Telling.{Told, told_nothing, HasCome, TurnTells}
+use Rattle.schedule_laws.specs.Attempts.{Turn}
+use Rattle.schedule_laws.specs.Schedules.event
+use Rattle.schedule_laws.specs.Schedules.reply
+use Rattle.schedule_laws.specs.Schedules.{Event, Reply}
+
+-- ---- of one attempt
+
+-- One that was suspended or has ended says that again. One that has failed says that it has, by the error that it keeps or since there is no
+-- memory to tell it.
+abbrev pub IsAgain : (last turn : Turn) → Type 0
+IsAgain (Turn.Failed error) turn = (told : Error) × (turn ≡ Turn.Failed told)
+IsAgain last turn = turn ≡ last
+
+-- Memory was refused as its input came: it has failed for that.
+abbrev pub TellsNoMemory : Told → Turn → (now : Told) → Type 0
+TellsNoMemory told turn now = (turn ≡ Turn.Failed out_of_memory) × (now ≡ record told { over = Some (Turn.Failed out_of_memory) })
+
+-- a turn of an attempt that is over, or is not
+abbrev pub TurnTellsNow : Handler → AttemptStart → (told : Told) → (over : Option Turn) → RunOutcome → Turn → (now : Told) → Type 0
+TurnTellsNow next start told (Some last) ran turn now = IsAgain last turn × (now ≡ told)
+TurnTellsNow next start told None ran turn now = TellsNoMemory told turn now ⊎ ((come : HasCome start told.bytes) × TurnTells next start told come ran turn now)
+
+-- What is told of the attempt behind one more event, by its reply: a turn tells where its run stands, it is told that no more of its input comes,
+-- and these bytes of it were fed. Whether the event is its own is said by a number of it.
+abbrev pub Tells : {H : Type 0} → Handler → AttemptStart → (is_own : Bool) → Event H → Reply → (bytes : Bytes) → (told now : Told) → Type 0
+Tells next start true (event.Turn id number ran) (reply.Turned turn) bytes told now = TurnTellsNow next start told told.over ran turn now
+Tells next start true (event.Close id number) reply.Done bytes told now = now ≡ record told { is_closed = true }
+Tells next start true (event.Feed id number count) (reply.Fed fed why) bytes told now = now ≡ record told { bytes = told.bytes ++ bytes }
+Tells next start is_own one answer bytes told now = now ≡ told
+
+-- whether an event of a schedule is done with this attempt
+abbrev pub is_of_attempt : {H : Type 0} → Text → ℕ → Event H → Bool
+is_of_attempt id number (event.Turn other n ran) = bytes_eq other id && (n == number)
+is_of_attempt id number (event.Close other n) = bytes_eq other id && (n == number)
+is_of_attempt id number (event.Feed other n count) = bytes_eq other id && (n == number)
+is_of_attempt id number one = false
+
+-- So it is of each event behind its begin.
+abbrev pub TurnsTellEach : {H : Type 0} → Handler → AttemptStart → Text → ℕ → List (Event H) → List Reply → (handed : List Bytes) → Told → Type 0
+TurnsTellEach next start id number (one ∷ events) (answer ∷ replies) (bytes ∷ handed) told =
+    (now : Told) × Tells next start (is_of_attempt id number one) one answer bytes told now × TurnsTellEach next start id number events replies handed now
+TurnsTellEach next start id number events replies handed told = Unit {0}
+
+-- ---- of each attempt
+
+-- as the last attempt of an invocation is begun, behind these accepted events
+abbrev pub start_of : VMOptions → Text → List model.Event → (now : ℕ) → NewInvocation → AttemptStart
+start_of options id earlier now new = start_after (run_options options) options.fallback_random_seed earlier id now new
+
+-- of an attempt that has begun so it was told that it was handed its start frame
+abbrev pub told_start : AttemptStart → Told
+told_start start = record told_nothing { bytes = start.frame }
+
+-- What the replies behind a begin tell of the attempt that it has begun, behind these accepted events.
+abbrev pub BegunTells : {H : Type 0} → Handler → VMOptions → Text → Event H → Reply → (bytes : Bytes) → (events : List (Event H)) → List Reply → (handed : List Bytes) → (earlier : List model.Event) → Type 0
+BegunTells next options id (event.Begin other handler now) (reply.Begun number) bytes events replies handed earlier =
+    other ≡ id → (new : NewInvocation) → invocation_begun earlier id ≡ Some new
+    → (bytes ≡ (start_of options id earlier now new).frame)
+    × TurnsTellEach next (start_of options id earlier now new) id number events replies handed (told_start (start_of options id earlier now new))
+BegunTells next options id one answer bytes events replies handed earlier = Unit {0}
+
+-- So it is of each begin of the invocation, where each event has added these to the accepted events.
+abbrev pub EachBegunTells : {H : Type 0} → Handler → VMOptions → Text → List (Event H) → List Reply → (added : List (List model.Event)) → (handed : List Bytes) → (earlier : List model.Event) → Type 0
+EachBegunTells next options id (one ∷ events) (answer ∷ replies) (some ∷ added) (bytes ∷ handed) earlier =
+    BegunTells next options id one answer bytes events replies handed earlier × EachBegunTells next options id events replies added handed (some ++ earlier)
+EachBegunTells next options id events replies added handed earlier = Unit {0}

@@ -1,0 +1,32 @@
+-- What a feed adds to the accepted events: a hand-out for each of its parts.
+use Rattle.std.proofs.Common.{◌≡◌, ◌≢◌, refl, ap, ◌∙◌, ℕ, arith, sum, List, [], ◌∷◌, ◌++◌, length, length-append, map, Option, Some, None}
+use Rattle.std.proofs.lemmas.List.Sums.{sum_by-cons}
+use Rattle.journal_model.specs.Notification.{Bytes, Text}
+use Rattle.journal_model.specs.Event.{Event}
+use Rattle.store_refusals.specs.declared.refusal.Refusal.{Refusal}
+use Rattle.store_calls.specs.Standing.{Standing}
+use Rattle.schedule_laws.specs.Schedules.{given_in, HandsOutEach, StopsHandingOut}
+
+module _ (id : Text) (n count : ℕ) where
+  pub parts_events : (parts : List Bytes) (s t : Standing) → HandsOutEach id n count parts s t → t.events ≡ map (Event.HandOut id n) (map length parts) ++ s.events
+  parts_events [] s t it = ap (λ (m : Standing). m.events) it
+  parts_events (last ∷ earlier) s t it = it.3.1.events ∙ ap (λ (events : List Event). Event.HandOut id n (length last) ∷ events) (parts_events earlier s it.0 it.1)
+
+  -- then none is handed out
+  pub stopped_events : (parts : List Bytes) (why : Option Refusal) (s t : Standing) → StopsHandingOut id n count parts why s t → t.events ≡ s.events
+  stopped_events parts None s t it = ap (λ (m : Standing). m.events) it.1
+  stopped_events parts (Some why) s t it = it.2.stays.events
+
+  -- one part was at least
+  pub some_parts : (parts : List Bytes) (why : Option Refusal) (s t : Standing) → StopsHandingOut id n count parts why s t → map length parts ≢ []
+  some_parts [] None s t it none = absurd it.0
+  some_parts [] (Some why) s t it none = absurd (it.0 refl)
+  some_parts (last ∷ earlier) why s t it none = absurd cc
+
+pub sum_given : (parts : List Bytes) → sum (map length parts) ≡ length (given_in parts)
+sum_given [] = refl
+sum_given (last ∷ earlier) =
+    let first = sum_by-cons (λ (k : ℕ). k) (length last) (map length earlier) in
+    let before = sum_given earlier in
+    let all = length-append (given_in earlier) last in
+    omega (arith, first, before, all)
