@@ -30,7 +30,14 @@ pub(crate) fn line_reply(turns: u32, reply: &Reply) -> LineReply
         Reply::Placed(place) => LineReply::Placed(*place),
         Reply::Ticked(sleeps) => LineReply::Ticked(*sleeps),
         Reply::Begun(attempt) => LineReply::Begun(*attempt),
-        Reply::Fed(bytes) => LineReply::Fed(*bytes),
+        Reply::Fed {
+            bytes,
+            refusal: None,
+        } => LineReply::Fed(*bytes),
+        Reply::Fed {
+            refusal: Some(refusal),
+            ..
+        } => LineReply::Refused(refusal.name()),
         Reply::Turned(turn) => LineReply::Turned {
             count: turns,
             last: last_turn(turn),

@@ -7,7 +7,9 @@ ghost use Rattle.durable_script.specs.Run.{DoesAll, DoesFirst, DoesLines, RunsSc
 use crate::runner::Runner;
 use built_in_handlers::BuiltIn;
 use journal_store::Store;
-use schedule_runs::{frames_are_taken, invocations_stand_alone, records_of_runs, schedules_leave};
+use schedule_runs::{
+    frames_are_taken, invocations_stand_alone, records_of_runs, schedules_keep, schedules_leave,
+};
 use script_lines::fault::ScriptFault;
 use script_lines::output::{finish, write_text};
 use script_lines::reading::read_script;
@@ -62,6 +64,7 @@ pub fn run_script<R: Read, W: Write, S: Alter + Drop>(
         let result = Err(ScriptFault::ScriptUnreadable);
         return ScriptEnd { store, result };
     };
+    schedules_keep::<BuiltIn>();
     schedules_leave::<BuiltIn>();
     frames_are_taken::<BuiltIn>();
     records_of_runs();

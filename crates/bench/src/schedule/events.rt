@@ -165,6 +165,7 @@ fn is_meant(step: Step, attempt: u32, reply: &Reply) -> bool {
     match reply {
         Reply::Refused(_) => false,
         Reply::Begun(number) => *number == attempt,
+        Reply::Fed { refusal, .. } => refusal.is_none(),
         Reply::Moved {
             frames,
             refusal,
