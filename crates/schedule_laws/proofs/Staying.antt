@@ -13,7 +13,7 @@ use Rattle.turning_laws.specs.Keeping.{IsLast}
 use Rattle.turning_laws.specs.Machine.outcomes
 use Rattle.turning_laws.specs.Machine.phases
 use Rattle.turning_laws.specs.Machine.{CallOutcome, CoreVM, IsFed, IsReady, MachineState, Phase, is_waiting, input_closed, with_input, ClosesWhere, ClosesInput as ClosesMachine}
-use Rattle.turning_laws.specs.Serving.{IsOver, finished, machine_failed}
+use Rattle.turning_laws.specs.Serving.{AnswersKept, IsOver, finished, machine_failed}
 use Rattle.schedule_laws.specs.Attending.{IsOverBy, by_finish, by_error}
 use Rattle.schedule_laws.specs.Turned.{IsAgain}
 
@@ -27,7 +27,7 @@ module _ {H : Type 0} where
   -- what is over is so by some finish or by its machine
   pub over_of : (last : Turn) (a : Attempt H) → IsOverBy last a → IsOver a
   over_of last a (by_finish finish is same) = finished finish is
-  over_of last a (by_error kept error none failed same) = machine_failed kept failed
+  over_of last a (by_error kept error none failed copies same) = machine_failed kept failed
 
   -- ---- its input comes
 
@@ -56,8 +56,8 @@ module _ {H : Type 0} where
   pub fed_over : (last : Turn) (bytes : Bytes) (before after : Attempt H) → IsOverBy last before → Feeds bytes before after → IsOverBy last after
   fed_over last bytes before after (by_finish finish is same) feeds =
       by_finish finish (ap (λ (a : Attempt H). a.over) (fed_same before.over finish bytes before after refl is feeds) ∙ is) same
-  fed_over last bytes before after (by_error kept error none failed same) feeds =
-      by_error kept error (fed_going bytes before after none feeds).0 (fed_failed kept bytes before after none failed feeds) same
+  fed_over last bytes before after (by_error kept error none failed copies same) feeds =
+      by_error kept error (fed_going bytes before after none feeds).0 (fed_failed kept bytes before after none failed feeds) copies same
 
   -- ---- it is closed
 
@@ -84,8 +84,8 @@ module _ {H : Type 0} where
   pub closed_over : (last : Turn) (before after : Attempt H) → IsOverBy last before → ClosesInput before after → IsOverBy last after
   closed_over last before after (by_finish finish is same) closes =
       by_finish finish (ap (λ (a : Attempt H). a.over) (closed_same before.over finish before after refl is closes) ∙ is) same
-  closed_over last before after (by_error kept error none failed same) closes =
-      by_error kept error (closed_going before after none closes).0 (closed_failed kept before after none failed closes) same
+  closed_over last before after (by_error kept error none failed copies same) closes =
+      by_error kept error (closed_going before after none closes).0 (closed_failed kept before after none failed closes) copies same
 
   -- ---- its output leaves
 
@@ -97,8 +97,8 @@ module _ {H : Type 0} where
 
   pub moved_over : (last : Turn) (before after : Attempt H) → IsOverBy last before → OnlyMoves before after → IsOverBy last after
   moved_over last before after (by_finish finish is same) moves = by_finish finish ((moved_going before after moves).0 ∙ is) same
-  moved_over last before after (by_error kept error none failed same) moves =
-      by_error kept error ((moved_going before after moves).0 ∙ none) (moved_failed kept before after failed moves) same
+  moved_over last before after (by_error kept error none failed copies same) moves =
+      by_error kept error ((moved_going before after moves).0 ∙ none) (moved_failed kept before after failed moves) copies same
 
   -- ---- it makes a turn
 
@@ -106,7 +106,7 @@ module _ {H : Type 0} where
     again_tells : (finish : Finish) → IsAgain (again finish) (again finish)
     again_tells finishes.Suspended = refl
     again_tells finishes.Ended = refl
-    again_tells finishes.OutOfMemory = (out_of_memory, refl)
+    again_tells finishes.OutOfMemory = (out_of_memory, out_of_memory, inl refl, inl refl, refl)
 
     turns_new : (over : Option Finish) (before : Attempt H) (turn : Turn) (after : Attempt H) → before.over ≡ over → before.over ≡ None → TurnsUnless function ran over before turn after → TurnsOn function ran before turn after
     turns_new (Some finish) before turn after is none turns = none_some before.over finish none is
@@ -136,52 +136,52 @@ module _ {H : Type 0} where
     -- one that is over says so again
     pub turned_over : (last : Turn) (before : Attempt H) (turn : Turn) (after : Attempt H) → IsOverBy last before → Turns function ran before turn after → IsAgain last turn × (after ≡ before)
     turned_over last before turn after (by_finish finish is same) turns = says_again before.over last finish before turn after refl is same turns
-    turned_over last before turn after (by_error kept error none failed same) turns =
+    turned_over last before turn after (by_error kept error none failed copies same) turns =
         let it = turned_failed kept before turn after none failed turns in
-        (subst (λ (t : Turn). IsAgain t turn) (sym same) (it.0, it.1), it.3)
+        (subst (λ (t : Turn). IsAgain t turn) (sym same) (kept, it.0, copies, it.2, it.1), it.3)
 
     -- ---- the turn by which it is over
 
-    by_machine : (error : Error) (turn : Turn) (after : Attempt H) → turn ≡ Turn.Failed error → after.over ≡ None → IsOver after → IsOverBy turn after
-    by_machine error turn after is none (finished finish some) = none_some after.over finish none some
-    by_machine error turn after is none (machine_failed kept failed) = by_error kept error none failed is
+    by_machine : (error : Error) (turn : Turn) (after : Attempt H) → turn ≡ Turn.Failed error → after.over ≡ None → IsOver after → AnswersKept turn after → IsOverBy turn after
+    by_machine error turn after is none (finished finish some) copies = none_some after.over finish none some
+    by_machine error turn after is none (machine_failed kept failed) copies = by_error kept error none failed (subst (λ (t : Turn). AnswersKept t after) is copies kept failed) is
 
     by_its_finish : (finish : Finish) (between : Attempt H) (turn : Turn) (after : Attempt H) → FinishesBy finish between turn after → IsOverBy turn after
     by_its_finish finish between turn after it = by_finish finish (ap (λ (a : Attempt H). a.over) it.1) it.0
 
     by_body : (proposed : Result (Unit {0}) Error) (between : Attempt H) (turn : Turn) (after : Attempt H) → between.over ≡ None → turn ≡ ran_or_failed proposed → after ≡ record between { vm = after.vm }
-        → IsOver after → IsLast turn → IsOverBy turn after
-    by_body (Ok done) between turn after none is same over last = absurd (subst IsLast is last)
-    by_body (Err error) between turn after none is same over last = by_machine error turn after is (ap (λ (a : Attempt H). a.over) same ∙ none) over
+        → IsOver after → AnswersKept turn after → IsLast turn → IsOverBy turn after
+    by_body (Ok done) between turn after none is same over copies last = absurd (subst IsLast is last)
+    by_body (Err error) between turn after none is same over copies last = by_machine error turn after is (ap (λ (a : Attempt H). a.over) same ∙ none) over copies
 
-    by_outcome : (outcome : CallOutcome) (between : Attempt H) (turn : Turn) (after : Attempt H) → between.over ≡ None → TakesOutcome ran outcome between turn after → IsOver after → IsLast turn → IsOverBy turn after
-    by_outcome (outcomes.Answered answer) between turn after none takes over last = elim takes [
+    by_outcome : (outcome : CallOutcome) (between : Attempt H) (turn : Turn) (after : Attempt H) → between.over ≡ None → TakesOutcome ran outcome between turn after → IsOver after → AnswersKept turn after → IsLast turn → IsOverBy turn after
+    by_outcome (outcomes.Answered answer) between turn after none takes over copies last = elim takes [
       | inl one ↦ absurd (subst IsLast one.0 last)
       | inr over ↦ by_its_finish finishes.OutOfMemory between turn after over
     ]
-    by_outcome outcomes.Waiting between turn after none takes over last = absurd (subst IsLast takes.0 last)
-    by_outcome (outcomes.Executes handle) between turn after none takes over last = by_body takes.proposed between turn after none takes.turn_is takes.others over last
-    by_outcome outcomes.Suspended between turn after none takes over last = by_its_finish finishes.Suspended between turn after takes
-    by_outcome outcomes.Ended between turn after none takes over last = by_its_finish finishes.Ended between turn after takes
-    by_outcome (outcomes.Failed error) between turn after none takes over last = by_machine error turn after takes.0 (ap (λ (a : Attempt H). a.over) takes.1 ∙ none) over
+    by_outcome outcomes.Waiting between turn after none takes over copies last = absurd (subst IsLast takes.0 last)
+    by_outcome (outcomes.Executes handle) between turn after none takes over copies last = by_body takes.proposed between turn after none takes.turn_is takes.others over copies last
+    by_outcome outcomes.Suspended between turn after none takes over copies last = by_its_finish finishes.Suspended between turn after takes
+    by_outcome outcomes.Ended between turn after none takes over copies last = by_its_finish finishes.Ended between turn after takes
+    by_outcome (outcomes.Failed error) between turn after none takes over copies last = by_machine error turn after takes.0 (ap (λ (a : Attempt H). a.over) takes.1 ∙ none) over copies
 
-    by_input : (read : Result Input Error) (between : Attempt H) (turn : Turn) (after : Attempt H) → between.over ≡ None → GivesInput read between turn after → IsOver after → IsLast turn → IsOverBy turn after
-    by_input (Ok input) between turn after none gives over last = absurd (subst IsLast gives.0 last)
-    by_input (Err error) between turn after none gives over last = by_machine error turn after gives.0 (ap (λ (a : Attempt H). a.over) gives.1 ∙ none) over
+    by_input : (read : Result Input Error) (between : Attempt H) (turn : Turn) (after : Attempt H) → between.over ≡ None → GivesInput read between turn after → IsOver after → AnswersKept turn after → IsLast turn → IsOverBy turn after
+    by_input (Ok input) between turn after none gives over copies last = absurd (subst IsLast gives.0 last)
+    by_input (Err error) between turn after none gives over copies last = by_machine error turn after gives.0 (ap (λ (a : Attempt H). a.over) gives.1 ∙ none) over copies
 
-    by_call : (input : Option Input) (before : Attempt H) (turn : Turn) (after : Attempt H) → before.over ≡ None → ReadsOrAsks function ran input before turn after → IsOver after → IsLast turn → IsOverBy turn after
-    by_call None before turn after none reads over last = by_input reads.read (record before { vm = after.vm }) turn after none reads.gives over last
-    by_call (Some input) before turn after none asks over last = elim asks [
-      | inl carries ↦ by_outcome carries.outcome (record before { vm = carries.between }) turn after none carries.comes over last
+    by_call : (input : Option Input) (before : Attempt H) (turn : Turn) (after : Attempt H) → before.over ≡ None → ReadsOrAsks function ran input before turn after → IsOver after → AnswersKept turn after → IsLast turn → IsOverBy turn after
+    by_call None before turn after none reads over copies last = by_input reads.read (record before { vm = after.vm }) turn after none reads.gives over copies last
+    by_call (Some input) before turn after none asks over copies last = elim asks [
+      | inl carries ↦ by_outcome carries.outcome (record before { vm = carries.between }) turn after none carries.comes over copies last
       | inr lacks ↦ by_its_finish finishes.OutOfMemory before turn after lacks
     ]
 
-    by_ready : (ready : Result Bool Error) (before : Attempt H) (turn : Turn) (after : Attempt H) → before.over ≡ None → TurnsWhere function ran ready before turn after → IsOver after → IsLast turn → IsOverBy turn after
-    by_ready (Ok true) before turn after none turns over last = by_call before.input before turn after none turns over last
-    by_ready (Ok false) before turn after none turns over last = absurd (subst IsLast turns.0 last)
-    by_ready (Err error) before turn after none turns over last = by_machine error turn after turns.0 (ap (λ (a : Attempt H). a.over) turns.1 ∙ none) over
+    by_ready : (ready : Result Bool Error) (before : Attempt H) (turn : Turn) (after : Attempt H) → before.over ≡ None → TurnsWhere function ran ready before turn after → IsOver after → AnswersKept turn after → IsLast turn → IsOverBy turn after
+    by_ready (Ok true) before turn after none turns over copies last = by_call before.input before turn after none turns over copies last
+    by_ready (Ok false) before turn after none turns over copies last = absurd (subst IsLast turns.0 last)
+    by_ready (Err error) before turn after none turns over copies last = by_machine error turn after turns.0 (ap (λ (a : Attempt H). a.over) turns.1 ∙ none) over copies
 
-    pub ends_by : (before : Attempt H) (turn : Turn) (after : Attempt H) → before.over ≡ None → Turns function ran before turn after → IsOver after → IsLast turn → IsOverBy turn after
-    ends_by before turn after none turns over last =
+    pub ends_by : (before : Attempt H) (turn : Turn) (after : Attempt H) → before.over ≡ None → Turns function ran before turn after → IsOver after → AnswersKept turn after → IsLast turn → IsOverBy turn after
+    ends_by before turn after none turns over copies last =
         let on = turns_new before.over before turn after refl none turns in
-        by_ready on.ready before turn after none on.turns over last
+        by_ready on.ready before turn after none on.turns over copies last

@@ -8,7 +8,7 @@ use Rattle.turning_laws.specs.Bodies.{Body, NonEmptyValue, RunOutcome}
 use Rattle.turning_laws.specs.Keeping.{IsLast}
 use Rattle.turning_laws.specs.Running.{ExecutesFirst}
 use Rattle.turning_laws.specs.Sending.{Sent, frame_meant}
-use Rattle.turning_laws.specs.Serving.{HasNotRead, HasRead, IsOver, Serves}
+use Rattle.turning_laws.specs.Serving.{AnswersKept, HasNotRead, HasRead, IsOver, Serves}
 use Rattle.turning_laws.specs.Telling.{Told, HasCome, TurnTells, IsTold, GoesOnTold, TellsOne}
 use Rattle.turning_laws.specs.Turning.{turns_answered, TurnsBehind}
 use Rattle.turning_laws.specs.Words.{after_turn, arrivals_carried, Bytes, Handler, Input, input_bytes, InputMessage, item_at, LiveAttempt, piece_of, Request, requests_carried, Version, VMOptions}
@@ -122,7 +122,7 @@ module _ {H : Type 0} (function : H → Handler) (next : Handler) (version : Ver
 
   -- it is over by this turn, or goes on as it is told now
   pub left_behind : (sent : List Sent) (turn : Turn) (after : Attempt H) (b : Behind sent turn after) (told_now : TellsBehind sent turn after b)
-      → (IsOver after × IsLast turn × (told_now.now.over ≡ Some turn)) ⊎ ((told_now.now.over ≡ told.over) × GoesOnTold function next version options live.start is_closed told_now.now after)
+      → (IsOver after × AnswersKept turn after × IsLast turn × (told_now.now.over ≡ Some turn)) ⊎ ((told_now.now.over ≡ told.over) × GoesOnTold function next version options live.start is_closed told_now.now after)
   left_behind sent Turn.Answered after b told_now = inr (
     told_now.is_told.0,
     record { live = after_turn live (map (frame_meant version) sent) b.0 b.1; proposed = proposed; start_is = refl; bodies = b.3.bodies; serves = b.3.serves; is_told = told_now.is_told.1 },
@@ -142,6 +142,6 @@ module _ {H : Type 0} (function : H → Handler) (next : Handler) (version : Ver
     told_now.is_told.0,
     record { live = after_turn live (map (frame_meant version) sent) live.calls b.1.0; proposed = proposed; start_is = refl; bodies = b.1.1.bodies; serves = b.1.1.serves; is_told = told_now.is_told.1 },
   )
-  left_behind sent Turn.Suspended after b told_now = inl (b.2, tt, told_now.is_told)
-  left_behind sent Turn.Ended after b told_now = inl (b.1, tt, told_now.is_told)
-  left_behind sent (Turn.Failed error) after b told_now = inl (b.1, tt, told_now.is_told)
+  left_behind sent Turn.Suspended after b told_now = inl (b.2, tt, tt, told_now.is_told)
+  left_behind sent Turn.Ended after b told_now = inl (b.1, tt, tt, told_now.is_told)
+  left_behind sent (Turn.Failed error) after b told_now = inl (b.1, b.2, tt, told_now.is_told)

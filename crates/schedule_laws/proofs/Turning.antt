@@ -16,7 +16,7 @@ use Rattle.turn_laws.specs.Sending.{requests_sent, FollowsSo}
 use Rattle.input_laws.specs.Message.{arrivals_carried}
 use Rattle.position_laws.specs.Beginning.{AttemptStart}
 use Rattle.machine_laws.specs.Living.{after_turn}
-use Rattle.vm_start.specs.Failing.{out_of_memory}
+use Rattle.vm_start.specs.Failing.{IsCopy, out_of_memory}
 use Rattle.vm_types.specs.Options.{run_options}
 use Rattle.vm_types.specs.declared.options.VMOptions.{VMOptions}
 use Rattle.executor_laws.specs.Flying.{OutcomesStand}
@@ -28,7 +28,7 @@ use Rattle.turning_laws.specs.Keeping.{IsLast, LacksMemory}
 use Rattle.turning_laws.specs.Machine.phases
 use Rattle.turning_laws.specs.Sending.sent
 use Rattle.turning_laws.specs.Sending.{Sent, frame_meant, IsOfStore}
-use Rattle.turning_laws.specs.Serving.{IsOver}
+use Rattle.turning_laws.specs.Serving.{AnswersKept, IsOver}
 use Rattle.turning_laws.specs.Telling.{Told, HasCome, FailsSo, early, lacks, TurnTells, GoesOnTold}
 use Rattle.turning_laws.specs.Turning.{ProposesAs, RunsOne, TurnKeeps, TurnsBehind}
 use Rattle.schedule_model.specs.declared.held.HeldAttempt.{HeldAttempt}
@@ -100,10 +100,10 @@ module _ {H : Type 0} (function : H → Handler) (next : Handler) (options : VMO
       abbrev Attending : List Sent → Told → Type 0
       Attending sends now = Attends function next options id events new f.version (f.coming ++ sends) n (record { start = t.start; told = now }) changed
 
-      is_over_by : (turned : Turn) (sends : List Sent) (now : Told) → turn ≡ turned → IsOver changed → IsLast turned → now.over ≡ Some turned → Attending sends now
-      is_over_by turned sends now is over last told_is =
+      is_over_by : (turned : Turn) (sends : List Sent) (now : Told) → turn ≡ turned → IsOver changed → AnswersKept turned changed → IsLast turned → now.over ≡ Some turned → Attending sends now
+      is_over_by turned sends now is over kept last told_is =
           is_over turned told_is
-          (subst (λ (one_turn : Turn). IsOverBy one_turn changed) is (ends_by function ran one.attempt turn changed s.serves.going turns over (subst IsLast (sym is) last)))
+          (subst (λ (one_turn : Turn). IsOverBy one_turn changed) is (ends_by function ran one.attempt turn changed s.serves.going turns over (subst (λ (one_turn : Turn). AnswersKept one_turn changed) (sym is) kept) (subst IsLast (sym is) last)))
 
       coming_behind : (sends : List Sent) → s.live.coming ++ map (frame_meant f.version) sends ≡ map (frame_meant f.version) (f.coming ++ sends)
       coming_behind sends = ap (λ (frames : List Frame). frames ++ map (frame_meant f.version) sends) s.coming_are ∙ sym (meant_append f.version f.coming sends)
@@ -143,9 +143,9 @@ module _ {H : Type 0} (function : H → Handler) (next : Handler) (options : VMO
         serves = b.1.1.serves;
         is_told = tells.is_told.1;
       })
-      served_behind sends Turn.Suspended is none b tells = is_over_by Turn.Suspended sends tells.now is b.2 tt tells.is_told
-      served_behind sends Turn.Ended is none b tells = is_over_by Turn.Ended sends tells.now is b.1 tt tells.is_told
-      served_behind sends (Turn.Failed error) is none b tells = is_over_by (Turn.Failed error) sends tells.now is b.1 tt tells.is_told
+      served_behind sends Turn.Suspended is none b tells = is_over_by Turn.Suspended sends tells.now is b.2 tt tt tells.is_told
+      served_behind sends Turn.Ended is none b tells = is_over_by Turn.Ended sends tells.now is b.1 tt tt tells.is_told
+      served_behind sends (Turn.Failed error) is none b tells = is_over_by (Turn.Failed error) sends tells.now is b.1 b.2 tt tells.is_told
 
       -- the outcomes on their way are those that it has proposed, with the one of the body that it has executed
       outcomes_behind : (turned : Turn) (k : TurnKeeps function next f.version options (is_input_closed events id) s.live one.attempt s.proposed ran turned changed)
@@ -228,7 +228,7 @@ module _ {H : Type 0} (function : H → Handler) (next : Handler) (options : VMO
       left_attends : Attends function next options id events new f.version f.coming n left_told changed
       left_attends =
           elim (left_behind function next l.version options l.is_closed goes.live one.attempt goes.proposed ran t.told goes.serves goes.is_told left_turn.sent turn changed left_turn.behind left_tells) [
-            | inl (over, last, told_is) ↦ is_over turn told_is (ends_by function ran one.attempt turn changed goes.serves.going turns over last)
+            | inl (over, kept, last, told_is) ↦ is_over turn told_is (ends_by function ran one.attempt turn changed goes.serves.going turns over kept last)
             | inr (same, on) ↦ is_left (same ∙ so) not_live (record {
               version = l.version;
               is_closed = l.is_closed;
@@ -262,19 +262,19 @@ module _ {H : Type 0} (function : H → Handler) (next : Handler) (options : VMO
         (is_over last so (subst (λ (a : Attempt H). IsOverBy last a) (sym it.1) over))
 
     -- the error that it has failed with is told, or that there was no memory for it
-    failed_now : (kept error : Error) → one.attempt.over ≡ None → one.attempt.vm.state.phase ≡ phases.Failed kept → turn ≡ Turn.Failed error → changed ≡ one.attempt
+    failed_now : (kept error : Error) → one.attempt.over ≡ None → one.attempt.vm.state.phase ≡ phases.Failed kept → IsCopy kept error → turn ≡ Turn.Failed error → changed ≡ one.attempt
         → TurnTellsNow next t.start t.told t.told.over ran turn (record t.told { over = Some (Turn.Failed error) }) → TurnedBegun
-    failed_now kept error going failed is same tells =
+    failed_now kept error going failed copies is same tells =
         quiet (record t.told { over = Some (Turn.Failed error) }) same tells
         (is_over (Turn.Failed error) refl
-        (by_error kept error (ap (λ (a : Attempt H). a.over) same ∙ going) (ap (λ (a : Attempt H). a.vm.state.phase) same ∙ failed) refl))
+        (by_error kept error (ap (λ (a : Attempt H). a.over) same ∙ going) (ap (λ (a : Attempt H). a.vm.state.phase) same ∙ failed) copies refl))
 
     turned_lacks : t.told.over ≡ None → one.attempt.over ≡ None → LacksMemory one.attempt → TurnedBegun
     turned_lacks so going lacks_it =
         let it = turned_failed function ran out_of_memory one.attempt turn changed going lacks_it turns in
         let same : it.0 ≡ out_of_memory = elim it.2 [ inl e ↦ e | inr e ↦ e ] in
         let is : turn ≡ Turn.Failed out_of_memory = it.1 ∙ ap Turn.Failed same in
-        failed_now out_of_memory out_of_memory going lacks_it is it.3
+        failed_now out_of_memory out_of_memory going lacks_it (inl refl) is it.3
         (subst (λ (o : Option Turn). TurnTellsNow next t.start t.told o ran turn (record t.told { over = Some (Turn.Failed out_of_memory) })) (sym so) (inl (is, refl)))
 
     turned_early : t.told.over ≡ None → one.attempt.over ≡ None → IsClosedEarly t one.attempt → TurnedBegun
@@ -287,7 +287,7 @@ module _ {H : Type 0} (function : H → Handler) (next : Handler) (options : VMO
           ]
           | inr none ↦ lacks (ap (λ (error : Error). error.code.0) none)
         ] in
-        failed_now e.error it.0 going e.failed it.1 it.3
+        failed_now e.error it.0 going e.failed it.2 it.1 it.3
         (subst (λ (o : Option Turn). TurnTellsNow next t.start t.told o ran turn (record t.told { over = Some (Turn.Failed it.0) })) (sym so)
         (inr (e.come, subst (λ (one_turn : Turn). TurnTells next t.start t.told e.come ran one_turn (record t.told { over = Some (Turn.Failed it.0) })) (sym it.1) (refl, why))))
 

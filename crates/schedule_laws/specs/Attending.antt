@@ -17,6 +17,7 @@ use Rattle.vm_types.specs.declared.options.VMOptions.{VMOptions}
 use Rattle.turning_laws.specs.Attempts.{again, Attempt, Finish, Turn}
 use Rattle.turning_laws.specs.Keeping.{early_error, LacksMemory}
 use Rattle.turning_laws.specs.Machine.phases
+use Rattle.turning_laws.specs.Machine.{IsCopy}
 use Rattle.turning_laws.specs.Sending.{Sent, frame_meant}
 use Rattle.turning_laws.specs.Serving.{HasBodies, Serves}
 use Rattle.turning_laws.specs.Telling.{Told, HasCome, HasJournal, IsTold, GoesOnTold}
@@ -32,7 +33,7 @@ module _ {H : Type 0} where
   -- it is over by this turn
   pub data IsOverBy (last : Turn) (a : Attempt H) : Type 0 where
     by_finish : (finish : Finish) → a.over ≡ Some finish → last ≡ again finish → IsOverBy last a
-    by_error : (kept error : Error) → a.over ≡ None → a.vm.state.phase ≡ phases.Failed kept → last ≡ Turn.Failed error → IsOverBy last a
+    by_error : (kept error : Error) → a.over ≡ None → a.vm.state.phase ≡ phases.Failed kept → IsCopy kept error → last ≡ Turn.Failed error → IsOverBy last a
 
   -- its input was closed before its journal had come, of which it tells so
   pub record IsClosedEarly (t : Tracked) (a : Attempt H) : Type 0 where

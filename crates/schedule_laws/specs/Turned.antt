@@ -7,7 +7,7 @@ use Rattle.journal_model.specs.Journal.{invocation_begun}
 use Rattle.journal_model.specs.Run.{Handler}
 use Rattle.position_laws.specs.Beginning.{AttemptStart, start_after}
 use Rattle.protocol_errors.specs.declared.error.Error.{Error}
-use Rattle.vm_start.specs.Failing.{out_of_memory}
+use Rattle.vm_start.specs.Failing.{IsCopy, out_of_memory}
 use Rattle.vm_types.specs.Options.{run_options}
 use Rattle.vm_types.specs.declared.options.VMOptions.{VMOptions}
 use Rattle.turning_laws.specs.Bodies.{RunOutcome}
@@ -19,10 +19,10 @@ use Rattle.schedule_laws.specs.Schedules.{Event, Reply}
 
 -- ---- of one attempt
 
--- One that was suspended or has ended says that again. One that has failed says that it has, by the error that it keeps or since there is no
--- memory to tell it.
+-- One that was suspended or has ended says that again. One that has failed keeps an error: what it has answered and what it answers are copies
+-- of that, or say that there was no memory for one.
 abbrev pub IsAgain : (last turn : Turn) → Type 0
-IsAgain (Turn.Failed error) turn = (told : Error) × (turn ≡ Turn.Failed told)
+IsAgain (Turn.Failed error) turn = (kept : Error) × (told : Error) × IsCopy kept error × IsCopy kept told × (turn ≡ Turn.Failed told)
 IsAgain last turn = turn ≡ last
 
 -- Memory was refused as its input came: it has failed for that.

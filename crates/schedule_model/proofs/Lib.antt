@@ -2,3 +2,4 @@ pub mod Firsts
 pub mod Holding
 pub mod Applying
 mod Placing
+pub mod Keeping

@@ -3,15 +3,17 @@ ghost use Rattle.std.specs.Prelude.{◌≡◌, ◌≤◌, length, IfErr, IfOk, I
 ghost use Rattle.vm_attempt.specs.Attempt.{ClosesInput, Feeds};
 ghost use Rattle.vm_attempt.specs.Output.{taken_of, Advances, Gathers, Shows};
 ghost use Rattle.vm_attempt.specs.Turning.{Turns};
-ghost use Rattle.schedule_model.specs.Kept.{attempt_kept, IsKept};
+ghost use Rattle.schedule_model.specs.Kept.{attempt_kept, FailsAgain, IsKept};
 
 use bytes::Bytes;
 use journal_model::Handler;
+use protocol_errors::Error;
 use std::alloc::{AllocError, AllocFailed, Global};
 use std::marker::Model;
 use std::mem::replace;
 use std::snapshot::Snapshot;
 use vm_attempt::{Attempt, Finish, RunOutcome, Turn, turn_again};
+use vm_start::or_out_of_memory;
 
 /// What memory has of an attempt.
 #[derive(Drop)]
@@ -19,12 +21,18 @@ enum Kept<H> {
     Whole(Box<Attempt<H>>),
     /// It is over so, and its bytes were taken. Of the rest clauses alone know.
     Over(Finish, Snapshot<Attempt<H>>),
+    /// Its machine has failed with this, and its bytes were taken; and whether its input was closed since.
+    Failed {
+        error: Box<Error>,
+        is_closed: bool,
+        seen: Snapshot<Attempt<H>>,
+    },
 }
 
 /// An attempt that is held. Once it is over and its bytes were taken, memory has its last answer and nothing else of it.
 ///
-/// Contracts see the attempt, also behind that: as it was then, of which no call tells more than that answer. So none says what memory
-/// has let go of.
+/// Contracts see the attempt, also behind that: as it was then, or closed since, of which no call tells more than that answer. So none
+/// says what memory has let go of.
 #[derive(Drop)]
 pub struct KeptAttempt<H> {
     kept: Kept<H>,
@@ -44,13 +52,32 @@ impl<H> Model for KeptAttempt<H> {
     ghost invariant = { λ a. IsKept a.kept };
 }
 
-// How it is over is all that is kept of it, if it is over and no byte waits.
-fn over_alone<H: Handler>(attempt: &mut Attempt<H>) -> Option<Kept<H>>
+// How it is over, or what it has failed with, is all that is kept of it, if it is over and no byte waits.
+fn over_alone<H: Handler>(alloc: Global, attempt: &mut Attempt<H>) -> Option<Kept<H>>
     ensures same { Gathers attempt.old attempt.new }
     ensures kept { IfSome result (λ kept. (attempt_kept kept ≡ attempt.new) × IsKept kept) }
 {
-    let finish = attempt.finished()?;
-    Some(Kept::Over(finish, Snapshot::of(attempt)))
+    if let Some(finish) = attempt.finished() {
+        return Some(Kept::Over(finish, Snapshot::of(attempt)));
+    }
+    match Box::new(alloc, attempt.failed()?) {
+        Ok(error) => Some(Kept::Failed {
+            error,
+            is_closed: false,
+            seen: Snapshot::of(attempt),
+        }),
+        Err(refused) => {
+            drop(refused);
+            None
+        }
+    }
+}
+
+// What each turn comes to of one that has failed with this.
+fn failed_again(error: &Error) -> Turn
+    ensures { FailsAgain error.now result }
+{
+    Turn::Failed(or_out_of_memory(error.clone()))
 }
 
 impl<H: Handler> KeptAttempt<H> {
@@ -70,13 +97,13 @@ impl<H: Handler> KeptAttempt<H> {
         }
     }
 
-    /// Bytes of its input come.
+    /// Bytes of its input come. Of one that is over there is no memory for them, and it reads no further.
     pub fn feed(&mut self, bytes: Bytes)
         ensures { Feeds bytes self.old self.new }
     {
         match &mut self.kept {
             Kept::Whole(attempt) => attempt.feed(bytes),
-            Kept::Over(..) => drop(bytes),
+            Kept::Over(..) | Kept::Failed { .. } => drop(bytes),
         }
     }
 
@@ -87,6 +114,7 @@ impl<H: Handler> KeptAttempt<H> {
         match &mut self.kept {
             Kept::Whole(attempt) => attempt.close_input(),
             Kept::Over(..) => (),
+            Kept::Failed { is_closed, .. } => *is_closed = true,
         }
     }
 
@@ -100,6 +128,10 @@ impl<H: Handler> KeptAttempt<H> {
                 drop(outcome);
                 turn_again(*finish)
             }
+            Kept::Failed { error, .. } => {
+                drop(outcome);
+                failed_again(error)
+            }
         }
     }
 
@@ -109,7 +141,7 @@ impl<H: Handler> KeptAttempt<H> {
     {
         match &mut self.kept {
             Kept::Whole(attempt) => attempt.first_output(max),
-            Kept::Over(..) => Ok(Bytes::new()),
+            Kept::Over(..) | Kept::Failed { .. } => Ok(Bytes::new()),
         }
     }
 
@@ -122,7 +154,8 @@ impl<H: Handler> KeptAttempt<H> {
         let Kept::Whole(attempt) = &mut self.kept else {
             return;
         };
-        let Some(over) = over_alone(attempt) else {
+        let alloc = *Box::allocator(attempt);
+        let Some(over) = over_alone(alloc, attempt) else {
             return;
         };
         drop(replace(&mut self.kept, over));
@@ -137,7 +170,7 @@ impl<H: Handler> KeptAttempt<H> {
     {
         match &mut self.kept {
             Kept::Whole(attempt) => attempt.advance_output(count),
-            Kept::Over(..) => (),
+            Kept::Over(..) | Kept::Failed { .. } => (),
         }
         self.let_go();
     }

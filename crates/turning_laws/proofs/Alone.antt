@@ -29,6 +29,7 @@ pub record FailsAlone (version : Version) (asked : JournalMismatchRetryBehavior)
   pub quiet : outcomes_in (map (frame_meant version) coming) ≡ []
   pub kept : Error
   pub phase : new.phase ≡ phases.Failed kept
+  pub copies : IsCopy kept error
   pub told : ToldBy version asked old cause error coming
 
 -- an error that tells no mismatch keeps its behaviour
@@ -68,6 +69,7 @@ fails_alone cause old answer new active opened of_version fails = record {
   quiet = subst (λ (v : Version). outcomes_in (map (frame_meant v) notes.coming) ≡ []) of_version notes.quiet;
   kept = now.told;
   phase = now.phase_is;
+  copies = now.answers;
   told = told_by old.version old.options.journal_mismatch_retry_behavior cause old.active.output now.told now.before answer notes.coming now.tells notes.tells now.answers;
 }
   where

@@ -24,7 +24,7 @@ use Rattle.turning_laws.proofs.Notes.{TellsNotes, note_turn, cause_tells, fails_
 use Rattle.turning_laws.specs.Bodies.{outcomes_in}
 use Rattle.turning_laws.specs.Machine.phases
 use Rattle.turning_laws.specs.Keeping.{FailsWith, TellsBy}
-use Rattle.turning_laws.specs.Machine.{writes_frames, MachineState, Written, TellsCause, out_of_memory, told_error, Fails, Cause, ByFault, NoNumber, TooLong, TooDeep, NoReplay, NoMemory, HasPut, requests_passed_on, FailsWhen}
+use Rattle.turning_laws.specs.Machine.{IsCopy, writes_frames, MachineState, Written, TellsCause, out_of_memory, told_error, Fails, Cause, ByFault, NoNumber, TooLong, TooDeep, NoReplay, NoMemory, HasPut, requests_passed_on, FailsWhen}
 use Rattle.turning_laws.specs.Reading.{Kind}
 use Rattle.turning_laws.specs.Sending.{Sent, Asks, Fails as SentFails, sent_stream, AllFit, frame_meant}
 use Rattle.turning_laws.specs.Sending.{IsOfStore as IsSentOfStore}
@@ -45,6 +45,7 @@ pub record FailsSo (next : Handler) (version : Version) (is_closed : Bool) (live
   pub quiet : outcomes_in (map (frame_meant version) coming) ≡ []
   pub kept : Error
   pub phase : new.phase ≡ phases.Failed kept
+  pub copies : IsCopy kept error
   pub by : FailsBy next version live (next live.start.given.input answers) vm new error coming
 
 -- ---- what its own causes tell
@@ -226,6 +227,7 @@ module _ (next : Handler) (version : Version) (options : VMOptions) (is_closed :
             ∙ subst (λ (v : Version). outcomes_in (map (frame_meant v) told.coming) ≡ []) of_version told.quiet;
         kept = f.fails.told;
         phase = f.fails.phase_is;
+        copies = f.fails.answers;
         by = subst (λ (call : Call). FailsBy next version live call vm new error (map Asks f.far.more ++ told.coming)) (sym (ap (λ (some : List Answer). next live.start.given.input some) same))
             (by_cause error new f told.coming told.tells);
       }

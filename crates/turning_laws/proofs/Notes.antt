@@ -10,11 +10,12 @@ use Rattle.vm_start.specs.Phases.{kept_error}
 use Rattle.vm_types.specs.declared.options.JournalMismatchRetryBehavior.{JournalMismatchRetryBehavior}
 use Rattle.sending_laws.specs.Writing.{Sends}
 use Rattle.sending_laws.proofs.Writing.{frames_are_written}
-use Rattle.turning_laws.specs.Attempts.{output_of, Attempt}
+use Rattle.turning_laws.specs.Attempts.{output_of, Attempt, Turn}
 use Rattle.turning_laws.specs.Bodies.{outcomes_in}
 use Rattle.turning_laws.specs.Keeping.{FailsWith, TellsBy}
 use Rattle.turning_laws.specs.Machine.phases
-use Rattle.turning_laws.specs.Machine.{Written, FailsNow, FailsAs, TellsCause, Tells, Writes, out_of_memory, told_error, MachineState, HasFailed}
+use Rattle.turning_laws.specs.Machine.{Written, FailsNow, FailsAs, TellsCause, Tells, Writes, out_of_memory, told_error, MachineState, HasFailed, IsCopy}
+use Rattle.turning_laws.specs.Serving.{AnswersKept}
 use Rattle.turning_laws.specs.Turning.{IsTurnOf}
 use Rattle.turning_laws.specs.Sending.{Sent, Fails, sent_stream, AllFit, frame_meant}
 use Rattle.turning_laws.specs.Words.{journal_mismatch, Error, version_number, Version, Frame, Handler, IsNote, LiveAttempt, notes}
@@ -89,9 +90,16 @@ fails_with version asked error old told new other tells =
     go (inr (inl tells)) = inl (inr (tells.0, tells.1))
     go (inr (inr tells)) = inr tells.0
 
+same_failed : (one other : Error) → phases.Failed one ≡ phases.Failed other → one ≡ other
+same_failed one other e = cc
+
 -- ---- what waits behind that
 
 module _ {H : Type 0} where
+  -- what was answered is a copy of what it has failed with
+  pub answers_kept : (kept error : Error) (a : Attempt H) → a.vm.state.phase ≡ phases.Failed kept → IsCopy kept error → AnswersKept (Turn.Failed error) a
+  answers_kept kept error a failed copies other is = subst (λ (one : Error). IsCopy one error) (same_failed kept other (sym failed ∙ is)) copies
+
   -- what the machine has written more is behind what waited
   pub waits_more : (version : Version) (coming : List Sent) (before after : Attempt H) → after.front ++ after.behind ≡ before.front ++ before.behind
       → after.vm.state.active.output.bytes ≡ before.vm.state.active.output.bytes ++ sent_stream version coming → output_of after ≡ output_of before ++ sent_stream version coming

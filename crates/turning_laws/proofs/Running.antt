@@ -41,7 +41,7 @@ use Rattle.turning_laws.specs.Words.{after_turn, Error, Handler, internal, Invoc
 use Rattle.turning_laws.proofs.Alone.{FailsAlone, failed_same, fails_alone, ToldBy}
 use Rattle.turning_laws.proofs.Executing.{WithBodies, ExecutesSo, executes_so}
 use Rattle.turning_laws.proofs.Going.{OnlyTurns, serves_on}
-use Rattle.turning_laws.proofs.Notes.{note_turn, waits_more}
+use Rattle.turning_laws.proofs.Notes.{answers_kept, note_turn, waits_more}
 use Rattle.turning_laws.proofs.Now.{Now, call_of}
 use Rattle.turning_laws.proofs.Reading.{turns_send}
 use Rattle.turning_laws.proofs.Sending.{IsTold, is_told}
@@ -145,7 +145,7 @@ module _ {H : Type 0} (function : H → Handler) (next : Handler) (version : Ver
       output = waits_more version fails.coming before after (ap (λ (a : Attempt H). a.front ++ a.behind) p.others) fails.bytes;
       makes = note_turn next is_closed live (map (frame_meant version) fails.coming) fails.notes;
       proposes = fails.quiet;
-      behind = (inr (by_cause cause refl fails.told), machine_failed fails.kept fails.phase);
+      behind = (inr (by_cause cause refl fails.told), machine_failed fails.kept fails.phase, answers_kept fails.kept error after fails.phase fails.copies);
     })
 
   -- memory was refused

@@ -12,7 +12,7 @@ use Rattle.vm_waiting.specs.declared.waits_for.WaitsFor.TheVariants.{Future, Chi
 use Rattle.waking_laws.proofs.Awaits.{awaits_tell, children_tell}
 use Rattle.turning_laws.specs.Bodies.{Executor, IsReplayed, KeepsBodies, NonEmptyValue, outcomes_in, RunOutcome}
 use Rattle.turning_laws.specs.Serving.{HasNumbers, HasRead, HasBodies, Serves, finished, machine_failed}
-use Rattle.turning_laws.proofs.Notes.{waits_more}
+use Rattle.turning_laws.proofs.Notes.{answers_kept, waits_more}
 use Rattle.turning_laws.proofs.Quiet.{answer_quiet, waits_quiet}
 use Rattle.turning_laws.proofs.Bodies.{keeps_with}
 use Rattle.turning_laws.proofs.Executing.{WithBodies, answered_lives, answered_keeps, none_executing, waits_live, waits_others}
@@ -135,7 +135,7 @@ module _ {H : Type 0} (function : H → Handler) (next : Handler) (version : Ver
             let is = over.1 in
             subst (λ (t : Turn). Keeps t after) (sym over.0)
             (keeps_turn vm after (ap (λ (a : Attempt H). a.front ++ a.behind) is) (ap (λ (a : Attempt H). a.vm.state) is) so.sends (Turn.Failed out_of_memory) quiet
-            (inl (no_memory so.sends.coming after), finished finishes.OutOfMemory (ap (λ (a : Attempt H). a.over) is)))
+            (inl (no_memory so.sends.coming after), finished finishes.OutOfMemory (ap (λ (a : Attempt H). a.over) is), λ kept none. inr refl))
 
     -- what is written where it is suspended
     suspends_with : (waits : WaitsFor) (whole : Machine) → reply_at next live before.vm.state n.at ≡ waits_as waits whole → whole.written ≡ live.machine.written
@@ -251,5 +251,5 @@ module _ {H : Type 0} (function : H → Handler) (next : Handler) (version : Ver
           output = waits_more version so.coming before after (ap (λ (a : Attempt H). a.front ++ a.behind) is) (ap (λ (m : MachineState). m.active.output.bytes) state_is ∙ so.bytes);
           makes = so.makes;
           proposes = so.quiet;
-          behind = (inl (subst (λ (m : MachineState). FailsBy next version live (next live.start.given.input before.answers) before.vm.state m error so.coming) (sym state_is) so.by), machine_failed so.kept (ap (λ (m : MachineState). m.phase) state_is ∙ so.phase));
+          behind = (inl (subst (λ (m : MachineState). FailsBy next version live (next live.start.given.input before.answers) before.vm.state m error so.coming) (sym state_is) so.by), machine_failed so.kept (ap (λ (m : MachineState). m.phase) state_is ∙ so.phase), answers_kept so.kept error after (ap (λ (m : MachineState). m.phase) state_is ∙ so.phase) so.copies);
         })

@@ -134,7 +134,7 @@ module _ {H : Type 0} (function : H → Handler) (next : Handler) (version : Ver
     read_refused refused =
         let gives = subst (λ (r : Result Input Error). GivesInput r (record before { vm = after.vm }) turn after) refused.answer reads.gives in
         subst Keeps (sym gives.0)
-        (silent (waits_same before after gives.1 (ap (λ (w : Written). w.bytes) refused.output ∙ sym no_bytes)) (Turn.Failed out_of_memory) refl (inl lacks_memory, machine_failed out_of_memory refused.phase))
+        (silent (waits_same before after gives.1 (ap (λ (w : Written). w.bytes) refused.output ∙ sym no_bytes)) (Turn.Failed out_of_memory) refl (inl lacks_memory, machine_failed out_of_memory refused.phase, λ kept failed. inr refl))
 
     input_read : InputsAreAnswered → Keeps turn
     input_read answers =
@@ -190,7 +190,7 @@ module _ {H : Type 0} (function : H → Handler) (next : Handler) (version : Ver
     carries : CarriesCall ran asked before turn after ⊎ FinishesBy finishes.OutOfMemory before turn after → Keeps turn
     carries (inl c) = carried (now function next version options stand is_closed live before queued proposed b.executor b.lives s r c.typed) c
     carries (inr over) =
-        subst Keeps (sym over.0) (silent (ap output_of over.1) (Turn.Failed out_of_memory) refl (inl lacks_memory, finished finishes.OutOfMemory (ap (λ (a : Attempt H). a.over) over.1)))
+        subst Keeps (sym over.0) (silent (ap output_of over.1) (Turn.Failed out_of_memory) refl (inl lacks_memory, finished finishes.OutOfMemory (ap (λ (a : Attempt H). a.over) over.1), λ kept failed. inr refl))
 
     has_read : TurnsOn function ran before turn after → Keeps turn
     has_read turns =

@@ -6,7 +6,7 @@ pub use Rattle.vm_attempt.specs.Outcomes.{IsDriven, Fails, Cause, ByFault, NoNum
 pub use Rattle.vm_calls.specs.Active.{Sees, Fits, are_any, writes_frames}
 pub use Rattle.vm_calls.specs.declared.active.Active.{Active}
 pub use Rattle.vm_context.specs.Output.{Written, with_frame}
-pub use Rattle.vm_start.specs.Failing.{FailsNow, FailsAs, TellsCause, Tells, IsTooLong, Writes, out_of_memory}
+pub use Rattle.vm_start.specs.Failing.{FailsNow, FailsAs, TellsCause, Tells, IsCopy, IsTooLong, Writes, out_of_memory}
 pub use Rattle.vm_start.specs.Failure.{told_error}
 pub use Rattle.vm_start.specs.declared.phase.Phase.TheVariants as phases
 pub use Rattle.vm_start.specs.declared.phase.Phase.{Phase}

@@ -4,10 +4,10 @@ use Rattle.std.specs.List.{AllByRecursion}
 use Rattle.attempt_model.specs.Requests.{Commands, requests_by}
 use Rattle.vm_ephemeral.specs.Reads.{no_reads}
 use Rattle.vm_start.specs.Starts.{without_state}
-use Rattle.turning_laws.specs.Attempts.{output_of, Attempt, Finish}
+use Rattle.turning_laws.specs.Attempts.{output_of, Attempt, Finish, Turn}
 use Rattle.turning_laws.specs.Bodies.{NonEmptyValue, Executor, KeepsBodies, IsReplayed}
 use Rattle.turning_laws.specs.Machine.phases
-use Rattle.turning_laws.specs.Machine.{IsDriven}
+use Rattle.turning_laws.specs.Machine.{IsCopy, IsDriven}
 use Rattle.turning_laws.specs.Reading.{IsInputOf, IsRunOf, Kind, kind_of, start_told, HasStarted}
 use Rattle.turning_laws.specs.Sending.{is_recorded}
 use Rattle.turning_laws.specs.Words.{item_at, Version, Error, Call, answers_of, Request, StartState, Handler, run, arrivals_carried, are_by_text, Machine, machine_at_start, ShowsStart, with_messages, LiveAttempt, HasReadJournal, VMOptions, SlotsFit, IsTextId}
@@ -90,3 +90,8 @@ module _ {H : Type 0} where
   pub data IsOver (a : Attempt H) : Type 0 where
     finished : (finish : Finish) → a.over ≡ Some finish → IsOver a
     machine_failed : (error : Error) → a.vm.state.phase ≡ phases.Failed error → IsOver a
+
+  -- where its machine has failed, a turn that fails has answered a copy of what it has failed with, or that there was no memory for one
+  abbrev pub AnswersKept : Turn → Attempt H → Type 0
+  AnswersKept (Turn.Failed error) a = (kept : Error) → a.vm.state.phase ≡ phases.Failed kept → IsCopy kept error
+  AnswersKept turn a = Unit {0}

@@ -9,7 +9,7 @@ use Rattle.vm_awaits.specs.Views.{slots_of}
 use Rattle.vm_outcomes.specs.Causes.{CauseTells}
 use Rattle.turning_laws.specs.Attempts.{output_of, Turns, Attempt, Turn}
 use Rattle.turning_laws.specs.Bodies.{asked_by, NonEmptyValue, Body, outcomes_in, outcome_frame, RunOutcome}
-use Rattle.turning_laws.specs.Serving.{Serves, HasBodies, IsOver}
+use Rattle.turning_laws.specs.Serving.{Serves, HasBodies, IsOver, AnswersKept}
 use Rattle.turning_laws.specs.Keeping.{FailsWith}
 use Rattle.turning_laws.specs.Machine.{MachineState, out_of_memory, told_error, Cause, ByFault, TooDeep, NoReplay, NoMemory, HasPut, FailsWhen}
 pub use Rattle.turning_laws.specs.Running.{RunWaitsFor, RunComesTo, WaitsForOthers, ExecutesFirst, tried_by, OutcomeIs, FailsByBody, IsBodyCode}
@@ -109,7 +109,7 @@ module _ {H : Type 0} (function : H → Handler) (next : Handler) (version : Ver
       FailsForBody error sent = FailsByBody next live proposed version options ran before.vm.state error sent
 
       -- where it goes on it is live behind the turn, one answer later where it was answered; else it is over, and what it has written or answered
-      -- tells why
+      -- tells why; what it answers with an error of its machine the machine keeps
       abbrev pub TurnsBehind : List Sent → Turn → (after : Attempt H) → Type 0
       TurnsBehind sent Turn.Answered after =
           (calls : ℕ) × (machine : Machine) × (turns_answered after.input calls ≡ suc (turns_answered before.input live.calls))
@@ -120,7 +120,7 @@ module _ {H : Type 0} (function : H → Handler) (next : Handler) (version : Ver
       TurnsBehind sent Turn.Suspended after =
           (is_closed ≡ true) × RunWaits × IsOver after × SuspendsWith next live (map (frame_meant version) sent)
       TurnsBehind sent Turn.Ended after = RunComes Ended × IsOver after × (map (frame_meant version) sent ≡ Frame.End ∷ [])
-      TurnsBehind sent (Turn.Failed error) after = (FailsFor error sent after ⊎ FailsForBody error sent) × IsOver after
+      TurnsBehind sent (Turn.Failed error) after = (FailsFor error sent after ⊎ FailsForBody error sent) × IsOver after × AnswersKept (Turn.Failed error) after
 
       -- what a turn has written are frames of the run, which the store reads as what they are meant as
       pub record TurnKeeps (turn : Turn) (after : Attempt H) : Type 0 where

@@ -70,7 +70,8 @@ pub fn attempts_run_once<H: Handler>()
 /// Answered continues the run by one answer, or reads the input. RanBody has executed the body of a run that the run waits for, and proposes
 /// its outcome. Waiting comes only where the journal was not read, or the run waits and more can come, for no body that is to be executed;
 /// Suspended and Ended come where the run waits so or has ended, with exactly its requests, and are written. Failed has a cause, and tells
-/// it, behind the requests by which a cancellation was passed on by then. What was written are frames of the run.
+/// it, behind the requests by which a cancellation was passed on by then; the error of a machine is what the machine keeps, or there was no
+/// memory for a copy. What was written are frames of the run.
 pub fn turns_keep<H: Handler>()
     ensures { OfEach (TurnServes H.next_call) }
 {

@@ -1,6 +1,7 @@
 // An attempt.
-ghost use Rattle.std.specs.Prelude.{◌≡◌, [], Some, IsSome, IfSome, OnOk};
+ghost use Rattle.std.specs.Prelude.{◌≡◌, [], Some, None, IsSome, IfSome, OnOk};
 ghost use Rattle.std.specs.Option.{ForSome};
+ghost use Rattle.vm_start.specs.declared.phase.Phase.TheVariants.{Failed};
 ghost use Rattle.vm_attempt.specs.Attempt.{IsBegun, has_stopped, Feeds, ClosesInput};
 ghost use Rattle.vm_attempt.specs.Output.{output_of, Gathers, HasFront, Shows, LetsGo, TakesOutput};
 ghost use Rattle.vm_attempt.specs.Turning.{FinishesBy, TakesAnswer, RunsBody, TakesOutcome, CarriesCall, ReadsInput, ReadsOrAsks, TurnsOn, Turns};
@@ -270,6 +271,32 @@ impl<H: Handler> Attempt<H> {
         let finish = self.over?;
         match self.gather(1) {
             Ok(()) if self.front.is_empty() => Some(finish),
+            _ => None,
+        }
+    }
+
+    // A copy of what its machine has failed with, if it has, and there is memory for one.
+    fn failure(&self) -> Option<Error>
+        ensures { IfSome result (λ error. self.now.vm.state.phase ≡ Failed error) }
+    {
+        match self.vm.failure()?.clone() {
+            Ok(error) => Some(error),
+            Err(_) => None,
+        }
+    }
+
+    /// What its machine has failed with, where no byte waits any more: all that it does from then on is to answer that in each turn.
+    ///
+    /// It is not told of an attempt that is over by another cause, nor where there is no memory for looking or for a copy.
+    pub fn failed(&mut self) -> Option<Error>
+        ensures same { Gathers self.old self.new }
+        ensures failed { IfSome result (λ error. (self.new.over ≡ None) × (self.new.vm.state.phase ≡ Failed error) × (output_of self.new ≡ [])) }
+    {
+        if self.over.is_some() {
+            return None;
+        }
+        match self.gather(1) {
+            Ok(()) if self.front.is_empty() => self.failure(),
             _ => None,
         }
     }

@@ -1,5 +1,5 @@
 // The machine, closed.
-ghost use Rattle.std.specs.Prelude.{◌≡◌, ◌-ℤ◌, pos, IfOk, IfErr};
+ghost use Rattle.std.specs.Prelude.{◌≡◌, ◌-ℤ◌, pos, IfOk, IfErr, option_copied};
 ghost use Rattle.journal_model.specs.Future.{tree_of};
 ghost use Rattle.journal_model.specs.declared.call.Call.{Call};
 ghost use Rattle.vm_feeding.specs.Beginning.{Begins, head_of};
@@ -47,6 +47,18 @@ use vm_types::{
 #[derive(Drop)]
 pub struct CoreVM {
     state: MachineState,
+}
+
+impl CoreVM {
+    /// What it has failed with, if it has: each call is answered that from then on.
+    pub fn failure(&self) -> Option<&Error>
+        ensures { option_copied result ≡ kept_error self.now.state.phase }
+    {
+        match &self.state.phase {
+            Phase::Failed(error) => Some(error),
+            _ => None,
+        }
+    }
 }
 
 // How far a machine has come, as it is shown.
