@@ -12,6 +12,7 @@ use Rattle.store_tables.specs.Looks.{HasWritten}
 use Rattle.store_frames.specs.Read.{IsReadIn}
 use Rattle.store_refusals.specs.declared.refusal.Refusal.{Refusal}
 use Rattle.store_refusals.specs.Refused.{is_circumstance}
+use Rattle.store_refusals.specs.Causes.{TellsCauseToWrite}
 use Rattle.store_arrivals.specs.declared.arrival.PreparedArrival.{PreparedArrival}
 use Rattle.store_arrivals.specs.Arrivals.{IsMadeReady}
 use Rattle.store_live.specs.Attempts.{Attempts}
@@ -27,7 +28,7 @@ pub arrival_recorded : (events : List Event) (event : Event) (id : Text) (old mi
     → Survives old mid P → Asked old mid → Survives mid new Q → HasCleanDisk new
     → (causes_of events event ≡ []) × IsMadeReady events event id made
     → IfOk result (λ place. place ≡ made.place) → OnOk result (HasWritten made.writes.items mid new)
-    → IfErr result (λ why. IsTrue (is_circumstance why)) → OnErr result (Asked mid new) → after ≡ before → Stands events old before.attempts
+    → IfErr result (λ why. IsTrue (is_circumstance why) × TellsCauseToWrite mid new why) → OnErr result (Asked mid new) → after ≡ before → Stands events old before.attempts
     → Does events event (λ place. place ≡ 1 + length (entries_of events id)) result new after.attempts
 arrival_recorded events event id old mid new P Q before after made (Ok place) does plain read earlier asked lives clean ready place_is wrote why undone same stands =
     let store = store_still events old mid P earlier asked stands.kept in
@@ -38,6 +39,6 @@ arrival_recorded events event id old mid new P Q before after made (Ok place) do
     )
 arrival_recorded events event id old mid new P Q before after made (Err why) does plain read earlier asked lives clean ready place_is wrote circumstance undone same stands =
     let store = store_still events old mid P earlier asked stands.kept in (
-      inr circumstance,
+      inr circumstance.0,
       subst (λ (all : Attempts). Stands events new all.attempts) (sym same) (record { kept = store_still events mid new Q lives undone store; live = stands.live }),
     )

@@ -12,6 +12,7 @@ use Rattle.protocol_types.specs.Version.{version_number}
 use Rattle.store_tables.specs.Looks.{HasWritten}
 use Rattle.store_refusals.specs.declared.refusal.Refusal.{Refusal}
 use Rattle.store_refusals.specs.Refused.{is_circumstance}
+use Rattle.store_refusals.specs.Causes.{TellsCauseToWrite}
 use Rattle.store_invocations.specs.declared.attempt.PreparedAttempt.{PreparedAttempt}
 use Rattle.store_invocations.specs.Begun.{IsBegun}
 use Rattle.store_live.specs.Input.{at_begin}
@@ -50,7 +51,7 @@ pub begin_recorded : (events : List Event) (id : Text) (now : ℕ) (old mid new 
     → causes_of events (Event.Begin id now) ≡ those_that_hold ((not (is_some (invocation_begun events id)), UnknownInvocation) ∷ more)
     → Survives old mid P → Asked old mid → Survives mid new Q → HasCleanDisk new → (causes_of events (Event.Begin id now) ≡ []) × IsBegun events id now made
     → IfOk result (IsToldAs made) → OnOk result (HasWritten made.writes.items mid new)
-    → OnOk result (IsNow id (Some (fresh made.number made.version made.known made.arrivals)) attempts left) → IfErr result (λ why. IsTrue (is_circumstance why)) → OnErr result (Asked mid new) → OnErr result (left ≡ attempts)
+    → OnOk result (IsNow id (Some (fresh made.number made.version made.known made.arrivals)) attempts left) → IfErr result (λ why. IsTrue (is_circumstance why) × TellsCauseToWrite mid new why) → OnErr result (Asked mid new) → OnErr result (left ≡ attempts)
     → Stands events old attempts → Does events (Event.Begin id now) (IsBegunAttempt events id now) result new left
 begin_recorded events id now old mid new P Q attempts left made more (Ok told) tests before asked lives clean ready is wrote put why undone same stands =
     let store = store_still events old mid P before asked stands.kept in
@@ -62,7 +63,7 @@ begin_recorded events id now old mid new P Q attempts left made more (Ok told) t
     )
 begin_recorded events id now old mid new P Q attempts left made more (Err why) tests before asked lives clean ready is wrote put circumstance undone same stands =
     let store = store_still events old mid P before asked stands.kept in (
-      inr circumstance,
+      inr circumstance.0,
       record {
         kept = store_still events mid new Q lives undone store;
         live = subst (λ (all : ByInvocation). (one : Text) → Agrees events one (attempt_of all one)) (sym same) stands.live;

@@ -18,4 +18,5 @@ pub mod Accepting
 pub mod Opening
 pub mod Reading
 pub mod Framed
+pub mod Causing
 pub mod Fitting

@@ -276,7 +276,7 @@ module _ {S : Type 0} (g : Ghosts S) (a mid b : Held S) (before after : Attempts
   seen_taken made (Err why) looks wrote prepared replied now same clean s is =
       let store = store_still s.events (state g a) (state g mid) (λ _. ⊥) looks.crash looks.kept is.stands.kept in
       let between : Stands s.events (state g mid) before.attempts = record { kept = store; live = is.stands.live } in
-      let it = item_waits g (stored a before) (stored b after) s is id n one.attempt (message one.seen.message_is) left_of one.found one.seen.first why one.here (inr wrote.why) (not_in_frame why wrote.why)
+      let it = item_waits g (stored a before) (stored b after) s is id n one.attempt (message one.seen.message_is) left_of one.found one.seen.first why one.here (inr wrote.why.0) (not_in_frame why wrote.why.0)
       (stands_still s.events (state g mid) (state g b) (Lands made.writes.items (state g mid)) before.attempts after.attempts wrote.crash wrote.undone same between) same in
       (it.0, it.1, (inr it.2, tt))
 

@@ -4,5 +4,6 @@ pub mod Attempts
 pub mod Taking
 pub mod Writing
 pub mod Accepting
+pub mod Causes
 pub mod Opened
 pub mod Words

@@ -1,5 +1,5 @@
 // All of the frames among bytes that came are taken.
-ghost use Rattle.std.specs.Prelude.{◌≡◌, ◌+◌, [], true, IfErr, IfOk, OnErr, vec_len};
+ghost use Rattle.std.specs.Prelude.{◌≡◌, ◌+◌, [], true, IfErr, IfOk, OnErr, vec_len, IfSome};
 ghost use Rattle.journal_model.specs.Attempt.{is_live};
 ghost use Rattle.store_refusals.specs.declared.refusal.Refusal.TheVariants.{OutOfMemory};
 ghost use Rattle.store_calls.specs.Calls.{PutsBehind};
@@ -7,6 +7,7 @@ ghost use Rattle.store_calls.specs.Frames.{Accepts, AcceptsFirst, TakesFirst, Ta
 ghost use Rattle.journal_store.specs.Accepting.{SettlesFrames, SettlesNext, TakesNext, told};
 ghost use Rattle.journal_store.specs.Stands.{Endures, Leads};
 ghost use Rattle.journal_store.specs.Words.{state, IsKept, attempt_of, has_number};
+ghost use Rattle.journal_store.specs.Causes.{TellsWhy, TellsWhyUnwritten};
 
 use crate::store::Store;
 use bytes::ByteStr;
@@ -34,6 +35,7 @@ fn take_next<S: Alter + Drop>(
     ensures does { Leads S.Store (TakesNext id.now attempt result replies.old.items replies.new.items) store.old store.new }
     ensures settled { SettlesNext S.Store id.now attempt result replies.old.items replies.new.items store.old store.new }
     ensures kept { replies.new.items ≡ replies.old.items → IsKept (state S.Store store.old.connection) (state S.Store store.new.connection) }
+    ensures cause { IfErr result (TellsWhyUnwritten S.Store store.old store.new) }
     ensures crash { Endures S.Store (TakesOne id.now attempt) store.old store.new }
 {
     if replies.reserve(1).is_err() {
@@ -54,6 +56,7 @@ fn take_all<S: Alter + Drop>(store: &mut Store<S>, id: &ByteStr, attempt: u32) -
     ensures does { Leads S.Store (λ s t. is_live s.events id.now attempt ≡ true → TakesFrames id.now attempt result.replies.items result.refusal s t) store.old store.new }
     ensures settled { SettlesFrames S.Store (λ s m. m ≡ s) id.now attempt result.replies.items result.refusal store.old store.new }
     ensures kept { result.replies.items ≡ [] → IsKept (state S.Store store.old.connection) (state S.Store store.new.connection) }
+    ensures cause { IfSome result.refusal (TellsWhyUnwritten S.Store store.old store.new) }
     ensures crash { Endures S.Store (TakesFirst id.now attempt) store.old store.new }
 {
     let mut replies = Vec::new(store.alloc());
@@ -85,6 +88,8 @@ impl<S: Alter + Drop> Store<S> {
         ensures settled { IfOk result (λ accepted. SettlesFrames S.Store (PutsBehind id.now attempt bytes.now) id.now attempt accepted.replies.items accepted.refusal self.old self.new) }
         ensures kept { OnErr result (IsKept (state S.Store self.old.connection) (state S.Store self.new.connection)) }
         ensures kept_unanswered { IfOk result (λ accepted. accepted.replies.items ≡ [] → IsKept (state S.Store self.old.connection) (state S.Store self.new.connection)) }
+        ensures cause { IfErr result (TellsWhy S.Store self.old self.new) }
+        ensures cause_of_frame { IfOk result (λ accepted. IfSome accepted.refusal (TellsWhyUnwritten S.Store self.old self.new)) }
         ensures crash { Endures S.Store (AcceptsFirst id.now attempt bytes.now) self.old self.new }
     {
         match self.feed(id, attempt, bytes) {

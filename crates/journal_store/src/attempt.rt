@@ -11,6 +11,8 @@ ghost use Rattle.journal_store.specs.Attempts.{FitsNext, GivesOneFrame, HasRoomF
 ghost use Rattle.journal_store.specs.Stands.{IsQuiet, KeepsOutputs, Leads, WaitsAfter};
 ghost use Rattle.journal_store.specs.Stored.{stored};
 ghost use Rattle.journal_store.specs.Words.{state, HasCleanDisk, IsKept, attempt_of, has_number};
+ghost use Rattle.store_refusals.specs.Causes.{TellsCause};
+ghost use Rattle.journal_store.specs.Causes.{TellsWhy};
 
 use crate::store::Store;
 use bytes::{ByteStr, Bytes};
@@ -60,6 +62,7 @@ fn frame_wanted<S: Alter>(
     ensures told { HasCleanDisk (state S.Store tables.new) → (events : List Event) → IsStoreOf events (state S.Store tables.old) → FitsNext (attempt_of live.now.attempts id.now)
         → Tells (IsWanted events id.now (attempt_of live.now.attempts id.now)) result }
     ensures looks { Looks S.Store tables.old tables.new }
+    ensures cause { IfErr result (TellsCause (state S.Store tables.old) (state S.Store tables.new)) }
 {
     let Some(one) = live.get(id) else {
         return Ok(None);
@@ -91,6 +94,7 @@ fn read_next<S: Alter>(
     ensures stays { OnErr result (live.new ≡ live.old) }
     ensures waits { KeepsOutputs live.old.attempts live.new.attempts }
     ensures looks { Looks S.Store tables.old tables.new }
+    ensures cause { IfErr result (TellsCause (state S.Store tables.old) (state S.Store tables.new)) }
 {
     let found = frame_wanted(tables, live, id)?;
     put_wanted(live, id, found);
@@ -101,6 +105,7 @@ fn read_next<S: Alter>(
 pub(crate) fn stale_refusal<S: Alter>(tables: &mut StoreTables<S>, id: &ByteStr) -> Refusal
     ensures told { HasCleanDisk (state S.Store tables.new) → (events : List Event) → IsStoreOf events (state S.Store tables.old) → IsStale events id.now result }
     ensures looks { Looks S.Store tables.old tables.new }
+    ensures cause { TellsCause (state S.Store tables.old) (state S.Store tables.new) result }
 {
     match open_row(tables, id) {
         Ok(row) => {
@@ -120,6 +125,7 @@ impl<S: Alter + Drop> Store<S> {
         ensures frame { GivesOneFrame S.Store id.now result self.old self.new }
         ensures waits { KeepsOutputs self.old.live.attempts self.new.live.attempts }
         ensures kept { IsKept (state S.Store self.old.connection) (state S.Store self.new.connection) }
+        ensures cause { IfErr result (TellsWhy S.Store self.old self.new) }
         ensures crash { IsQuiet S.Store self.old self.new }
     {
         if !is_live(&self.live, id, attempt) {
@@ -138,6 +144,7 @@ impl<S: Alter + Drop> Store<S> {
         ensures does { Leads S.Store (ClosesInput id.now attempt result) self.old self.new }
         ensures waits { KeepsOutputs self.old.live.attempts self.new.live.attempts }
         ensures kept { IsKept (state S.Store self.old.connection) (state S.Store self.new.connection) }
+        ensures cause { IfErr result (TellsWhy S.Store self.old self.new) }
         ensures crash { IsQuiet S.Store self.old self.new }
     {
         if !is_live(&self.live, id, attempt) {
@@ -161,6 +168,7 @@ impl<S: Alter + Drop> Store<S> {
         ensures live { has_number attempt (attempt_of self.old.live.attempts id.now) ≡ true → IfErr result (λ why. why ≡ OutOfMemory) }
         ensures asks { has_number attempt (attempt_of self.old.live.attempts id.now) ≡ true → self.new.connection ≡ self.old.connection }
         ensures kept { IsKept (state S.Store self.old.connection) (state S.Store self.new.connection) }
+        ensures cause { IfErr result (TellsWhy S.Store self.old self.new) }
         ensures crash { IsQuiet S.Store self.old self.new }
     {
         if !is_live(&self.live, id, attempt) {
@@ -176,6 +184,7 @@ impl<S: Alter + Drop> Store<S> {
         ensures live { has_number attempt (attempt_of self.old.live.attempts id.now) ≡ true → IfErr result (λ _. ⊥) }
         ensures asks { has_number attempt (attempt_of self.old.live.attempts id.now) ≡ true → self.new.connection ≡ self.old.connection }
         ensures waits { WaitsAfter id.now None result self.old.live.attempts self.new.live.attempts }
+        ensures cause { IfErr result (TellsWhy S.Store self.old self.new) }
         ensures crash { IsQuiet S.Store self.old self.new }
     {
         if !is_live(&self.live, id, attempt) {

@@ -1,9 +1,10 @@
 // Which invocations are due, and when the next sleep ends.
-ghost use Rattle.std.specs.Prelude.{◌≡◌, not, filter, is_some};
+ghost use Rattle.std.specs.Prelude.{◌≡◌, not, filter, is_some, IfErr};
 ghost use Rattle.journal_model.specs.Attempt.{due as due_after};
 ghost use Rattle.due_model.specs.NextMoment.{IsNextMoment};
 ghost use Rattle.journal_store.specs.Stands.{IsQuiet, TellsAlways};
 ghost use Rattle.journal_store.specs.Words.{attempt_of};
+ghost use Rattle.journal_store.specs.Causes.{TellsWhy};
 
 use crate::store::Store;
 use bytes::ByteStr;
@@ -25,6 +26,7 @@ impl<S: Alter + Drop> Store<S> {
     pub fn due(&mut self) -> Result<Vec<ByteStr>, Refusal>
         ensures told { TellsAlways S.Store (λ events ids. ids.items ≡ due_after events) result self.old self.new }
         ensures live { self.new.live ≡ self.old.live }
+        ensures cause { IfErr result (TellsWhy S.Store self.old self.new) }
         ensures crash { IsQuiet S.Store self.old self.new }
     {
         let mut ids = awake_ids(&mut self.tables)?;
@@ -36,6 +38,7 @@ impl<S: Alter + Drop> Store<S> {
     pub fn next_moment(&mut self) -> Result<Option<u64>, Refusal>
         ensures told { TellsAlways S.Store IsNextMoment result self.old self.new }
         ensures live { self.new.live ≡ self.old.live }
+        ensures cause { IfErr result (TellsWhy S.Store self.old self.new) }
         ensures crash { IsQuiet S.Store self.old self.new }
     {
         next_moment(&mut self.tables)

@@ -1,5 +1,5 @@
 // Events that are recorded: each is made ready, and then written in one transaction.
-ghost use Rattle.std.specs.Prelude.{◌≡◌, Some, [], ◌<◌, IfOk, OnErr, OnOk};
+ghost use Rattle.std.specs.Prelude.{◌≡◌, Some, [], ◌<◌, IfOk, OnErr, OnOk, IfErr};
 ghost use Rattle.journal_model.specs.Event.{Event};
 ghost use Rattle.store_live.specs.Attempts.{IsNow};
 ghost use Rattle.store_calls.specs.Standing.{Adds};
@@ -8,6 +8,7 @@ ghost use Rattle.journal_store.specs.Attempts.{BeginsSome, IsToldAs, fresh};
 ghost use Rattle.journal_store.specs.Stands.{EnduresAlways, KeepsOutputs, Leads, Settles, WaitsAfter};
 ghost use Rattle.journal_store.specs.Words.{state, IsKept};
 ghost use Rattle.journal_store.specs.Writing.{Writes};
+ghost use Rattle.journal_store.specs.Causes.{TellsWhyUnwritten};
 
 use crate::store::Store;
 use bytes::ByteStr;
@@ -132,6 +133,7 @@ impl<S: Alter + Drop> Store<S> {
         ensures live { self.new.live ≡ self.old.live }
         ensures settled { OnOk result (Settles S.Store (Invokes new result) self.old self.new) }
         ensures kept { OnErr result (IsKept (state S.Store self.old.connection) (state S.Store self.new.connection)) }
+        ensures cause { IfErr result (TellsWhyUnwritten S.Store self.old self.new) }
         ensures crash { EnduresAlways S.Store (Adds (Event.Invoke new)) self.old self.new }
     {
         let prepared = prepare_invoke(&mut self.tables, &new);
@@ -153,6 +155,7 @@ impl<S: Alter + Drop> Store<S> {
         ensures waits { KeepsOutputs self.old.live.attempts self.new.live.attempts }
         ensures settled { OnOk result (Settles S.Store (Completes id.now completion brought result) self.old self.new) }
         ensures kept { OnErr result (IsKept (state S.Store self.old.connection) (state S.Store self.new.connection)) }
+        ensures cause { IfErr result (TellsWhyUnwritten S.Store self.old self.new) }
         ensures crash { EnduresAlways S.Store (Adds (Event.Complete id.now completion brought)) self.old self.new }
     {
         match prepare_result(&mut self.tables, id, completion, brought) {
@@ -167,6 +170,7 @@ impl<S: Alter + Drop> Store<S> {
         ensures waits { WaitsAfter id.now (Some []) result self.old.live.attempts self.new.live.attempts }
         ensures settled { OnOk result (Settles S.Store (BeginsAttempt id.now now result) self.old self.new) }
         ensures kept { OnErr result (IsKept (state S.Store self.old.connection) (state S.Store self.new.connection)) }
+        ensures cause { IfErr result (TellsWhyUnwritten S.Store self.old self.new) }
         ensures crash { EnduresAlways S.Store (BeginsSome id.now now) self.old self.new }
     {
         match prepare_begin(&mut self.tables, id, now) {

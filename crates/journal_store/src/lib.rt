@@ -8,6 +8,7 @@ mod accept;
 mod attempt;
 mod due;
 mod events;
+mod laws;
 mod open;
 pub mod parts;
 mod read;
@@ -20,6 +21,7 @@ pub use accept::Accepted;
 pub use journal_model::{
     Failure, Header, NewInvocation, NonEmptyValue, NotificationResult, StateMode, TerminalFailure,
 };
+pub use laws::refused_for_memory;
 pub use open::NotOpened;
 pub use store::Store;
 pub use store_arrivals::SignalKey;

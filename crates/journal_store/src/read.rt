@@ -1,11 +1,12 @@
 // What a store tells of an invocation, and of an object.
-ghost use Rattle.std.specs.Prelude.{◌≡◌, map};
+ghost use Rattle.std.specs.Prelude.{◌≡◌, map, IfErr};
 ghost use Rattle.journal_model.specs.Journal.{is_open as is_open_after, object_state};
 ghost use Rattle.store_model.specs.Kept.{state_row};
 ghost use Rattle.store_model.specs.Progress.{last_error_of};
 ghost use Rattle.store_invocations.specs.Told.{entries_told};
 ghost use Rattle.store_invocations.specs.Answered.{answer_told};
 ghost use Rattle.journal_store.specs.Stands.{IsQuiet, TellsAlways, TellsOf};
+ghost use Rattle.journal_store.specs.Causes.{TellsWhy};
 
 use crate::store::Store;
 use bytes::ByteStr;
@@ -20,6 +21,7 @@ impl<S: Alter + Drop> Store<S> {
     pub fn entries(&mut self, id: &ByteStr) -> Result<Vec<RecordedEntry>, Refusal>
         ensures told { TellsOf S.Store id.now (λ events entries. entries.items ≡ entries_told events id.now) result self.old self.new }
         ensures live { self.new.live ≡ self.old.live }
+        ensures cause { IfErr result (TellsWhy S.Store self.old self.new) }
         ensures crash { IsQuiet S.Store self.old self.new }
     {
         entries(&mut self.tables, id)
@@ -30,6 +32,7 @@ impl<S: Alter + Drop> Store<S> {
     pub fn answer(&mut self, id: &ByteStr) -> Result<Option<NonEmptyValue>, Refusal>
         ensures told { TellsOf S.Store id.now (λ events answer. answer ≡ answer_told events id.now) result self.old self.new }
         ensures live { self.new.live ≡ self.old.live }
+        ensures cause { IfErr result (TellsWhy S.Store self.old self.new) }
         ensures crash { IsQuiet S.Store self.old self.new }
     {
         answer(&mut self.tables, id)
@@ -39,6 +42,7 @@ impl<S: Alter + Drop> Store<S> {
     pub fn failure(&mut self, id: &ByteStr) -> Result<Option<LastError>, Refusal>
         ensures told { TellsOf S.Store id.now (λ events error. error ≡ last_error_of events id.now) result self.old self.new }
         ensures live { self.new.live ≡ self.old.live }
+        ensures cause { IfErr result (TellsWhy S.Store self.old self.new) }
         ensures crash { IsQuiet S.Store self.old self.new }
     {
         failure(&mut self.tables, id)
@@ -48,6 +52,7 @@ impl<S: Alter + Drop> Store<S> {
     pub fn is_open(&mut self, id: &ByteStr) -> Result<bool, Refusal>
         ensures told { TellsOf S.Store id.now (λ events answer. answer ≡ is_open_after events id.now) result self.old self.new }
         ensures live { self.new.live ≡ self.old.live }
+        ensures cause { IfErr result (TellsWhy S.Store self.old self.new) }
         ensures crash { IsQuiet S.Store self.old self.new }
     {
         is_open(&mut self.tables, id)
@@ -57,6 +62,7 @@ impl<S: Alter + Drop> Store<S> {
     pub fn state(&mut self, object: &ByteStr) -> Result<Vec<StateRow>, Refusal>
         ensures told { TellsAlways S.Store (λ events states. states.items ≡ map (state_row object.now) (object_state events object.now)) result self.old self.new }
         ensures live { self.new.live ≡ self.old.live }
+        ensures cause { IfErr result (TellsWhy S.Store self.old self.new) }
         ensures crash { IsQuiet S.Store self.old self.new }
     {
         object_states(&mut self.tables, object)

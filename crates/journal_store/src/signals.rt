@@ -1,11 +1,12 @@
 // What comes from outside without a request: signals, and the cancellation.
-ghost use Rattle.std.specs.Prelude.{OnErr, OnOk};
+ghost use Rattle.std.specs.Prelude.{OnErr, OnOk, IfErr};
 ghost use Rattle.journal_model.specs.Event.{Event};
 ghost use Rattle.store_arrivals.specs.Signals.{key_of};
 ghost use Rattle.store_calls.specs.Standing.{Adds};
 ghost use Rattle.store_calls.specs.Calls.{Cancels, Signals};
 ghost use Rattle.journal_store.specs.Stands.{EnduresAlways, KeepsOutputs, Leads, Settles};
 ghost use Rattle.journal_store.specs.Words.{state, IsKept};
+ghost use Rattle.journal_store.specs.Causes.{TellsWhyUnwritten};
 
 use crate::store::Store;
 use bytes::ByteStr;
@@ -26,6 +27,7 @@ impl<S: Alter + Drop> Store<S> {
         ensures waits { KeepsOutputs self.old.live.attempts self.new.live.attempts }
         ensures settled { OnOk result (Settles S.Store (Signals id.now (key_of key) brought result) self.old self.new) }
         ensures kept { OnErr result (IsKept (state S.Store self.old.connection) (state S.Store self.new.connection)) }
+        ensures cause { IfErr result (TellsWhyUnwritten S.Store self.old self.new) }
         ensures crash { EnduresAlways S.Store (Adds (Event.Signal id.now (key_of key) brought)) self.old self.new }
     {
         match prepare_signal(&mut self.tables, id, key, brought) {
@@ -41,6 +43,7 @@ impl<S: Alter + Drop> Store<S> {
         ensures waits { KeepsOutputs self.old.live.attempts self.new.live.attempts }
         ensures settled { OnOk result (Settles S.Store (Cancels id.now result) self.old self.new) }
         ensures kept { OnErr result (IsKept (state S.Store self.old.connection) (state S.Store self.new.connection)) }
+        ensures cause { IfErr result (TellsWhyUnwritten S.Store self.old self.new) }
         ensures crash { EnduresAlways S.Store (Adds (Event.Cancel id.now)) self.old self.new }
     {
         match prepare_cancel(&mut self.tables, id) {

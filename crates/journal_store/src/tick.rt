@@ -1,11 +1,12 @@
 // A tick is recorded: the ends of all sleeps that are due, of all open invocations, in one transaction.
-ghost use Rattle.std.specs.Prelude.{◌≡◌, IfOk, OnErr, OnOk};
+ghost use Rattle.std.specs.Prelude.{◌≡◌, IfOk, OnErr, OnOk, IfErr};
 ghost use Rattle.journal_model.specs.Event.{Event};
 ghost use Rattle.store_calls.specs.Standing.{Adds};
 ghost use Rattle.store_calls.specs.Calls.{Ticks};
 ghost use Rattle.journal_store.specs.Stands.{EnduresAlways, KeepsOutputs, Leads, Settles};
 ghost use Rattle.journal_store.specs.Words.{state, IsKept};
 ghost use Rattle.journal_store.specs.Writing.{Writes};
+ghost use Rattle.journal_store.specs.Causes.{TellsWhyUnwritten};
 
 use crate::events::commit;
 use crate::store::Store;
@@ -36,6 +37,7 @@ impl<S: Alter + Drop> Store<S> {
         ensures waits { KeepsOutputs self.old.live.attempts self.new.live.attempts }
         ensures settled { OnOk result (Settles S.Store (Ticks now result) self.old self.new) }
         ensures kept { OnErr result (IsKept (state S.Store self.old.connection) (state S.Store self.new.connection)) }
+        ensures cause { IfErr result (TellsWhyUnwritten S.Store self.old self.new) }
         ensures crash { EnduresAlways S.Store (Adds (Event.Tick now)) self.old self.new }
     {
         // It does nothing: its contract says that a tick of which nothing is written lasts too.

@@ -1,8 +1,11 @@
 pub mod Answers
+pub mod Causes
 pub mod Cells
 pub mod Making
 pub mod Ordered
+pub mod Own
 pub mod Queries
+pub mod Readable
 pub mod Reading
 pub mod Rows
 pub mod Tables

@@ -56,6 +56,11 @@ shown_open sql params old new rows h = by_form h.0.returning h.2
     by_form None it = it.3.0.was_open
     by_form (Some what) it = it.1.shown.was_open
 
+-- inside a transaction it is not too late
+pub asked_or_late : (sql : List ℕ) (params : Row) (old new : State) (e : Error) → old.in_transaction ≡ true → FailsToQuery sql params old new e ⊎ IsTooLate sql params old new e → FailsToQuery sql params old new e
+asked_or_late sql params old new e inside (inl h) = h
+asked_or_late sql params old new e inside (inr h) = let clash : true ≡ false = sym inside ∙ h.3 in absurd cc
+
 -- ---- changes
 
 pub went_inside : {A E : Type 0} (b : Bool) (r : Result A E) (x : A) (e : E) (X : Type 0) → r ≡ Ok x → (b ≡ false → (r ≡ Err e) × X) → IsTrue b

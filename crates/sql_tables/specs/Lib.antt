@@ -1,4 +1,5 @@
 pub mod Asking
+pub mod Causes
 pub mod Cells
 pub mod Changes
 pub mod Columns

@@ -23,73 +23,96 @@ pub enum ReadError {
     OutOfMemory,
 }
 
-impl From<AllocError> for ReadError {
+/// Why a row cannot be read.
+#[derive(Clone, Copy, Debug, PartialEq, Eq)]
+pub enum RowError {
+    /// It is no record's.
+    Foreign,
+    /// There is no memory for the record.
+    OutOfMemory,
+}
+
+impl From<AllocError> for RowError {
     ghost use Rattle.std.specs.Prelude.{◌≡◌};
-    ghost use Rattle.sql_tables.specs.declared.read.ReadError.TheVariants.{OutOfMemory};
+    ghost use Rattle.sql_tables.specs.declared.read.RowError.TheVariants.{OutOfMemory};
 
     ghost from_gives = { λ _ e. e ≡ OutOfMemory };
 
-    fn from(_: AllocError) -> ReadError {
-        ReadError::OutOfMemory
+    fn from(_: AllocError) -> RowError {
+        RowError::OutOfMemory
+    }
+}
+
+impl From<RowError> for ReadError {
+    ghost use Rattle.std.specs.Prelude.{◌≡◌};
+    ghost use Rattle.sql_tables.specs.Reading.{read_error};
+
+    ghost from_gives = { λ row e. e ≡ read_error row };
+
+    fn from(error: RowError) -> ReadError {
+        match error {
+            RowError::Foreign => ReadError::Foreign,
+            RowError::OutOfMemory => ReadError::OutOfMemory,
+        }
     }
 }
 
 /// A text of SQL that is UTF-8.
-pub fn text_at(alloc: Global, row: &Row, at: usize) -> Result<ByteStr, ReadError>
+pub fn text_at(alloc: Global, row: &Row, at: usize) -> Result<ByteStr, RowError>
     ensures ok { IfOk result (IsCell Words IsUtf8 row.now at) }
-    ensures foreign { IfErr result (λ e. e ≡ ReadError.Foreign → IsForeign Words IsUtf8 row.now at) }
+    ensures foreign { IfErr result (λ e. e ≡ RowError.Foreign → IsForeign Words IsUtf8 row.now at) }
 {
     match row.get_ref(at) {
         Ok(ValueRef::Text(bytes)) => match std::str::from_utf8(bytes) {
             Ok(text) => Ok(ByteStr::copy_from_str(alloc, text)?),
-            Err(_) => Err(ReadError::Foreign),
+            Err(_) => Err(RowError::Foreign),
         },
-        _ => Err(ReadError::Foreign),
+        _ => Err(RowError::Foreign),
     }
 }
 
 /// A blob of SQL.
-pub fn blob_at(alloc: Global, row: &Row, at: usize) -> Result<Bytes, ReadError>
+pub fn blob_at(alloc: Global, row: &Row, at: usize) -> Result<Bytes, RowError>
     ensures ok { IfOk result (IsCell Blob (λ _. ⊤) row.now at) }
-    ensures foreign { IfErr result (λ e. e ≡ ReadError.Foreign → IsForeign Blob (λ _. ⊤) row.now at) }
+    ensures foreign { IfErr result (λ e. e ≡ RowError.Foreign → IsForeign Blob (λ _. ⊤) row.now at) }
 {
     match row.get_ref(at) {
         Ok(ValueRef::Blob(bytes)) => Ok(Bytes::copy_from_slice(alloc, bytes)?),
-        _ => Err(ReadError::Foreign),
+        _ => Err(RowError::Foreign),
     }
 }
 
 /// An integer of SQL that 32 bits hold.
-pub fn short_at(row: &Row, at: usize) -> Result<u32, ReadError>
+pub fn short_at(row: &Row, at: usize) -> Result<u32, RowError>
     ensures ok { IfOk result (IsCell short_cell IsShort row.now at) }
-    ensures foreign { IfErr result (λ e. e ≡ ReadError.Foreign → IsForeign short_cell IsShort row.now at) }
+    ensures foreign { IfErr result (λ e. e ≡ RowError.Foreign → IsForeign short_cell IsShort row.now at) }
 {
     match row.get_ref(at) {
-        Ok(ValueRef::Int(n)) => u32::try_from(n).map_err(|_| ReadError::Foreign),
-        _ => Err(ReadError::Foreign),
+        Ok(ValueRef::Int(n)) => u32::try_from(n).map_err(|_| RowError::Foreign),
+        _ => Err(RowError::Foreign),
     }
 }
 
 /// 64 bits that were written as an integer of SQL, with its sign.
-pub fn long_at(row: &Row, at: usize) -> Result<u64, ReadError>
+pub fn long_at(row: &Row, at: usize) -> Result<u64, RowError>
     ensures ok { IfOk result (IsCell long_cell IsLong row.now at) }
-    ensures foreign { IfErr result (λ e. e ≡ ReadError.Foreign → IsForeign long_cell IsLong row.now at) }
+    ensures foreign { IfErr result (λ e. e ≡ RowError.Foreign → IsForeign long_cell IsLong row.now at) }
 {
     match row.get_ref(at) {
         Ok(ValueRef::Int(n)) => Ok(n.cast_unsigned()),
-        _ => Err(ReadError::Foreign),
+        _ => Err(RowError::Foreign),
     }
 }
 
 /// Whether something holds: an integer of SQL that is 1 or 0.
-pub fn flag_at(row: &Row, at: usize) -> Result<bool, ReadError>
+pub fn flag_at(row: &Row, at: usize) -> Result<bool, RowError>
     ensures ok { IfOk result (IsCell flag_cell (λ _. ⊤) row.now at) }
-    ensures foreign { IfErr result (λ e. e ≡ ReadError.Foreign → IsForeign flag_cell (λ _. ⊤) row.now at) }
+    ensures foreign { IfErr result (λ e. e ≡ RowError.Foreign → IsForeign flag_cell (λ _. ⊤) row.now at) }
 {
     match row.get_ref(at) {
         Ok(ValueRef::Int(0)) => Ok(false),
         Ok(ValueRef::Int(1)) => Ok(true),
-        _ => Err(ReadError::Foreign),
+        _ => Err(RowError::Foreign),
     }
 }
 
@@ -100,9 +123,9 @@ fn is_null_at(row: &Row, at: usize) -> bool
 }
 
 /// A text, or none for NULL.
-pub fn text_or_none_at(alloc: Global, row: &Row, at: usize) -> Result<Option<ByteStr>, ReadError>
+pub fn text_or_none_at(alloc: Global, row: &Row, at: usize) -> Result<Option<ByteStr>, RowError>
     ensures ok { IfOk result (IsCell (or_null Words) (λ o. IfSome o IsUtf8) row.now at) }
-    ensures foreign { IfErr result (λ e. e ≡ ReadError.Foreign → IsForeign (or_null Words) (λ o. IfSome o IsUtf8) row.now at) }
+    ensures foreign { IfErr result (λ e. e ≡ RowError.Foreign → IsForeign (or_null Words) (λ o. IfSome o IsUtf8) row.now at) }
 {
     if is_null_at(row, at) {
         return Ok(None);
@@ -111,9 +134,9 @@ pub fn text_or_none_at(alloc: Global, row: &Row, at: usize) -> Result<Option<Byt
 }
 
 /// Bytes, or none for NULL.
-pub fn blob_or_none_at(alloc: Global, row: &Row, at: usize) -> Result<Option<Bytes>, ReadError>
+pub fn blob_or_none_at(alloc: Global, row: &Row, at: usize) -> Result<Option<Bytes>, RowError>
     ensures ok { IfOk result (IsCell (or_null Blob) (λ o. IfSome o (λ _. ⊤)) row.now at) }
-    ensures foreign { IfErr result (λ e. e ≡ ReadError.Foreign → IsForeign (or_null Blob) (λ o. IfSome o (λ _. ⊤)) row.now at) }
+    ensures foreign { IfErr result (λ e. e ≡ RowError.Foreign → IsForeign (or_null Blob) (λ o. IfSome o (λ _. ⊤)) row.now at) }
 {
     if is_null_at(row, at) {
         return Ok(None);
@@ -122,9 +145,9 @@ pub fn blob_or_none_at(alloc: Global, row: &Row, at: usize) -> Result<Option<Byt
 }
 
 /// 32 bits, or none for NULL.
-pub fn short_or_none_at(row: &Row, at: usize) -> Result<Option<u32>, ReadError>
+pub fn short_or_none_at(row: &Row, at: usize) -> Result<Option<u32>, RowError>
     ensures ok { IfOk result (IsCell (or_null short_cell) (λ o. IfSome o IsShort) row.now at) }
-    ensures foreign { IfErr result (λ e. e ≡ ReadError.Foreign → IsForeign (or_null short_cell) (λ o. IfSome o IsShort) row.now at) }
+    ensures foreign { IfErr result (λ e. e ≡ RowError.Foreign → IsForeign (or_null short_cell) (λ o. IfSome o IsShort) row.now at) }
 {
     if is_null_at(row, at) {
         return Ok(None);
@@ -133,9 +156,9 @@ pub fn short_or_none_at(row: &Row, at: usize) -> Result<Option<u32>, ReadError>
 }
 
 /// 64 bits, or none for NULL.
-pub fn long_or_none_at(row: &Row, at: usize) -> Result<Option<u64>, ReadError>
+pub fn long_or_none_at(row: &Row, at: usize) -> Result<Option<u64>, RowError>
     ensures ok { IfOk result (IsCell (or_null long_cell) (λ o. IfSome o IsLong) row.now at) }
-    ensures foreign { IfErr result (λ e. e ≡ ReadError.Foreign → IsForeign (or_null long_cell) (λ o. IfSome o IsLong) row.now at) }
+    ensures foreign { IfErr result (λ e. e ≡ RowError.Foreign → IsForeign (or_null long_cell) (λ o. IfSome o IsLong) row.now at) }
 {
     if is_null_at(row, at) {
         return Ok(None);

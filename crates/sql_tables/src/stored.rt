@@ -4,13 +4,15 @@ ghost use Rattle.std.specs.Prelude.{◌≡◌, ◌≢◌, false, List, Option, m
 ghost use Rattle.std.specs.List.{AllByRecursion};
 ghost use Rattle.std.specs.Option.{option_to_list};
 ghost use Rattle.sqlite.specs.Held.{state};
+ghost use Rattle.sqlite.specs.Schema.{Schema};
 ghost use Rattle.sqlite.specs.State.{HasCleanDisk, Survives};
 ghost use Rattle.sqlite.specs.Values.{bound};
 ghost use Rattle.sqlite_value.specs.Order.{Row as Cells};
 ghost use Rattle.sql_tables.specs.Asking.{IsAnswer, IsKept, IsOther};
+ghost use Rattle.sql_tables.specs.Causes.{IsReadable, TellsReadCause};
 
 use crate::query::rows_by;
-use crate::read::ReadError;
+use crate::read::{ReadError, RowError};
 use sqlite::types::ValueRef;
 use sqlite::{Alter, Connection, Row};
 use std::alloc::{AllocError, Global};
@@ -22,25 +24,25 @@ pub trait Stored: Drop + Sized {
 
     ghost fits: { Self → Type 0 };
 
-    fn from_row(alloc: Global, row: &Row) -> Result<Self, ReadError>
+    fn from_row(alloc: Global, row: &Row) -> Result<Self, RowError>
         ensures ok { IfOk result (λ x. (cells x ≡ row.now) × fits x) }
-        ensures foreign { IfErr result (λ e. e ≡ ReadError.Foreign → (x : Self) → fits x → cells x ≢ row.now) };
+        ensures foreign { IfErr result (λ e. e ≡ RowError.Foreign → (x : Self) → fits x → cells x ≢ row.now) };
 }
 
-fn one_of<R: Stored>(alloc: Global, rows: &[Row]) -> Result<Option<R>, ReadError>
+fn one_of<R: Stored>(alloc: Global, rows: &[Row]) -> Result<Option<R>, RowError>
     ensures ok { IfOk result (λ o. (map R.Stored.cells (option_to_list o) ≡ rows.now) × IfSome o R.Stored.fits) }
-    ensures foreign { IfErr result (λ e. e ≡ ReadError.Foreign → (o : Option R) → IfSome o R.Stored.fits → map R.Stored.cells (option_to_list o) ≢ rows.now) }
+    ensures foreign { IfErr result (λ e. e ≡ RowError.Foreign → (o : Option R) → IfSome o R.Stored.fits → map R.Stored.cells (option_to_list o) ≢ rows.now) }
 {
     match rows {
         [] => Ok(None),
         [row] => Ok(Some(R::from_row(alloc, row)?)),
-        _ => Err(ReadError::Foreign),
+        _ => Err(RowError::Foreign),
     }
 }
 
-fn all_of<R: Stored>(alloc: Global, rows: &[Row]) -> Result<Vec<R>, ReadError>
+fn all_of<R: Stored>(alloc: Global, rows: &[Row]) -> Result<Vec<R>, RowError>
     ensures ok { IfOk result (λ xs. (map R.Stored.cells xs.items ≡ rows.now) × AllByRecursion R.Stored.fits xs.items) }
-    ensures foreign { IfErr result (λ e. e ≡ ReadError.Foreign → (xs : List R) → AllByRecursion R.Stored.fits xs → map R.Stored.cells xs ≢ rows.now) }
+    ensures foreign { IfErr result (λ e. e ≡ RowError.Foreign → (xs : List R) → AllByRecursion R.Stored.fits xs → map R.Stored.cells xs ≢ rows.now) }
 {
     let mut records = Vec::new(alloc);
     for row in rows {
@@ -62,12 +64,14 @@ pub fn one_by<R: Stored, S: Alter>(
     requires { (state S.Store conn.old).in_transaction ≡ false }
     ensures answers { HasCleanDisk (state S.Store conn.new) → IfOk result (λ o. IsTrue (state S.Store conn.old).is_open × IsAnswer sql.now (bound params.now) (state S.Store conn.old) (map R.Stored.cells (option_to_list o)) × IfSome o R.Stored.fits) }
     ensures foreign { HasCleanDisk (state S.Store conn.new) → IfErr result (λ e. e ≡ ReadError.Foreign → IsTrue (state S.Store conn.old).is_open × IsOther sql.now (bound params.now) (state S.Store conn.old) (λ rows. (o : Option R) × IfSome o R.Stored.fits × (map R.Stored.cells (option_to_list o) ≡ rows))) }
+    ensures cause { (schema : Schema) → (IsTrue (state S.Store conn.old).is_open → (state S.Store conn.old).now.schema ≡ schema) → IsReadable schema sql.now (bound params.now) → IfErr result (TellsReadCause (state S.Store conn.old) (state S.Store conn.new)) }
     ensures kept { IsKept (state S.Store conn.old) (state S.Store conn.new) }
     ensures idle { (state S.Store conn.new).in_transaction ≡ false }
     ensures crash { Survives (state S.Store conn.old) (state S.Store conn.new) (λ _. ⊥) }
 {
     let rows = rows_by(conn, sql, params)?;
-    one_of(alloc, rows.as_slice())
+    let found = one_of(alloc, rows.as_slice())?;
+    Ok(found)
 }
 
 /// The records that a statement asks for.
@@ -80,10 +84,12 @@ pub fn all_by<R: Stored, S: Alter>(
     requires { (state S.Store conn.old).in_transaction ≡ false }
     ensures answers { HasCleanDisk (state S.Store conn.new) → IfOk result (λ xs. IsTrue (state S.Store conn.old).is_open × IsAnswer sql.now (bound params.now) (state S.Store conn.old) (map R.Stored.cells xs.items) × AllByRecursion R.Stored.fits xs.items) }
     ensures foreign { HasCleanDisk (state S.Store conn.new) → IfErr result (λ e. e ≡ ReadError.Foreign → IsTrue (state S.Store conn.old).is_open × IsOther sql.now (bound params.now) (state S.Store conn.old) (λ rows. (xs : List R) × AllByRecursion R.Stored.fits xs × (map R.Stored.cells xs ≡ rows))) }
+    ensures cause { (schema : Schema) → (IsTrue (state S.Store conn.old).is_open → (state S.Store conn.old).now.schema ≡ schema) → IsReadable schema sql.now (bound params.now) → IfErr result (TellsReadCause (state S.Store conn.old) (state S.Store conn.new)) }
     ensures kept { IsKept (state S.Store conn.old) (state S.Store conn.new) }
     ensures idle { (state S.Store conn.new).in_transaction ≡ false }
     ensures crash { Survives (state S.Store conn.old) (state S.Store conn.new) (λ _. ⊥) }
 {
     let rows = rows_by(conn, sql, params)?;
-    all_of(alloc, rows.as_slice())
+    let found = all_of(alloc, rows.as_slice())?;
+    Ok(found)
 }

@@ -19,3 +19,4 @@ pub mod HeardRows
 pub mod Lists
 pub mod Suspended
 pub mod Waking
+pub mod Unasked

@@ -1,10 +1,11 @@
 //! What the arrival of a notification makes ready, of an open invocation.
 
-ghost use Rattle.std.specs.Prelude.{◌≡◌, ◌+◌, ◌<◌, ◌^◌, ◌∷◌, [], IfOk};
+ghost use Rattle.std.specs.Prelude.{◌≡◌, ◌+◌, ◌<◌, ◌^◌, ◌∷◌, [], IfErr, IfOk};
 ghost use Rattle.journal_model.specs.Spelling.{notification_payload};
 ghost use Rattle.store_tables.specs.declared.row.Write.{Write as RowWrite};
 ghost use Rattle.store_model.specs.Kept.{answered_by};
 ghost use Rattle.store_model.specs.Steps.{grown};
+ghost use Rattle.store_refusals.specs.Causes.{IsUnasked};
 ghost use Rattle.store_invocations.specs.Rows.{Decides, payload_tests};
 ghost use Rattle.store_arrivals.specs.Arrivals.{HasFewArrivals, IsArrival, IsWritten, arrival_tests, entry_of_arrival};
 
@@ -35,7 +36,8 @@ fn answered_id(id: &NotificationId) -> Option<u32>
 
 /// The payload of an arrival, if its length fits 32 bits.
 fn arrival_payload(alloc: Global, arrival: Notification) -> Result<Bytes, Refusal>
-    ensures { Decides (payload_tests (notification_payload arrival)) (λ payload. payload ≡ notification_payload arrival) result }
+    ensures decided { Decides (payload_tests (notification_payload arrival)) (λ payload. payload ≡ notification_payload arrival) result }
+    ensures unasked { IfErr result IsUnasked }
 {
     let payload = payload_of(alloc, arrival)?;
     if payload.len() > u32::MAX as usize {
@@ -142,7 +144,8 @@ fn arrival_in(
     arrival: Notification,
 ) -> Result<PreparedArrival, Refusal>
     requires { row.progress.entries + 1 < 2 ^ 32 }
-    ensures { Decides (payload_tests (notification_payload arrival)) (IsArrival row ty arrival) result }
+    ensures decided { Decides (payload_tests (notification_payload arrival)) (IsArrival row ty arrival) result }
+    ensures unasked { IfErr result IsUnasked }
 {
     let answered = answered_id(&arrival.id);
     match arrival_payload(alloc, arrival) {
@@ -165,7 +168,8 @@ pub fn prepare_arrival(
     ty: MessageType,
     arrival: Notification,
 ) -> Result<PreparedArrival, Refusal>
-    ensures { Decides (arrival_tests row arrival) (IsArrival row ty arrival) result }
+    ensures decided { Decides (arrival_tests row arrival) (IsArrival row ty arrival) result }
+    ensures unasked { IfErr result IsUnasked }
 {
     let has_room = row.progress.entries < u32::MAX;
     if has_room {

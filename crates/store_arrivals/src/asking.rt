@@ -1,6 +1,6 @@
 //! Which request waits for a completion, and what it may be given from outside.
 
-ghost use Rattle.std.specs.Prelude.{◌≡◌, not, List, option_and_then, option_map};
+ghost use Rattle.std.specs.Prelude.{◌≡◌, not, List, option_and_then, option_map, IfErr};
 ghost use Rattle.sqlite.specs.Held.{state};
 ghost use Rattle.sqlite.specs.State.{HasCleanDisk};
 ghost use Rattle.journal_model.specs.Event.{Event};
@@ -10,6 +10,7 @@ ghost use Rattle.store_tables.specs.Looks.{Looks};
 ghost use Rattle.store_refusals.specs.Prepared.{Tells};
 ghost use Rattle.store_invocations.specs.Rows.{IsStoreOf};
 ghost use Rattle.store_arrivals.specs.Asked.{as_second, asked_by, completion_for, first_type as the_first_type, is_run_command, second_type as the_second_type, type_for};
+ghost use Rattle.store_refusals.specs.Causes.{TellsCause};
 
 use bytes::ByteStr;
 use journal_model::NotificationResult;
@@ -57,6 +58,7 @@ fn has_come<S: Alter>(
 ) -> Result<bool, Refusal>
     ensures told { HasCleanDisk (state S.Store tables.new) → (events : List Event) → IsStoreOf events (state S.Store tables.old) → Tells (λ come. come ≡ not (is_awaited (entries_of events id.now) completion)) result }
     ensures looks { Looks S.Store tables.old tables.new }
+    ensures cause { IfErr result (TellsCause (state S.Store tables.old) (state S.Store tables.new)) }
 {
     let row = entry_by_answered(tables, id, completion)?;
     let come = row.is_some();
@@ -72,6 +74,7 @@ fn first_type<S: Alter>(
 ) -> Result<Option<MessageType>, Refusal>
     ensures told { HasCleanDisk (state S.Store tables.new) → (events : List Event) → IsStoreOf events (state S.Store tables.old) → Tells (λ ty. ty ≡ option_and_then (the_first_type completion) (request_asking (entries_of events id.now) completion)) result }
     ensures looks { Looks S.Store tables.old tables.new }
+    ensures cause { IfErr result (TellsCause (state S.Store tables.old) (state S.Store tables.new)) }
 {
     let row = entry_by_completion(tables, id, completion)?;
     let ty = type_of(&row);
@@ -87,6 +90,7 @@ fn second_type<S: Alter>(
 ) -> Result<Option<MessageType>, Refusal>
     ensures told { HasCleanDisk (state S.Store tables.new) → (events : List Event) → IsStoreOf events (state S.Store tables.old) → Tells (λ ty. ty ≡ option_and_then (the_second_type completion) (request_asking (entries_of events id.now) completion)) result }
     ensures looks { Looks S.Store tables.old tables.new }
+    ensures cause { IfErr result (TellsCause (state S.Store tables.old) (state S.Store tables.new)) }
 {
     let row = entry_by_second_completion(tables, id, completion)?;
     let ty = type_of(&row);
@@ -102,6 +106,7 @@ fn request_of<S: Alter>(
 ) -> Result<Option<AskedCompletion>, Refusal>
     ensures told { HasCleanDisk (state S.Store tables.new) → (events : List Event) → IsStoreOf events (state S.Store tables.old) → Tells (λ asked. asked ≡ option_map (asked_by completion) (request_asking (entries_of events id.now) completion)) result }
     ensures looks { Looks S.Store tables.old tables.new }
+    ensures cause { IfErr result (TellsCause (state S.Store tables.old) (state S.Store tables.new)) }
 {
     let first = first_type(tables, id, completion)?;
     match first {
@@ -124,6 +129,7 @@ pub(crate) fn open_request_of<S: Alter>(
 ) -> Result<Option<AskedCompletion>, Refusal>
     ensures told { HasCleanDisk (state S.Store tables.new) → (events : List Event) → IsStoreOf events (state S.Store tables.old) → Tells (λ asked. asked ≡ option_map (asked_by completion) (open_request (entries_of events id.now) completion)) result }
     ensures looks { Looks S.Store tables.old tables.new }
+    ensures cause { IfErr result (TellsCause (state S.Store tables.old) (state S.Store tables.new)) }
 {
     let come = has_come(tables, id, completion)?;
     if come {

@@ -1,8 +1,9 @@
 //! The ends of the sleeps of one invocation: their entries, and how far the invocation is then.
 
-ghost use Rattle.std.specs.Prelude.{◌≡◌, ◌+◌, ◌<◌, ◌≤◌, ◌^◌, ◌++◌, ◌∷◌, [], true, false, length, map, IfOk, OnOk};
+ghost use Rattle.std.specs.Prelude.{◌≡◌, ◌+◌, ◌<◌, ◌≤◌, ◌^◌, ◌++◌, ◌∷◌, [], true, false, length, map, IfErr, IfOk, OnOk};
 ghost use Rattle.store_tables.specs.declared.row.Write.{Write as RowWrite};
 ghost use Rattle.store_model.specs.Steps.{grown};
+ghost use Rattle.store_refusals.specs.Causes.{IsUnasked};
 ghost use Rattle.store_invocations.specs.Rows.{Decides};
 ghost use Rattle.store_arrivals.specs.Arrivals.{HasFewArrivals};
 ghost use Rattle.store_arrivals.specs.Ended.{end_row, end_rows};
@@ -132,7 +133,8 @@ pub(crate) fn end_sleeps(
     completions: &[u32],
     writes: &mut Vec<Write>,
 ) -> Result<(), Refusal>
-    ensures { Decides (room_tests row.progress.entries (length completions.now)) (λ _. AreEndsOf row completions.now writes.old.items writes.new.items) result }
+    ensures decided { Decides (room_tests row.progress.entries (length completions.now)) (λ _. AreEndsOf row completions.now writes.old.items writes.new.items) result }
+    ensures unasked { IfErr result IsUnasked }
 {
     let InvocationRow {
         id: own,

@@ -1,6 +1,6 @@
 //! What the outcome of a run makes ready.
 
-ghost use Rattle.std.specs.Prelude.{◌≡◌, List};
+ghost use Rattle.std.specs.Prelude.{◌≡◌, List, IfErr};
 ghost use Rattle.sqlite.specs.Held.{state};
 ghost use Rattle.sqlite.specs.State.{HasCleanDisk};
 ghost use Rattle.journal_model.specs.Event.{Event};
@@ -10,6 +10,7 @@ ghost use Rattle.store_tables.specs.Looks.{Looks};
 ghost use Rattle.store_refusals.specs.Prepared.{Tells};
 ghost use Rattle.store_invocations.specs.Rows.{IsRowOf, IsStoreOf};
 ghost use Rattle.store_arrivals.specs.Arrivals.{DecidesOutcome};
+ghost use Rattle.store_refusals.specs.Causes.{TellsCause};
 
 use crate::arrival::{PreparedArrival, prepare_arrival};
 use crate::asking::open_request_of;
@@ -29,6 +30,7 @@ fn is_run_open<S: Alter>(
 ) -> Result<bool, Refusal>
     ensures told { HasCleanDisk (state S.Store tables.new) → (events : List Event) → IsStoreOf events (state S.Store tables.old) → Tells (λ is_open. is_open ≡ is_run (open_request (entries_of events id.now) completion)) result }
     ensures looks { Looks S.Store tables.old tables.new }
+    ensures cause { IfErr result (TellsCause (state S.Store tables.old) (state S.Store tables.new)) }
 {
     let open = open_request_of(tables, id, completion)?;
     match open {
@@ -48,6 +50,7 @@ pub fn prepare_outcome<S: Alter>(
 ) -> Result<PreparedArrival, Refusal>
     ensures decided { HasCleanDisk (state S.Store tables.new) → (events : List Event) → IsStoreOf events (state S.Store tables.old) → IsRowOf events id.now row → DecidesOutcome events id.now completion brought result }
     ensures looks { Looks S.Store tables.old tables.new }
+    ensures cause { IfErr result (TellsCause (state S.Store tables.old) (state S.Store tables.new)) }
 {
     match is_run_open(tables, id, completion) {
         Ok(true) => prepare_arrival(

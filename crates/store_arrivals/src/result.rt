@@ -1,6 +1,6 @@
 //! What the result of a request makes ready.
 
-ghost use Rattle.std.specs.Prelude.{◌≡◌, List};
+ghost use Rattle.std.specs.Prelude.{◌≡◌, List, IfErr};
 ghost use Rattle.sqlite.specs.Held.{state};
 ghost use Rattle.sqlite.specs.State.{HasCleanDisk};
 ghost use Rattle.journal_model.specs.declared.notification.NotificationId.TheVariants.{CompletionId as ModelId};
@@ -13,6 +13,7 @@ ghost use Rattle.store_refusals.specs.Prepared.{Prepares};
 ghost use Rattle.store_invocations.specs.Rows.{Decides, IsOpenRow, IsStoreOf};
 ghost use Rattle.store_arrivals.specs.Arrivals.{IsMadeReady};
 ghost use Rattle.store_arrivals.specs.Asked.{completion_tests};
+ghost use Rattle.store_refusals.specs.Causes.{TellsCause};
 
 use crate::arrival::PreparedArrival;
 use crate::asking::open_request_of;
@@ -36,6 +37,7 @@ fn type_of_result<S: Alter>(
     ensures decided { HasCleanDisk (state S.Store tables.new) → (events : List Event) → IsStoreOf events (state S.Store tables.old)
         → Decides (completion_tests events id.now completion brought.now) (λ ty. ty ≡ notification_type (entries_of events id.now) (ModelId completion)) result }
     ensures looks { Looks S.Store tables.old tables.new }
+    ensures cause { IfErr result (TellsCause (state S.Store tables.old) (state S.Store tables.new)) }
 {
     let open = open_request_of(tables, id, completion)?;
     match open {
@@ -55,6 +57,7 @@ fn prepare_for<S: Alter>(
     ensures decided { HasCleanDisk (state S.Store tables.new) → (events : List Event) → IsStoreOf events (state S.Store tables.old) → IsOpenRow events id.now row
         → Decides (own_tests events (Event.Complete id.now completion brought)) (IsMadeReady events (Event.Complete id.now completion brought) id.now) result }
     ensures looks { Looks S.Store tables.old tables.new }
+    ensures cause { IfErr result (TellsCause (state S.Store tables.old) (state S.Store tables.new)) }
 {
     match type_of_result(tables, id, completion, &brought) {
         Ok(ty) => prepare_woken(
@@ -84,6 +87,7 @@ pub fn prepare_result<S: Alter>(
     ensures prepared { HasCleanDisk (state S.Store tables.new) → (events : List Event) → IsStoreOf events (state S.Store tables.old)
         → Prepares events (Event.Complete id.now completion brought) (IsMadeReady events (Event.Complete id.now completion brought) id.now) result }
     ensures looks { Looks S.Store tables.old tables.new }
+    ensures cause { IfErr result (TellsCause (state S.Store tables.old) (state S.Store tables.new)) }
 {
     match open_row(tables, id) {
         Ok(row) => prepare_for(tables, row, id, completion, brought),

@@ -1,6 +1,6 @@
 //! What a signal makes ready, and a cancellation.
 
-ghost use Rattle.std.specs.Prelude.{◌≡◌, List};
+ghost use Rattle.std.specs.Prelude.{◌≡◌, List, IfErr};
 ghost use Rattle.sqlite.specs.Held.{state};
 ghost use Rattle.sqlite.specs.State.{HasCleanDisk};
 ghost use Rattle.journal_model.specs.Notification.{Text};
@@ -14,6 +14,7 @@ ghost use Rattle.store_refusals.specs.Refused.{refusal_by};
 ghost use Rattle.store_invocations.specs.Rows.{Decides, IsOpenRow, IsStoreOf};
 ghost use Rattle.store_arrivals.specs.Arrivals.{IsMadeReady};
 ghost use Rattle.store_arrivals.specs.Signals.{key_of, signal_tests};
+ghost use Rattle.store_refusals.specs.Causes.{TellsCause};
 
 use crate::arrival::PreparedArrival;
 use crate::woken::prepare_woken;
@@ -97,6 +98,7 @@ fn signal_for<S: Alter>(
     ensures decided { HasCleanDisk (state S.Store tables.new) → (events : List Event) (id : Text) → IsStoreOf events (state S.Store tables.old) → IsOpenRow events id row
         → Decides (own_tests events (Event.Signal id (key_of key) brought)) (IsMadeReady events (Event.Signal id (key_of key) brought) id) result }
     ensures looks { Looks S.Store tables.old tables.new }
+    ensures cause { IfErr result (TellsCause (state S.Store tables.old) (state S.Store tables.new)) }
 {
     match signal_refusal(&key, &brought) {
         Some(why) => {
@@ -125,6 +127,7 @@ fn cancel_for<S: Alter>(
     ensures decided { HasCleanDisk (state S.Store tables.new) → (events : List Event) (id : Text) → IsStoreOf events (state S.Store tables.old) → IsOpenRow events id row
         → Decides (own_tests events (Event.Cancel id)) (IsMadeReady events (Event.Cancel id) id) result }
     ensures looks { Looks S.Store tables.old tables.new }
+    ensures cause { IfErr result (TellsCause (state S.Store tables.old) (state S.Store tables.new)) }
 {
     prepare_woken(
         tables,
@@ -148,6 +151,7 @@ pub fn prepare_signal<S: Alter>(
         → Prepares events (Event.Signal id.now (key_of key) brought) (IsMadeReady events (Event.Signal id.now (key_of key) brought) id.now) result }
     ensures fits { SignalKeyFits (key_of key) }
     ensures looks { Looks S.Store tables.old tables.new }
+    ensures cause { IfErr result (TellsCause (state S.Store tables.old) (state S.Store tables.new)) }
 {
     note_number(&key);
     match open_row(tables, id) {
@@ -168,6 +172,7 @@ pub fn prepare_cancel<S: Alter>(
     ensures prepared { HasCleanDisk (state S.Store tables.new) → (events : List Event) → IsStoreOf events (state S.Store tables.old)
         → Prepares events (Event.Cancel id.now) (IsMadeReady events (Event.Cancel id.now) id.now) result }
     ensures looks { Looks S.Store tables.old tables.new }
+    ensures cause { IfErr result (TellsCause (state S.Store tables.old) (state S.Store tables.new)) }
 {
     match open_row(tables, id) {
         Ok(row) => cancel_for(tables, row),

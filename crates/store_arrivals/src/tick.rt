@@ -1,6 +1,6 @@
 //! What a tick makes ready.
 
-ghost use Rattle.std.specs.Prelude.{◌≡◌, ℕ, List, length, map, true, IfOk, OnOk, IsTrue};
+ghost use Rattle.std.specs.Prelude.{◌≡◌, ℕ, List, length, map, true, IfOk, OnOk, IsTrue, IfErr};
 ghost use Rattle.sqlite.specs.Held.{state};
 ghost use Rattle.sqlite.specs.State.{HasCleanDisk};
 ghost use Rattle.journal_model.specs.Event.{Event};
@@ -12,6 +12,7 @@ ghost use Rattle.store_arrivals.specs.Grouped.{as_group};
 ghost use Rattle.store_invocations.specs.Rows.{Decides, IsRowOf, IsStoreOf};
 ghost use Rattle.store_arrivals.specs.Woken.{ends_of as the_ends_of, row_then};
 ghost use Rattle.store_arrivals.specs.Made.{AreEndsOf, AreGroupsEnded, AreOpen, IsEndedUntil, IsGroupEnded, IsTickReady, closed_until, group_tests, room_tests, tests_of};
+ghost use Rattle.store_refusals.specs.Causes.{TellsCause};
 
 use crate::ended::end_sleeps;
 use crate::groups::{SleepGroup, groups_of};
@@ -63,6 +64,7 @@ fn end_open<S: Alter>(
     ensures decided { HasCleanDisk (state S.Store tables.new) → (events : List Event) → (id : List ℕ) → IsStoreOf events (state S.Store tables.old) → IsRowOf events id row
         → Decides (room_tests row.progress.entries (length completions.now)) (λ _. AreEndsOf (row_then events id (the_ends_of completions.now) row) completions.now writes.old.items writes.new.items) result }
     ensures looks { Looks S.Store tables.old tables.new }
+    ensures cause { IfErr result (TellsCause (state S.Store tables.old) (state S.Store tables.new)) }
 {
     let Ok(ends) = ends_of(tables.alloc(), completions) else {
         drop(row);
@@ -85,6 +87,7 @@ fn end_group<S: Alter>(
     ensures decided { HasCleanDisk (state S.Store tables.new) → (events : List Event) → IsStoreOf events (state S.Store tables.old) → is_open events group.invocation ≡ true
         → Decides (group_tests events (as_group group)) (λ _. IsGroupEnded events (as_group group) writes.old.items writes.new.items) result }
     ensures looks { Looks S.Store tables.old tables.new }
+    ensures cause { IfErr result (TellsCause (state S.Store tables.old) (state S.Store tables.new)) }
 {
     let SleepGroup {
         invocation,
@@ -115,6 +118,7 @@ fn end_groups<S: Alter>(
     ensures decided { HasCleanDisk (state S.Store tables.new) → (events : List Event) → IsStoreOf events (state S.Store tables.old) → AreOpen events (map as_group groups.items)
         → Decides (tests_of events (map as_group groups.items)) (λ _. AreGroupsEnded events (map as_group groups.items) writes.old.items writes.new.items) result }
     ensures looks { Looks S.Store tables.old tables.new }
+    ensures cause { IfErr result (TellsCause (state S.Store tables.old) (state S.Store tables.new)) }
 {
     while let Some(group) = groups.pop_front() {
         end_group(tables, group, writes)?;
@@ -142,6 +146,7 @@ fn end_due<S: Alter>(
     ensures decided { HasCleanDisk (state S.Store tables.new) → (events : List Event) → IsStoreOf events (state S.Store tables.old) → AreOpen events (map as_group groups.items)
         → Decides (tests_of events (map as_group groups.items)) (IsEndedUntil events until count (map as_group groups.items)) result }
     ensures looks { Looks S.Store tables.old tables.new }
+    ensures cause { IfErr result (TellsCause (state S.Store tables.old) (state S.Store tables.new)) }
 {
     let mut writes = Vec::new(tables.alloc());
     let is_any = !groups.is_empty();
@@ -160,6 +165,7 @@ pub fn prepare_tick<S: Alter>(
         → Prepares events (Event.Tick now) (IsTickReady events now) result }
     ensures asked { HasCleanDisk (state S.Store tables.new) → OnOk result (IsTrue (state S.Store tables.old).is_open) }
     ensures looks { Looks S.Store tables.old tables.new }
+    ensures cause { IfErr result (TellsCause (state S.Store tables.old) (state S.Store tables.new)) }
 {
     let until = due_until(now);
     let rows = sleeps_until(tables, until)?;

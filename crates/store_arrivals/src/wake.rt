@@ -1,6 +1,6 @@
 //! Whether arrivals wake what a suspended attempt waits for.
 
-ghost use Rattle.std.specs.Prelude.{◌≡◌, ◌++◌, List, Some, drop as without};
+ghost use Rattle.std.specs.Prelude.{◌≡◌, ◌++◌, List, Some, Err, drop as without, IfErr};
 ghost use Rattle.sqlite.specs.Held.{state};
 ghost use Rattle.sqlite.specs.State.{HasCleanDisk};
 ghost use Rattle.journal_model.specs.Notification.{Arrival};
@@ -17,6 +17,7 @@ ghost use Rattle.store_tables.specs.Looks.{Looks};
 ghost use Rattle.store_refusals.specs.Prepared.{Tells};
 ghost use Rattle.store_invocations.specs.Rows.{IsStoreOf};
 ghost use Rattle.store_arrivals.specs.Woken.{AreRowsOf, fault_refusal};
+ghost use Rattle.store_refusals.specs.Causes.{IsUnasked, TellsCause};
 
 use bytes::ByteStr;
 use journal_model::Notification;
@@ -60,7 +61,8 @@ fn with_new(
     kept: Result<FirstArrivals, KeptFault>,
     new: &[Notification],
 ) -> Result<FirstArrivals, Refusal>
-    ensures { (arrivals : List Arrival) → Reads (λ first. AreFirst first arrivals) kept → Tells (λ first. AreFirst first (arrivals ++ new.now)) result }
+    ensures told { (arrivals : List Arrival) → Reads (λ first. AreFirst first arrivals) kept → Tells (λ first. AreFirst first (arrivals ++ new.now)) result }
+    ensures unasked { IfErr result IsUnasked }
 {
     match kept {
         Ok(mut first) => match first.hear_all(new) {
@@ -84,6 +86,7 @@ fn heard_after<S: Alter>(
     ensures told { HasCleanDisk (state S.Store tables.new) → (events : List Event) → IsStoreOf events (state S.Store tables.old)
         → Tells (λ first. AreFirst first (without heard (recorded_arrivals events id.now) ++ new.now)) result }
     ensures looks { Looks S.Store tables.old tables.new }
+    ensures cause { IfErr result (TellsCause (state S.Store tables.old) (state S.Store tables.new)) }
 {
     let rows = arrivals_after(tables, id, heard)?;
     let kept = hear_rows(tables.alloc(), rows.as_slice());
@@ -93,8 +96,9 @@ fn heard_after<S: Alter>(
 
 /// Whether what was heard, if it was, wakes what is awaited.
 fn woken_by(awaited: Future, heard: Result<FirstArrivals, Refusal>) -> Result<bool, Refusal>
-    ensures { (suspension : Suspension) (arrivals : List Arrival) → IsAwaited suspension awaited → Tells (λ first. AreFirst first arrivals) heard
+    ensures told { (suspension : Suspension) (arrivals : List Arrival) → IsAwaited suspension awaited → Tells (λ first. AreFirst first arrivals) heard
         → Tells (λ woken. woken ≡ is_model_woken arrivals (Some suspension)) result }
+    ensures refused { IfErr result (λ why. heard ≡ Err why) }
 {
     match heard {
         Ok(first) => {
@@ -124,6 +128,7 @@ pub fn is_woken<S: Alter>(
         → (waits : Suspension) → IsFrameRead (version_number version) (Frame.Suspend (Some waits)) → KeepsSuspension waits suspension.now
         → Tells (λ woken. woken ≡ is_model_woken (without heard (recorded_arrivals events id.now) ++ new.now) (Some waits)) result }
     ensures looks { Looks S.Store tables.old tables.new }
+    ensures cause { IfErr result (TellsCause (state S.Store tables.old) (state S.Store tables.new)) }
 {
     match awaited(tables.alloc(), version, suspension) {
         Ok(awaited) => {

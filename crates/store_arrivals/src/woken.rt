@@ -1,6 +1,6 @@
 //! The flag of an open invocation to which arrivals come.
 
-ghost use Rattle.std.specs.Prelude.{◌≡◌, ◌∷◌, [], List};
+ghost use Rattle.std.specs.Prelude.{◌≡◌, ◌∷◌, [], List, IfErr};
 ghost use Rattle.sqlite.specs.Held.{state};
 ghost use Rattle.sqlite.specs.State.{HasCleanDisk};
 ghost use Rattle.journal_model.specs.Notification.{Text};
@@ -10,6 +10,7 @@ ghost use Rattle.store_refusals.specs.Prepared.{Tells};
 ghost use Rattle.store_invocations.specs.Rows.{Decides, IsRowOf, IsStoreOf};
 ghost use Rattle.store_arrivals.specs.Arrivals.{IsArrival, arrival_tests};
 ghost use Rattle.store_arrivals.specs.Woken.{awake_then, row_then};
+ghost use Rattle.store_refusals.specs.Causes.{TellsCause};
 
 use crate::arrival::{PreparedArrival, prepare_arrival};
 use crate::wake::is_woken;
@@ -30,6 +31,7 @@ fn is_awake_with<S: Alter>(
     ensures told { HasCleanDisk (state S.Store tables.new) → (events : List Event) (id : Text) → IsStoreOf events (state S.Store tables.old) → IsRowOf events id row.now
         → Tells (λ awake. awake ≡ awake_then events id new.now) result }
     ensures looks { Looks S.Store tables.old tables.new }
+    ensures cause { IfErr result (TellsCause (state S.Store tables.old) (state S.Store tables.new)) }
 {
     if row.progress.is_awake {
         return Ok(true);
@@ -56,6 +58,7 @@ pub(crate) fn woken_row<S: Alter>(
     ensures told { HasCleanDisk (state S.Store tables.new) → (events : List Event) (id : Text) → IsStoreOf events (state S.Store tables.old) → IsRowOf events id row
         → Tells (λ woken. woken ≡ row_then events id new.now row) result }
     ensures looks { Looks S.Store tables.old tables.new }
+    ensures cause { IfErr result (TellsCause (state S.Store tables.old) (state S.Store tables.new)) }
 {
     match is_awake_with(tables, &row, new) {
         Ok(is_awake) => {
@@ -80,6 +83,7 @@ pub fn prepare_woken<S: Alter>(
     ensures decided { HasCleanDisk (state S.Store tables.new) → (events : List Event) (id : Text) → IsStoreOf events (state S.Store tables.old) → IsRowOf events id row
         → Decides (arrival_tests row arrival) (IsArrival (row_then events id (arrival ∷ []) row) ty arrival) result }
     ensures looks { Looks S.Store tables.old tables.new }
+    ensures cause { IfErr result (TellsCause (state S.Store tables.old) (state S.Store tables.new)) }
 {
     match woken_row(tables, row, slice::from_ref(&arrival)) {
         Ok(row) => prepare_arrival(tables.alloc(), row, ty, arrival),

@@ -1,6 +1,6 @@
 //! The invocations of which an attempt may go on.
 
-ghost use Rattle.std.specs.Prelude.{◌≡◌, List, ℕ, map, filter, IfOk};
+ghost use Rattle.std.specs.Prelude.{◌≡◌, List, ℕ, map, filter, IfOk, IfErr};
 ghost use Rattle.sqlite.specs.Held.{state};
 ghost use Rattle.sqlite.specs.State.{HasCleanDisk};
 ghost use Rattle.journal_model.specs.Event.{Event};
@@ -9,6 +9,7 @@ ghost use Rattle.store_tables.specs.Looks.{Looks};
 ghost use Rattle.store_tables.specs.declared.row.InvocationRow.{InvocationRow as Row};
 ghost use Rattle.store_refusals.specs.Prepared.{Tells};
 ghost use Rattle.store_invocations.specs.Rows.{IsStoreOf};
+ghost use Rattle.store_refusals.specs.Causes.{TellsCause};
 
 use bytes::ByteStr;
 use sqlite::Alter;
@@ -39,6 +40,7 @@ pub fn awake_ids<S: Alter>(tables: &mut StoreTables<S>) -> Result<Vec<ByteStr>, 
     ensures told { HasCleanDisk (state S.Store tables.new) → (events : List Event) → IsStoreOf events (state S.Store tables.old)
         → Tells (λ ids. due events ≡ filter (λ id. is_none (live_attempt events id)) ids.items) result }
     ensures looks { Looks S.Store tables.old tables.new }
+    ensures cause { IfErr result (TellsCause (state S.Store tables.old) (state S.Store tables.new)) }
 {
     let rows = awake_invocations(tables)?;
     let ids = ids_of(tables.alloc(), rows)?;

@@ -1,5 +1,5 @@
 -- A store over a database that was just made in memory.
-use Rattle.std.proofs.Common.{◌≡◌, ◌∙◌, ◌&&◌, true, refl, sym, subst, ap₂, inl, inr, List, [], ◌∷◌, IsTrue}
+use Rattle.std.proofs.Common.{◌≡◌, ◌⊎◌, ◌∙◌, ◌&&◌, ℕ, true, refl, sym, subst, ap₂, inl, inr, List, [], ◌∷◌, Option, None, Result, Ok, Err, IfErr, IsErrAnd, IsSome, IsTrue}
 use Rattle.std.specs.List.{AllZip}
 use Rattle.sqlite_disk.specs.declared.Disk.{Ghosts}
 use Rattle.sqlite_pool.specs.Pool.{files}
@@ -14,13 +14,20 @@ use Rattle.sqlite_trees.specs.View.{IsClean}
 use Rattle.sqlite_trees.proofs.Doubt.{no_doubt}
 use Rattle.sqlite_store.specs.declared.store.FileStore.{FileStore}
 use Rattle.sqlite_store.specs.FileStore.{view}
-use Rattle.sqlite.specs.State.{State}
+use Rattle.sqlite.specs.declared.error.Error.{Error}
+use Rattle.sqlite.specs.declared.error.Error.TheVariants.{SqliteFailure}
+use Rattle.sqlite.specs.declared.error.ErrorCode.TheVariants as code
+use Rattle.sqlite.specs.Opening.{is_open_error}
+use Rattle.sqlite.specs.State.{State, HasCleanDisk, is_disk_error}
 use Rattle.sqlite.proofs.OpenLemmas.{pool_files}
 use Rattle.sql_tables.specs.Columns.{no_schema}
+use Rattle.sql_tables.specs.Causes.{IsCause, IsCauseToWrite, is_own, is_shut_error}
 use Rattle.store_refusals.specs.declared.refusal.Refusal.{Refusal}
+use Rattle.store_refusals.specs.declared.refusal.Refusal.TheVariants.{StatementRefused}
 use Rattle.store_refusals.specs.Refused.{is_circumstance}
+use Rattle.store_refusals.specs.Causes.{TellsCauseToWrite}
 use Rattle.journal_store.specs.Opened.{IsNotTaken}
-use Rattle.store_files.specs.Made.{IsEmptyAndIdle}
+use Rattle.store_files.specs.Made.{IsEmptyAndIdle, TellsUnmade}
 
 -- a database over disks that are always clean is
 pub never_in_doubt : {D : Type 0} {g : Ghosts D} (database : FileStore D g) → ((disk : D) → g.is_clean disk ≡ true) → IsClean (view database)
@@ -52,3 +59,40 @@ only_circumstances s why empty cause = elim cause [
   ]
   | inr circumstance ↦ circumstance
 ]
+
+-- ---- why none was made
+
+pub unmade_by : {A : Type 0} (e : Refusal) (r : Result A Refusal) → IsErrAnd r (λ why. why ≡ e) → TellsUnmade e → IfErr r TellsUnmade
+unmade_by e (Ok x) gives tells = absurd gives
+unmade_by e (Err why) gives tells = subst TellsUnmade (sym gives) tells
+
+-- the connection was not opened
+pub unopened_unmade : (error : Error) → IsTrue (is_open_error error) → TellsUnmade (StatementRefused error)
+unopened_unmade error named cause is = let same : error ≡ cause = cc in inl (subst (λ (e : Error). IsTrue (is_open_error e)) same named)
+
+disk_opens : (e : Error) → IsTrue (is_disk_error e) → IsTrue (is_open_error e)
+disk_opens (SqliteFailure code.SystemIoFailure) is = refl
+disk_opens (SqliteFailure code.DatabaseCorrupt) is = refl
+disk_opens (SqliteFailure code.DiskFull) is = refl
+disk_opens e is = cc
+
+shut_opens : (e : Error) → IsTrue (is_shut_error e) → IsTrue (is_open_error e)
+shut_opens (SqliteFailure code.Closed) is = refl
+shut_opens (SqliteFailure code.TooBig) is = refl
+shut_opens e is = cc
+
+cause_unmade : (old new : State) (cause : Error) → old.step_limit ≡ None → IsCause old new cause → IsTrue (is_open_error cause)
+unfolding IsCause
+cause_unmade old new cause unlimited (inl memory) = subst (λ (e : Error). IsTrue (is_open_error e)) (sym memory) refl
+cause_unmade old new cause unlimited (inr (inl disk)) = disk_opens cause disk.0
+cause_unmade old new cause unlimited (inr (inr (inl shut))) = shut_opens cause shut.0
+cause_unmade old new cause unlimited (inr (inr (inr limit))) = let none : IsSome {T = ℕ} None = subst (λ (o : Option ℕ). IsSome o) unlimited limit.1 in cc
+
+write_unmade : (old new : State) (cause : Error) → old.step_limit ≡ None → IsCauseToWrite old new cause → IsTrue (is_open_error cause) ⊎ IsTrue (is_own cause)
+unfolding IsCauseToWrite
+write_unmade old new cause unlimited (inl it) = inl (cause_unmade old new cause unlimited it)
+write_unmade old new cause unlimited (inr own) = inr own
+
+-- the connection was opened, and no store over it
+pub refused_unmade : (old new : State) (why : Refusal) → old.step_limit ≡ None → HasCleanDisk new → TellsCauseToWrite old new why → TellsUnmade why
+refused_unmade old new why unlimited clean tells cause is = write_unmade old new cause unlimited (tells clean cause is)

@@ -16,6 +16,7 @@ use Rattle.sqlite.specs.Opening.{is_open_error}
 use Rattle.sqlite.specs.Files.{AreFoundIn, FailsToOpenFiles, IsCleanLeft, LeavesFiles, file_state, image_of}
 use Rattle.store_refusals.specs.declared.refusal.Refusal.{Refusal}
 use Rattle.store_refusals.specs.declared.refusal.Refusal.TheVariants.{ForeignRow}
+use Rattle.store_refusals.specs.Causes.{TellsCauseToWrite}
 use Rattle.journal_store.specs.Opened.{ComesBack, IsNotTaken}
 use Rattle.store_files.specs.Taken.{WasOpened}
 
@@ -42,12 +43,13 @@ module _ {D : Type 0} {g : Ghosts D} where
     pub none : rest ≡ None → IsUngiven error
     pub some : IfSome rest (IsGivenBack image error)
 
-  -- A connection was opened over the files, and what it found is no store's, or it refused a statement. Its tables are those that were
-  -- found. Where they are no store's, a crash leaves nothing that it did not leave before.
+  -- A connection was opened over the files, and what it found is no store's, or it refused a statement, for a cause that is told. Its
+  -- tables are those that were found. Where they are no store's, a crash leaves nothing that it did not leave before.
   pub record IsNoStore (image : Image) (connection : Held (FileStore D g)) (why : Refusal) : Type 0 where
     pub was : Held (FileStore D g)
     pub opened : WasOpened image was
     pub back : ComesBack (file_state was) (file_state connection)
     pub cause : HasCleanDisk (file_state connection) → IsNotTaken (file_state was) why
+    pub told : TellsCauseToWrite (file_state was) (file_state connection) why
     pub seen : HasCleanDisk (file_state connection) → IsTrue (file_state connection).is_open → AreFoundIn image (file_state connection).now.trees
     pub spared : HasCleanDisk (file_state connection) → why ≡ ForeignRow → (trees : Trees) → (file_state connection).may_leave trees → (file_state was).may_leave trees

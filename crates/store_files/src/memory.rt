@@ -5,7 +5,8 @@ ghost use Rattle.sqlite.specs.State.{HasCleanDisk};
 ghost use Rattle.sqlite.specs.Files.{file_state};
 ghost use Rattle.journal_store.specs.Stands.{Stands};
 ghost use Rattle.store_refusals.specs.Refused.{is_circumstance};
-ghost use Rattle.store_files.specs.Made.{IsMadeEmpty, IsEmptyAndIdle};
+ghost use Rattle.store_refusals.specs.Causes.{IsUnasked};
+ghost use Rattle.store_files.specs.Made.{IsMadeEmpty, IsEmptyAndIdle, TellsUnmade};
 
 use crate::make::PAGE_BYTES;
 use journal_store::Store;
@@ -24,6 +25,7 @@ fn new_files(alloc: Global) -> Result<Unopened<MemoryFile>, Refusal>
     ensures usable { IfOk result AreUsable }
     ensures none { IfOk result (λ files. wanted_by files ≡ []) }
     ensures err { IfErr result (λ why. IsTrue (is_circumstance why)) }
+    ensures unasked { IfErr result IsUnasked }
 {
     let files = Files {
         log: MemoryFile::new(alloc),
@@ -50,6 +52,7 @@ fn new_files(alloc: Global) -> Result<Unopened<MemoryFile>, Refusal>
 fn new_database(alloc: Global) -> Result<FileStore<MemoryFile>, Refusal>
     ensures made { IfOk result IsMadeEmpty }
     ensures err { IfErr result (λ why. IsTrue (is_circumstance why)) }
+    ensures unasked { IfErr result IsUnasked }
 {
     let files = new_files(alloc)?;
     match files.create() {
@@ -65,6 +68,7 @@ fn new_database(alloc: Global) -> Result<FileStore<MemoryFile>, Refusal>
 fn connect(alloc: Global) -> Result<Connection<FileStore<MemoryFile>>, Refusal>
     ensures ok { IfOk result (λ connection. IsEmptyAndIdle (file_state connection)) }
     ensures err { IfErr result (λ why. IsTrue (is_circumstance why)) }
+    ensures cause { IfErr result TellsUnmade }
 {
     let database = new_database(alloc)?;
     match Connection::over(alloc, database) {
@@ -82,6 +86,7 @@ pub fn open_in_memory(alloc: Global) -> Result<Store<FileStore<MemoryFile>>, Ref
     ensures clean { IfOk result (λ store. HasCleanDisk (file_state store.connection)) }
     ensures none_live { IfOk result (λ store. store.live.attempts ≡ []) }
     ensures err { IfErr result (λ why. IsTrue (is_circumstance why)) }
+    ensures cause { IfErr result TellsUnmade }
 {
     let connection = connect(alloc)?;
     match Store::open(alloc, connection) {

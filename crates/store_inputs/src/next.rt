@@ -1,6 +1,6 @@
 //! The row of the next frame.
 
-ghost use Rattle.std.specs.Prelude.{◌≡◌, ◌<◌, ◌^◌, ◌-◌, List, option_map, slice_get};
+ghost use Rattle.std.specs.Prelude.{◌≡◌, ◌<◌, ◌^◌, ◌-◌, List, option_map, slice_get, IfErr};
 ghost use Rattle.sqlite.specs.Held.{state};
 ghost use Rattle.sqlite.specs.State.{HasCleanDisk};
 ghost use Rattle.journal_model.specs.Event.{Event};
@@ -12,6 +12,7 @@ ghost use Rattle.store_row_laws.specs.Memory.{frame_read, row_asked};
 ghost use Rattle.store_refusals.specs.Prepared.{Tells};
 ghost use Rattle.store_invocations.specs.Rows.{IsStoreOf};
 ghost use Rattle.store_inputs.specs.Read.{IsCounted};
+ghost use Rattle.store_refusals.specs.Causes.{TellsCause};
 
 use crate::frame::{acknowledged, frame_of};
 use bytes::ByteStr;
@@ -28,6 +29,7 @@ fn known_row<S: Alter>(
 ) -> Result<Option<EntryRow>, Refusal>
     ensures told { HasCleanDisk (state S.Store tables.new) → (events : List Event) → IsStoreOf events (state S.Store tables.old) → Tells (λ row. row ≡ slice_get (journal_rows events id.now) place) result }
     ensures looks { Looks S.Store tables.old tables.new }
+    ensures cause { IfErr result (TellsCause (state S.Store tables.old) (state S.Store tables.new)) }
 {
     let row = entry_at(tables, id, place)?;
     Ok(row)
@@ -41,6 +43,7 @@ fn later_row<S: Alter>(
 ) -> Result<Option<EntryRow>, Refusal>
     ensures told { HasCleanDisk (state S.Store tables.new) → (events : List Event) → IsStoreOf events (state S.Store tables.old) → 0 < ordinal → Tells (λ row. row ≡ slice_get (arrival_rows events id.now) (ordinal - 1)) result }
     ensures looks { Looks S.Store tables.old tables.new }
+    ensures cause { IfErr result (TellsCause (state S.Store tables.old) (state S.Store tables.new)) }
 {
     let row = arrival_at(tables, id, ordinal)?;
     Ok(row)
@@ -54,6 +57,7 @@ fn row_of_next<S: Alter>(
 ) -> Result<Option<EntryRow>, Refusal>
     ensures told { HasCleanDisk (state S.Store tables.new) → (events : List Event) → IsStoreOf events (state S.Store tables.old) → IsCounted next → Tells (λ row. row ≡ row_asked events id.now next) result }
     ensures looks { Looks S.Store tables.old tables.new }
+    ensures cause { IfErr result (TellsCause (state S.Store tables.old) (state S.Store tables.new)) }
 {
     match next {
         NextRow::Entry(place) => known_row(tables, id, place),
@@ -70,6 +74,7 @@ pub fn next_frame<S: Alter>(
     ensures told { HasCleanDisk (state S.Store tables.new) → (events : List Event) → IsStoreOf events (state S.Store tables.old) → next_ordinal input.now < 2 ^ 32
         → Tells (λ frame. frame ≡ option_map (frame_read input.now.unread (next_row input.now)) (row_asked events id.now (next_row input.now))) result }
     ensures looks { Looks S.Store tables.old tables.new }
+    ensures cause { IfErr result (TellsCause (state S.Store tables.old) (state S.Store tables.new)) }
 {
     let next = input.next_row();
     let found = row_of_next(tables, id, next)?;

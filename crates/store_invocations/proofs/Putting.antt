@@ -1,5 +1,5 @@
 -- What the row of a closed invocation answers is what the events say.
-use Rattle.std.proofs.Common.{◌≡◌, refl, sym, ap, subst, ◌∙◌, ℕ, ◌<◌, ◌^◌, inl, inr, length, map, List, [], ◌∷◌, Option, Some, None, option_map, IfSome, Result, Ok, Err, IsTrue}
+use Rattle.std.proofs.Common.{◌≡◌, refl, sym, ap, subst, ◌∙◌, ℕ, ◌<◌, ◌^◌, inl, inr, length, map, List, [], ◌∷◌, Option, Some, None, option_map, IfSome, Result, Ok, Err, IfErr, IsTrue}
 use Rattle.std.specs.List.{AllByRecursion}
 use Rattle.journal_model.specs.Notification.{Bytes, Text}
 use Rattle.journal_model.specs.declared.value.NonEmptyValue.{NonEmptyValue}
@@ -27,11 +27,18 @@ use Rattle.store_model.specs.Progress.{last_error_of, last_output, or_last, prog
 use Rattle.store_refusals.specs.declared.refusal.Refusal.{Refusal}
 use Rattle.store_frames.specs.Read.{AreRead}
 use Rattle.store_refusals.specs.Refused.{is_circumstance}
+use Rattle.store_refusals.specs.Causes.{IsUnasked}
 use Rattle.store_invocations.specs.Rows.{Decides, IsRowOf, known_tests}
 use Rattle.store_invocations.specs.Answered.{IsShortPayload, Reads, answer_by, answer_told, closed_by, failure_by, output_by, output_in, output_read, value_taken}
 use Rattle.store_invocations.proofs.Closing.{IsFailure, closed_by_failure}
 use Rattle.store_invocations.proofs.Holding.{IsHeld}
 use Rattle.store_invocations.proofs.Recording.{outputs_held}
+
+-- the database is not asked for what is read here
+pub reads_unasked : {A : Type 0} (there : Option A) (r : Result A Refusal) → Reads there r → IfErr r IsUnasked
+reads_unasked there (Ok answer) read = tt
+reads_unasked there (Err why) (inl foreign) = λ cause is. cc (foreign.0)
+reads_unasked there (Err why) (inr memory) = λ cause is. cc
 
 -- ---- an output's payload
 

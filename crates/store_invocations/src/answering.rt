@@ -1,12 +1,13 @@
 //! What a closed invocation answers.
 
-ghost use Rattle.std.specs.Prelude.{◌≡◌, ◌<◌, ◌^◌, length, List, IfOk, IfSome};
+ghost use Rattle.std.specs.Prelude.{◌≡◌, ◌<◌, ◌^◌, length, List, IfOk, IfSome, IfErr};
 ghost use Rattle.sqlite.specs.Held.{state};
 ghost use Rattle.sqlite.specs.State.{HasCleanDisk};
 ghost use Rattle.journal_model.specs.Event.{Event};
 ghost use Rattle.store_tables.specs.Looks.{Looks};
 ghost use Rattle.store_invocations.specs.Answered.{IsShortPayload, Reads, answer_by, answer_told, failure_by, output_by, output_in};
 ghost use Rattle.store_invocations.specs.Rows.{Decides, IsStoreOf, known_tests};
+ghost use Rattle.store_refusals.specs.Causes.{TellsCause};
 
 use crate::row::known_row;
 use bytes::{ByteStr, Bytes};
@@ -98,6 +99,7 @@ pub fn answer<S: Alter>(
 ) -> Result<Option<NonEmptyValue>, Refusal>
     ensures told { HasCleanDisk (state S.Store tables.new) → (events : List Event) → IsStoreOf events (state S.Store tables.old) → Decides (known_tests events id.now) (λ answer. answer ≡ answer_told events id.now) result }
     ensures looks { Looks S.Store tables.old tables.new }
+    ensures cause { IfErr result (TellsCause (state S.Store tables.old) (state S.Store tables.new)) }
 {
     let row = known_row(tables, id)?;
     let answer = answer_of(tables.alloc(), &row.progress);

@@ -1,10 +1,11 @@
 //! The input of a new invocation, as its first entry.
 
-ghost use Rattle.std.specs.Prelude.{◌≡◌, map, IfOk};
+ghost use Rattle.std.specs.Prelude.{◌≡◌, map, IfOk, IfErr};
 ghost use Rattle.journal_model.specs.Spelling.{input_payload};
 ghost use Rattle.protocol_stream.specs.Records.{header_record, input_record};
 ghost use Rattle.store_invocations.specs.New.{input_tests};
 ghost use Rattle.store_invocations.specs.Rows.{Decides};
+ghost use Rattle.store_refusals.specs.Causes.{IsUnasked};
 
 use bytes::{ByteStr, Bytes};
 use journal_model::NewInvocation;
@@ -60,7 +61,8 @@ fn spelled_input(alloc: Global, new: &NewInvocation) -> Result<Vec<u8>, AllocErr
 
 /// The payload of an invocation's input, if its length fits 32 bits.
 pub(crate) fn payload_of_input(alloc: Global, new: &NewInvocation) -> Result<Bytes, Refusal>
-    ensures { Decides (input_tests new.now) (λ payload. payload ≡ input_payload new.now.headers new.now.input) result }
+    ensures decided { Decides (input_tests new.now) (λ payload. payload ≡ input_payload new.now.headers new.now.input) result }
+    ensures unasked { IfErr result IsUnasked }
 {
     let payload = spelled_input(alloc, new)?;
     if payload.len() > u32::MAX as usize {

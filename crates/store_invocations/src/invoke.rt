@@ -1,6 +1,6 @@
 //! What a new invocation makes ready.
 
-ghost use Rattle.std.specs.Prelude.{◌≡◌, ◌∷◌, [], List, IfOk};
+ghost use Rattle.std.specs.Prelude.{◌≡◌, ◌∷◌, [], List, IfOk, IfErr};
 ghost use Rattle.sqlite.specs.Held.{state};
 ghost use Rattle.sqlite.specs.State.{HasCleanDisk};
 ghost use Rattle.journal_model.specs.Event.{Event};
@@ -12,6 +12,7 @@ ghost use Rattle.store_model.specs.Writes.{writes_of};
 ghost use Rattle.store_refusals.specs.Prepared.{Prepares, Tells};
 ghost use Rattle.store_invocations.specs.New.{entry_of_input, first_progress, first_row, first_writes, id_tests, input_tests, is_nameless as is_nameless_new, object_tests};
 ghost use Rattle.store_invocations.specs.Rows.{Decides, IsStoreOf};
+ghost use Rattle.store_refusals.specs.Causes.{IsUnasked, TellsCause};
 
 use crate::input::payload_of_input;
 use crate::row::row_of;
@@ -33,6 +34,7 @@ fn is_nameless(new: &NewInvocation) -> bool
 fn has_open<S: Alter>(tables: &mut StoreTables<S>, object: &ByteStr) -> Result<bool, Refusal>
     ensures told { HasCleanDisk (state S.Store tables.new) → (events : List Event) → IsStoreOf events (state S.Store tables.old) → Tells (λ busy. busy ≡ is_busy events object.now) result }
     ensures looks { Looks S.Store tables.old tables.new }
+    ensures cause { IfErr result (TellsCause (state S.Store tables.old) (state S.Store tables.new)) }
 {
     let row = open_invocation(tables, object)?;
     let busy = row.is_some();
@@ -44,6 +46,7 @@ fn has_open<S: Alter>(tables: &mut StoreTables<S>, object: &ByteStr) -> Result<b
 fn take_object<S: Alter>(tables: &mut StoreTables<S>, new: &NewInvocation) -> Result<(), Refusal>
     ensures decided { HasCleanDisk (state S.Store tables.new) → (events : List Event) → IsStoreOf events (state S.Store tables.old) → Decides (object_tests events new.now) (λ _. Unit {0}) result }
     ensures looks { Looks S.Store tables.old tables.new }
+    ensures cause { IfErr result (TellsCause (state S.Store tables.old) (state S.Store tables.new)) }
 {
     let busy = has_open(tables, &new.object)?;
     if busy {
@@ -59,6 +62,7 @@ fn take_object<S: Alter>(tables: &mut StoreTables<S>, new: &NewInvocation) -> Re
 fn take_id<S: Alter>(tables: &mut StoreTables<S>, new: &NewInvocation) -> Result<Version, Refusal>
     ensures decided { HasCleanDisk (state S.Store tables.new) → (events : List Event) → IsStoreOf events (state S.Store tables.old) → Decides (id_tests events new.now) (λ version. version_number version ≡ new.now.version) result }
     ensures looks { Looks S.Store tables.old tables.new }
+    ensures cause { IfErr result (TellsCause (state S.Store tables.old) (state S.Store tables.new)) }
 {
     let row = row_of(tables, &new.id)?;
     let used = row.is_some();
@@ -155,7 +159,8 @@ fn writes_at_first(
     new: &NewInvocation,
     version: Version,
 ) -> Result<Vec<Write>, Refusal>
-    ensures { Decides (input_tests new.now) (λ writes. writes.items ≡ first_writes version new.now) result }
+    ensures decided { Decides (input_tests new.now) (λ writes. writes.items ≡ first_writes version new.now) result }
+    ensures unasked { IfErr result IsUnasked }
 {
     let payload = payload_of_input(alloc, new)?;
     let writes = writes_with(alloc, new, version, payload)?;
@@ -170,6 +175,7 @@ pub fn prepare_invoke<S: Alter>(
     ensures prepared { HasCleanDisk (state S.Store tables.new) → (events : List Event) → IsStoreOf events (state S.Store tables.old)
         → Prepares events (Event.Invoke new.now) (λ writes. writes.items ≡ writes_of events (Event.Invoke new.now)) result }
     ensures looks { Looks S.Store tables.old tables.new }
+    ensures cause { IfErr result (TellsCause (state S.Store tables.old) (state S.Store tables.new)) }
 {
     take_object(tables, new)?;
     let version = take_id(tables, new)?;

@@ -1,6 +1,6 @@
 //! The next attempt of an invocation whose row was read.
 
-ghost use Rattle.std.specs.Prelude.{◌≡◌, List, ℕ};
+ghost use Rattle.std.specs.Prelude.{◌≡◌, List, ℕ, IfErr};
 ghost use Rattle.sqlite.specs.Held.{state};
 ghost use Rattle.sqlite.specs.State.{HasCleanDisk};
 ghost use Rattle.journal_model.specs.Spelling.{frame_bytes};
@@ -12,6 +12,7 @@ ghost use Rattle.store_invocations.specs.Rows.{Decides, IsOpenRow, IsStoreOf, pa
 ghost use Rattle.store_invocations.specs.Begun.{IsBegun, shown_states};
 ghost use Rattle.protocol_types.specs.declared.message_type.MessageType.{MessageType};
 ghost use Rattle.store_invocations.specs.Start.{start_of};
+ghost use Rattle.store_refusals.specs.Causes.{TellsCause};
 
 use crate::attempt::PreparedAttempt;
 use crate::begun::begun_writes;
@@ -30,6 +31,7 @@ fn shown_states<S: Alter>(
 ) -> Result<Vec<StateRow>, Refusal>
     ensures told { HasCleanDisk (state S.Store tables.new) → (events : List Event) → IsStoreOf events (state S.Store tables.old) → Tells (λ states. states.items ≡ shown_states events row.now) result }
     ensures looks { Looks S.Store tables.old tables.new }
+    ensures cause { IfErr result (TellsCause (state S.Store tables.old) (state S.Store tables.new)) }
 {
     if !row.is_whole {
         return Ok(Vec::new(tables.alloc()));
@@ -45,6 +47,7 @@ fn begun_start<S: Alter>(
 ) -> Result<Bytes, Refusal>
     ensures decided { HasCleanDisk (state S.Store tables.new) → (events : List Event) → IsStoreOf events (state S.Store tables.old) → Decides (payload_tests (start_of row.now (shown_states events row.now) now)) (λ start. start ≡ frame_bytes MessageType.Start (start_of row.now (shown_states events row.now) now)) result }
     ensures looks { Looks S.Store tables.old tables.new }
+    ensures cause { IfErr result (TellsCause (state S.Store tables.old) (state S.Store tables.new)) }
 {
     let states = shown_states(tables, row)?;
     let start = start_frame(tables.alloc(), row, states.as_slice(), now);
@@ -60,6 +63,7 @@ pub(crate) fn prepare_next<S: Alter>(
 ) -> Result<PreparedAttempt, Refusal>
     ensures decided { HasCleanDisk (state S.Store tables.new) → (events : List Event) → (id : List ℕ) → IsStoreOf events (state S.Store tables.old) → IsOpenRow events id row → Decides (own_tests events (Event.Begin id now)) (IsBegun events id now) result }
     ensures looks { Looks S.Store tables.old tables.new }
+    ensures cause { IfErr result (TellsCause (state S.Store tables.old) (state S.Store tables.new)) }
 {
     let Some(number) = row.progress.attempts.checked_add(1) else {
         drop(row);

@@ -1,6 +1,6 @@
 //! How far an invocation is.
 
-ghost use Rattle.std.specs.Prelude.{◌≡◌, List};
+ghost use Rattle.std.specs.Prelude.{◌≡◌, List, IfErr};
 ghost use Rattle.sqlite.specs.Held.{state};
 ghost use Rattle.sqlite.specs.State.{HasCleanDisk};
 ghost use Rattle.journal_model.specs.Event.{Event};
@@ -8,6 +8,7 @@ ghost use Rattle.journal_model.specs.Journal.{is_open as is_open_after};
 ghost use Rattle.store_tables.specs.Looks.{Looks};
 ghost use Rattle.store_model.specs.Progress.{last_error_of};
 ghost use Rattle.store_invocations.specs.Rows.{Decides, IsStoreOf, known_tests};
+ghost use Rattle.store_refusals.specs.Causes.{TellsCause};
 
 use crate::row::known_row;
 use bytes::ByteStr;
@@ -27,6 +28,7 @@ fn error_of(row: InvocationRow) -> Option<LastError>
 pub fn is_open<S: Alter>(tables: &mut StoreTables<S>, id: &ByteStr) -> Result<bool, Refusal>
     ensures told { HasCleanDisk (state S.Store tables.new) → (events : List Event) → IsStoreOf events (state S.Store tables.old) → Decides (known_tests events id.now) (λ answer. answer ≡ is_open_after events id.now) result }
     ensures looks { Looks S.Store tables.old tables.new }
+    ensures cause { IfErr result (TellsCause (state S.Store tables.old) (state S.Store tables.new)) }
 {
     let row = known_row(tables, id)?;
     let open = row.progress.closing.is_none();
@@ -41,6 +43,7 @@ pub fn failure<S: Alter>(
 ) -> Result<Option<LastError>, Refusal>
     ensures told { HasCleanDisk (state S.Store tables.new) → (events : List Event) → IsStoreOf events (state S.Store tables.old) → Decides (known_tests events id.now) (λ error. error ≡ last_error_of events id.now) result }
     ensures looks { Looks S.Store tables.old tables.new }
+    ensures cause { IfErr result (TellsCause (state S.Store tables.old) (state S.Store tables.new)) }
 {
     let row = known_row(tables, id)?;
     Ok(error_of(row))

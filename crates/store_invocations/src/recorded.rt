@@ -1,6 +1,6 @@
 //! The journal of an invocation, by place.
 
-ghost use Rattle.std.specs.Prelude.{◌≡◌, List, filter, map, IfOk};
+ghost use Rattle.std.specs.Prelude.{◌≡◌, List, filter, map, IfOk, IfErr};
 ghost use Rattle.sqlite.specs.Held.{state};
 ghost use Rattle.sqlite.specs.State.{HasCleanDisk};
 ghost use Rattle.journal_model.specs.Event.{Event};
@@ -9,6 +9,7 @@ ghost use Rattle.store_tables.specs.Looks.{Looks};
 ghost use Rattle.store_model.specs.Kept.{journal_rows};
 ghost use Rattle.store_invocations.specs.Rows.{Decides, IsStoreOf, known_tests};
 ghost use Rattle.store_invocations.specs.Told.{entries_told, entry_read, is_entry, kind_by};
+ghost use Rattle.store_refusals.specs.Causes.{TellsCause};
 
 use bytes::{ByteStr, Bytes};
 use protocol_types::MessageType;
@@ -74,6 +75,7 @@ fn entries_among(alloc: Global, rows: &[EntryRow]) -> Result<Vec<RecordedEntry>,
 fn rows_of<S: Alter>(tables: &mut StoreTables<S>, id: &ByteStr) -> Result<Vec<EntryRow>, Refusal>
     ensures told { HasCleanDisk (state S.Store tables.new) → (events : List Event) → IsStoreOf events (state S.Store tables.old) → Decides (known_tests events id.now) (λ rows. rows.items ≡ journal_rows events id.now) result }
     ensures looks { Looks S.Store tables.old tables.new }
+    ensures cause { IfErr result (TellsCause (state S.Store tables.old) (state S.Store tables.new)) }
 {
     let rows = journal(tables, id)?;
     if rows.as_slice().is_empty() {
@@ -90,6 +92,7 @@ pub fn entries<S: Alter>(
 ) -> Result<Vec<RecordedEntry>, Refusal>
     ensures told { HasCleanDisk (state S.Store tables.new) → (events : List Event) → IsStoreOf events (state S.Store tables.old) → Decides (known_tests events id.now) (λ entries. entries.items ≡ entries_told events id.now) result }
     ensures looks { Looks S.Store tables.old tables.new }
+    ensures cause { IfErr result (TellsCause (state S.Store tables.old) (state S.Store tables.new)) }
 {
     let rows = rows_of(tables, id)?;
     let among = entries_among(tables.alloc(), rows.as_slice());

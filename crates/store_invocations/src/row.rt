@@ -1,6 +1,6 @@
 //! The row of an invocation, as the calls that change one begin with it.
 
-ghost use Rattle.std.specs.Prelude.{◌≡◌, List};
+ghost use Rattle.std.specs.Prelude.{◌≡◌, List, IfErr};
 ghost use Rattle.sqlite.specs.Held.{state};
 ghost use Rattle.sqlite.specs.State.{HasCleanDisk};
 ghost use Rattle.journal_model.specs.Event.{Event};
@@ -8,6 +8,7 @@ ghost use Rattle.journal_model.specs.Cause.{open_tests};
 ghost use Rattle.store_tables.specs.Looks.{Looks};
 ghost use Rattle.store_refusals.specs.Prepared.{Tells};
 ghost use Rattle.store_invocations.specs.Rows.{Decides, IsOpenRow, IsRowOf, IsStoreOf, known_tests, row_at};
+ghost use Rattle.store_refusals.specs.Causes.{TellsCause};
 
 use bytes::ByteStr;
 use sqlite::Alter;
@@ -22,6 +23,7 @@ pub fn row_of<S: Alter>(
 ) -> Result<Option<InvocationRow>, Refusal>
     ensures told { HasCleanDisk (state S.Store tables.new) → (events : List Event) → IsStoreOf events (state S.Store tables.old) → Tells (λ row. row ≡ row_at events id.now) result }
     ensures looks { Looks S.Store tables.old tables.new }
+    ensures cause { IfErr result (TellsCause (state S.Store tables.old) (state S.Store tables.new)) }
 {
     let row = invocation_by_id(tables, id)?;
     Ok(row)
@@ -34,6 +36,7 @@ pub fn known_row<S: Alter>(
 ) -> Result<InvocationRow, Refusal>
     ensures decided { HasCleanDisk (state S.Store tables.new) → (events : List Event) → IsStoreOf events (state S.Store tables.old) → Decides (known_tests events id.now) (IsRowOf events id.now) result }
     ensures looks { Looks S.Store tables.old tables.new }
+    ensures cause { IfErr result (TellsCause (state S.Store tables.old) (state S.Store tables.new)) }
 {
     let found = row_of(tables, id)?;
     match found {
@@ -49,6 +52,7 @@ pub fn open_row<S: Alter>(
 ) -> Result<InvocationRow, Refusal>
     ensures decided { HasCleanDisk (state S.Store tables.new) → (events : List Event) → IsStoreOf events (state S.Store tables.old) → Decides (open_tests events id.now) (IsOpenRow events id.now) result }
     ensures looks { Looks S.Store tables.old tables.new }
+    ensures cause { IfErr result (TellsCause (state S.Store tables.old) (state S.Store tables.new)) }
 {
     let row = known_row(tables, id)?;
     if row.progress.closing.is_some() {

@@ -1,9 +1,10 @@
 //! The start of an attempt.
 
-ghost use Rattle.std.specs.Prelude.{◌≡◌, map, IfOk};
+ghost use Rattle.std.specs.Prelude.{◌≡◌, map, IfOk, IfErr};
 ghost use Rattle.store_invocations.specs.Start.{since_first, start_of, start_record, state_record};
 ghost use Rattle.journal_model.specs.Spelling.{frame_bytes};
 ghost use Rattle.store_invocations.specs.Rows.{Decides, payload_tests};
+ghost use Rattle.store_refusals.specs.Causes.{IsUnasked};
 
 use crate::frame::payload_frame;
 use bytes::Bytes;
@@ -96,7 +97,8 @@ pub(crate) fn start_frame(
     states: &[StateRow],
     now: u64,
 ) -> Result<Bytes, Refusal>
-    ensures { Decides (payload_tests (start_of row.now states.now now)) (λ start. start ≡ frame_bytes MessageType.Start (start_of row.now states.now now)) result }
+    ensures decided { Decides (payload_tests (start_of row.now states.now now)) (λ start. start ≡ frame_bytes MessageType.Start (start_of row.now states.now now)) result }
+    ensures unasked { IfErr result IsUnasked }
 {
     let payload = start_payload(alloc, row, states, now)?;
     payload_frame(alloc, MessageType::Start, payload.as_slice())

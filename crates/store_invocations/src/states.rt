@@ -1,6 +1,6 @@
 //! The state of an object.
 
-ghost use Rattle.std.specs.Prelude.{◌≡◌, List, map};
+ghost use Rattle.std.specs.Prelude.{◌≡◌, List, map, IfErr};
 ghost use Rattle.sqlite.specs.Held.{state};
 ghost use Rattle.sqlite.specs.State.{HasCleanDisk};
 ghost use Rattle.journal_model.specs.Event.{Event};
@@ -9,6 +9,7 @@ ghost use Rattle.store_model.specs.Kept.{state_row};
 ghost use Rattle.store_tables.specs.Looks.{Looks};
 ghost use Rattle.store_refusals.specs.Prepared.{Tells};
 ghost use Rattle.store_invocations.specs.Rows.{IsStoreOf};
+ghost use Rattle.store_refusals.specs.Causes.{TellsCause};
 
 use bytes::ByteStr;
 use sqlite::Alter;
@@ -22,6 +23,7 @@ pub fn object_states<S: Alter>(
 ) -> Result<Vec<StateRow>, Refusal>
     ensures told { HasCleanDisk (state S.Store tables.new) → (events : List Event) → IsStoreOf events (state S.Store tables.old) → Tells (λ states. states.items ≡ map (state_row object.now) (object_state events object.now)) result }
     ensures looks { Looks S.Store tables.old tables.new }
+    ensures cause { IfErr result (TellsCause (state S.Store tables.old) (state S.Store tables.new)) }
 {
     let states = states_of(tables, object)?;
     Ok(states)

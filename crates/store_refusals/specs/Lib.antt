@@ -1,3 +1,4 @@
+pub mod Causes
 pub mod Names
 pub mod Refused
 pub mod Prepared

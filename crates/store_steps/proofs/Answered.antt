@@ -1,5 +1,5 @@
 -- A read that the store answers: what is made ready of it and of its answer is what its event writes.
-use Rattle.std.proofs.Common.{◌≡◌, refl, sym, ap, ◌∙◌, subst, subst₂, arith, ◌==◌, ℕ, ◌+◌, ◌-◌, ◌^◌, ◌<◌, max, nat_lt, eq-eqb, ltb-true, Bool, true, false, not, ◌&&◌, ◌||◌, if◌then◌else◌, List, [], ◌∷◌, ◌++◌, append-nil, length, map, Option, Some, None, Result, Ok, Err}
+use Rattle.std.proofs.Common.{◌≡◌, refl, sym, ap, ◌∙◌, subst, arith, ◌==◌, ℕ, ◌+◌, ◌-◌, ◌^◌, ◌<◌, max, nat_lt, eq-eqb, ltb-true, Bool, true, false, not, ◌&&◌, ◌||◌, if◌then◌else◌, List, [], ◌∷◌, ◌++◌, append-nil, length, map, Option, Some, None, Result, Ok, Err}
 use Rattle.std.specs.List.{find, list_any}
 use Rattle.journal_model.specs.Notification.{Text, Arrival}
 use Rattle.journal_model.specs.declared.notification.NotificationResult.{NotificationResult}
@@ -9,7 +9,7 @@ use Rattle.journal_model.specs.State.{StateMap, value_at, state_keys, state_afte
 use Rattle.journal_model.specs.Request.{Request, completions_asked}
 use Rattle.journal_model.specs.Spelling.{completion_type, notification_payload}
 use Rattle.journal_model.specs.Event.{Frame, Event}
-use Rattle.journal_model.specs.Journal.{Entry, Recorded, Arrived, asks_for, arrivals_in, completion, entries_of, object_of, read_answer, recorded_requests, requests_in, starting_state, version_of}
+use Rattle.journal_model.specs.Journal.{Entry, Recorded, Arrived, asks_for, arrivals_in, completion, entries_of, object_of, read_answer, recorded_requests, requests_in, starting_state}
 use Rattle.journal_model.specs.Attempt.{notification_type, type_of_completion}
 use Rattle.journal_model.specs.Cause.{Cause, BadCompletion, KeyNotText, NumbersUsedUp, PayloadTooLong, do_ascend, greatest, is_too_long, last_completion, those_that_hold, causes_of, IsAccepted}
 use Rattle.journal_laws.proofs.ObjectState.{requests_in-append}
@@ -19,7 +19,6 @@ use Rattle.store_frames.specs.declared.frame.RecordedCommand.{RecordedCommand}
 use Rattle.store_frames.specs.declared.frame.AttemptFrame.TheVariants as told
 use Rattle.store_frames.specs.Commands.{first_asked, state_use}
 use Rattle.store_frames.specs.Answer.{IsCommand}
-use Rattle.store_tables.specs.declared.row.EntryRow.{EntryRow}
 use Rattle.store_tables.specs.declared.row.InvocationRow.{InvocationRow}
 use Rattle.store_tables.specs.declared.row.Progress.{Progress}
 use Rattle.store_tables.specs.declared.row.Write.TheVariants.{SetProgress, AddEntry, OpenSleep}
@@ -32,7 +31,6 @@ use Rattle.store_model.proofs.Following.{follows}
 use Rattle.store_model.proofs.States.{itself}
 use Rattle.due_model.specs.Noted.{Noted}
 use Rattle.due_laws.proofs.Noting.{noted_follows}
-use Rattle.store_lookups.specs.Lookups.{rows_of_arrivals}
 use Rattle.store_lookups.proofs.Answering.{asked_below, arrivals_in-append}
 use Rattle.store_invocations.specs.Rows.{Decides, payload_tests}
 use Rattle.store_refusals.specs.declared.refusal.Refusal.{Refusal}

@@ -6,7 +6,6 @@ use Rattle.journal_model.specs.Notification.{Text}
 use Rattle.journal_model.specs.State.{StateMap, state_after}
 use Rattle.journal_model.specs.Request.{Request, completions_asked}
 use Rattle.journal_model.specs.Spelling.{notification_payload}
-use Rattle.journal_model.specs.declared.notification.NotificationResult.{NotificationResult}
 use Rattle.journal_model.specs.Event.{Frame, Event}
 use Rattle.journal_model.specs.Journal.{Recorded, Arrived, is_open, object_state, read_answer, recorded_requests, requests_in, starting_state, entries_of}
 use Rattle.journal_model.specs.Cause.{BadCompletion, KeyNotText, NumbersUsedUp, PayloadTooLong, Tests, IsAccepted, causes_of, do_ascend, entry_payload, is_too_long, last_completion, those_that_hold}

@@ -1,3 +1,4 @@
+pub mod Causes
 pub mod Commands
 pub mod LazyReads
 pub mod Answered

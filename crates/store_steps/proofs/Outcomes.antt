@@ -1,5 +1,5 @@
 -- The outcome of a run, by the row of its invocation.
-use Rattle.std.proofs.Common.{◌≡◌, refl, sym, ap, subst, subst₂, ◌∙◌, ℕ, Bool, true, false, ◌&&◌, if◌then◌else◌, List, Option, Some, None, bytes_eq, Ok, Err}
+use Rattle.std.proofs.Common.{◌≡◌, refl, sym, ap, subst, subst₂, ◌∙◌, ℕ, Bool, true, false, ◌&&◌, if◌then◌else◌, List, Some, None, bytes_eq, Ok, Err}
 use Rattle.journal_model.specs.Notification.{Text}
 use Rattle.journal_model.specs.declared.notification.NotificationResult.{NotificationResult}
 use Rattle.journal_model.specs.declared.value.NonEmptyValue.{NonEmptyValue}

@@ -1,5 +1,5 @@
 -- What is decided by the row of an invocation is what the events say.
-use Rattle.std.proofs.Common.{◌≡◌, refl, sym, ap, subst, subst₂, ◌∙◌, inl, inr, ℕ, ◌+◌, Bool, true, false, List, [], ◌∷◌, length, map, filter_map, Option, Some, None, is_some, option_map, unwrap_or, bytes_eq, Result, Ok, Err}
+use Rattle.std.proofs.Common.{◌≡◌, refl, sym, ap, subst, subst₂, ◌∙◌, inl, inr, ℕ, Bool, true, false, List, [], filter_map, Option, Some, None, is_some, option_map, unwrap_or, bytes_eq, Result, Ok, Err}
 use Rattle.std.specs.Prelude.{IfOk, IfErr, OnOk}
 use Rattle.std.proofs.lemmas.Slice.Eq.{bytes_eq-Decides}
 use Rattle.sqlite.specs.State.{State}

@@ -1,6 +1,5 @@
 -- What is found of an object's state is what a read of it is answered.
-use Rattle.std.proofs.Common.{◌≡◌, refl, sym, ap, subst, ℕ, ◌+◌, ◌<◌, ◌^◌, Bool, List, [], ◌∷◌, map, Option, Some, None, option_map, Result, Ok, Err}
-use Rattle.std.specs.Prelude.{IfOk, IfSome}
+use Rattle.std.proofs.Common.{◌≡◌, refl, ap, List, [], ◌∷◌, map, Option, Some, None, option_map}
 use Rattle.sqlite.specs.State.{State}
 use Rattle.journal_model.specs.Notification.{Bytes, Text}
 use Rattle.journal_model.specs.declared.notification.NotificationResult.{NotificationResult}
@@ -11,16 +10,10 @@ use Rattle.journal_model.specs.State.{StateMap, state_keys, value_at}
 use Rattle.store_tables.specs.Records.{Records, is_at_key}
 use Rattle.store_tables.specs.Questions.{IsFound}
 use Rattle.store_tables.specs.declared.row.StateRow.{StateRow}
-use Rattle.store_tables.specs.declared.row.Progress.{Progress}
 use Rattle.store_model.specs.Kept.{state_row}
 use Rattle.store_lookups.proofs.Finding.{all_found}
-use Rattle.store_frames.specs.declared.frame.AttemptFrame.{AttemptFrame}
 use Rattle.store_invocations.proofs.Reading.{KeepsOnly, found_is}
-use Rattle.store_refusals.specs.declared.refusal.Refusal.{Refusal}
 use Rattle.store_refusals.specs.Prepared.{Keeps}
-use Rattle.store_steps.specs.declared.frame.LiveFacts.{LiveFacts}
-use Rattle.store_steps.specs.declared.frame.PreparedFrame.{PreparedFrame}
-use Rattle.store_steps.specs.Taken.{IsMade}
 
 -- ---- the value of a key
 

@@ -1,5 +1,5 @@
 -- Whether a suspension is awake at once is told by what its attempt was not handed; of other frames nothing is asked.
-use Rattle.std.proofs.Common.{◌≡◌, refl, sym, ap, subst, ◌∙◌, inl, inr, ℕ, Bool, false, List, [], ◌++◌, append-nil, drop, Option, Some, None, Result, Ok, Err}
+use Rattle.std.proofs.Common.{◌≡◌, refl, sym, ap, subst, ◌∙◌, inl, inr, ℕ, Bool, false, List, [], ◌++◌, append-nil, drop, Some, None, Result, Ok, Err}
 use Rattle.journal_model.specs.Notification.{Bytes, Text, Arrival}
 use Rattle.journal_model.specs.declared.notification.NotificationResult.{NotificationResult}
 use Rattle.journal_model.specs.Event.{Suspension, Frame, Event}
@@ -20,7 +20,7 @@ use Rattle.store_refusals.specs.declared.refusal.Refusal.{Refusal}
 use Rattle.store_refusals.specs.Refused.{IsRefused}
 use Rattle.store_refusals.specs.Prepared.{Tells}
 use Rattle.store_steps.specs.declared.frame.LiveFacts.{LiveFacts}
-use Rattle.store_steps.specs.Taken.{IsAwakeAtOnce, IsLive, IsOther, Takes, WakesAtOnce}
+use Rattle.store_steps.specs.Taken.{IsAwakeAtOnce, IsOther, Takes, WakesAtOnce}
 use Rattle.store_steps.proofs.Taking.{IsUnread}
 
 -- a command is no suspension

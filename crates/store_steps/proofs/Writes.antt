@@ -1,17 +1,15 @@
 -- What is written of a frame, by what is kept of its invocation and of the frame, is what the event writes.
-use Rattle.std.proofs.lemmas.List.{length-drop}
-use Rattle.std.proofs.Common.{arith, ◌≡◌, refl, sym, ap, ap₂, ◌∙◌, ℕ, ◌+◌, ◌-◌, ◌^◌, max, nat_lt, Bool, true, false, ◌&&◌, if◌then◌else◌, List, [], ◌∷◌, ◌++◌, append-nil, length, map, Option, Some, None, option_map}
-use Rattle.journal_model.specs.Notification.{Bytes, Text, Arrival}
+use Rattle.std.proofs.Common.{arith, ◌≡◌, refl, sym, ap, ap₂, ◌∙◌, ℕ, ◌+◌, ◌^◌, max, nat_lt, Bool, true, false, ◌&&◌, if◌then◌else◌, List, [], ◌∷◌, ◌++◌, append-nil, length, map, Option, Some, None, option_map}
+use Rattle.journal_model.specs.Notification.{Text, Arrival}
 use Rattle.journal_model.specs.State.{state_after}
 use Rattle.journal_model.specs.declared.invocation.NewInvocation.{NewInvocation}
 use Rattle.journal_model.specs.Request.{Request, completions_asked}
 use Rattle.journal_model.specs.Spelling.{request_type, request_payload}
 use Rattle.journal_model.specs.Event.{Behavior, Frame, Event}
-use Rattle.journal_model.specs.Journal.{Entry, Recorded, Arrived, invocation_begun, version_of, object_of, closes, sleep_in, starting_state, requests_in, recorded_arrivals, entries_of}
+use Rattle.journal_model.specs.Journal.{Entry, Recorded, Arrived, invocation_begun, version_of, object_of, closes, sleep_in, starting_state, requests_in, entries_of}
 use Rattle.journal_model.specs.Cause.{greatest, causes_of, IsAccepted}
-use Rattle.due_model.specs.Noted.{Noted, noted_of, arrivals_heard}
+use Rattle.due_model.specs.Noted.{Noted, noted_of}
 use Rattle.due_laws.specs.Awake.{after_frame as noted_after}
-use Rattle.due_laws.proofs.Heard.{heard_few}
 use Rattle.due_laws.proofs.Noting.{noted_follows}
 use Rattle.store_frames.specs.declared.frame.RecordedCommand.{RecordedCommand}
 use Rattle.store_frames.specs.declared.frame.ErrorBehavior.{ErrorBehavior}

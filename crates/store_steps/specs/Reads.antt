@@ -1,24 +1,20 @@
 -- What the store answers to a read of an object's state, and what is made ready of the read.
-use Rattle.std.specs.Prelude.{◌≡◌, ℕ, ◌+◌, Bool, ◌&&◌, if◌then◌else◌, List, [], ◌∷◌, length, Option, Some, None}
-use Rattle.journal_model.specs.Notification.{Bytes, Text}
+use Rattle.std.specs.Prelude.{◌≡◌, ℕ, Bool, ◌&&◌, if◌then◌else◌, [], ◌∷◌, Option, Some, None}
 use Rattle.journal_model.specs.declared.notification.NotificationResult.{NotificationResult}
 use Rattle.journal_model.specs.Delivery.{value_or_void}
 use Rattle.journal_model.specs.State.{StateMap, value_at, state_keys}
-use Rattle.journal_model.specs.Spelling.{acknowledgement_payload, frame_bytes, notification_payload}
-use Rattle.journal_model.specs.Event.{Frame, Event}
-use Rattle.journal_model.specs.Journal.{completion, entries_of, entries_of_frame, starting_state}
+use Rattle.journal_model.specs.Spelling.{notification_payload}
+use Rattle.journal_model.specs.Journal.{completion}
 use Rattle.protocol_types.specs.declared.feature.Feature.TheVariants.{Acknowledgement}
 use Rattle.protocol_types.specs.Feature.{has_feature}
 use Rattle.protocol_types.specs.declared.message_type.MessageType.TheVariants as types
 use Rattle.store_frames.specs.declared.frame.RecordedCommand.{RecordedCommand}
 use Rattle.store_frames.specs.declared.frame.StateUse.{StateUse}
 use Rattle.store_frames.specs.declared.frame.StateUse.TheVariants as uses
-use Rattle.store_tables.specs.declared.row.EntryRow.{EntryRow}
 use Rattle.store_tables.specs.declared.row.InvocationRow.{InvocationRow}
 use Rattle.store_tables.specs.declared.row.Write.TheVariants.{SetProgress, AddEntry}
 use Rattle.store_model.specs.Kept.{answered_by}
 use Rattle.store_model.specs.Steps.{grown}
-use Rattle.store_lookups.specs.Lookups.{row_frame, rows_of_arrivals}
 use Rattle.store_arrivals.specs.Arrivals.{HasFewArrivals, entry_of_arrival}
 use Rattle.store_steps.specs.declared.frame.FrameReply.TheVariants as replies
 use Rattle.store_steps.specs.declared.frame.PreparedFrame.{PreparedFrame}

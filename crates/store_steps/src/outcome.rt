@@ -1,6 +1,6 @@
 //! Outcomes of runs: one is recorded as any arrival is, and the attempt that proposed it is told.
 
-ghost use Rattle.std.specs.Prelude.{◌≡◌, List};
+ghost use Rattle.std.specs.Prelude.{◌≡◌, List, IfErr};
 ghost use Rattle.sqlite.specs.Held.{state};
 ghost use Rattle.sqlite.specs.State.{HasCleanDisk};
 ghost use Rattle.journal_model.specs.Event.{Event};
@@ -11,6 +11,7 @@ ghost use Rattle.store_invocations.specs.Rows.{IsRowOf, IsStoreOf};
 ghost use Rattle.store_steps.specs.declared.frame.LiveFacts.{LiveFacts};
 ghost use Rattle.store_steps.specs.Reads.{acknowledged_if};
 ghost use Rattle.store_steps.specs.Taken.{Takes};
+ghost use Rattle.store_refusals.specs.Causes.{TellsCause};
 
 use crate::frame::{FrameReply, PreparedFrame};
 use bytes::ByteStr;
@@ -44,6 +45,7 @@ pub(crate) fn outcome_by_row<S: Alter>(
     ensures prepared { HasCleanDisk (state S.Store tables.new) → (events : List Event) → IsStoreOf events (state S.Store tables.old) → IsRowOf events id.now row
         → (attempt : LiveFacts) → Takes events id.now attempt (AttemptFrame.RunOutcome completion brought is_acknowledged) result }
     ensures looks { Looks S.Store tables.old tables.new }
+    ensures cause { IfErr result (TellsCause (state S.Store tables.old) (state S.Store tables.new)) }
 {
     let acknowledged = acknowledged_by(row.version, completion, is_acknowledged);
     match prepare_outcome(tables, row, id, completion, brought) {

@@ -10,6 +10,7 @@ ghost use Rattle.store_invocations.specs.Rows.{Decides, IsRowOf, IsStoreOf};
 ghost use Rattle.store_steps.specs.Reads.{answer_told};
 ghost use Rattle.store_steps.specs.Told.{tests_of_told};
 ghost use Rattle.store_steps.specs.Taken.{IsMade, IsOther, IsWhy, Takes, WakesAtOnce};
+ghost use Rattle.store_refusals.specs.Causes.{TellsCause};
 
 use crate::frame::{LiveFacts, PreparedFrame};
 use crate::outcome::outcome_by_row;
@@ -93,6 +94,7 @@ fn answer_at_once<S: Alter>(
         → Decides (tests_of_told row.now.progress true (AttemptFrame.Command command.now)) (λ answer. answer ≡ answer_told (object_state events row.now.object) command.now.state command.now.completion) result }
     ensures room { IfOk result (λ answer. IfSome answer (λ _. row.now.progress.entries + 1 < 2 ^ 32 - 1)) }
     ensures looks { Looks S.Store tables.old tables.new }
+    ensures cause { IfErr result (TellsCause (state S.Store tables.old) (state S.Store tables.new)) }
 {
     match command_refusal(&row.progress, command) {
         Some(refusal) => Err(refusal),
@@ -110,6 +112,7 @@ fn command_by_row<S: Alter>(
 ) -> Result<PreparedFrame, Refusal>
     ensures prepared { HasCleanDisk (state S.Store tables.new) → (events : List Event) → IsStoreOf events (state S.Store tables.old) → IsRowOf events id.now row → Takes events id.now attempt (AttemptFrame.Command command) result }
     ensures looks { Looks S.Store tables.old tables.new }
+    ensures cause { IfErr result (TellsCause (state S.Store tables.old) (state S.Store tables.new)) }
 {
     match answer_at_once(tables, &row, &command) {
         Ok(Some(answer)) => read_with(tables.alloc(), row, command, answer),
@@ -135,6 +138,7 @@ fn wakes_at_once<S: Alter>(
 ) -> Result<bool, Refusal>
     ensures told { HasCleanDisk (state S.Store tables.new) → (events : List Event) → IsStoreOf events (state S.Store tables.old) → IsRowOf events id.now row.now → WakesAtOnce events id.now attempt frame.now result }
     ensures looks { Looks S.Store tables.old tables.new }
+    ensures cause { IfErr result (TellsCause (state S.Store tables.old) (state S.Store tables.new)) }
 {
     match frame {
         AttemptFrame::Suspension { payload } => {
@@ -161,6 +165,7 @@ fn other_by_row<S: Alter>(
 ) -> Result<PreparedFrame, Refusal>
     ensures prepared { HasCleanDisk (state S.Store tables.new) → (events : List Event) → IsStoreOf events (state S.Store tables.old) → IsRowOf events id.now row → IsOther frame → Takes events id.now attempt frame result }
     ensures looks { Looks S.Store tables.old tables.new }
+    ensures cause { IfErr result (TellsCause (state S.Store tables.old) (state S.Store tables.new)) }
 {
     match wakes_at_once(tables, id, &row, attempt, &frame) {
         Ok(is_awake) => decide_by_row(tables.alloc(), id, row, attempt, is_awake, frame),
@@ -184,6 +189,7 @@ pub fn prepare_frame<S: Alter>(
     ensures prepared { HasCleanDisk (state S.Store tables.new) → (events : List Event) → IsStoreOf events (state S.Store tables.old) → Takes events id.now attempt frame result }
     ensures asked { HasCleanDisk (state S.Store tables.new) → OnOk result (IsTrue (state S.Store tables.old).is_open) }
     ensures looks { Looks S.Store tables.old tables.new }
+    ensures cause { IfErr result (TellsCause (state S.Store tables.old) (state S.Store tables.new)) }
 {
     match invocation_by_id(tables, id) {
         Ok(Some(row)) => match frame {

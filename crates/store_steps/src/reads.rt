@@ -1,6 +1,6 @@
 //! Reads of an object's state that the store answers: the answer stands in the journal behind the read, and both are recorded at once.
 
-ghost use Rattle.std.specs.Prelude.{◌≡◌, ◌+◌, ◌<◌, ◌-◌, ◌^◌, ◌∷◌, List, map, IfOk, IfSome};
+ghost use Rattle.std.specs.Prelude.{◌≡◌, ◌+◌, ◌<◌, ◌-◌, ◌^◌, ◌∷◌, List, map, IfOk, IfSome, IfErr};
 ghost use Rattle.sqlite.specs.Held.{state};
 ghost use Rattle.sqlite.specs.State.{HasCleanDisk};
 ghost use Rattle.journal_model.specs.declared.notification.NotificationResult.{NotificationResult as Brought};
@@ -16,6 +16,7 @@ ghost use Rattle.store_refusals.specs.Prepared.{Tells};
 ghost use Rattle.store_invocations.specs.Rows.{Decides, IsStoreOf, payload_tests};
 ghost use Rattle.store_steps.specs.Reads.{IsReadMade, answer_told, with_read};
 ghost use Rattle.store_steps.specs.Told.{answers_told, command_row};
+ghost use Rattle.store_refusals.specs.Causes.{IsUnasked, TellsCause};
 
 use crate::frame::{FrameReply, PreparedFrame};
 use crate::write::{entry_of, note_command};
@@ -47,6 +48,7 @@ fn value_of<S: Alter>(
 ) -> Result<NotificationResult, Refusal>
     ensures told { HasCleanDisk (state S.Store tables.new) → (events : List Event) → IsStoreOf events (state S.Store tables.old) → Tells (λ value. value ≡ value_or_void (value_at (object_state events object.now) key.now)) result }
     ensures looks { Looks S.Store tables.old tables.new }
+    ensures cause { IfErr result (TellsCause (state S.Store tables.old) (state S.Store tables.new)) }
 {
     let found = state_at(tables, object, key)?;
     match found {
@@ -80,6 +82,7 @@ fn keys_of<S: Alter>(
 ) -> Result<NotificationResult, Refusal>
     ensures told { HasCleanDisk (state S.Store tables.new) → (events : List Event) → IsStoreOf events (state S.Store tables.old) → Tells (λ keys. keys ≡ Brought.StateKeys (state_keys (object_state events object.now))) result }
     ensures looks { Looks S.Store tables.old tables.new }
+    ensures cause { IfErr result (TellsCause (state S.Store tables.old) (state S.Store tables.new)) }
 {
     let states = object_states(tables, object)?;
     let keys = keys_in(tables.alloc(), states)?;
@@ -108,6 +111,7 @@ pub(crate) fn answer_to<S: Alter>(
         → Tells (λ answer. answer ≡ answer_told (object_state events object.now) command.now.state command.now.completion) result }
     ensures counted { IfOk result (λ answer. IfSome answer (λ _. answers_told command.now.state ≡ 1)) }
     ensures looks { Looks S.Store tables.old tables.new }
+    ensures cause { IfErr result (TellsCause (state S.Store tables.old) (state S.Store tables.new)) }
 {
     match (&command.state, command.completion) {
         (StateUse::ReadValue { key }, Some(completion)) => {
@@ -161,6 +165,7 @@ pub(crate) fn read_with(
 ) -> Result<PreparedFrame, Refusal>
     requires { row.progress.entries + 1 < 2 ^ 32 - 1 }
     ensures decided { Decides (payload_tests (notification_payload answer.arrival)) (IsReadMade row command answer) result }
+    ensures unasked { IfErr result IsUnasked }
 {
     let place = row.progress.entries;
     let ReadAnswer { ty, arrival } = answer;

@@ -83,14 +83,14 @@ module _ {X : Type 0} (tree width : ℕ) (cells : X → Row) (Fits : X → Type 
 kept_invocations : Keeps 1 22 invocation_cells FitsInvocation (λ r. r.invocations)
 kept_invocations = record { held = λ db r h. h.invocations; fit = λ db r h. h.fit_invocations; whole = λ i. refl; back = invocation_back; told = invocation_back_is }
 
-selects_id : IsSelect invocation_by_id_text 1 invocation_columns 22 (equal 0 0 ∷ []) []
+pub selects_id : IsSelect invocation_by_id_text 1 invocation_columns 22 (equal 0 0 ∷ []) []
 unfolding understood everything
 selects_id = record { command = refl; plain = (refl, refl); unlisted = refl }
 
 pub asks_id : (s : State) (id : List ℕ) → Asks invocation_cells FitsInvocation (λ r. r.invocations) (has_id id) invocation_by_id_text (Text id ∷ []) s
 asks_id s id = asks_of 1 22 invocation_cells FitsInvocation (λ r. r.invocations) kept_invocations invocation_columns _ (equal 0 0 ∷ []) _ selects_id _ s _ (λ i. one_test _ _ (same_text i.id id))
 
-selects_open : IsSelect open_invocation_text 1 invocation_columns 22 (equal 5 0 ∷ []) []
+pub selects_open : IsSelect open_invocation_text 1 invocation_columns 22 (equal 5 0 ∷ []) []
 unfolding understood everything
 selects_open = record { command = refl; plain = (refl, refl); unlisted = refl }
 
@@ -101,7 +101,7 @@ same_optional_text (Some s) t = same_text s t
 pub asks_open : (s : State) (object : List ℕ) → Asks invocation_cells FitsInvocation (λ r. r.invocations) (is_open_of object) open_invocation_text (Text object ∷ []) s
 asks_open s object = asks_of 1 22 invocation_cells FitsInvocation (λ r. r.invocations) kept_invocations invocation_columns _ (equal 5 0 ∷ []) _ selects_open _ s _ (λ i. one_test _ _ (same_optional_text i.progress.open_object object))
 
-selects_awake : IsSelect awake_invocations_text 1 invocation_columns 22 (equal 21 0 ∷ []) (by_columns (1 ∷ []))
+pub selects_awake : IsSelect awake_invocations_text 1 invocation_columns 22 (equal 21 0 ∷ []) (by_columns (1 ∷ []))
 unfolding understood everything
 selects_awake = record { command = refl; plain = (refl, refl); unlisted = refl }
 
@@ -124,35 +124,35 @@ asks_number at field sql is select s invocation n =
     asks_of 0 9 entry_cells FitsEntry (λ r. r.entries) kept_entries entry_columns sql (equal 0 0 ∷ equal at 1 ∷ []) [] select _ s _
     (λ e. two_tests _ _ _ _ (same_text e.invocation invocation) (ap (λ v. are_same v (short_cell n)) (is e) ∙ same_number (field e) n))
 
-selects_completion : IsSelect entry_by_completion_text 0 entry_columns 9 (equal 0 0 ∷ equal 4 1 ∷ []) []
+pub selects_completion : IsSelect entry_by_completion_text 0 entry_columns 9 (equal 0 0 ∷ equal 4 1 ∷ []) []
 unfolding understood everything
 selects_completion = record { command = refl; plain = (refl, refl); unlisted = refl }
 
 pub asks_completion : (s : State) (invocation : List ℕ) (n : ℕ) → Asks entry_cells FitsEntry (λ r. r.entries) (asks_for invocation n) entry_by_completion_text (Text invocation ∷ short_cell n ∷ []) s
 asks_completion = asks_number 4 (λ e. e.completion) _ (λ e. refl) selects_completion
 
-selects_second : IsSelect entry_by_second_completion_text 0 entry_columns 9 (equal 0 0 ∷ equal 5 1 ∷ []) []
+pub selects_second : IsSelect entry_by_second_completion_text 0 entry_columns 9 (equal 0 0 ∷ equal 5 1 ∷ []) []
 unfolding understood everything
 selects_second = record { command = refl; plain = (refl, refl); unlisted = refl }
 
 pub asks_second : (s : State) (invocation : List ℕ) (n : ℕ) → Asks entry_cells FitsEntry (λ r. r.entries) (asks_second_for invocation n) entry_by_second_completion_text (Text invocation ∷ short_cell n ∷ []) s
 asks_second = asks_number 5 (λ e. e.second_completion) _ (λ e. refl) selects_second
 
-selects_answered : IsSelect entry_by_answered_text 0 entry_columns 9 (equal 0 0 ∷ equal 6 1 ∷ []) []
+pub selects_answered : IsSelect entry_by_answered_text 0 entry_columns 9 (equal 0 0 ∷ equal 6 1 ∷ []) []
 unfolding understood everything
 selects_answered = record { command = refl; plain = (refl, refl); unlisted = refl }
 
 pub asks_answered : (s : State) (invocation : List ℕ) (n : ℕ) → Asks entry_cells FitsEntry (λ r. r.entries) (answers invocation n) entry_by_answered_text (Text invocation ∷ short_cell n ∷ []) s
 asks_answered = asks_number 6 (λ e. e.answered) _ (λ e. refl) selects_answered
 
-selects_arrival : IsSelect arrival_at_text 0 entry_columns 9 (equal 0 0 ∷ equal 7 1 ∷ []) []
+pub selects_arrival : IsSelect arrival_at_text 0 entry_columns 9 (equal 0 0 ∷ equal 7 1 ∷ []) []
 unfolding understood everything
 selects_arrival = record { command = refl; plain = (refl, refl); unlisted = refl }
 
 pub asks_arrival : (s : State) (invocation : List ℕ) (n : ℕ) → Asks entry_cells FitsEntry (λ r. r.entries) (is_arrival_at invocation n) arrival_at_text (Text invocation ∷ short_cell n ∷ []) s
 asks_arrival = asks_number 7 (λ e. e.arrival) _ (λ e. refl) selects_arrival
 
-selects_place : IsSelect entry_at_text 0 entry_columns 9 (equal 0 0 ∷ equal 1 1 ∷ []) []
+pub selects_place : IsSelect entry_at_text 0 entry_columns 9 (equal 0 0 ∷ equal 1 1 ∷ []) []
 unfolding understood everything
 selects_place = record { command = refl; plain = (refl, refl); unlisted = refl }
 
@@ -161,7 +161,7 @@ asks_place s invocation place =
     asks_of 0 9 entry_cells FitsEntry (λ r. r.entries) kept_entries entry_columns _ (equal 0 0 ∷ equal 1 1 ∷ []) [] selects_place _ s _
     (λ e. two_tests _ _ _ _ (same_text e.invocation invocation) (same_short e.place place))
 
-selects_after : IsSelect arrivals_after_text 0 entry_columns 9 (equal 0 0 ∷ behind 7 1 ∷ []) (by_columns (8 ∷ []))
+pub selects_after : IsSelect arrivals_after_text 0 entry_columns 9 (equal 0 0 ∷ behind 7 1 ∷ []) (by_columns (8 ∷ []))
 unfolding understood everything
 selects_after = record { command = refl; plain = (refl, refl); unlisted = refl }
 
@@ -174,7 +174,7 @@ asks_after s invocation n =
     asks_in_order_of 0 9 entry_cells FitsEntry (λ r. r.entries) kept_entries entry_columns _ (equal 0 0 ∷ behind 7 1 ∷ []) (7 ∷ []) selects_after _ s _
     (λ e. two_tests _ _ _ _ (same_text e.invocation invocation) (above_number e.arrival n))
 
-selects_entries : IsSelect entries_text 0 entry_columns 9 (equal 0 0 ∷ []) (by_columns (2 ∷ []))
+pub selects_entries : IsSelect entries_text 0 entry_columns 9 (equal 0 0 ∷ []) (by_columns (2 ∷ []))
 unfolding understood everything
 selects_entries = record { command = refl; plain = (refl, refl); unlisted = refl }
 
@@ -186,7 +186,7 @@ asks_entries s invocation = asks_in_order_of 0 9 entry_cells FitsEntry (λ r. r.
 kept_states : Keeps 5 3 state_cells FitsState (λ r. r.states)
 kept_states = record { held = λ db r h. h.states; fit = λ db r h. h.fit_states; whole = λ s. refl; back = state_back; told = state_back_is }
 
-selects_state : IsSelect state_at_text 5 state_columns 3 (equal 0 0 ∷ equal 1 1 ∷ []) []
+pub selects_state : IsSelect state_at_text 5 state_columns 3 (equal 0 0 ∷ equal 1 1 ∷ []) []
 unfolding understood everything
 selects_state = record { command = refl; plain = (refl, refl); unlisted = refl }
 
@@ -195,7 +195,7 @@ asks_state s object key =
     asks_of 5 3 state_cells FitsState (λ r. r.states) kept_states state_columns _ (equal 0 0 ∷ equal 1 1 ∷ []) [] selects_state _ s _
     (λ x. two_tests _ _ _ _ (same_text x.object object) (same_blob x.key key))
 
-selects_states : IsSelect states_text 5 state_columns 3 (equal 0 0 ∷ []) (by_columns (2 ∷ []))
+pub selects_states : IsSelect states_text 5 state_columns 3 (equal 0 0 ∷ []) (by_columns (2 ∷ []))
 unfolding understood everything
 selects_states = record { command = refl; plain = (refl, refl); unlisted = refl }
 
@@ -207,14 +207,14 @@ asks_states s object = asks_in_order_of 5 3 state_cells FitsState (λ r. r.state
 kept_sleeps : Keeps 4 3 sleep_cells FitsSleep (λ r. r.sleeps)
 kept_sleeps = record { held = λ db r h. h.sleeps; fit = λ db r h. h.fit_sleeps; whole = λ s. refl; back = sleep_back; told = sleep_back_is }
 
-selects_sleeps : IsSelect sleeps_until_text 4 sleep_columns 3 (until 0 0 ∷ []) (by_columns (2 ∷ 1 ∷ 3 ∷ []))
+pub selects_sleeps : IsSelect sleeps_until_text 4 sleep_columns 3 (until 0 0 ∷ []) (by_columns (2 ∷ 1 ∷ 3 ∷ []))
 unfolding understood everything
 selects_sleeps = record { command = refl; plain = (refl, refl); unlisted = refl }
 
 pub asks_sleeps : (s : State) (moment : ℕ) → AsksInOrder sleep_cells FitsSleep (λ r. r.sleeps) (ends_by moment) (1 ∷ 0 ∷ 2 ∷ []) sleeps_until_text (long_cell moment ∷ []) s
 asks_sleeps s moment = asks_in_order_of 4 3 sleep_cells FitsSleep (λ r. r.sleeps) kept_sleeps sleep_columns _ (until 0 0 ∷ []) (1 ∷ 0 ∷ 2 ∷ []) selects_sleeps _ s _ (λ x. one_test _ _ (at_most_int (cast_signed w64 x.moment) (cast_signed w64 moment)))
 
-selects_first_sleep : IsFirstSelect first_sleep_text 4 sleep_columns 3 (from 0 0 ∷ []) (by_columns (1 ∷ []))
+pub selects_first_sleep : IsFirstSelect first_sleep_text 4 sleep_columns 3 (from 0 0 ∷ []) (by_columns (1 ∷ []))
 unfolding understood everything
 selects_first_sleep = record { command = refl; plain = (refl, refl); unlisted = refl }
 
@@ -226,7 +226,7 @@ asks_first_sleep s moment = asks_first_of 4 3 sleep_cells FitsSleep (λ r. r.sle
 kept_marks : Keeps 3 2 cells_of_mark FitsMark (λ r. the_mark ∷ [])
 kept_marks = record { held = λ db r h. h.mark; fit = λ db r h. (mark_fits, tt); whole = λ m. refl; back = mark_back; told = mark_back_is }
 
-selects_marks : IsSelect marks_text 3 meta_columns 2 [] []
+pub selects_marks : IsSelect marks_text 3 meta_columns 2 [] []
 unfolding understood everything
 selects_marks = record { command = refl; plain = (refl, refl); unlisted = refl }
 

@@ -1,23 +1,21 @@
 -- What a commit of some writes has done.
-use Rattle.std.proofs.Common.{◌≡◌, ◌⊎◌, ◌∙◌, sym, subst, arith, inl, inr, true, false, List, [], Result, Ok, Err, IfErr, OnErr, OnOk, IsTrue}
+use Rattle.std.proofs.Common.{◌≡◌, ◌⊎◌, ◌∙◌, sym, subst, arith, inl, inr, true, false, List, [], Result, Ok, Err, IfErr, IsErrAnd, OnErr, OnOk, IsTrue}
 use Rattle.sqlite_trees.specs.Tree.{Trees}
 use Rattle.sqlite_trees.specs.declared.store.Store.{Ghosts}
 use Rattle.sqlite.specs.declared.error.Error.{Error}
 use Rattle.sqlite.specs.Effect.{Database}
 use Rattle.sqlite.specs.Held.{Held, state}
-use Rattle.sqlite.specs.State.{State, HasCleanDisk, KeepsCommit, KeepsCounts, Shows, Survives}
+use Rattle.sqlite.specs.State.{HasCleanDisk, IsRolledBack, KeepsCommit, KeepsCounts, Shows, Survives}
 use Rattle.sqlite.specs.Steps.{FailsToCommit}
 use Rattle.sqlite.proofs.StateLemmas.{survives_then}
 use Rattle.sql_tables.specs.Asking.{IsKept}
 use Rattle.sql_tables.proofs.Queries.{on_ok}
 use Rattle.store_tables.specs.Records.{Records, Write, applied_all}
 use Rattle.store_tables.specs.Steps.{Lands, Steps, Turns}
-use Rattle.store_tables.specs.Looks.{HasSettled, HasWritten, Lasts, Makes}
+use Rattle.store_tables.specs.Looks.{Makes}
+use Rattle.sql_tables.specs.Causes.{TellsWriteCause}
+use Rattle.store_tables.proofs.Caused.{passed, told_before, told_of_commit, told_outside}
 use Rattle.store_tables.proofs.Chained.{IsSettling, lasts}
-
-any_cause : {A E : Type 0} (r : Result A E) → IfErr r (λ cause. Unit {0})
-any_cause (Ok x) = tt
-any_cause (Err e) = tt
 
 -- inside the transaction that is begun the tables are those of before
 abbrev begun : {S : Type 0} → Held S → Held S
@@ -86,11 +84,30 @@ module _ {S : Type 0} (g : Ghosts S) (law : IsSettling g) (old mid new : Held S)
   pub committed : (result : Result (Unit {0}) Error)
       → (HasCleanDisk (state g new) → OnOk result (IsTrue (state g mid).in_transaction × Shows (state g mid) (state g new) (state g mid).now (state g mid).now false × KeepsCounts (state g mid) (state g new) × ((state g new).marks ≡ [])))
       → (HasCleanDisk (state g new) → IfErr result (FailsToCommit (state g mid) (state g new)))
-      → Makes g writes (λ cause. Unit {0}) old new result
+      → Makes g writes (TellsWriteCause (state g old) (state g new)) old new result
   committed result told failed = record {
     done = λ clean. on_ok result (told clean) (λ it. inr (written clean it.1));
     lasts = λ clean. on_ok result (lasts g law (state g mid) new result told clean) (λ it. inr it);
     undone = undone_by result failed;
-    why = any_cause result;
+    why = told_of_commit (state g old) (state g mid) (state g new) (λ _. ⊥) (λ db. db ≡ (state g mid).now.trees) survives lives result failed;
     crash = survives_then (state g old) (state g mid) (state g new) (λ _. ⊥) (λ db. db ≡ (state g mid).now.trees) (Lands writes (state g old)) (λ _ db none. absurd none) lands survives lives;
   }
+
+-- a statement was refused, and what came before it is undone
+pub given_up : {S : Type 0} (g : Ghosts S) (old began mid new : Held S) (writes : List Write) (e : Error) (result : Result (Unit {0}) Error) → IsErrAnd result (λ other. other ≡ e)
+    → began ≡ begun old → (IsTrue (state g old).is_open → (state g old).now ≡ (state g old).committed)
+    → Survives (state g began) (state g mid) (λ _. ⊥) → (HasCleanDisk (state g mid) → KeepsCommit (state g began) (state g mid)) → TellsWriteCause (state g began) (state g mid) e
+    → Survives (state g mid) (state g new) (λ _. ⊥) → (HasCleanDisk (state g new) → IsRolledBack (state g mid) (state g new))
+    → Makes g writes (TellsWriteCause (state g old) (state g new)) old new result
+given_up g old began mid new writes e (Ok x) gives is idle survives kept tells lives undone = absurd gives
+given_up g old began mid new writes e (Err other) gives is idle survives kept tells lives undone = record {
+  done = λ clean. tt;
+  lasts = λ clean. tt;
+  undone = λ clean is_open.
+      let k = kept_from g old mid began is (kept (omega (arith, lives.clean, clean))) in
+      let was = (undone clean).was_open is_open in
+      (k.was_open was, ((undone clean).undone is_open).0 ∙ k.committed was ∙ sym (idle (k.was_open was)));
+  why = told_outside {A = Unit {0}} g old began (state g new) (Err other) is
+      (told_before (state g began) (state g mid) (state g new) (λ _. ⊥) (λ _. ⊥) survives lives {A = Unit {0}} (Err other) (passed {A = Unit {0}} (state g began) (state g mid) e (Err other) gives tells));
+  crash = survives_then (state g old) (state g mid) (state g new) (λ _. ⊥) (λ _. ⊥) (Lands writes (state g old)) (λ _ db none. absurd none) (λ _ db none. absurd none) (survives_from g old mid began is survives) lives;
+}

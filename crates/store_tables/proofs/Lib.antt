@@ -1,6 +1,7 @@
 pub mod Asked
 pub mod Asking
 pub mod Back
+pub mod Caused
 pub mod Chained
 pub mod Columns
 pub mod Committed
@@ -12,5 +13,6 @@ pub mod Making
 pub mod Matching
 pub mod Moves
 pub mod Orders
+pub mod Readable
 pub mod Sleeps
 pub mod States

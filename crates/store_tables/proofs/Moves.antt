@@ -1,5 +1,5 @@
 -- Changes of the records, by one statement and one after another.
-use Rattle.std.proofs.Common.{◌≡◌, ◌/◌, ◌++◌, ℕ, Bool, not, List, [], ◌∷◌, map, filter, length, slice_get, Some, refl, sym, ap, subst, ◌∙◌, Result, OnOk, arith}
+use Rattle.std.proofs.Common.{◌≡◌, ◌/◌, ◌++◌, ℕ, Bool, not, List, [], ◌∷◌, map, filter, length, slice_get, Some, refl, sym, ap, subst, ◌∙◌, Result, IfErr, OnOk, arith}
 use Rattle.std.specs.List.{AllByRecursion}
 use Rattle.sqlite.specs.declared.types.Value.TheVariants.{Null}
 use Rattle.sqlite_value.specs.Order.{Row}
@@ -21,12 +21,14 @@ use Rattle.sql_tables.specs.Changes.{Changes, KeepsOthers}
 use Rattle.sql_tables.specs.Columns.{NoneRefers, plain_orders, table_of}
 use Rattle.sql_tables.specs.Content.{HasRows}
 use Rattle.sql_tables.specs.Statements.{rows_of, program_of}
-use Rattle.sqlite.proofs.StateLemmas.{survives_then}
+use Rattle.sqlite.specs.declared.error.Error.{Error}
+use Rattle.sql_tables.specs.Causes.{TellsWriteCause}
 use Rattle.sql_tables.proofs.Queries.{keeps_on, on_ok}
 use Rattle.sql_tables.proofs.Tables.{delete_changes, insert_changes}
 use Rattle.store_tables.specs.Tables.{store_schema}
 use Rattle.store_tables.specs.Records.{EntryRow, FitsEntry, FitsInvocation, FitsSleep, FitsState, Holds, InvocationRow, Records, SleepRow, StateRow, Write, applied, applied_all, entry_cells, invocation_cells, sleep_cells, state_cells}
 use Rattle.store_tables.specs.Steps.{Alters, IsStore, Steps, Turns}
+use Rattle.store_tables.proofs.Caused.{survives_on, told_later}
 use Rattle.store_tables.proofs.Matching.{Test, cells_match, match_cells, tests_of}
 
 pub none_refers : NoneRefers store_schema
@@ -134,14 +136,15 @@ pub step_of : (change : Records → Records) (sql : List ℕ) (params : Row) (ol
 step_of change sql params old new ran moved = record { was_open = ran.was_open; schema = moved.0; inside = ran.inside; records = moved.1 }
 
 -- what a statement that was run has done, its parameters given as they were bound
-pub altered : {S E : Type 0} (g : Ghosts S) (change : Records → Records) (sql : List ℕ) (params given : Row) (old new : Held S) (result : Result (Unit {0}) E)
+pub altered : {S : Type 0} (g : Ghosts S) (change : Records → Records) (sql : List ℕ) (params given : Row) (old new : Held S) (result : Result (Unit {0}) Error)
     → ((a b : State) → a.now.schema ≡ store_schema → HasRun sql params a b → Moves change a b) → IsStore (state g old)
     → (HasCleanDisk (state g new) → OnOk result (HasRun sql given (state g old) (state g new))) → (HasRun sql given (state g old) (state g new) → HasRun sql params (state g old) (state g new))
-    → (HasCleanDisk (state g new) → KeepsCommit (state g old) (state g new)) → Survives (state g old) (state g new) (λ _. ⊥) → Alters g change old new result
-altered g change sql params given old new result moves store ran told kept survives = record {
+    → IfErr result (TellsWriteCause (state g old) (state g new)) → (HasCleanDisk (state g new) → KeepsCommit (state g old) (state g new)) → Survives (state g old) (state g new) (λ _. ⊥) → Alters g change old new result
+altered g change sql params given old new result moves store ran told why kept survives = record {
   done = λ clean. on_ok result (ran clean) (λ it.
       let run = told it in
       step_of change sql params (state g old) (state g new) run (moves (state g old) (state g new) (store (omega (arith, survives.clean, clean)) run.was_open) run));
+  why = why;
   kept = kept;
   survives = survives;
 }
@@ -157,13 +160,14 @@ steps_then f g a b c one two = record {
 }
 
 -- two in turn, of which the first went well
-pub altered_then : {S E : Type 0} (g : Ghosts S) (f h : Records → Records) (a b c : Held S) (result : Result (Unit {0}) E)
+pub altered_then : {S : Type 0} (g : Ghosts S) (f h : Records → Records) (a b c : Held S) (result : Result (Unit {0}) Error)
     → (HasCleanDisk (state g b) → Steps f (state g a) (state g b)) → (HasCleanDisk (state g b) → KeepsCommit (state g a) (state g b)) → Survives (state g a) (state g b) (λ _. ⊥) → Alters g h b c result
     → Alters g (λ r. h (f r)) a c result
 altered_then g f h a b c result done kept survives two = record {
   done = λ clean. on_ok result (two.done clean) (steps_then f h (state g a) (state g b) (state g c) (done (omega (arith, two.survives.clean, clean))));
+  why = told_later (state g a) (state g b) (state g c) (λ _. ⊥) (λ _. ⊥) survives two.survives result two.why;
   kept = λ clean. keeps_on (state g a) (state g b) (state g c) (kept (omega (arith, two.survives.clean, clean))) (two.kept clean);
-  survives = survives_then (state g a) (state g b) (state g c) _ _ (λ _. ⊥) (λ _ db none. none) (λ _ db none. none) survives two.survives;
+  survives = survives_on (state g a) (state g b) (state g c) survives two.survives;
 }
 
 applied_last : (ws : List Write) (w : Write) (r : Records) → applied_all (ws ++ w ∷ []) r ≡ applied w (applied_all ws r)

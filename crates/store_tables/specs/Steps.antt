@@ -1,11 +1,13 @@
 -- What a call does to the records.
-use Rattle.std.specs.Prelude.{◌≡◌, ◌⊎◌, List, [], Result, Ok, Err, OnOk, IsTrue}
+use Rattle.std.specs.Prelude.{◌≡◌, List, [], Result, Ok, Err, IfErr, OnOk, IsTrue}
 use Rattle.std.specs.List.{AllByRecursion}
 use Rattle.sqlite.specs.Schema.{Schema}
 use Rattle.sqlite_trees.specs.Tree.{Trees}
 use Rattle.sqlite_trees.specs.declared.store.Store.{Ghosts}
 use Rattle.sqlite.specs.Held.{Held, state}
+use Rattle.sqlite.specs.declared.error.Error.{Error}
 use Rattle.sqlite.specs.State.{State, HasCleanDisk, KeepsCommit, Survives}
+use Rattle.sql_tables.specs.Causes.{TellsWriteCause}
 use Rattle.sql_tables.specs.declared.read.ReadError.{ReadError}
 use Rattle.sql_tables.specs.declared.read.ReadError.TheVariants.{Foreign}
 use Rattle.store_tables.specs.Records.{Records, Write, Holds, applied_all}
@@ -23,8 +25,9 @@ pub record Steps (change : Records → Records) (old new : State) : Type 0 where
   pub records : Turns change old.now.trees new.now.trees
 
 -- a statement inside a transaction changes the records so; until the commit, a crash knows nothing of it
-pub record Alters {S E : Type 0} (g : Ghosts S) (change : Records → Records) (old new : Held S) (result : Result (Unit {0}) E) : Type 0 where
+pub record Alters {S : Type 0} (g : Ghosts S) (change : Records → Records) (old new : Held S) (result : Result (Unit {0}) Error) : Type 0 where
   pub done : HasCleanDisk (state g new) → OnOk result (Steps change (state g old) (state g new))
+  pub why : IfErr result (TellsWriteCause (state g old) (state g new))
   pub kept : HasCleanDisk (state g new) → KeepsCommit (state g old) (state g new)
   pub survives : Survives (state g old) (state g new) (λ _. ⊥)
 

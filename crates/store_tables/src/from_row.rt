@@ -14,19 +14,19 @@ use crate::kind::kind_kept;
 use crate::row::{Closing, EntryRow, InvocationRow, LastError, Mark, Progress, SleepRow, StateRow};
 use protocol_types::{MessageType, Version};
 use sql_tables::read::{
-    ReadError, blob_at, blob_or_none_at, flag_at, long_at, long_or_none_at, short_at,
+    RowError, blob_at, blob_or_none_at, flag_at, long_at, long_or_none_at, short_at,
     short_or_none_at, text_at, text_or_none_at,
 };
 use sql_tables::stored::Stored;
 use sqlite::Row;
 use std::alloc::Global;
 
-fn mark_from(alloc: Global, row: &Row) -> Result<Mark, ReadError>
+fn mark_from(alloc: Global, row: &Row) -> Result<Mark, RowError>
     ensures ok { IfOk result (λ m. (cells_of_mark m ≡ row.now) × FitsMark m) }
-    ensures foreign { IfErr result (λ e. e ≡ ReadError.Foreign → (x : Own) → FitsMark x → cells_of_mark x ≢ row.now) }
+    ensures foreign { IfErr result (λ e. e ≡ RowError.Foreign → (x : Own) → FitsMark x → cells_of_mark x ≢ row.now) }
 {
     if row.column_count() != 2 {
-        return Err(ReadError::Foreign);
+        return Err(RowError::Foreign);
     }
     let version = short_at(row, 1)?;
     let name = text_at(alloc, row, 0)?;
@@ -40,17 +40,17 @@ impl Stored for Mark {
 
     ghost fits = { FitsMark };
 
-    fn from_row(alloc: Global, row: &Row) -> Result<Mark, ReadError> {
+    fn from_row(alloc: Global, row: &Row) -> Result<Mark, RowError> {
         mark_from(alloc, row)
     }
 }
 
-fn state_from(alloc: Global, row: &Row) -> Result<StateRow, ReadError>
+fn state_from(alloc: Global, row: &Row) -> Result<StateRow, RowError>
     ensures ok { IfOk result (λ s. (state_cells s ≡ row.now) × FitsState s) }
-    ensures foreign { IfErr result (λ e. e ≡ ReadError.Foreign → (x : State) → FitsState x → state_cells x ≢ row.now) }
+    ensures foreign { IfErr result (λ e. e ≡ RowError.Foreign → (x : State) → FitsState x → state_cells x ≢ row.now) }
 {
     if row.column_count() != 3 {
-        return Err(ReadError::Foreign);
+        return Err(RowError::Foreign);
     }
     Ok(StateRow {
         object: text_at(alloc, row, 0)?,
@@ -66,17 +66,17 @@ impl Stored for StateRow {
 
     ghost fits = { FitsState };
 
-    fn from_row(alloc: Global, row: &Row) -> Result<StateRow, ReadError> {
+    fn from_row(alloc: Global, row: &Row) -> Result<StateRow, RowError> {
         state_from(alloc, row)
     }
 }
 
-fn sleep_from(alloc: Global, row: &Row) -> Result<SleepRow, ReadError>
+fn sleep_from(alloc: Global, row: &Row) -> Result<SleepRow, RowError>
     ensures ok { IfOk result (λ s. (sleep_cells s ≡ row.now) × FitsSleep s) }
-    ensures foreign { IfErr result (λ e. e ≡ ReadError.Foreign → (x : Sleep) → FitsSleep x → sleep_cells x ≢ row.now) }
+    ensures foreign { IfErr result (λ e. e ≡ RowError.Foreign → (x : Sleep) → FitsSleep x → sleep_cells x ≢ row.now) }
 {
     if row.column_count() != 3 {
-        return Err(ReadError::Foreign);
+        return Err(RowError::Foreign);
     }
     let moment = long_at(row, 0)?;
     let completion = short_at(row, 2)?;
@@ -95,28 +95,28 @@ impl Stored for SleepRow {
 
     ghost fits = { FitsSleep };
 
-    fn from_row(alloc: Global, row: &Row) -> Result<SleepRow, ReadError> {
+    fn from_row(alloc: Global, row: &Row) -> Result<SleepRow, RowError> {
         sleep_from(alloc, row)
     }
 }
 
-fn kind_from(row: &Row) -> Result<MessageType, ReadError>
+fn kind_from(row: &Row) -> Result<MessageType, RowError>
     ensures ok { IfOk result (λ kind. (short_cell (kept_kind kind) ≡ column row.now 2) × (number_of kind < 2 ^ 16)) }
-    ensures foreign { IfErr result (λ e. e ≡ ReadError.Foreign → (x : Entry) → FitsEntry x → entry_cells x ≢ row.now) }
+    ensures foreign { IfErr result (λ e. e ≡ RowError.Foreign → (x : Entry) → FitsEntry x → entry_cells x ≢ row.now) }
 {
     let number = short_at(row, 2)?;
     match kind_kept(number) {
         Some(kind) => Ok(kind),
-        None => Err(ReadError::Foreign),
+        None => Err(RowError::Foreign),
     }
 }
 
-fn entry_from(alloc: Global, row: &Row) -> Result<EntryRow, ReadError>
+fn entry_from(alloc: Global, row: &Row) -> Result<EntryRow, RowError>
     ensures ok { IfOk result (λ e. (entry_cells e ≡ row.now) × FitsEntry e) }
-    ensures foreign { IfErr result (λ e. e ≡ ReadError.Foreign → (x : Entry) → FitsEntry x → entry_cells x ≢ row.now) }
+    ensures foreign { IfErr result (λ e. e ≡ RowError.Foreign → (x : Entry) → FitsEntry x → entry_cells x ≢ row.now) }
 {
     if row.column_count() != 9 {
-        return Err(ReadError::Foreign);
+        return Err(RowError::Foreign);
     }
     let place = short_at(row, 1)?;
     let kind = kind_from(row)?;
@@ -147,26 +147,26 @@ impl Stored for EntryRow {
 
     ghost fits = { FitsEntry };
 
-    fn from_row(alloc: Global, row: &Row) -> Result<EntryRow, ReadError> {
+    fn from_row(alloc: Global, row: &Row) -> Result<EntryRow, RowError> {
         entry_from(alloc, row)
     }
 }
 
-fn closing_from(row: &Row) -> Result<Option<Closing>, ReadError>
+fn closing_from(row: &Row) -> Result<Option<Closing>, RowError>
     ensures ok { IfOk result (λ o. or_null closing_cell o ≡ column row.now 8) }
-    ensures foreign { IfErr result (λ e. e ≡ ReadError.Foreign → (x : Invocation) → FitsInvocation x → invocation_cells x ≢ row.now) }
+    ensures foreign { IfErr result (λ e. e ≡ RowError.Foreign → (x : Invocation) → FitsInvocation x → invocation_cells x ≢ row.now) }
 {
     match short_or_none_at(row, 8)? {
         None => Ok(None),
         Some(1) => Ok(Some(Closing::Ended)),
         Some(2) => Ok(Some(Closing::Failed)),
-        Some(_) => Err(ReadError::Foreign),
+        Some(_) => Err(RowError::Foreign),
     }
 }
 
-fn error_from(alloc: Global, row: &Row) -> Result<Option<LastError>, ReadError>
+fn error_from(alloc: Global, row: &Row) -> Result<Option<LastError>, RowError>
     ensures ok { IfOk result (IsErrorAt row.now) }
-    ensures foreign { IfErr result (λ e. e ≡ ReadError.Foreign → (x : Invocation) → FitsInvocation x → invocation_cells x ≢ row.now) }
+    ensures foreign { IfErr result (λ e. e ≡ RowError.Foreign → (x : Invocation) → FitsInvocation x → invocation_cells x ≢ row.now) }
 {
     let code = short_or_none_at(row, 10)?;
     let behavior = short_or_none_at(row, 11)?;
@@ -180,7 +180,7 @@ fn error_from(alloc: Global, row: &Row) -> Result<Option<LastError>, ReadError>
             message,
         })),
         (None, None, None) if delay.is_none() => Ok(None),
-        _ => Err(ReadError::Foreign),
+        _ => Err(RowError::Foreign),
     }
 }
 
@@ -195,9 +195,9 @@ pub struct Counts {
     pub arrivals: u32,
 }
 
-fn counts_from(row: &Row) -> Result<Counts, ReadError>
+fn counts_from(row: &Row) -> Result<Counts, RowError>
     ensures ok { IfOk result (AreCounts row.now) }
-    ensures foreign { IfErr result (λ e. e ≡ ReadError.Foreign → (x : Invocation) → FitsInvocation x → invocation_cells x ≢ row.now) }
+    ensures foreign { IfErr result (λ e. e ≡ RowError.Foreign → (x : Invocation) → FitsInvocation x → invocation_cells x ≢ row.now) }
 {
     Ok(Counts {
         attempts: short_at(row, 14)?,
@@ -209,9 +209,9 @@ fn counts_from(row: &Row) -> Result<Counts, ReadError>
     })
 }
 
-fn progress_from(alloc: Global, row: &Row) -> Result<Progress, ReadError>
+fn progress_from(alloc: Global, row: &Row) -> Result<Progress, RowError>
     ensures ok { IfOk result (IsProgressAt row.now) }
-    ensures foreign { IfErr result (λ e. e ≡ ReadError.Foreign → (x : Invocation) → FitsInvocation x → invocation_cells x ≢ row.now) }
+    ensures foreign { IfErr result (λ e. e ≡ RowError.Foreign → (x : Invocation) → FitsInvocation x → invocation_cells x ≢ row.now) }
 {
     let counts = counts_from(row)?;
     let handed = short_or_none_at(row, 7)?;
@@ -240,23 +240,23 @@ fn progress_from(alloc: Global, row: &Row) -> Result<Progress, ReadError>
     })
 }
 
-fn version_from(row: &Row) -> Result<Version, ReadError>
+fn version_from(row: &Row) -> Result<Version, RowError>
     ensures ok { IfOk result (λ v. short_cell (version_number v) ≡ column row.now 2) }
-    ensures foreign { IfErr result (λ e. e ≡ ReadError.Foreign → (x : Invocation) → FitsInvocation x → invocation_cells x ≢ row.now) }
+    ensures foreign { IfErr result (λ e. e ≡ RowError.Foreign → (x : Invocation) → FitsInvocation x → invocation_cells x ≢ row.now) }
 {
     let number = short_at(row, 2)?;
     match Version::with_number(number) {
         Some(version) => Ok(version),
-        None => Err(ReadError::Foreign),
+        None => Err(RowError::Foreign),
     }
 }
 
-fn invocation_from(alloc: Global, row: &Row) -> Result<InvocationRow, ReadError>
+fn invocation_from(alloc: Global, row: &Row) -> Result<InvocationRow, RowError>
     ensures ok { IfOk result (λ i. (invocation_cells i ≡ row.now) × FitsInvocation i) }
-    ensures foreign { IfErr result (λ e. e ≡ ReadError.Foreign → (x : Invocation) → FitsInvocation x → invocation_cells x ≢ row.now) }
+    ensures foreign { IfErr result (λ e. e ≡ RowError.Foreign → (x : Invocation) → FitsInvocation x → invocation_cells x ≢ row.now) }
 {
     if row.column_count() != 22 {
-        return Err(ReadError::Foreign);
+        return Err(RowError::Foreign);
     }
     let version = version_from(row)?;
     let seed = long_at(row, 3)?;
@@ -281,7 +281,7 @@ impl Stored for InvocationRow {
 
     ghost fits = { FitsInvocation };
 
-    fn from_row(alloc: Global, row: &Row) -> Result<InvocationRow, ReadError> {
+    fn from_row(alloc: Global, row: &Row) -> Result<InvocationRow, RowError> {
         invocation_from(alloc, row)
     }
 }

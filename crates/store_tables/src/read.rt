@@ -15,6 +15,8 @@ ghost use Rattle.store_tables.specs.Questions.{AreArrivals, AreFound, AreNoArriv
 ghost use Rattle.store_tables.specs.Orders.{AreAlike, AreDue, IsArranged, IsFirstSleep, IsUnarranged};
 ghost use Rattle.store_tables.specs.Records.{Holds, Records};
 ghost use Rattle.store_tables.specs.Steps.{WasAsked};
+ghost use Rattle.store_tables.specs.Tables.{store_schema};
+ghost use Rattle.sql_tables.specs.Causes.{IsReadable, TellsReadCause};
 
 use crate::order::{are_in_place, do_ids_ascend, do_states_ascend};
 use crate::row::{EntryRow, InvocationRow, SleepRow, StateRow};
@@ -35,6 +37,7 @@ fn find_one<R: Stored, S: Alter>(
     ensures found { HasCleanDisk (state S.Store tables.new) → IfOk result (λ o. (records : Records → List R) (test : R → Bool) → Asks R.Stored.cells R.Stored.fits records test sql.now (bound params.now) (state S.Store tables.old) → IsFound records test (state S.Store tables.old).now.trees o) }
     ensures foreign { HasCleanDisk (state S.Store tables.new) → IfErr result (λ e. e ≡ ReadError.Foreign → (records : Records → List R) (test : R → Bool) → Asks R.Stored.cells R.Stored.fits records test sql.now (bound params.now) (state S.Store tables.old) → IsAmbiguous records test (state S.Store tables.old).now.trees) }
     ensures looks { Looks S.Store tables.old tables.new }
+    ensures cause { IsReadable store_schema sql.now (bound params.now) → IfErr result (TellsReadCause (state S.Store tables.old) (state S.Store tables.new)) }
     ensures open { HasCleanDisk (state S.Store tables.new) → WasAsked result (state S.Store tables.old) }
 {
     one_by(tables.alloc, &mut tables.connection, sql, params)
@@ -50,6 +53,7 @@ fn find_all<R: Stored, S: Alter>(
     ensures arranged { HasCleanDisk (state S.Store tables.new) → IfOk result (λ xs. (records : Records → List R) (test : R → Bool) (order : List ℕ) → AsksInOrder R.Stored.cells R.Stored.fits records test order sql.now (bound params.now) (state S.Store tables.old) → (r : Records) → Holds (state S.Store tables.old).now.trees r → (zs : List R) → IsPermutation (filter test (records r)) zs → AreTold R.Stored.cells order zs → xs.items ≡ sort_by (by_cells R.Stored.cells order) zs) }
     ensures foreign { HasCleanDisk (state S.Store tables.new) → IfErr result (λ e. e ≡ ReadError.Foreign → (records : Records → List R) (test : R → Bool) (order : List ℕ) → AsksInOrder R.Stored.cells R.Stored.fits records test order sql.now (bound params.now) (state S.Store tables.old) → (r : Records) → Holds (state S.Store tables.old).now.trees r → (zs : List R) → IsPermutation (filter test (records r)) zs → AreTold R.Stored.cells order zs → ⊥) }
     ensures looks { Looks S.Store tables.old tables.new }
+    ensures cause { IsReadable store_schema sql.now (bound params.now) → IfErr result (TellsReadCause (state S.Store tables.old) (state S.Store tables.new)) }
     ensures open { HasCleanDisk (state S.Store tables.new) → WasAsked result (state S.Store tables.old) }
 {
     all_by(tables.alloc, &mut tables.connection, sql, params)
@@ -64,6 +68,7 @@ fn find_first<R: Stored, S: Alter>(
     ensures found { HasCleanDisk (state S.Store tables.new) → IfOk result (λ o. (records : Records → List R) (test : R → Bool) (order : List ℕ) → AsksFirst R.Stored.cells R.Stored.fits records test order sql.now (bound params.now) (state S.Store tables.old) → (r : Records) → Holds (state S.Store tables.old).now.trees r → IsFirst (by_cells R.Stored.cells order) (filter test (records r)) o) }
     ensures foreign { HasCleanDisk (state S.Store tables.new) → IfErr result (λ e. e ≡ ReadError.Foreign → (records : Records → List R) (test : R → Bool) (order : List ℕ) → AsksFirst R.Stored.cells R.Stored.fits records test order sql.now (bound params.now) (state S.Store tables.old) → (r : Records) → Holds (state S.Store tables.old).now.trees r → ⊥) }
     ensures looks { Looks S.Store tables.old tables.new }
+    ensures cause { IsReadable store_schema sql.now (bound params.now) → IfErr result (TellsReadCause (state S.Store tables.old) (state S.Store tables.new)) }
     ensures open { HasCleanDisk (state S.Store tables.new) → WasAsked result (state S.Store tables.old) }
 {
     one_by(tables.alloc, &mut tables.connection, sql, params)
@@ -77,6 +82,7 @@ pub fn invocation_by_id<S: Alter>(
     ensures found { HasCleanDisk (state S.Store tables.new) → IfOk result (IsFound (λ r. r.invocations) (has_id id.now) (state S.Store tables.old).now.trees) }
     ensures foreign { HasCleanDisk (state S.Store tables.new) → IfErr result (λ e. e ≡ ReadError.Foreign → IsAmbiguous (λ r. r.invocations) (has_id id.now) (state S.Store tables.old).now.trees) }
     ensures looks { Looks S.Store tables.old tables.new }
+    ensures cause { IfErr result (TellsReadCause (state S.Store tables.old) (state S.Store tables.new)) }
     ensures open { HasCleanDisk (state S.Store tables.new) → WasAsked result (state S.Store tables.old) }
 {
     find_one(
@@ -94,6 +100,7 @@ pub fn open_invocation<S: Alter>(
     ensures found { HasCleanDisk (state S.Store tables.new) → IfOk result (IsFound (λ r. r.invocations) (is_open_of object.now) (state S.Store tables.old).now.trees) }
     ensures foreign { HasCleanDisk (state S.Store tables.new) → IfErr result (λ e. e ≡ ReadError.Foreign → IsAmbiguous (λ r. r.invocations) (is_open_of object.now) (state S.Store tables.old).now.trees) }
     ensures looks { Looks S.Store tables.old tables.new }
+    ensures cause { IfErr result (TellsReadCause (state S.Store tables.old) (state S.Store tables.new)) }
     ensures open { HasCleanDisk (state S.Store tables.new) → WasAsked result (state S.Store tables.old) }
 {
     find_one(
@@ -111,6 +118,7 @@ pub fn awake_invocations<S: Alter>(
     ensures arranged { HasCleanDisk (state S.Store tables.new) → IfOk result (λ is. IsArranged (λ r. r.invocations) is_awake (λ i. i.id) (state S.Store tables.old).now.trees is.items) }
     ensures foreign { HasCleanDisk (state S.Store tables.new) → IfErr result (λ e. e ≡ ReadError.Foreign → IsUnarranged (λ r. r.invocations) is_awake (λ i. i.id) (state S.Store tables.old).now.trees) }
     ensures looks { Looks S.Store tables.old tables.new }
+    ensures cause { IfErr result (TellsReadCause (state S.Store tables.old) (state S.Store tables.new)) }
     ensures open { HasCleanDisk (state S.Store tables.new) → WasAsked result (state S.Store tables.old) }
 {
     let records: Vec<InvocationRow> = find_all(
@@ -133,6 +141,7 @@ pub fn entry_at<S: Alter>(
     ensures found { HasCleanDisk (state S.Store tables.new) → IfOk result (IsFound (λ r. r.entries) (is_at_place invocation.now place) (state S.Store tables.old).now.trees) }
     ensures foreign { HasCleanDisk (state S.Store tables.new) → IfErr result (λ e. e ≡ ReadError.Foreign → IsAmbiguous (λ r. r.entries) (is_at_place invocation.now place) (state S.Store tables.old).now.trees) }
     ensures looks { Looks S.Store tables.old tables.new }
+    ensures cause { IfErr result (TellsReadCause (state S.Store tables.old) (state S.Store tables.new)) }
     ensures open { HasCleanDisk (state S.Store tables.new) → WasAsked result (state S.Store tables.old) }
 {
     find_one(
@@ -151,6 +160,7 @@ pub fn entry_by_completion<S: Alter>(
     ensures found { HasCleanDisk (state S.Store tables.new) → IfOk result (IsFound (λ r. r.entries) (asks_for invocation.now completion) (state S.Store tables.old).now.trees) }
     ensures foreign { HasCleanDisk (state S.Store tables.new) → IfErr result (λ e. e ≡ ReadError.Foreign → IsAmbiguous (λ r. r.entries) (asks_for invocation.now completion) (state S.Store tables.old).now.trees) }
     ensures looks { Looks S.Store tables.old tables.new }
+    ensures cause { IfErr result (TellsReadCause (state S.Store tables.old) (state S.Store tables.new)) }
     ensures open { HasCleanDisk (state S.Store tables.new) → WasAsked result (state S.Store tables.old) }
 {
     find_one(
@@ -169,6 +179,7 @@ pub fn entry_by_second_completion<S: Alter>(
     ensures found { HasCleanDisk (state S.Store tables.new) → IfOk result (IsFound (λ r. r.entries) (asks_second_for invocation.now completion) (state S.Store tables.old).now.trees) }
     ensures foreign { HasCleanDisk (state S.Store tables.new) → IfErr result (λ e. e ≡ ReadError.Foreign → IsAmbiguous (λ r. r.entries) (asks_second_for invocation.now completion) (state S.Store tables.old).now.trees) }
     ensures looks { Looks S.Store tables.old tables.new }
+    ensures cause { IfErr result (TellsReadCause (state S.Store tables.old) (state S.Store tables.new)) }
     ensures open { HasCleanDisk (state S.Store tables.new) → WasAsked result (state S.Store tables.old) }
 {
     find_one(
@@ -187,6 +198,7 @@ pub fn entry_by_answered<S: Alter>(
     ensures found { HasCleanDisk (state S.Store tables.new) → IfOk result (IsFound (λ r. r.entries) (answers invocation.now completion) (state S.Store tables.old).now.trees) }
     ensures foreign { HasCleanDisk (state S.Store tables.new) → IfErr result (λ e. e ≡ ReadError.Foreign → IsAmbiguous (λ r. r.entries) (answers invocation.now completion) (state S.Store tables.old).now.trees) }
     ensures looks { Looks S.Store tables.old tables.new }
+    ensures cause { IfErr result (TellsReadCause (state S.Store tables.old) (state S.Store tables.new)) }
     ensures open { HasCleanDisk (state S.Store tables.new) → WasAsked result (state S.Store tables.old) }
 {
     find_one(
@@ -205,6 +217,7 @@ pub fn arrival_at<S: Alter>(
     ensures found { HasCleanDisk (state S.Store tables.new) → IfOk result (IsFound (λ r. r.entries) (is_arrival_at invocation.now ordinal) (state S.Store tables.old).now.trees) }
     ensures foreign { HasCleanDisk (state S.Store tables.new) → IfErr result (λ e. e ≡ ReadError.Foreign → IsAmbiguous (λ r. r.entries) (is_arrival_at invocation.now ordinal) (state S.Store tables.old).now.trees) }
     ensures looks { Looks S.Store tables.old tables.new }
+    ensures cause { IfErr result (TellsReadCause (state S.Store tables.old) (state S.Store tables.new)) }
     ensures open { HasCleanDisk (state S.Store tables.new) → WasAsked result (state S.Store tables.old) }
 {
     find_one(
@@ -223,6 +236,7 @@ pub fn arrivals_after<S: Alter>(
     ensures found { HasCleanDisk (state S.Store tables.new) → IfOk result (λ es. AreArrivals invocation.now ordinal (state S.Store tables.old).now.trees es.items) }
     ensures foreign { HasCleanDisk (state S.Store tables.new) → IfErr result (λ e. e ≡ ReadError.Foreign → AreNoArrivals invocation.now ordinal (state S.Store tables.old).now.trees) }
     ensures looks { Looks S.Store tables.old tables.new }
+    ensures cause { IfErr result (TellsReadCause (state S.Store tables.old) (state S.Store tables.new)) }
     ensures open { HasCleanDisk (state S.Store tables.new) → WasAsked result (state S.Store tables.old) }
 {
     find_all(
@@ -240,6 +254,7 @@ pub fn journal<S: Alter>(
     ensures found { HasCleanDisk (state S.Store tables.new) → IfOk result (λ es. IsJournal invocation.now (state S.Store tables.old).now.trees es.items) }
     ensures foreign { HasCleanDisk (state S.Store tables.new) → IfErr result (λ e. e ≡ ReadError.Foreign → IsNoJournal invocation.now (state S.Store tables.old).now.trees) }
     ensures looks { Looks S.Store tables.old tables.new }
+    ensures cause { IfErr result (TellsReadCause (state S.Store tables.old) (state S.Store tables.new)) }
     ensures open { HasCleanDisk (state S.Store tables.new) → WasAsked result (state S.Store tables.old) }
 {
     let records: Vec<EntryRow> = find_all(
@@ -262,6 +277,7 @@ pub fn state_at<S: Alter>(
     ensures found { HasCleanDisk (state S.Store tables.new) → IfOk result (IsFound (λ r. r.states) (is_at_key object.now key.now) (state S.Store tables.old).now.trees) }
     ensures foreign { HasCleanDisk (state S.Store tables.new) → IfErr result (λ e. e ≡ ReadError.Foreign → IsAmbiguous (λ r. r.states) (is_at_key object.now key.now) (state S.Store tables.old).now.trees) }
     ensures looks { Looks S.Store tables.old tables.new }
+    ensures cause { IfErr result (TellsReadCause (state S.Store tables.old) (state S.Store tables.new)) }
     ensures open { HasCleanDisk (state S.Store tables.new) → WasAsked result (state S.Store tables.old) }
 {
     find_one(
@@ -280,6 +296,7 @@ pub fn states_of<S: Alter>(
     ensures arranged { HasCleanDisk (state S.Store tables.new) → IfOk result (λ es. IsArranged (λ r. r.states) (is_of_object object.now) (λ s. s.key) (state S.Store tables.old).now.trees es.items) }
     ensures foreign { HasCleanDisk (state S.Store tables.new) → IfErr result (λ e. e ≡ ReadError.Foreign → IsUnarranged (λ r. r.states) (is_of_object object.now) (λ s. s.key) (state S.Store tables.old).now.trees) }
     ensures looks { Looks S.Store tables.old tables.new }
+    ensures cause { IfErr result (TellsReadCause (state S.Store tables.old) (state S.Store tables.new)) }
     ensures open { HasCleanDisk (state S.Store tables.new) → WasAsked result (state S.Store tables.old) }
 {
     let records: Vec<StateRow> = find_all(
@@ -301,6 +318,7 @@ pub fn sleeps_until<S: Alter>(
     ensures found { HasCleanDisk (state S.Store tables.new) → IfOk result (λ ss. AreDue moment (state S.Store tables.old).now.trees ss.items) }
     ensures foreign { HasCleanDisk (state S.Store tables.new) → IfErr result (λ e. e ≡ ReadError.Foreign → AreAlike moment (state S.Store tables.old).now.trees) }
     ensures looks { Looks S.Store tables.old tables.new }
+    ensures cause { IfErr result (TellsReadCause (state S.Store tables.old) (state S.Store tables.new)) }
     ensures open { HasCleanDisk (state S.Store tables.new) → WasAsked result (state S.Store tables.old) }
 {
     find_all(
@@ -318,6 +336,7 @@ pub fn first_sleep<S: Alter>(
     ensures found { HasCleanDisk (state S.Store tables.new) → IfOk result (IsFirstSleep moment (state S.Store tables.old).now.trees) }
     ensures foreign { HasCleanDisk (state S.Store tables.new) → IfErr result (λ e. e ≡ ReadError.Foreign → (r : Records) → Holds (state S.Store tables.old).now.trees r → ⊥) }
     ensures looks { Looks S.Store tables.old tables.new }
+    ensures cause { IfErr result (TellsReadCause (state S.Store tables.old) (state S.Store tables.new)) }
     ensures open { HasCleanDisk (state S.Store tables.new) → WasAsked result (state S.Store tables.old) }
 {
     find_first(

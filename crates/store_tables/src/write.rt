@@ -6,6 +6,7 @@ ghost use Rattle.sqlite.specs.State.{HasCleanDisk};
 ghost use Rattle.sqlite.specs.Values.{bound_value, or_null};
 ghost use Rattle.sqlite_value.specs.Value.{owned};
 ghost use Rattle.sqlite_value.specs.declared.value.Value.TheVariants.{Text as Words};
+ghost use Rattle.sql_tables.specs.Causes.{TellsWriteCause};
 ghost use Rattle.sql_tables.specs.Cells.{IsLong, IsShort, long_cell, short_cell};
 ghost use Rattle.store_tables.specs.Looks.{Makes};
 ghost use Rattle.store_tables.specs.Records.{applied, closing_cell, delay_of, with_entry, with_invocation, with_progress, with_sleep, with_state, without_sleeps, without_sleeps_until, without_state, without_states};
@@ -272,7 +273,7 @@ fn apply<S: Alter>(tx: &mut Transaction<'_, S>, write: &Write) -> Result<(), Err
 /// All of the writes or none of them, also over a crash, in one transaction. Once they are told to be made, a crash leaves them
 /// alone. Where there are none, nothing is done.
 pub fn commit_all<S: Alter>(tables: &mut StoreTables<S>, writes: &[Write]) -> Result<(), Error>
-    ensures { Makes S.Store writes.now (λ cause. Unit {0}) tables.old tables.new result }
+    ensures { Makes S.Store writes.now (TellsWriteCause (state S.Store tables.old) (state S.Store tables.new)) tables.old tables.new result }
 {
     if writes.is_empty() {
         return Ok(());

@@ -6,6 +6,7 @@ use Rattle.journal_model.specs.Journal.{entries_of, is_awaited}
 use Rattle.store_tables.specs.Questions.{answers}
 use Rattle.store_lookups.proofs.Answering.{answer_found}
 use Rattle.store_refusals.specs.Refused.{is_circumstance}
+use Rattle.store_refusals.proofs.Causes.{read_cause_by}
 use Rattle.store_invocations.proofs.Reading.{asked_once, told_err}
 use Rattle.store_arrivals.proofs.asking.has_come.Goals as goal
 
@@ -25,3 +26,7 @@ returns-in_err-row-clause-told g c clean events store =
     inr (subst (λ w. IsTrue (is_circumstance w)) (sym gives)
     (asked_once events old (λ r. r.entries) (answers c.args.id.now c.args.completion) _ (c.in_err-row.ensures.open clean) (c.in_err-row.ensures.foreign clean) (store.keeps early)
     (λ r accepted kept. (answer_found events r c.args.id.now c.args.completion accepted kept).1))))
+
+pub returns-in_err-row-clause-cause : goal.returns-in_err-row-clause-cause
+returns-in_err-row-clause-cause g c =
+    read_cause_by (state g.S.Store c.args.tables.now) (state g.S.Store c.entry_by_answered.new.tables) _ c.from_residual.result c.from_residual.ensures.1 c.in_err-row.ensures.cause

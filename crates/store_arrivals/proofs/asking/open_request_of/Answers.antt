@@ -4,6 +4,7 @@ use Rattle.sqlite.specs.State.{State, HasCleanDisk}
 use Rattle.std.proofs.Common.{option_map, []}
 use Rattle.journal_model.specs.Journal.{entries_of, open_request}
 use Rattle.store_refusals.specs.Refused.{IsRefused}
+use Rattle.store_refusals.proofs.Causes.{cause_by, err_later}
 use Rattle.store_invocations.proofs.Reading.{told_err}
 use Rattle.store_invocations.proofs.Standing.{store_kept}
 use Rattle.store_arrivals.specs.Asked.{asked_by}
@@ -31,3 +32,12 @@ returns-clause-told g c clean events store =
     let stands = store_kept events old mid c.has_come.ensures.looks.crash c.has_come.ensures.looks.kept store in
     let same = open_if n (entries_of events c.args.id.now) (sym (c.in_ok-come.ensures.told early events store) ∙ c.if-come.false) in
     told_open n same c.request_of.result (c.request_of.ensures.told clean events stands)
+
+pub returns-in_err-come-clause-cause : goal.returns-in_err-come-clause-cause
+returns-in_err-come-clause-cause g c =
+    cause_by (state g.S.Store c.args.tables.now) (state g.S.Store c.has_come.new.tables) _ c.from_residual.result c.from_residual.ensures.1 c.in_err-come.ensures.cause
+
+pub returns-clause-cause : goal.returns-clause-cause
+returns-clause-cause g c =
+    err_later (state g.S.Store c.args.tables.now) (state g.S.Store c.has_come.new.tables) (state g.S.Store c.request_of.new.tables) _ _ c.has_come.ensures.looks.crash c.request_of.ensures.looks.crash
+    c.request_of.result c.request_of.ensures.cause

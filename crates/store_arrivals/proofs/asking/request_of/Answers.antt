@@ -4,6 +4,7 @@ use Rattle.sqlite.specs.State.{State, HasCleanDisk}
 use Rattle.std.proofs.Common.{option_map, []}
 use Rattle.journal_model.specs.Journal.{entries_of, request_asking}
 use Rattle.store_refusals.specs.Refused.{IsRefused}
+use Rattle.store_refusals.proofs.Causes.{cause_by, err_later}
 use Rattle.store_invocations.proofs.Reading.{told_err}
 use Rattle.store_invocations.proofs.Standing.{store_kept}
 use Rattle.store_arrivals.specs.Asked.{as_second, asked_by}
@@ -43,3 +44,12 @@ returns-in_ok-second-in-None-clause-told g c clean events store =
     let stands = store_kept events old mid c.first_type.ensures.looks.crash c.first_type.ensures.looks.kept store in
     let none = sym c.in-None.is ∙ c.in_ok-first.ensures.told early events store in
     c.asked_second.ensures ∙ ap (option_map as_second) (c.in_ok-second-in-None.ensures.told clean events stands) ∙ second_asked n (entries_of events id) none
+
+pub returns-in_err-first-clause-cause : goal.returns-in_err-first-clause-cause
+returns-in_err-first-clause-cause g c =
+    cause_by (state g.S.Store c.args.tables.now) (state g.S.Store c.first_type.new.tables) _ c.from_residual.result c.from_residual.ensures.1 c.in_err-first.ensures.cause
+
+pub returns-in_err-second-in-None-clause-cause : goal.returns-in_err-second-in-None-clause-cause
+returns-in_err-second-in-None-clause-cause g c =
+    err_later (state g.S.Store c.args.tables.now) (state g.S.Store c.first_type.new.tables) (state g.S.Store c.second_type.new.tables) _ _ c.first_type.ensures.looks.crash c.second_type.ensures.looks.crash _
+    (cause_by (state g.S.Store c.first_type.new.tables) (state g.S.Store c.second_type.new.tables) _ c.from_residual-in_err-second-in-None.result c.from_residual-in_err-second-in-None.ensures.1 c.in_err-second-in-None.ensures.cause)

@@ -9,6 +9,7 @@ use Rattle.store_lookups.specs.Lookups.{asked_at, second_row}
 use Rattle.store_lookups.proofs.Asking.{asked_found}
 use Rattle.store_lookups.proofs.Only.{only_one}
 use Rattle.store_refusals.specs.Refused.{is_circumstance}
+use Rattle.store_refusals.proofs.Causes.{read_cause_by}
 use Rattle.store_invocations.proofs.Reading.{asked_once, found_is, told_err}
 use Rattle.store_arrivals.specs.Asked.{second_type}
 use Rattle.store_arrivals.proofs.Waiting.{type_second}
@@ -37,3 +38,7 @@ returns-in_err-row-clause-told g c clean events store =
     inr (subst (λ w. IsTrue (is_circumstance w)) (sym gives)
     (asked_once events old (λ r. r.entries) (asks_second_for id n) _ (c.in_err-row.ensures.open clean) (c.in_err-row.ensures.foreign clean) (store.keeps early)
     (λ r accepted kept. only_one (asks_second_for id n) r.entries _ (asked_found events r id n accepted kept).1))))
+
+pub returns-in_err-row-clause-cause : goal.returns-in_err-row-clause-cause
+returns-in_err-row-clause-cause g c =
+    read_cause_by (state g.S.Store c.args.tables.now) (state g.S.Store c.entry_by_second_completion.new.tables) _ c.from_residual.result c.from_residual.ensures.1 c.in_err-row.ensures.cause

@@ -4,6 +4,7 @@ use Rattle.sqlite.specs.State.{State, HasCleanDisk}
 use Rattle.journal_model.specs.Event.{Event}
 use Rattle.journal_model.specs.Cause.{adding_tests}
 use Rattle.protocol_types.specs.MessageType.{number_of}
+use Rattle.store_refusals.proofs.Causes.{err_later}
 use Rattle.store_invocations.proofs.Refusing.{refused_more}
 use Rattle.store_invocations.proofs.Standing.{store_kept}
 use Rattle.store_arrivals.specs.Asked.{completion_tests}
@@ -25,3 +26,8 @@ returns-in-Err-clause-decided g c clean events store of =
     let id = c.args.id.now in
     let n = c.args.completion in
     refused_more (completion_tests events id n c.args.brought) (adding_tests events id (Event.Complete id n c.args.brought)) _ (c.in-Err.ensures.decided clean events store)
+
+pub returns-in-Ok-clause-cause : goal.returns-in-Ok-clause-cause
+returns-in-Ok-clause-cause g c =
+    err_later (state g.S.Store c.args.tables.now) (state g.S.Store c.type_of_result.new.tables) (state g.S.Store c.prepare_woken.new.tables) _ _ c.type_of_result.ensures.looks.crash c.prepare_woken.ensures.looks.crash
+    c.prepare_woken.result c.prepare_woken.ensures.cause

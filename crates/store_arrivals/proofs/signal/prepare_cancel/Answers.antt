@@ -3,6 +3,7 @@ use Rattle.sqlite.specs.Held.{state}
 use Rattle.sqlite.specs.State.{State, HasCleanDisk}
 use Rattle.journal_model.specs.Event.{Event}
 use Rattle.journal_model.specs.Cause.{open_tests, own_tests}
+use Rattle.store_refusals.proofs.Causes.{err_later}
 use Rattle.store_invocations.proofs.Refusing.{decided_later, refused_more}
 use Rattle.store_invocations.proofs.Standing.{store_kept}
 use Rattle.store_arrivals.specs.Arrivals.{IsMadeReady}
@@ -23,3 +24,8 @@ pub returns-in-Err-clause-prepared : goal.returns-in-Err-clause-prepared
 returns-in-Err-clause-prepared g c clean events store =
     let id = c.args.id.now in
     refused_more (open_tests events id) (own_tests events (Event.Cancel id)) _ (c.in-Err.ensures.decided clean events store)
+
+pub returns-in-Ok-clause-cause : goal.returns-in-Ok-clause-cause
+returns-in-Ok-clause-cause g c =
+    err_later (state g.S.Store c.args.tables.now) (state g.S.Store c.open_row.new.tables) (state g.S.Store c.cancel_for.new.tables) _ _ c.open_row.ensures.looks.crash c.cancel_for.ensures.looks.crash
+    c.cancel_for.result c.cancel_for.ensures.cause

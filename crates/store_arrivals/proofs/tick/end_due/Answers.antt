@@ -1,9 +1,11 @@
 use Rattle.std.proofs.Common.{◌≡◌, ◌∙◌, [], refl, sym, ap, subst, map, not, ◌==◌, ℕ, length, arith, List}
 use Rattle.std.specs.VecDeque.{deque_len}
 use Rattle.std.proofs.lemmas.List.{length-map}
+use Rattle.sqlite.specs.Held.{state}
 use Rattle.journal_model.specs.Cause.{those_that_hold}
 use Rattle.store_tables.specs.declared.row.Write.{Write}
 use Rattle.store_refusals.specs.Refused.{IsRefused}
+use Rattle.store_refusals.proofs.Causes.{cause_by, memory_tells}
 use Rattle.store_invocations.proofs.Reading.{decided_err}
 use Rattle.store_invocations.proofs.Refusing.{refused_memory}
 use Rattle.store_arrivals.specs.Grouped.{as_group}
@@ -36,3 +38,11 @@ pub returns-in_err-close_due-clause-decided : goal.returns-in_err-close_due-clau
 returns-in_err-close_due-clause-decided g c clean events store opened =
     let groups = map as_group c.args.groups.items in
     refused_memory (tests_of events groups) (IsEndedUntil events c.args.until c.args.count groups) c.from_residual-in_err-close_due.result c.from_residual-in_err-close_due.ensures.1
+
+pub returns-in_err-end_groups-clause-cause : goal.returns-in_err-end_groups-clause-cause
+returns-in_err-end_groups-clause-cause g c =
+    cause_by (state g.S.Store c.args.tables.now) (state g.S.Store c.end_groups.new.tables) _ c.from_residual.result c.from_residual.ensures.1 c.in_err-end_groups.ensures.cause
+
+pub returns-in_err-close_due-clause-cause : goal.returns-in_err-close_due-clause-cause
+returns-in_err-close_due-clause-cause g c =
+    memory_tells (state g.S.Store c.args.tables.now) (state g.S.Store c.end_groups.new.tables) c.from_residual-in_err-close_due.result c.from_residual-in_err-close_due.ensures.1

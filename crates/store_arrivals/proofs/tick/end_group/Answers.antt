@@ -1,6 +1,7 @@
 use Rattle.std.proofs.Common.{arith}
 use Rattle.sqlite.specs.Held.{state}
 use Rattle.sqlite.specs.State.{State, HasCleanDisk}
+use Rattle.store_refusals.proofs.Causes.{err_later}
 use Rattle.store_invocations.proofs.Standing.{store_kept}
 use Rattle.store_arrivals.specs.Grouped.{as_group}
 use Rattle.store_arrivals.specs.Made.{group_tests}
@@ -20,3 +21,8 @@ returns-in-Ok-clause-decided g c clean events store opened =
 pub returns-in-Err-clause-decided : goal.returns-in-Err-clause-decided
 returns-in-Err-clause-decided g c clean events store opened =
     is_no_cause events c.args.group.invocation (group_tests events (as_group c.args.group)) c.in-Err.why opened (c.in-Err.ensures.decided clean events store)
+
+pub returns-in-Ok-clause-cause : goal.returns-in-Ok-clause-cause
+returns-in-Ok-clause-cause g c =
+    err_later (state g.S.Store c.args.tables.now) (state g.S.Store c.open_row.new.tables) (state g.S.Store c.end_open-ended.new.tables) _ _ c.open_row.ensures.looks.crash c.end_open-ended.ensures.looks.crash
+    c.end_open-ended.result c.end_open-ended.ensures.cause

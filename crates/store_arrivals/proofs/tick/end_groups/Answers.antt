@@ -4,6 +4,7 @@ use Rattle.sqlite.specs.State.{State, HasCleanDisk}
 use Rattle.journal_model.specs.Cause.{those_that_hold}
 use Rattle.store_tables.proofs.Chained.{looks_on}
 use Rattle.store_refusals.specs.Refused.{IsRefused}
+use Rattle.store_refusals.proofs.Causes.{cause_by, err_later}
 use Rattle.store_invocations.proofs.Reading.{decided_err}
 use Rattle.store_invocations.proofs.Standing.{store_kept}
 use Rattle.store_arrivals.specs.Grouped.{as_group}
@@ -57,3 +58,8 @@ returns-in_err-end_group-clause-decided g c clean events store opened =
 pub returns-in_err-end_group-clause-looks : goal.returns-in_err-end_group-clause-looks
 returns-in_err-end_group-clause-looks g c =
     looks_on g.S.Store c.args.tables.now c.loop-group.tables c.end_group.new.tables c.loop-group.invariant.looks c.end_group.ensures.looks
+
+pub returns-in_err-end_group-clause-cause : goal.returns-in_err-end_group-clause-cause
+returns-in_err-end_group-clause-cause g c =
+    err_later (state g.S.Store c.args.tables.now) (state g.S.Store c.loop-group.tables) (state g.S.Store c.end_group.new.tables) _ _ c.loop-group.invariant.looks.crash c.end_group.ensures.looks.crash _
+    (cause_by (state g.S.Store c.loop-group.tables) (state g.S.Store c.end_group.new.tables) _ c.from_residual.result c.from_residual.ensures.1 c.in_err-end_group.ensures.cause)

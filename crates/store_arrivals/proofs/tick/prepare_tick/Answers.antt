@@ -5,6 +5,7 @@ use Rattle.journal_model.specs.Event.{Event}
 use Rattle.journal_model.specs.Cause.{causes_of}
 use Rattle.store_tables.proofs.Chained.{looks_on}
 use Rattle.store_refusals.specs.Refused.{IsRefused}
+use Rattle.store_refusals.proofs.Causes.{read_cause_by, err_later, memory_tells}
 use Rattle.store_invocations.proofs.Standing.{store_kept}
 use Rattle.store_arrivals.specs.Made.{IsTickReady}
 use Rattle.store_arrivals.proofs.Whole.{asked_due, open_due, prepared_err, rows_due, tick_ready}
@@ -38,3 +39,16 @@ returns-in_err-groups-clause-prepared g c clean events store =
 pub returns-clause-looks : goal.returns-clause-looks
 returns-clause-looks g c =
     looks_on g.S.Store c.args.tables.now c.sleeps_until.new.tables c.end_due.new.tables c.sleeps_until.ensures.looks c.end_due.ensures.looks
+
+pub returns-clause-cause : goal.returns-clause-cause
+returns-clause-cause g c =
+    err_later (state g.S.Store c.args.tables.now) (state g.S.Store c.sleeps_until.new.tables) (state g.S.Store c.end_due.new.tables) _ _ c.sleeps_until.ensures.looks.crash c.end_due.ensures.looks.crash
+    c.end_due.result c.end_due.ensures.cause
+
+pub returns-in_err-rows-clause-cause : goal.returns-in_err-rows-clause-cause
+returns-in_err-rows-clause-cause g c =
+    read_cause_by (state g.S.Store c.args.tables.now) (state g.S.Store c.sleeps_until.new.tables) _ c.from_residual.result c.from_residual.ensures.1 c.in_err-rows.ensures.cause
+
+pub returns-in_err-groups-clause-cause : goal.returns-in_err-groups-clause-cause
+returns-in_err-groups-clause-cause g c =
+    memory_tells (state g.S.Store c.args.tables.now) (state g.S.Store c.sleeps_until.new.tables) c.from_residual-in_err-groups.result c.from_residual-in_err-groups.ensures.1

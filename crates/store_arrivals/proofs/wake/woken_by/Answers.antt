@@ -3,5 +3,5 @@ use Rattle.store_refusals.specs.Prepared.{Tells}
 use Rattle.store_waking.specs.First.{AreFirst}
 use Rattle.store_arrivals.proofs.wake.woken_by.Goals as goal
 
-pub returns-in-Ok : goal.returns-in-Ok
-returns-in-Ok c = λ suspension arrivals waits told. c.is_woken-woken.ensures arrivals (subst (Tells (λ first. AreFirst first arrivals)) c.in-Ok.is told) ∙ waits arrivals
+pub returns-in-Ok-clause-told : goal.returns-in-Ok-clause-told
+returns-in-Ok-clause-told c = λ suspension arrivals waits told. c.is_woken-woken.ensures arrivals (subst (Tells (λ first. AreFirst first arrivals)) c.in-Ok.is told) ∙ waits arrivals

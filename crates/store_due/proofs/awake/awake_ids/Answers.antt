@@ -5,6 +5,7 @@ use Rattle.journal_model.specs.Attempt.{due, is_none, live_attempt}
 use Rattle.store_refusals.specs.Refused.{IsRefused}
 use Rattle.store_invocations.proofs.Reading.{told_err}
 use Rattle.store_due.proofs.Deciding.{awake_are, awake_known}
+use Rattle.store_refusals.proofs.Causes.{read_cause_by}
 use Rattle.store_due.proofs.awake.awake_ids.Goals as goal
 
 pub returns-clause-told : goal.returns-clause-told
@@ -25,3 +26,7 @@ pub returns-in_err-ids-clause-told : goal.returns-in_err-ids-clause-told
 returns-in_err-ids-clause-told g c clean events store =
     told_err (λ ids. due events ≡ filter (λ id. is_none (live_attempt events id)) ids.items) c.from_residual-in_err-ids.result c.from_residual-in_err-ids.ensures.1 (λ why gives.
     subst (IsRefused []) (sym gives) (inr refl))
+
+pub returns-in_err-rows-clause-cause : goal.returns-in_err-rows-clause-cause
+returns-in_err-rows-clause-cause g c =
+    read_cause_by (state g.S.Store c.args.tables.now) (state g.S.Store c.awake_invocations.new.tables) _ c.from_residual.result c.from_residual.ensures.1 c.in_err-rows.ensures.cause

@@ -5,6 +5,7 @@ use Rattle.due_model.specs.NextMoment.{IsNextMoment}
 use Rattle.store_refusals.specs.Refused.{IsRefused}
 use Rattle.store_invocations.proofs.Reading.{told_err}
 use Rattle.store_due.proofs.Deciding.{next_is, next_known}
+use Rattle.store_refusals.proofs.Causes.{read_cause_by}
 use Rattle.store_due.proofs.next.next_moment.Goals as goal
 
 pub returns-clause-told : goal.returns-clause-told
@@ -20,3 +21,7 @@ returns-in_err-found-clause-told g c clean events store =
     let early : HasCleanDisk old = omega (arith, c.first_sleep.ensures.looks.crash.clean) in
     told_err (IsNextMoment events) c.from_residual.result c.from_residual.ensures.1 (λ why gives.
     subst (IsRefused []) (sym gives) (inr (next_known events old _ (store.keeps early) (c.in_err-found.ensures.open clean) (c.in_err-found.ensures.foreign clean))))
+
+pub returns-in_err-found-clause-cause : goal.returns-in_err-found-clause-cause
+returns-in_err-found-clause-cause g c =
+    read_cause_by (state g.S.Store c.args.tables.now) (state g.S.Store c.first_sleep.new.tables) _ c.from_residual.result c.from_residual.ensures.1 c.in_err-found.ensures.cause

@@ -43,6 +43,7 @@ returns-in-Err-open-clause-no_store g c =
       opened = record { opened = c.in-Ok.ensures.opened; found = c.in-Ok.ensures.found };
       back = back;
       cause = c.in-Err-open.ensures.why;
+      told = c.in-Err-open.ensures.cause;
       seen = λ clean is_open. seen_again (image_at g.S.Start) was now back (λ first. (c.in-Ok.ensures.opened first).0) clean c.in-Ok.ensures.found is_open;
       spared = λ clean foreign trees may. is_spared (image_at g.S.Start) was now back (λ first. (c.in-Ok.ensures.opened first).0) clean c.in-Err-open.left.refusal (c.in-Err-open.ensures.why clean) foreign trees may;
     })

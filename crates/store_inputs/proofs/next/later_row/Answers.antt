@@ -7,6 +7,7 @@ use Rattle.store_lookups.specs.Lookups.{arrival_rows}
 use Rattle.store_refusals.specs.Refused.{is_circumstance}
 use Rattle.store_invocations.proofs.Reading.{asked_once, found_is, once_of, told_err}
 use Rattle.store_inputs.proofs.Finding.{arrival_kept}
+use Rattle.store_refusals.proofs.Causes.{read_cause_by}
 use Rattle.store_inputs.proofs.next.later_row.Goals as goal
 
 pub returns-clause-told : goal.returns-clause-told
@@ -24,3 +25,7 @@ returns-in_err-row-clause-told g c clean events store some =
     inr (subst (λ w. IsTrue (is_circumstance w)) (sym gives)
     (asked_once events old (λ r. r.entries) (is_arrival_at c.args.id.now c.args.ordinal) _ (c.in_err-row.ensures.open clean) (c.in_err-row.ensures.foreign clean) (store.keeps early)
     (once_of events (λ r. r.entries) (is_arrival_at c.args.id.now c.args.ordinal) (slice_get (arrival_rows events c.args.id.now) (c.args.ordinal - 1)) (arrival_kept events c.args.id.now c.args.ordinal some)))))
+
+pub returns-in_err-row-clause-cause : goal.returns-in_err-row-clause-cause
+returns-in_err-row-clause-cause g c =
+    read_cause_by (state g.S.Store c.args.tables.now) (state g.S.Store c.arrival_at.new.tables) _ c.from_residual.result c.from_residual.ensures.1 c.in_err-row.ensures.cause

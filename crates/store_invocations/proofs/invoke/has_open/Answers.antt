@@ -7,6 +7,7 @@ use Rattle.store_tables.specs.Questions.{is_open_of}
 use Rattle.store_lookups.proofs.Opening.{open_found}
 use Rattle.store_refusals.specs.Refused.{is_circumstance}
 use Rattle.store_invocations.proofs.Reading.{asked_once, told_err}
+use Rattle.store_refusals.proofs.Causes.{read_cause_by}
 use Rattle.store_invocations.proofs.invoke.has_open.Goals as goal
 
 pub returns-clause-told : goal.returns-clause-told
@@ -24,3 +25,7 @@ returns-in_err-row-clause-told g c clean events store =
     inr (subst (λ w. IsTrue (is_circumstance w)) (sym gives)
     (asked_once events old (λ r. r.invocations) (is_open_of c.args.object.now) _ (c.in_err-row.ensures.open clean) (c.in_err-row.ensures.foreign clean) (store.keeps early)
     (λ r accepted kept. (open_found events r c.args.object.now accepted kept).1))))
+
+pub returns-in_err-row-clause-cause : goal.returns-in_err-row-clause-cause
+returns-in_err-row-clause-cause g c =
+    read_cause_by (state g.S.Store c.args.tables.now) (state g.S.Store c.open_invocation.new.tables) _ c.from_residual.result c.from_residual.ensures.1 c.in_err-row.ensures.cause

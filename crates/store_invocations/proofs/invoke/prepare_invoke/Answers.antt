@@ -11,6 +11,7 @@ use Rattle.store_invocations.proofs.Beginning.{prepared_by}
 use Rattle.store_invocations.proofs.Reading.{decided_err}
 use Rattle.store_invocations.proofs.Refusing.{refused_later, refused_more}
 use Rattle.store_invocations.proofs.Standing.{store_kept}
+use Rattle.store_refusals.proofs.Causes.{cause_by, err_later, err_unasked}
 use Rattle.store_invocations.proofs.invoke.prepare_invoke.Goals as goal
 
 pub returns-in_err-take_object-clause-prepared : goal.returns-in_err-take_object-clause-prepared
@@ -41,4 +42,16 @@ returns-clause-prepared g c clean events store =
     let early : HasCleanDisk mid = omega (arith, c.take_id.ensures.looks.crash.clean) in
     let stands = store_kept events old mid c.take_object.ensures.looks.crash c.take_object.ensures.looks.kept store in
     prepared_by events c.args.new.now store.accepted (c.in_ok-take_object.ensures.decided early events store).0
-    (c.in_ok-version.ensures.decided clean events stands).0 c.in_ok-version.version (c.in_ok-version.ensures.decided clean events stands).1 (λ writes. writes.items) c.writes_at_first.result c.writes_at_first.ensures
+    (c.in_ok-version.ensures.decided clean events stands).0 c.in_ok-version.version (c.in_ok-version.ensures.decided clean events stands).1 (λ writes. writes.items) c.writes_at_first.result c.writes_at_first.ensures.decided
+
+pub returns-in_err-version-clause-cause : goal.returns-in_err-version-clause-cause
+returns-in_err-version-clause-cause g c =
+    let old : State = state g.S.Store c.args.tables.now in
+    let mid : State = state g.S.Store c.take_object.new.tables in
+    let new : State = state g.S.Store c.take_id.new.tables in
+    err_later old mid new _ _ c.take_object.ensures.looks.crash c.take_id.ensures.looks.crash c.from_residual-in_err-version.result
+    (cause_by mid new _ c.from_residual-in_err-version.result c.from_residual-in_err-version.ensures.1 c.in_err-version.ensures.cause)
+
+pub returns-clause-cause : goal.returns-clause-cause
+returns-clause-cause g c =
+    err_unasked (state g.S.Store c.args.tables.now) (state g.S.Store c.take_id.new.tables) c.writes_at_first.result c.writes_at_first.ensures.unasked

@@ -14,7 +14,7 @@ use Rattle.store_invocations.proofs.prepare.begun_start.Goals as goal
 pub returns-clause-decided : goal.returns-clause-decided
 returns-clause-decided g c clean events store =
     subst (λ (states : List StateRow). Decides (payload_tests (start_of c.args.row.now states c.args.now)) (λ start. start ≡ frame_bytes MessageType.Start (start_of c.args.row.now states c.args.now)) c.start_frame-start.result)
-    (c.as_slice.ensures.value ∙ c.in_ok-states.ensures.told clean events store) c.start_frame-start.ensures
+    (c.as_slice.ensures.value ∙ c.in_ok-states.ensures.told clean events store) c.start_frame-start.ensures.decided
 
 pub returns-in_err-states-clause-decided : goal.returns-in_err-states-clause-decided
 returns-in_err-states-clause-decided g c clean events store =

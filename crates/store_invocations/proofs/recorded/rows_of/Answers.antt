@@ -7,6 +7,7 @@ use Rattle.store_refusals.specs.Refused.{is_circumstance}
 use Rattle.store_invocations.specs.Rows.{known_tests}
 use Rattle.store_invocations.proofs.Reading.{decided_err}
 use Rattle.store_invocations.proofs.Rows.{asked_journal, rows_are, known_with_rows, unknown_without}
+use Rattle.store_refusals.proofs.Causes.{read_cause_by}
 use Rattle.store_invocations.proofs.recorded.rows_of.Goals as goal
 
 pub returns-clause-told : goal.returns-clause-told
@@ -32,3 +33,7 @@ returns-in_err-rows-clause-told g c clean events store =
     decided_err (known_tests events c.args.id.now) (λ rows. rows.items ≡ journal_rows events c.args.id.now) c.from_residual.result c.from_residual.ensures.1 (λ why gives.
     inr (subst (λ w. IsTrue (is_circumstance w)) (sym gives)
     (asked_journal events c.args.id.now old _ (c.in_err-rows.ensures.open clean) (c.in_err-rows.ensures.foreign clean) (store.keeps early))))
+
+pub returns-in_err-rows-clause-cause : goal.returns-in_err-rows-clause-cause
+returns-in_err-rows-clause-cause g c =
+    read_cause_by (state g.S.Store c.args.tables.now) (state g.S.Store c.journal.new.tables) _ c.from_residual.result c.from_residual.ensures.1 c.in_err-rows.ensures.cause

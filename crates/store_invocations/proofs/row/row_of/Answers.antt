@@ -5,6 +5,7 @@ use Rattle.store_tables.specs.Questions.{has_id}
 use Rattle.store_refusals.specs.Refused.{is_circumstance}
 use Rattle.store_invocations.specs.Rows.{row_at}
 use Rattle.store_invocations.proofs.Reading.{asked_once, found_is, once_of, row_kept, told_err}
+use Rattle.store_refusals.proofs.Causes.{read_cause_by}
 use Rattle.store_invocations.proofs.row.row_of.Goals as goal
 
 pub returns-clause-told : goal.returns-clause-told
@@ -22,3 +23,7 @@ returns-in_err-row-clause-told g c clean events store =
     inr (subst (λ w. IsTrue (is_circumstance w)) (sym gives)
     (asked_once events old (λ r. r.invocations) (has_id c.args.id.now) _ (c.in_err-row.ensures.open clean) (c.in_err-row.ensures.foreign clean) (store.keeps early)
     (once_of events (λ r. r.invocations) (has_id c.args.id.now) (row_at events c.args.id.now) (row_kept events c.args.id.now)))))
+
+pub returns-in_err-row-clause-cause : goal.returns-in_err-row-clause-cause
+returns-in_err-row-clause-cause g c =
+    read_cause_by (state g.S.Store c.args.tables.now) (state g.S.Store c.invocation_by_id.new.tables) _ c.from_residual.result c.from_residual.ensures.1 c.in_err-row.ensures.cause

@@ -6,6 +6,7 @@ use Rattle.store_model.specs.Kept.{state_row}
 use Rattle.store_refusals.specs.Refused.{IsRefused}
 use Rattle.store_invocations.proofs.Reading.{told_err}
 use Rattle.store_invocations.proofs.Deciding.{states_are, states_known}
+use Rattle.store_refusals.proofs.Causes.{read_cause_by}
 use Rattle.store_invocations.proofs.states.object_states.Goals as goal
 
 pub returns-clause-told : goal.returns-clause-told
@@ -21,3 +22,7 @@ returns-in_err-states-clause-told g c clean events store =
     let early : HasCleanDisk old = omega (arith, c.states_of.ensures.looks.crash.clean) in
     told_err (λ states. states.items ≡ map (state_row c.args.object.now) (object_state events c.args.object.now)) c.from_residual.result c.from_residual.ensures.1 (λ why gives.
     subst (IsRefused []) (sym gives) (inr (states_known events old c.args.object.now _ (store.keeps early) (c.in_err-states.ensures.open clean) (c.in_err-states.ensures.foreign clean))))
+
+pub returns-in_err-states-clause-cause : goal.returns-in_err-states-clause-cause
+returns-in_err-states-clause-cause g c =
+    read_cause_by (state g.S.Store c.args.tables.now) (state g.S.Store c.states_of.new.tables) _ c.from_residual.result c.from_residual.ensures.1 c.in_err-states.ensures.cause

@@ -1,7 +1,10 @@
 -- A read that the store answers is made ready with its answer; any other command is decided by the row alone.
 use Rattle.std.proofs.Common.{◌∙◌, false, sym}
+use Rattle.sqlite.specs.Held.{state}
 use Rattle.journal_model.specs.Journal.{object_state}
 use Rattle.store_frames.specs.declared.frame.AttemptFrame.TheVariants as told
+use Rattle.store_refusals.proofs.Causes.{err_unasked}
+use Rattle.store_steps.proofs.Causes.{decided_unasked}
 use Rattle.store_steps.proofs.Commands.{command_answered, command_refused, unread_command}
 use Rattle.store_steps.proofs.Taking.{taken_by_row}
 use Rattle.store_steps.proofs.Waking.{other_frames}
@@ -22,3 +25,12 @@ returns-in-Ok-None-clause-prepared g c clean events store of =
 pub returns-in-Err-clause-prepared : goal.returns-in-Err-clause-prepared
 returns-in-Err-clause-prepared g c clean events store of =
     command_refused events store.accepted c.args.id.now c.args.row of c.args.attempt c.args.command c.in-Err.why (c.in-Err.ensures.decided clean events store)
+
+pub returns-in-Ok-Some-clause-cause : goal.returns-in-Ok-Some-clause-cause
+returns-in-Ok-Some-clause-cause g c =
+    err_unasked (state g.S.Store c.args.tables.now) (state g.S.Store c.answer_at_once.new.tables) c.read_with.result c.read_with.ensures.unasked
+
+pub returns-in-Ok-None-clause-cause : goal.returns-in-Ok-None-clause-cause
+returns-in-Ok-None-clause-cause g c =
+    err_unasked (state g.S.Store c.args.tables.now) (state g.S.Store c.answer_at_once.new.tables) c.decide_by_row.result
+    (decided_unasked c.args.row.progress c.args.attempt (told.Command c.args.command) c.decide_by_row.result c.decide_by_row.ensures.err)

@@ -8,6 +8,7 @@ use Rattle.store_tables.specs.declared.row.InvocationRow.{InvocationRow}
 use Rattle.store_refusals.specs.Prepared.{Keeps}
 use Rattle.store_refusals.specs.declared.refusal.Refusal.{Refusal}
 use Rattle.store_refusals.specs.declared.refusal.Refusal.TheVariants.{UnknownInvocation}
+use Rattle.store_refusals.proofs.Causes.{err_later, read_cause}
 use Rattle.store_invocations.proofs.Standing.{store_kept}
 use Rattle.store_steps.specs.Taken.{Takes}
 use Rattle.store_steps.proofs.Taking.{row_of, never_missing, never_foreign, read_failed, was_asked}
@@ -78,3 +79,22 @@ returns-in-Err-clause-prepared g c clean events store =
     (read_failed events c.args.id.now c.in-Err.error
     (λ is. never_foreign events old (store.keeps early (c.in-Err.ensures.open clean is)) c.args.id.now (c.in-Err.ensures.foreign clean is))
     c.args.attempt c.args.frame)
+
+pub returns-in-Command-clause-cause : goal.returns-in-Command-clause-cause
+returns-in-Command-clause-cause g c =
+    err_later (state g.S.Store c.args.tables.now) (state g.S.Store c.invocation_by_id.new.tables) (state g.S.Store c.command_by_row.new.tables) _ _
+    c.invocation_by_id.ensures.looks.crash c.command_by_row.ensures.looks.crash c.command_by_row.result c.command_by_row.ensures.cause
+
+pub returns-in-RunOutcome-clause-cause : goal.returns-in-RunOutcome-clause-cause
+returns-in-RunOutcome-clause-cause g c =
+    err_later (state g.S.Store c.args.tables.now) (state g.S.Store c.invocation_by_id.new.tables) (state g.S.Store c.outcome_by_row.new.tables) _ _
+    c.invocation_by_id.ensures.looks.crash c.outcome_by_row.ensures.looks.crash c.outcome_by_row.result c.outcome_by_row.ensures.cause
+
+pub returns-in_default-clause-cause : goal.returns-in_default-clause-cause
+returns-in_default-clause-cause g c =
+    err_later (state g.S.Store c.args.tables.now) (state g.S.Store c.invocation_by_id.new.tables) (state g.S.Store c.other_by_row.new.tables) _ _
+    c.invocation_by_id.ensures.looks.crash c.other_by_row.ensures.looks.crash c.other_by_row.result c.other_by_row.ensures.cause
+
+pub returns-in-Err-clause-cause : goal.returns-in-Err-clause-cause
+returns-in-Err-clause-cause g c =
+    read_cause (state g.S.Store c.args.tables.now) (state g.S.Store c.invocation_by_id.new.tables) c.in-Err.error c.from.result c.from.ensures c.in-Err.ensures.cause

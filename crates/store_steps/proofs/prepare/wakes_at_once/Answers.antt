@@ -1,6 +1,5 @@
 -- A suspension is asked for by its payload; no other frame suspends its attempt.
 use Rattle.std.proofs.Common.{refl}
-use Rattle.store_frames.specs.declared.frame.AttemptFrame.TheVariants as told
 use Rattle.store_steps.proofs.Waking.{not_suspended, wakes_by}
 use Rattle.store_steps.proofs.prepare.wakes_at_once.Goals as goal
 

@@ -4,8 +4,10 @@ use Rattle.journal_model.specs.declared.notification.NotificationResult.{Notific
 use Rattle.journal_model.specs.Journal.{object_state}
 use Rattle.journal_model.specs.State.{state_keys}
 use Rattle.store_tables.specs.declared.row.StateRow.{StateRow}
+use Rattle.sqlite.specs.Held.{state}
 use Rattle.store_invocations.proofs.Reading.{told_err}
 use Rattle.store_refusals.specs.Refused.{IsRefused}
+use Rattle.store_refusals.proofs.Causes.{cause_by, memory_tells}
 use Rattle.store_steps.proofs.Values.{keys_read}
 use Rattle.store_steps.proofs.reads.keys_of.Goals as goal
 
@@ -26,3 +28,11 @@ pub returns-in_err-keys-clause-told : goal.returns-in_err-keys-clause-told
 returns-in_err-keys-clause-told g c clean events store =
     told_err (λ keys. keys ≡ NotificationResult.StateKeys (state_keys (object_state events c.args.object.now))) c.from_residual-in_err-keys.result c.from_residual-in_err-keys.ensures.1 (λ why gives.
     subst (IsRefused []) (sym gives) (inr refl))
+
+pub returns-in_err-states-clause-cause : goal.returns-in_err-states-clause-cause
+returns-in_err-states-clause-cause g c =
+    cause_by (state g.S.Store c.args.tables.now) (state g.S.Store c.object_states.new.tables) c.in_err-states.field-0.0 c.from_residual.result c.from_residual.ensures.1 c.in_err-states.ensures.cause
+
+pub returns-in_err-keys-clause-cause : goal.returns-in_err-keys-clause-cause
+returns-in_err-keys-clause-cause g c =
+    memory_tells (state g.S.Store c.args.tables.now) (state g.S.Store c.object_states.new.tables) c.from_residual-in_err-keys.result c.from_residual-in_err-keys.ensures.1

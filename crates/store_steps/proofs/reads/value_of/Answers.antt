@@ -10,6 +10,7 @@ use Rattle.store_tables.specs.Questions.{IsFound}
 use Rattle.store_tables.specs.declared.row.StateRow.{StateRow}
 use Rattle.store_invocations.proofs.Reading.{asked_once, once_of, told_err}
 use Rattle.store_refusals.specs.Refused.{is_circumstance}
+use Rattle.store_refusals.proofs.Causes.{read_cause_by}
 use Rattle.store_steps.proofs.Values.{none_found, row_at_key, value_found, value_kept}
 use Rattle.store_steps.proofs.reads.value_of.Goals as goal
 
@@ -42,3 +43,7 @@ returns-in_err-found-clause-told g c clean events store =
     inr (subst (λ w. IsTrue (is_circumstance w)) (sym gives)
     (asked_once events old (λ r. r.states) (is_at_key object key) _ (c.in_err-found.ensures.open clean) (c.in_err-found.ensures.foreign clean) (store.keeps early)
     (once_of events (λ r. r.states) (is_at_key object key) (row_at_key events object key) (value_kept events object key)))))
+
+pub returns-in_err-found-clause-cause : goal.returns-in_err-found-clause-cause
+returns-in_err-found-clause-cause g c =
+    read_cause_by (state g.S.Store c.args.tables.now) (state g.S.Store c.state_at.new.tables) c.in_err-found.field-0.0 c.from_residual.result c.from_residual.ensures.1 c.in_err-found.ensures.cause

@@ -2,6 +2,7 @@ use Rattle.std.proofs.Common.{arith}
 use Rattle.sqlite.specs.State.{State, HasCleanDisk}
 use Rattle.sqlite.specs.Held.{state}
 use Rattle.sql_tables.proofs.Queries.{keeps_on, on_ok}
+use Rattle.store_tables.proofs.Caused.{passed_later, survives_on, told_later}
 use Rattle.store_tables.proofs.Making.{entries_indexed}
 use Rattle.store_tables.proofs.opening.index_entries.Goals as goal
 
@@ -63,3 +64,37 @@ returns-clause-ok g c clean =
     let clean_b : HasCleanDisk b = omega (arith, c.run-2.ensures.survives.clean) in
     let clean_a : HasCleanDisk a = omega (arith, c.run.ensures.survives.clean) in
     on_ok c.run-5.result (c.run-5.ensures.ran clean) (λ last. entries_indexed a b d e f h (c.requires clean_a) (c.in_ok-run.ensures.ran clean_b) (c.in_ok-run-2.ensures.ran clean_d) (c.in_ok-run-3.ensures.ran clean_e) (c.in_ok-run-4.ensures.ran clean_f) last)
+
+pub returns-in_err-run-2-clause-cause : goal.returns-in_err-run-2-clause-cause
+returns-in_err-run-2-clause-cause g c =
+    let a : State = state g.S.Store c.args.tx.now.conn.now in
+    let b : State = state g.S.Store c.run.new.tx.conn.now in
+    let d : State = state g.S.Store c.run-2.new.tx.conn.now in
+    passed_later a b d (λ _. ⊥) (λ _. ⊥) c.run.ensures.survives c.run-2.ensures.survives c.in_err-run-2.field-0.0 c.from_residual-in_err-run-2.result c.from_residual-in_err-run-2.ensures.1 c.in_err-run-2.ensures.cause
+
+pub returns-in_err-run-3-clause-cause : goal.returns-in_err-run-3-clause-cause
+returns-in_err-run-3-clause-cause g c =
+    let a : State = state g.S.Store c.args.tx.now.conn.now in
+    let b : State = state g.S.Store c.run.new.tx.conn.now in
+    let d : State = state g.S.Store c.run-2.new.tx.conn.now in
+    let e : State = state g.S.Store c.run-3.new.tx.conn.now in
+    passed_later a d e (λ _. ⊥) (λ _. ⊥) (survives_on a b d c.run.ensures.survives c.run-2.ensures.survives) c.run-3.ensures.survives c.in_err-run-3.field-0.0 c.from_residual-in_err-run-3.result c.from_residual-in_err-run-3.ensures.1 c.in_err-run-3.ensures.cause
+
+pub returns-in_err-run-4-clause-cause : goal.returns-in_err-run-4-clause-cause
+returns-in_err-run-4-clause-cause g c =
+    let a : State = state g.S.Store c.args.tx.now.conn.now in
+    let b : State = state g.S.Store c.run.new.tx.conn.now in
+    let d : State = state g.S.Store c.run-2.new.tx.conn.now in
+    let e : State = state g.S.Store c.run-3.new.tx.conn.now in
+    let f : State = state g.S.Store c.run-4.new.tx.conn.now in
+    passed_later a e f (λ _. ⊥) (λ _. ⊥) (survives_on a d e (survives_on a b d c.run.ensures.survives c.run-2.ensures.survives) c.run-3.ensures.survives) c.run-4.ensures.survives c.in_err-run-4.field-0.0 c.from_residual-in_err-run-4.result c.from_residual-in_err-run-4.ensures.1 c.in_err-run-4.ensures.cause
+
+pub returns-clause-cause : goal.returns-clause-cause
+returns-clause-cause g c =
+    let a : State = state g.S.Store c.args.tx.now.conn.now in
+    let b : State = state g.S.Store c.run.new.tx.conn.now in
+    let d : State = state g.S.Store c.run-2.new.tx.conn.now in
+    let e : State = state g.S.Store c.run-3.new.tx.conn.now in
+    let f : State = state g.S.Store c.run-4.new.tx.conn.now in
+    let h : State = state g.S.Store c.run-5.new.tx.conn.now in
+    told_later a f h (λ _. ⊥) (λ _. ⊥) (survives_on a e f (survives_on a d e (survives_on a b d c.run.ensures.survives c.run-2.ensures.survives) c.run-3.ensures.survives) c.run-4.ensures.survives) c.run-5.ensures.survives c.run-5.result c.run-5.ensures.cause

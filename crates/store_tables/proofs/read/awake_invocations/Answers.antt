@@ -6,6 +6,8 @@ use Rattle.store_tables.specs.Questions.{DoAscend, is_awake}
 use Rattle.store_tables.proofs.Asked.{asked_err}
 use Rattle.store_tables.proofs.Asking.{asks_awake}
 use Rattle.store_tables.proofs.Orders.{ids_sorted, ids_told}
+use Rattle.sql_tables.proofs.Causes.{read_cause_by}
+use Rattle.store_tables.proofs.Readable.{reads_awake}
 use Rattle.store_tables.proofs.read.awake_invocations.Goals as goal
 
 pub returns-clause-found : goal.returns-clause-found
@@ -32,3 +34,7 @@ returns-then-not-do_ids_ascend-clause-foreign g c clean is r h zs same up =
 
 pub returns-in_err-records-clause-open : goal.returns-in_err-records-clause-open
 returns-in_err-records-clause-open g c clean = asked_err (state g.S.Store c.args.tables.now) c.from_residual.result c.from_residual.ensures.1 (λ e gives is. c.in_err-records.ensures.open clean (sym gives ∙ is))
+
+pub returns-in_err-records-clause-cause : goal.returns-in_err-records-clause-cause
+returns-in_err-records-clause-cause g c =
+    read_cause_by (state g.S.Store c.args.tables.now) (state g.S.Store c.find_all.new.tables) _ c.from_residual.result c.from_residual.ensures.1 (c.in_err-records.ensures.cause (rw c.flag.ensures reads_awake))

@@ -2,6 +2,7 @@ use Rattle.sqlite.specs.Held.{state}
 use Rattle.sql_tables.proofs.Queries.{err_then, ok_then}
 use Rattle.store_tables.specs.Questions.{is_at_place}
 use Rattle.store_tables.proofs.Asking.{asks_place}
+use Rattle.store_tables.proofs.Readable.{reads_place}
 use Rattle.store_tables.proofs.read.entry_at.Goals as goal
 
 pub returns-clause-found : goal.returns-clause-found
@@ -9,3 +10,6 @@ returns-clause-found g c clean = ok_then c.find_one.result (c.find_one.ensures.f
 
 pub returns-clause-foreign : goal.returns-clause-foreign
 returns-clause-foreign g c clean = err_then c.find_one.result (c.find_one.ensures.foreign clean) (λ e it is. it is (λ r. r.entries) (is_at_place c.args.invocation.now c.args.place) (rw (c.text.ensures.cell, c.short.ensures.cell) (asks_place (state g.S.Store c.args.tables.now) c.args.invocation.now c.args.place)))
+
+pub returns-clause-cause : goal.returns-clause-cause
+returns-clause-cause g c = c.find_one.ensures.cause (rw (c.text.ensures.cell, c.short.ensures.cell) (reads_place c.args.invocation.now c.args.place))

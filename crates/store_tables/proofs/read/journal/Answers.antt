@@ -6,6 +6,8 @@ use Rattle.store_tables.specs.Questions.{AreInPlace, journal_of}
 use Rattle.store_tables.proofs.Asked.{asked_err}
 use Rattle.store_tables.proofs.Asking.{asks_entries}
 use Rattle.store_tables.proofs.Orders.{one_order, places_sorted, places_told}
+use Rattle.sql_tables.proofs.Causes.{read_cause_by}
+use Rattle.store_tables.proofs.Readable.{reads_entries}
 use Rattle.store_tables.proofs.read.journal.Goals as goal
 
 pub returns-clause-found : goal.returns-clause-found
@@ -30,3 +32,7 @@ returns-then-not-are_in_place-clause-foreign g c clean is r h place =
 
 pub returns-in_err-records-clause-open : goal.returns-in_err-records-clause-open
 returns-in_err-records-clause-open g c clean = asked_err (state g.S.Store c.args.tables.now) c.from_residual.result c.from_residual.ensures.1 (λ e gives is. c.in_err-records.ensures.open clean (sym gives ∙ is))
+
+pub returns-in_err-records-clause-cause : goal.returns-in_err-records-clause-cause
+returns-in_err-records-clause-cause g c =
+    read_cause_by (state g.S.Store c.args.tables.now) (state g.S.Store c.find_all.new.tables) _ c.from_residual.result c.from_residual.ensures.1 (c.in_err-records.ensures.cause (rw c.text.ensures.cell (reads_entries c.args.invocation.now)))

@@ -12,4 +12,4 @@ pub returns-clause-alters : goal.returns-clause-alters
 returns-clause-alters g c =
     altered g.S.Store (without_sleeps_until c.args.moment) close_sleeps_until_text (long_cell c.args.moment ∷ []) _ c.args.tx.now.conn.now c.run.new.tx.conn.now c.run.result
     (sleeps_closed_until c.args.moment)
-    c.requires c.run.ensures.ran (λ ran. let run : HasRun close_sleeps_until_text (long_cell c.args.moment ∷ []) (state g.S.Store c.args.tx.now.conn.now) (state g.S.Store c.run.new.tx.conn.now) = rw c.long.ensures.cell at ran in run) c.run.ensures.kept c.run.ensures.survives
+    c.requires c.run.ensures.ran (λ ran. let run : HasRun close_sleeps_until_text (long_cell c.args.moment ∷ []) (state g.S.Store c.args.tx.now.conn.now) (state g.S.Store c.run.new.tx.conn.now) = rw c.long.ensures.cell at ran in run) c.run.ensures.cause c.run.ensures.kept c.run.ensures.survives

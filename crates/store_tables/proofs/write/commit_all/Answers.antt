@@ -1,4 +1,4 @@
-use Rattle.std.proofs.Common.{◌≡◌, ◌⊎◌, ◌∙◌, ◌==◌, sym, ap, subst, not, true, true≢false, inr, arith, rules, List, [], length, take, IsTrue}
+use Rattle.std.proofs.Common.{◌≡◌, ◌⊎◌, ◌∙◌, ◌==◌, sym, ap, subst, not, true, true≢false, inr, arith, rules, List, [], length, take, Err, IsTrue}
 use Rattle.std.proofs.lemmas.List.{take_all, take_more}
 use Rattle.sqlite.specs.State.{State}
 use Rattle.sqlite.specs.Held.{Held, state}
@@ -6,7 +6,8 @@ use Rattle.sqlite.proofs.StateLemmas.{survives_then}
 use Rattle.sql_tables.proofs.Queries.{keeps_on}
 use Rattle.store_tables.specs.Records.{Write, applied_all}
 use Rattle.store_tables.specs.Steps.{Steps, Turns}
-use Rattle.store_tables.proofs.Committed.{committed, kept_from, opened_from, steps_from, survives_from, turns_from}
+use Rattle.store_tables.proofs.Caused.{survives_on, told_later}
+use Rattle.store_tables.proofs.Committed.{committed, given_up, kept_from, opened_from, steps_from, survives_from, turns_from}
 use Rattle.store_tables.proofs.Moves.{steps_on, turns_on}
 use Rattle.store_tables.proofs.write.commit_all.Goals as goal
 
@@ -49,3 +50,22 @@ returns g c =
     (λ clean. turns_from g.S.Store old mid began (applied_all writes) begun (subst (λ (some : List Write). Turns (applied_all some) (state g.S.Store began).now.trees (state g.S.Store mid).now.trees) all (i.turns clean)))
     (λ clean. steps_from g.S.Store old mid began (applied_all writes) begun (subst (λ (some : List Write). IsTrue (state g.S.Store began).is_open → Steps (applied_all some) (state g.S.Store began) (state g.S.Store mid)) all (i.steps clean)))
     c.commit.ensures.survives c.commit.result c.commit.ensures.ok c.commit.ensures.err)
+
+pub returns-in_err-apply : goal.returns-in_err-apply
+returns-in_err-apply g c =
+    let old : Held g.row.S.Denot = c.tables.inside.connection in
+    let began : Held g.row.S.Denot = c.transaction-tx.result.conn.now in
+    let mid : Held g.row.S.Denot = c.loop-write.tx.conn.now in
+    let last : Held g.row.S.Denot = c.apply.new.tx.conn.now in
+    let i = c.loop-write.invariant in
+    let it = c.apply.ensures.alters in
+    let autocommit : c.is_autocommit-settled.result ≡ true = c.is_autocommit-settled.ensures.value ∙ ap not c.tables.invariant.1 in
+    let a : State = state g.S.Store began in
+    let b : State = state g.S.Store mid in
+    let d : State = state g.S.Store last in
+    rw (← c.tables.view_is) (given_up g.S.Store old began last c.drop-tx.new.self.0 c.args.writes.now c.in_err-apply.field-0.0 c.from_residual.result c.from_residual.ensures.1
+    c.transaction-tx.ensures.begun (λ is_open. c.is_autocommit-settled.ensures.settled autocommit is_open)
+    (survives_on a b d i.survives it.survives)
+    (λ clean. keeps_on a b d (i.kept (omega (arith, it.survives.clean, clean))) (it.kept clean))
+    (told_later a b d (λ _. ⊥) (λ _. ⊥) i.survives it.survives {A = Unit {0}} (Err c.in_err-apply.field-0.0) c.in_err-apply.ensures.alters.why)
+    c.drop-tx.ensures.survives c.drop-tx.ensures.undone)

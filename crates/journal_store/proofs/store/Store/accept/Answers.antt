@@ -2,6 +2,7 @@ use Rattle.std.proofs.Common.{arith}
 use Rattle.sqlite.specs.Held.{state}
 use Rattle.journal_store.proofs.Accepting.{accepts, accept_endures, accept_settled}
 use Rattle.journal_store.proofs.Lasting.{kept_then}
+use Rattle.journal_store.proofs.Causing.{frame_later}
 use Rattle.journal_store.proofs.store.Store.accept.Goals as goal
 
 pub returns-in-Ok-clause-does : goal.returns-in-Ok-clause-does
@@ -22,3 +23,8 @@ pub returns-in-Ok-clause-kept_unanswered : goal.returns-in-Ok-clause-kept_unansw
 returns-in-Ok-clause-kept_unanswered g c none =
     kept_then (state g.S.Store c.args.self.now.connection) (state g.S.Store c.feed.new.self.connection) (state g.S.Store c.take_all.new.store.connection)
     (λ clean. omega (arith, c.take_all.ensures.crash.clean, clean)) c.feed.ensures.kept (c.take_all.ensures.kept none)
+
+pub returns-in-Ok-clause-cause_of_frame : goal.returns-in-Ok-clause-cause_of_frame
+returns-in-Ok-clause-cause_of_frame g c =
+    frame_later (state g.S.Store c.args.self.now.connection) (state g.S.Store c.feed.new.self.connection) (state g.S.Store c.take_all.new.store.connection) _ _
+    c.feed.ensures.crash c.take_all.ensures.crash c.take_all.result.refusal c.take_all.ensures.cause

@@ -2,6 +2,7 @@ use Rattle.std.proofs.Common.{refl, arith}
 use Rattle.sqlite.specs.State.{State, HasCleanDisk}
 use Rattle.sqlite.specs.Held.{state}
 use Rattle.journal_model.specs.Event.{Event}
+use Rattle.store_refusals.proofs.Causes.{tells_to_write}
 use Rattle.store_calls.specs.Standing.{Adds}
 use Rattle.store_calls.specs.Calls.{Cancels}
 use Rattle.journal_store.specs.Stored.{stored}
@@ -12,6 +13,7 @@ use Rattle.journal_store.proofs.Recording.{looked}
 use Rattle.journal_store.proofs.Arriving.{arrival_recorded}
 use Rattle.journal_store.proofs.Standing.{commits_after}
 use Rattle.journal_store.proofs.Waiting.{still_waits}
+use Rattle.journal_store.proofs.Causing.{written_cause}
 use Rattle.journal_store.proofs.store.Store.cancel.Goals as goal
 
 pub returns-in-Ok-clause-does : goal.returns-in-Ok-clause-does
@@ -56,3 +58,11 @@ returns-in-Ok-clause-kept g c =
     let mid : State = state g.S.Store c.prepare_cancel.new.tables in
     rw (← c.self.view_is) (undone_kept c.record_arrival.result (state g.S.Store c.self.inside.tables) mid (state g.S.Store c.record_arrival.new.self.connection)
     (λ clean. omega (arith, c.record_arrival.ensures.made.crash.clean, clean)) c.prepare_cancel.ensures.looks.kept c.record_arrival.ensures.made.undone)
+
+pub returns-in-Ok-clause-cause : goal.returns-in-Ok-clause-cause
+returns-in-Ok-clause-cause g c =
+    rw (← c.self.view_is) (written_cause g.S.Store c.self.inside.tables c.prepare_cancel.new.tables c.record_arrival.new.self.connection c.in-Ok.made.writes.items c.record_arrival.result c.prepare_cancel.ensures.looks c.record_arrival.ensures.made)
+
+pub returns-in-Err-clause-cause : goal.returns-in-Err-clause-cause
+returns-in-Err-clause-cause g c =
+    rw (← c.self.view_is) (tells_to_write (state g.S.Store c.self.inside.tables) (state g.S.Store c.prepare_cancel.new.tables) c.in-Err.why c.in-Err.ensures.cause)

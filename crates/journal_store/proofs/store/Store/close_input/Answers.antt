@@ -1,7 +1,9 @@
 use Rattle.std.proofs.Common.{rules, ◌≡◌, ◌∙◌, sym, ap, subst, true, false, arith, [], Result, Err, refl}
+use Rattle.sqlite.specs.Held.{state}
 use Rattle.journal_model.specs.Event.{Event}
 use Rattle.store_refusals.specs.declared.refusal.Refusal.{Refusal}
 use Rattle.store_refusals.specs.Refused.{IsRefused}
+use Rattle.store_refusals.proofs.Causes.{cause_by}
 use Rattle.store_live.specs.Attempts.{attempt_of}
 use Rattle.store_live_laws.specs.Agrees.{has_number}
 use Rattle.store_calls.specs.Calls.{ClosesInput}
@@ -76,3 +78,7 @@ returns-clause-waits g c =
 
 pub returns-clause-crash : goal.returns-clause-crash
 returns-clause-crash g c = rw (← c.self.view_is) c.read_next.ensures.looks.crash
+
+pub returns-in_err-read_next-clause-cause : goal.returns-in_err-read_next-clause-cause
+returns-in_err-read_next-clause-cause g c =
+    rw (← c.self.view_is) (cause_by (state g.S.Store c.self.inside.tables) (state g.S.Store c.read_next.new.tables) _ c.from_residual.result c.from_residual.ensures.1 c.in_err-read_next.ensures.cause)

@@ -1,4 +1,6 @@
 use Rattle.std.proofs.Common.{rules, ◌≡◌, true, Err}
+use Rattle.sqlite.specs.Held.{state}
+use Rattle.store_refusals.proofs.Causes.{memory_tells}
 use Rattle.store_live.specs.Attempts.{attempt_of}
 use Rattle.store_live_laws.specs.Agrees.{has_number}
 use Rattle.store_calls.specs.Calls.{Feeds}
@@ -19,3 +21,7 @@ returns-in_err-push_output-clause-does g c =
 pub returns-then-not-is_live-clause-does : goal.returns-then-not-is_live-clause-does
 returns-then-not-is_live-clause-does g c =
     rw (← c.self.view_is) (dead g.S.Store c.self.inside.tables c.stale_refusal.new.tables c.self.inside.live c.args.id.now c.args.attempt (λ why. Feeds c.args.id.now c.args.attempt c.args.bytes.now (Err why)) (λ why s t d. feed_dead c.args.id.now c.args.attempt why s t d c.args.bytes.now) c.stale_refusal.result (search rules) c.stale_refusal.ensures.looks c.stale_refusal.ensures.told)
+
+pub returns-in_err-push_output-clause-cause : goal.returns-in_err-push_output-clause-cause
+returns-in_err-push_output-clause-cause g c =
+    rw (← c.self.view_is) (memory_tells (state g.S.Store c.self.inside.tables) (state g.S.Store c.self.inside.tables) c.from_residual.result c.from_residual.ensures.1)

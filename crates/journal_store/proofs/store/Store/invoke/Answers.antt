@@ -2,12 +2,14 @@ use Rattle.std.proofs.Common.{arith}
 use Rattle.sqlite.specs.State.{State}
 use Rattle.sqlite.specs.Held.{state}
 use Rattle.journal_model.specs.Event.{Event}
+use Rattle.store_refusals.proofs.Causes.{tells_to_write}
 use Rattle.store_calls.specs.Standing.{Adds}
 use Rattle.store_calls.specs.Calls.{Invokes}
 use Rattle.store_calls.proofs.Landing.{invoked}
 use Rattle.journal_store.proofs.Lasting.{settled_written, undone_kept}
 use Rattle.journal_store.proofs.Recording.{invokes, looked}
 use Rattle.journal_store.proofs.Standing.{commits_after}
+use Rattle.journal_store.proofs.Causing.{written_cause}
 use Rattle.journal_store.proofs.store.Store.invoke.Goals as goal
 
 pub returns-in-Ok-clause-does : goal.returns-in-Ok-clause-does
@@ -37,3 +39,11 @@ returns-in-Ok-clause-kept g c =
     let mid : State = state g.S.Store c.prepare_invoke-prepared.new.tables in
     rw (← c.self.view_is) (undone_kept c.commit_ready.result (state g.S.Store c.self.inside.tables) mid (state g.S.Store c.commit_ready.new.tables)
     (λ clean. omega (arith, c.commit_ready.ensures.crash.clean, clean)) c.prepare_invoke-prepared.ensures.looks.kept c.commit_ready.ensures.undone)
+
+pub returns-in-Ok-clause-cause : goal.returns-in-Ok-clause-cause
+returns-in-Ok-clause-cause g c =
+    rw (← c.self.view_is) (written_cause g.S.Store c.self.inside.tables c.prepare_invoke-prepared.new.tables c.commit_ready.new.tables c.in-Ok.writes.items c.commit_ready.result c.prepare_invoke-prepared.ensures.looks c.commit_ready.ensures)
+
+pub returns-in-Err-clause-cause : goal.returns-in-Err-clause-cause
+returns-in-Err-clause-cause g c =
+    rw (← c.self.view_is) (tells_to_write (state g.S.Store c.self.inside.tables) (state g.S.Store c.prepare_invoke-prepared.new.tables) c.in-Err.why c.in-Err.ensures.cause)

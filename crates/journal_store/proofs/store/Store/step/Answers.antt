@@ -1,4 +1,6 @@
 use Rattle.std.proofs.Common.{rules, ◌≡◌, true, refl, Err}
+use Rattle.sqlite.specs.Held.{state}
+use Rattle.store_refusals.proofs.Causes.{tells_to_write}
 use Rattle.store_live.specs.Attempts.{attempt_of}
 use Rattle.store_live_laws.specs.Agrees.{has_number}
 use Rattle.store_calls.specs.Frames.{Steps}
@@ -35,3 +37,7 @@ returns-in-Ok-Frame-clause-settled g c = c.take_seen.ensures.settled
 
 pub returns-in-Ok-Partial-clause-settled : goal.returns-in-Ok-Partial-clause-settled
 returns-in-Ok-Partial-clause-settled g c = rw (← c.self.view_is) refl
+
+pub returns-then-not-is_live-clause-cause : goal.returns-then-not-is_live-clause-cause
+returns-then-not-is_live-clause-cause g c =
+    rw (← c.self.view_is) (tells_to_write (state g.S.Store c.self.inside.tables) (state g.S.Store c.stale_refusal.new.tables) c.stale_refusal.result c.stale_refusal.ensures.cause)

@@ -1,10 +1,12 @@
 use Rattle.std.proofs.Common.{arith}
 use Rattle.sqlite.specs.State.{State}
 use Rattle.sqlite.specs.Held.{state}
+use Rattle.store_refusals.proofs.Causes.{tells_to_write}
 use Rattle.journal_store.specs.Stored.{stored}
 use Rattle.journal_store.proofs.Enduring.{quiet_endures}
 use Rattle.journal_store.proofs.Lasting.{undone_kept}
 use Rattle.journal_store.proofs.Taking.{is_here, seen_lands, seen_refused, seen_settled, seen_taken, steps_so}
+use Rattle.journal_store.proofs.Causing.{written_cause}
 use Rattle.journal_store.proofs.store.Store.take_seen.Goals as goal
 
 pub returns-in-Ok-clause-does : goal.returns-in-Ok-clause-does
@@ -43,3 +45,11 @@ returns-in-Ok-clause-settled g c =
     c.in-Ok.made c.take_prepared.result c.prepare_frame.ensures.looks c.take_prepared.ensures.made c.is_settled-settled.ensures.settled c.in-Ok.ensures.asked c.in-Ok.ensures.prepared c.take_prepared.ensures.reply
     (seen_taken g.S.Store c.self.inside.tables c.prepare_frame.new.tables c.take_prepared.new.self.connection c.self.inside.live c.take_prepared.new.self.live c.args.id.now c.args.attempt c.args.seen one
     c.in-Ok.made c.take_prepared.result c.prepare_frame.ensures.looks c.take_prepared.ensures.made c.in-Ok.ensures.prepared c.take_prepared.ensures.reply c.take_prepared.ensures.left c.take_prepared.ensures.stays))
+
+pub returns-in-Ok-clause-cause : goal.returns-in-Ok-clause-cause
+returns-in-Ok-clause-cause g c =
+    rw (← c.self.view_is) (written_cause g.S.Store c.self.inside.tables c.prepare_frame.new.tables c.take_prepared.new.self.connection c.in-Ok.made.writes.items c.take_prepared.result c.prepare_frame.ensures.looks c.take_prepared.ensures.made)
+
+pub returns-in-Err-clause-cause : goal.returns-in-Err-clause-cause
+returns-in-Err-clause-cause g c =
+    rw (← c.self.view_is) (tells_to_write (state g.S.Store c.self.inside.tables) (state g.S.Store c.prepare_frame.new.tables) c.in-Err.why c.in-Err.ensures.cause)

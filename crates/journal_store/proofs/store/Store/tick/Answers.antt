@@ -2,10 +2,12 @@ use Rattle.std.proofs.Common.{arith}
 use Rattle.sqlite.specs.State.{State}
 use Rattle.sqlite.specs.Held.{state}
 use Rattle.journal_model.specs.Event.{Event}
+use Rattle.store_refusals.proofs.Causes.{tells_to_write}
 use Rattle.journal_store.proofs.Lasting.{undone_kept}
 use Rattle.journal_store.proofs.Recording.{looked}
 use Rattle.journal_store.proofs.Ticking.{tick_lands, tick_settled, ticks}
 use Rattle.journal_store.proofs.Waiting.{still_waits}
+use Rattle.journal_store.proofs.Causing.{written_cause}
 use Rattle.journal_store.proofs.store.Store.tick.Goals as goal
 
 pub returns-in-Ok-clause-does : goal.returns-in-Ok-clause-does
@@ -38,3 +40,11 @@ returns-in-Ok-clause-kept g c =
     let mid : State = state g.S.Store c.prepare_tick.new.tables in
     rw (← c.self.view_is) (undone_kept c.record_tick.result (state g.S.Store c.self.inside.tables) mid (state g.S.Store c.record_tick.new.self.connection)
     (λ clean. omega (arith, c.record_tick.ensures.made.crash.clean, clean)) c.prepare_tick.ensures.looks.kept c.record_tick.ensures.made.undone)
+
+pub returns-in-Ok-clause-cause : goal.returns-in-Ok-clause-cause
+returns-in-Ok-clause-cause g c =
+    rw (← c.self.view_is) (written_cause g.S.Store c.self.inside.tables c.prepare_tick.new.tables c.record_tick.new.self.connection c.in-Ok.made.writes.items c.record_tick.result c.prepare_tick.ensures.looks c.record_tick.ensures.made)
+
+pub returns-in-Err-clause-cause : goal.returns-in-Err-clause-cause
+returns-in-Err-clause-cause g c =
+    rw (← c.self.view_is) (tells_to_write (state g.S.Store c.self.inside.tables) (state g.S.Store c.prepare_tick.new.tables) c.in-Err.why c.in-Err.ensures.cause)

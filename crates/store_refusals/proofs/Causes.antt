@@ -1,0 +1,131 @@
+-- The cause that a refusal tells, over a longer way, and as it is passed on.
+use Rattle.std.proofs.Common.{◌≡◌, ◌∙◌, sym, subst, arith, true, false, [], ◌∷◌, Some, Result, Ok, Err, IfErr, IsErrAnd}
+use Rattle.sqlite_trees.specs.Tree.{Trees}
+use Rattle.sqlite.specs.declared.error.Error.{Error}
+use Rattle.sqlite.specs.State.{State, Survives}
+use Rattle.sql_tables.specs.declared.read.ReadError.{ReadError}
+use Rattle.sql_tables.specs.declared.read.ReadError.TheVariants as reading
+use Rattle.sql_tables.specs.Causes.{TellsReadCause}
+use Rattle.sql_tables.proofs.Causes.{cause_before, cause_later, cause_to_write, write_cause_before, write_cause_later}
+use Rattle.store_refusals.specs.declared.refusal.Refusal.{Refusal}
+use Rattle.store_refusals.specs.declared.refusal.Refusal.TheVariants.{OutOfMemory, StatementRefused}
+use Rattle.journal_model.specs.Cause.{Cause, Tests}
+use Rattle.journal_model.specs.Cause as model
+use Rattle.protocol_stream.specs.declared.encoder.EncodingError.{EncodingError}
+use Rattle.protocol_stream.specs.declared.encoder.EncodingError.TheVariants as encoding
+use Rattle.store_refusals.specs.Refused.{encoding_refusal, reading_refusal, refusal_by, refusal_of}
+use Rattle.store_refusals.specs.Causes.{IsUnasked, TellsCause, TellsCauseToWrite}
+
+-- ---- a refusal that is passed on
+
+same_cause : (e : ReadError) (cause : Error) → reading_refusal e ≡ StatementRefused cause → e ≡ reading.Refused cause
+same_cause (reading.Refused own) cause is = cc
+same_cause reading.Foreign cause is = cc
+same_cause reading.OutOfMemory cause is = cc
+
+-- that of a question, as a refusal
+pub read_cause : (a b : State) (e : ReadError) (why : Refusal) → why ≡ reading_refusal e → TellsReadCause a b e → TellsCause a b why
+read_cause a b e why gives tells clean cause is = tells clean cause (same_cause e cause (sym gives ∙ is))
+
+pub read_cause_by : {A : Type 0} (a b : State) (e : ReadError) (r : Result A Refusal) → IsErrAnd r (λ why. why ≡ reading_refusal e) → TellsReadCause a b e → IfErr r (TellsCause a b)
+read_cause_by a b e (Ok x) gives tells = absurd gives
+read_cause_by a b e (Err why) gives tells = read_cause a b e why gives tells
+
+-- and one that is a refusal already
+pub cause_by : {A : Type 0} (a b : State) (e : Refusal) (r : Result A Refusal) → IsErrAnd r (λ why. why ≡ e) → TellsCause a b e → IfErr r (TellsCause a b)
+cause_by a b e (Ok x) gives tells = absurd gives
+cause_by a b e (Err why) gives tells = subst (TellsCause a b) (sym gives) tells
+
+-- ---- where the database was not asked
+
+-- such a refusal is passed on
+pub unasked_by : {A : Type 0} (e : Refusal) (r : Result A Refusal) → IsErrAnd r (λ why. why ≡ e) → IsUnasked e → IfErr r IsUnasked
+unasked_by e (Ok x) gives unasked = absurd gives
+unasked_by e (Err why) gives unasked = subst IsUnasked (sym gives) unasked
+
+-- and that of a frame that was made
+pub encoding_unasked : (e : EncodingError) → IsUnasked (encoding_refusal e)
+encoding_unasked encoding.PayloadTooLong cause is = cc
+encoding_unasked encoding.OutOfMemory cause is = cc
+
+-- a cause of an event's is none of the database
+pub cause_unasked : (c : Cause) → IsUnasked (refusal_of c)
+cause_unasked model.ObjectBusy cause is = cc
+cause_unasked model.EmptyName cause is = cc
+cause_unasked model.IdUsed cause is = cc
+cause_unasked model.UnknownInvocation cause is = cc
+cause_unasked model.InvocationClosed cause is = cc
+cause_unasked model.CompletionNotOpen cause is = cc
+cause_unasked model.WrongKind cause is = cc
+cause_unasked model.ReservedSignal cause is = cc
+cause_unasked model.AttemptNotLive cause is = cc
+cause_unasked model.UnsupportedVersion cause is = cc
+cause_unasked model.BrokenPayload cause is = cc
+cause_unasked model.NestedTooDeep cause is = cc
+cause_unasked model.FrameNotAccepted cause is = cc
+cause_unasked model.BadCompletion cause is = cc
+cause_unasked model.InputNotClosed cause is = cc
+cause_unasked model.InputRemains cause is = cc
+cause_unasked model.InputAlreadyClosed cause is = cc
+cause_unasked model.KeyNotText cause is = cc
+cause_unasked model.RunNotOpen cause is = cc
+cause_unasked model.NumbersUsedUp cause is = cc
+cause_unasked model.PayloadTooLong cause is = cc
+
+-- nor is a test's that holds
+pub test_unasked : (tests : Tests) (why : Refusal) → refusal_by tests ≡ Some why → IsUnasked why
+test_unasked [] why eq = cc
+test_unasked ((true, c) ∷ tests) why eq = subst IsUnasked (cc) (cause_unasked c)
+test_unasked ((false, c) ∷ tests) why eq = test_unasked tests why eq
+
+-- it tells what any call may tell
+pub unasked_tells : (a b : State) (why : Refusal) → IsUnasked why → TellsCause a b why
+unasked_tells a b why unasked clean cause is = absurd (unasked cause is)
+
+pub err_unasked : {A : Type 0} (a b : State) (r : Result A Refusal) → IfErr r IsUnasked → IfErr r (TellsCause a b)
+err_unasked a b (Ok x) unasked = tt
+err_unasked a b (Err why) unasked = unasked_tells a b why unasked
+
+-- want of memory, as it is passed on
+pub memory_unasked : {A : Type 0} (r : Result A Refusal) → IsErrAnd r (λ why. why ≡ OutOfMemory) → IfErr r IsUnasked
+memory_unasked (Ok x) gives = absurd gives
+memory_unasked (Err why) gives = λ cause is. cc
+
+pub memory_tells : {A : Type 0} (a b : State) (r : Result A Refusal) → IsErrAnd r (λ why. why ≡ OutOfMemory) → IfErr r (TellsCause a b)
+memory_tells a b r gives = err_unasked a b r (memory_unasked r gives)
+
+-- ---- over a longer way
+
+module _ (a b c : State) (C D : Trees → Type 0) (first : Survives a b C) (then : Survives b c D) where
+  pub tells_later : (why : Refusal) → TellsCause b c why → TellsCause a c why
+  tells_later why tells clean cause is = cause_later a b c C D cause first then clean (tells clean cause is)
+
+  pub tells_before : (why : Refusal) → TellsCause a b why → TellsCause a c why
+  tells_before why tells clean cause is = cause_before a b c C D cause first then (tells (omega (arith, then.clean, clean)) cause is)
+
+  pub err_later : {A : Type 0} (r : Result A Refusal) → IfErr r (TellsCause b c) → IfErr r (TellsCause a c)
+  err_later (Ok x) tells = tt
+  err_later (Err why) tells = tells_later why tells
+
+  pub err_before : {A : Type 0} (r : Result A Refusal) → IfErr r (TellsCause a b) → IfErr r (TellsCause a c)
+  err_before (Ok x) tells = tt
+  err_before (Err why) tells = tells_before why tells
+
+  pub tells_later_to_write : (why : Refusal) → TellsCauseToWrite b c why → TellsCauseToWrite a c why
+  tells_later_to_write why tells clean cause is = write_cause_later a b c C D cause first then clean (tells clean cause is)
+
+  pub tells_before_to_write : (why : Refusal) → TellsCauseToWrite a b why → TellsCauseToWrite a c why
+  tells_before_to_write why tells clean cause is = write_cause_before a b c C D cause first then (tells (omega (arith, then.clean, clean)) cause is)
+
+  pub err_later_to_write : {A : Type 0} (r : Result A Refusal) → IfErr r (TellsCauseToWrite b c) → IfErr r (TellsCauseToWrite a c)
+  err_later_to_write (Ok x) tells = tt
+  err_later_to_write (Err why) tells = tells_later_to_write why tells
+
+-- ---- what a question tells, where something is written too
+
+pub tells_to_write : (a b : State) (why : Refusal) → TellsCause a b why → TellsCauseToWrite a b why
+tells_to_write a b why tells clean cause is = cause_to_write a b cause (tells clean cause is)
+
+pub err_to_write : {A : Type 0} (a b : State) (r : Result A Refusal) → IfErr r (TellsCause a b) → IfErr r (TellsCauseToWrite a b)
+err_to_write a b (Ok x) tells = tt
+err_to_write a b (Err why) tells = tells_to_write a b why tells
