@@ -1,11 +1,12 @@
 -- An attempt is fed one part of its input after another.
-use Rattle.std.proofs.Common.{◌≡◌, ◌≢◌, refl, sym, ap, subst, ◌∙◌, ℕ, ◌+◌, ◌-◌, ◌==◌, ◌||◌, eqb-true, eq-eqb, arith, Bool, true, false, if◌then◌else◌, List, [], ◌∷◌, length, length-append, Option, Some, None, Ok, Err, ◌⊎◌, inl, inr}
+use Rattle.std.proofs.Common.{◌≡◌, ◌≢◌, refl, sym, ap, subst, ◌∙◌, ℕ, ◌+◌, ◌-◌, ◌==◌, ◌||◌, eqb-true, eq-eqb, arith, Bool, true, false, if◌then◌else◌, List, [], ◌∷◌, length, length-append, Some, None, IfSome, Ok, Err, ◌⊎◌, inl, inr}
 use Rattle.sqlite_trees.specs.declared.store.Store.{Ghosts}
 use Rattle.sqlite.specs.Held.{state}
 use Rattle.sqlite.specs.State.{HasCleanDisk}
 use Rattle.sqlite.proofs.StateLemmas.{survives_then}
 use Rattle.journal_model.specs.Notification.{Bytes}
 use Rattle.store_refusals.specs.declared.refusal.Refusal.{Refusal}
+use Rattle.store_refusals.proofs.Causes.{tells_later}
 use Rattle.store_calls.specs.Standing.{Standing}
 use Rattle.store_calls.specs.Calls.{HandsOut}
 use Rattle.schedule_model.specs.Attempts.{Attempt}
@@ -14,9 +15,10 @@ use Rattle.schedule_model.specs.declared.event.Refusal.TheVariants as refusal
 use Rattle.schedule_model.specs.declared.held.HeldAttempt.{HeldAttempt}
 use Rattle.schedule_model.specs.Feeding.{given_in, IsAskedAgain, IsAskedFor, HandsOutEach, FeedsEach}
 use Rattle.schedule_model.specs.Schedule.{FeedsOne}
+use Rattle.journal_store.specs.Causes.{TellsWhy}
 use Rattle.journal_store.specs.Stored.{Stored}
 use Rattle.journal_store.specs.Stands.{IsQuiet, Leads}
-use Rattle.durable_schedule.specs.Scheduled.{FeedsPart, IsTakenUp, refused_behind}
+use Rattle.durable_schedule.specs.Scheduled.{FeedsPart, IsTakenUp, refusal_told, refused_behind}
 
 -- nothing is committed by the one, nor by the other
 pub quiet_on : {S : Type 0} (g : Ghosts S) (a b c : Stored S) → IsQuiet g a b → IsQuiet g b c → IsQuiet g a c
@@ -159,3 +161,16 @@ refused_taken_up fed why = by_fed (fed == 0)
     by_fed : (b : Bool) → IsTakenUp (if b then reply.Refused (refusal.Store why) else reply.Fed fed (Some why))
     by_fed true = tt
     by_fed false = tt
+
+-- and the refusal is told
+pub refused_told : (fed : ℕ) (why : Refusal) (P : Refusal → Type 0) → P why → IfSome (refusal_told (refused_behind fed why)) P
+refused_told fed why P it = by_fed (fed == 0)
+  where
+    by_fed : (b : Bool) → IfSome (refusal_told (if b then reply.Refused (refusal.Store why) else reply.Fed fed (Some why))) P
+    by_fed true = it
+    by_fed false = it
+
+-- the cause of a part is one over the parts before it too
+pub cause_behind : {S : Type 0} (g : Ghosts S) (first old new : Stored S) → IsQuiet g first old → IsQuiet g old new → (why : Refusal) → TellsWhy g old new why → TellsWhy g first new why
+cause_behind g first old new before lives why tells =
+    tells_later (state g first.connection) (state g old.connection) (state g new.connection) (λ _. ⊥) (λ _. ⊥) before lives why tells

@@ -1,5 +1,5 @@
 -- What a scheduler's calls do to what it stands for.
-use Rattle.std.proofs.Common.{◌≡◌, refl, sym, ap, subst, ◌∙◌, ℕ, List, Result, Ok, Err, OnOk, inl, inr, arith}
+use Rattle.std.proofs.Common.{◌≡◌, refl, sym, ap, subst, ◌∙◌, ℕ, List, None, Result, Ok, Err, OnOk, IfErr, IfSome, inl, inr, arith}
 use Rattle.sqlite_trees.specs.declared.store.Store.{Ghosts}
 use Rattle.sqlite.specs.Held.{state}
 use Rattle.sqlite.specs.State.{State, HasCleanDisk}
@@ -21,7 +21,8 @@ use Rattle.store_calls.specs.Standing.{Standing}
 use Rattle.schedule_model.specs.Schedule.{Scheduled, Does, Applies}
 use Rattle.schedule_model.specs.Fitting.{FitsEvent}
 use Rattle.durable_schedule.specs.declared.scheduler.Scheduler.{Scheduler}
-use Rattle.durable_schedule.specs.Scheduled.{IsScheduled, IsWritten, OutlastsEvent, AppliesWith, CommitsNothing, IsTakenUp, LastsBy, LeadsBy, Performs, Spares, SparesWhere, TakesLive, reply_to}
+use Rattle.durable_schedule.specs.Scheduled.{IsScheduled, IsWritten, OutlastsEvent, AppliesWith, CommitsNothing, IsTakenUp, LastsBy, LeadsBy, Performs, Spares, SparesWhere, TakesLive, TellsCauseOf, refusal_told, reply_to}
+use Rattle.durable_schedule.proofs.Replying.{told_refused}
 use Rattle.journal_store.specs.Attempts.{BeginsSome}
 use Rattle.journal_store.proofs.Enduring.{always_endures, endures_so, quiet_endures}
 
@@ -80,32 +81,34 @@ module _ {H S : Type 0} (g : Ghosts S) (function : H → Handler) where
   module _ (one : Event H) (old : Scheduler H S) where
     -- nothing of it is written
     pub performs_quiet : (answer : Reply) (new : Scheduler H S) → (IsWritten one answer → ⊥) → new.options ≡ old.options → FitsEvent one → TakesLive one answer old.store → SparesAtOnce answer old new
-        → CommitsNothing g one old.store new.store → IsQuiet g old.store new.store → LeadsBy g function one answer old new → Performs g function one answer old new
-    performs_quiet answer new never options fits live spares nothing quiet does = record {
+        → CommitsNothing g one old.store new.store → IsQuiet g old.store new.store → IfSome (refusal_told answer) (TellsCauseOf g one old.store new.store) → LeadsBy g function one answer old new
+        → Performs g function one answer old new
+    performs_quiet answer new never options fits live spares nothing quiet cause does = record {
       does = does;
       lasts = λ written. absurd (never written);
       options = options;
       fits = fits;
       live = live;
       spares = spares_all g one answer old new spares nothing;
+      cause = cause;
       crash = quiet_endures g (AppliesWith function old.options one old.held) old.store new.store quiet;
     }
 
     -- all is as it was
-    performs_nothing : (answer : Reply) → (IsWritten one answer → ⊥) → FitsEvent one → TakesLive one answer old.store → CommitsNothing g one old.store old.store → LeadsBy g function one answer old old
-        → Performs g function one answer old old
-    performs_nothing answer never fits live nothing does =
-        performs_quiet answer old never refl fits live (record { unheld = λ is. refl; mismatch = λ is. refl }) nothing (same_quiet g old.store) does
+    performs_nothing : (answer : Reply) → (IsWritten one answer → ⊥) → FitsEvent one → TakesLive one answer old.store → CommitsNothing g one old.store old.store
+        → IfSome (refusal_told answer) (TellsCauseOf g one old.store old.store) → LeadsBy g function one answer old old → Performs g function one answer old old
+    performs_nothing answer never fits live nothing cause does =
+        performs_quiet answer old never refl fits live (record { unheld = λ is. refl; mismatch = λ is. refl }) nothing (same_quiet g old.store) cause does
 
     -- nobody holds the attempt that it names
     pub performs_unheld : (IsWritten one (reply.Refused refusal.AttemptNotHeld) → ⊥) → FitsEvent one → TakesLive one (reply.Refused refusal.AttemptNotHeld) old.store → CommitsNothing g one old.store old.store
         → LeadsBy g function one (reply.Refused refusal.AttemptNotHeld) old old → Performs g function one (reply.Refused refusal.AttemptNotHeld) old old
-    performs_unheld never fits live nothing does = performs_nothing (reply.Refused refusal.AttemptNotHeld) never fits live nothing does
+    performs_unheld never fits live nothing does = performs_nothing (reply.Refused refusal.AttemptNotHeld) never fits live nothing tt does
 
     -- the outcome of a turn tells a mismatch
     pub performs_mismatch : (IsWritten one (reply.Refused refusal.JournalMismatchOutcome) → ⊥) → FitsEvent one → TakesLive one (reply.Refused refusal.JournalMismatchOutcome) old.store → CommitsNothing g one old.store old.store
         → LeadsBy g function one (reply.Refused refusal.JournalMismatchOutcome) old old → Performs g function one (reply.Refused refusal.JournalMismatchOutcome) old old
-    performs_mismatch never fits live nothing does = performs_nothing (reply.Refused refusal.JournalMismatchOutcome) never fits live nothing does
+    performs_mismatch never fits live nothing does = performs_nothing (reply.Refused refusal.JournalMismatchOutcome) never fits live nothing tt does
 
     -- where a crash comes into it
     pub crashes : (P : Standing → Standing → Type 0) (store : Stored S) → ((s t : Standing) → P s t → AppliesWith function old.options one old.held s t) → EnduresAlways g P old.store store
@@ -114,7 +117,7 @@ module _ {H S : Type 0} (g : Ghosts S) (function : H → Handler) where
 
     -- the store alone does it, and tells what it did
     module _ {A : Type 0} (store : Stored S) (says : A → Reply) (Did : Result A Refusal → Standing → Standing → Type 0)
-        (so : (told : Result A Refusal) (s t : Standing) → Did told s t → Does function old.options one s old.held (reply_to says told) t old.held) (taken : (done : A) → IsTakenUp (says done)) where
+        (so : (told : Result A Refusal) (s t : Standing) → Did told s t → Does function old.options one s old.held (reply_to says told) t old.held) (taken : (done : A) → IsTakenUp (says done)) (silent : (done : A) → refusal_told (says done) ≡ None) where
       abbrev new : Scheduler H S
       new = record old { store = store }
 
@@ -136,14 +139,16 @@ module _ {H S : Type 0} (g : Ghosts S) (function : H → Handler) where
         stored_lasts (Err why) settled written clean s is = absurd (never why written)
 
         pub performs_stored : FitsEvent one → ((answer : Reply) → TakesLive one answer old.store) → CommitsNothing g one old.store store → Endures g (AppliesWith function old.options one old.held) old.store store
-            → (told : Result A Refusal) → Leads g (Did told) old.store store → OnOk told (Settles g (Did told) old.store store) → Performs g function one (reply_to says told) old new
-        performs_stored fits live nothing crash told does settled = record {
+            → (told : Result A Refusal) → Leads g (Did told) old.store store → OnOk told (Settles g (Did told) old.store store) → IfErr told (TellsCauseOf g one old.store store)
+            → Performs g function one (reply_to says told) old new
+        performs_stored fits live nothing crash told does settled cause = record {
           does = stored_leads told does;
           lasts = stored_lasts told settled;
           options = refl;
           fits = fits;
           live = live (reply_to says told);
           spares = spares_all g one (reply_to says told) old new (stored_spares told) nothing;
+          cause = told_refused says (TellsCauseOf g one old.store store) silent told cause;
           crash = crash;
         }
 

@@ -1,5 +1,5 @@
 -- What a scheduler stands for, and what its calls make of that.
-use Rattle.std.specs.Prelude.{◌≡◌, ◌≢◌, ◌==◌, ℕ, true, if◌then◌else◌, List, length, Option, Some, Result, Ok, Err}
+use Rattle.std.specs.Prelude.{◌≡◌, ◌≢◌, ◌==◌, ℕ, true, if◌then◌else◌, List, length, Option, Some, None, Result, Ok, Err, IfSome}
 use Rattle.sqlite_trees.specs.declared.store.Store.{Ghosts}
 use Rattle.sqlite.specs.Held.{state}
 use Rattle.sqlite.specs.State.{State, HasCleanDisk}
@@ -12,6 +12,7 @@ use Rattle.store_refusals.specs.declared.refusal.Refusal.TheVariants.{OutOfMemor
 use Rattle.store_refusals.specs.Prepared.{Tells}
 use Rattle.store_invocations.specs.Rows.{Decides, known_tests}
 use Rattle.journal_store.specs.Accepting.{OutlastsFrames}
+use Rattle.journal_store.specs.Causes.{TellsWhy, TellsWhyUnwritten}
 use Rattle.journal_store.specs.Stored.{Stored}
 use Rattle.journal_store.specs.Words.{attempt_of, has_number}
 use Rattle.journal_store.specs.Stands.{Endures, IsQuiet, IsStanding, Leads, Outlasts}
@@ -125,6 +126,23 @@ pub record Spares {H S : Type 0} (g : Ghosts S) (one : scheduled.Event H) (answe
   pub mismatch : SparesWhere refusal.JournalMismatchOutcome answer old new
   pub quiet : CommitsNothing g one old.store new.store
 
+-- ---- where the database refused a statement
+
+-- what the store refused, if it refused anything: the event, or what it would have done behind a part that was done
+abbrev pub refusal_told : Reply → Option Refusal
+refusal_told (reply.Fed bytes why) = why
+refusal_told (reply.Moved bytes frames why) = why
+refusal_told (reply.Refused (refusal.Store why)) = Some why
+refusal_told _ = None
+
+-- An event that only asks tells the database's own cause, and so does one that writes, or what it is refused for itself; a turn asks nothing.
+abbrev pub TellsCauseOf : {H S : Type 0} → Ghosts S → scheduled.Event H → Stored S → Stored S → Refusal → Type 0
+TellsCauseOf g (event.Turn id attempt outcome) old new why = ⊥
+TellsCauseOf g (event.Feed id attempt count) old new why = TellsWhy g old new why
+TellsCauseOf g (event.Close id attempt) old new why = TellsWhy g old new why
+TellsCauseOf g (event.Stop id attempt) old new why = TellsWhy g old new why
+TellsCauseOf g _ old new why = TellsWhyUnwritten g old new why
+
 -- ---- what lasts of that
 
 -- The frames that were taken last, up to where no further one was; one that was refused may have been written.
@@ -178,6 +196,7 @@ module _ {H S : Type 0} (g : Ghosts S) (function : H → Handler) where
     pub fits : FitsEvent one
     pub live : TakesLive one answer old.store
     pub spares : Spares g one answer old new
+    pub cause : IfSome (refusal_told answer) (TellsCauseOf g one old.store new.store)
     pub crash : Endures g (AppliesWith function old.options one old.held) old.store new.store
 
 -- ---- what a scheduler stands for

@@ -1,9 +1,10 @@
 //! How the input of an attempt that is held goes to it from the store.
-ghost use Rattle.std.specs.Prelude.{◌≡◌, ◌≤◌, ◌≢◌, ◌==◌, ◌||◌, IfOk};
+ghost use Rattle.std.specs.Prelude.{◌≡◌, ◌≤◌, ◌≢◌, ◌==◌, ◌||◌, IfOk, IfErr, IfSome};
+ghost use Rattle.journal_store.specs.Causes.{TellsWhy};
 ghost use Rattle.journal_store.specs.Stands.{IsQuiet, Leads};
 ghost use Rattle.schedule_model.specs.Lends.{held_as};
 ghost use Rattle.schedule_model.specs.Schedule.{FeedsOne};
-ghost use Rattle.durable_schedule.specs.Scheduled.{FeedsPart, IsTakenUp, refused_behind};
+ghost use Rattle.durable_schedule.specs.Scheduled.{FeedsPart, IsTakenUp, refused_behind, refusal_told};
 
 use bytes::ByteStr;
 use journal_model::Handler;
@@ -21,6 +22,7 @@ fn feed_part<H: Handler, S: Alter + Drop>(
 ) -> Result<usize, store_refusals::Refusal>
     ensures does { Leads S.Store (λ s t. FeedsPart most (held_as invocation.now number attempt.old) result s t attempt.new) store.old store.new }
     ensures few { IfOk result (λ len. len ≤ most) }
+    ensures cause { IfErr result (TellsWhy S.Store store.old store.new) }
     ensures crash { IsQuiet S.Store store.old store.new }
 {
     match store.next_input(invocation, number, most) {
@@ -63,6 +65,7 @@ pub(crate) fn feed_in<H: Handler, S: Alter + Drop>(
 ) -> Reply
     ensures does { Leads S.Store (λ s t. FeedsOne count (held_as invocation.now number attempt.old) s result t attempt.new) store.old store.new }
     ensures held { IsTakenUp result }
+    ensures cause { IfSome (refusal_told result) (TellsWhy S.Store store.old store.new) }
     ensures crash { IsQuiet S.Store store.old store.new }
 {
     let mut fed = 0;

@@ -1,5 +1,5 @@
 //! The scheduler: a store, and the attempts that were begun.
-ghost use Rattle.std.specs.Prelude.{◌≡◌, ◌<◌, ◌^◌, [], map};
+ghost use Rattle.std.specs.Prelude.{◌≡◌, ◌<◌, ◌^◌, [], map, IfErr, IfSome};
 ghost use Rattle.sqlite.specs.Held.{state};
 ghost use Rattle.sqlite.specs.State.{HasCleanDisk};
 ghost use Rattle.journal_model.specs.Attempt.{due as due_after};
@@ -10,10 +10,11 @@ ghost use Rattle.store_model.specs.Progress.{last_error_of};
 ghost use Rattle.store_invocations.specs.Told.{entries_told};
 ghost use Rattle.store_invocations.specs.Answered.{answer_told};
 ghost use Rattle.journal_store.specs.Attempts.{BeginsSome};
+ghost use Rattle.journal_store.specs.Causes.{TellsWhy, TellsWhyUnwritten};
 ghost use Rattle.journal_store.specs.Stands.{Endures, EnduresAlways, IsQuiet, Leads, Settles};
 ghost use Rattle.schedule_model.specs.Schedule.{BeginDoes, Applies, Scheduled};
 ghost use Rattle.schedule_model.specs.Fitting.{FitsEvent};
-ghost use Rattle.durable_schedule.specs.Scheduled.{AppliesWith, HasBegun, IsScheduled, IsTakenUp, IsWritten, OutlastsEvent, Performs, Spares, TakesLive, TellsAlways, TellsOf};
+ghost use Rattle.durable_schedule.specs.Scheduled.{AppliesWith, HasBegun, IsScheduled, IsTakenUp, IsWritten, OutlastsEvent, Performs, Spares, TakesLive, TellsAlways, TellsCauseOf, TellsOf, refusal_told};
 
 use crate::feeding::feed_in;
 use crate::held::{make, take_in};
@@ -120,6 +121,7 @@ impl<H: Handler + Drop, S: Alter + Drop> Scheduler<H, S> {
         ensures settled { HasBegun result → Settles S.Store (λ s t. BeginDoes self.old.options invocation handler now s self.old.held result t self.new.held) self.old.store self.new.store }
         ensures moment { now < 2 ^ 64 }
         ensures held { IsTakenUp result }
+        ensures cause { IfSome (refusal_told result) (TellsWhyUnwritten S.Store self.old.store self.new.store) }
         ensures crash { EnduresAlways S.Store (BeginsSome invocation now) self.old.store self.new.store }
     {
         let begun = match self.store.begin(&invocation, now) {
@@ -261,6 +263,8 @@ impl<H: Handler + Drop, S: Alter + Drop> Scheduler<H, S> {
         // Where it is refused before the store is asked (X1, X2), all is as it was; a turn leaves the store as it was; and bytes that are handed
         // out, an input that is closed and a stop commit nothing: this too whatever the store stands for, and whatever the disk returned.
         ensures spares { Spares S.Store event result self.old self.new }
+        // Where the database refused a statement, the refusal tells its own cause; a turn is refused by no store.
+        ensures cause { IfSome (refusal_told result) (TellsCauseOf S.Store event self.old.store self.new.store) }
         ensures crash { Endures S.Store (AppliesWith H.next_call self.old.options event self.old.held) self.old.store self.new.store }
     {
         self.perform(event)
@@ -280,6 +284,7 @@ impl<H: Handler + Drop, S: Alter + Drop> Scheduler<H, S> {
     pub fn entries(&mut self, id: &ByteStr) -> Result<Vec<RecordedEntry>, store_refusals::Refusal>
         ensures told { TellsOf S.Store id.now (λ events entries. entries.items ≡ entries_told events id.now) result self.old self.new }
         ensures kept { self.new ≡ record self.old { store = self.new.store } }
+        ensures cause { IfErr result (TellsWhy S.Store self.old.store self.new.store) }
         ensures crash { IsQuiet S.Store self.old.store self.new.store }
     {
         self.store.entries(id)
@@ -289,6 +294,7 @@ impl<H: Handler + Drop, S: Alter + Drop> Scheduler<H, S> {
     pub fn answer(&mut self, id: &ByteStr) -> Result<Option<NonEmptyValue>, store_refusals::Refusal>
         ensures told { TellsOf S.Store id.now (λ events answer. answer ≡ answer_told events id.now) result self.old self.new }
         ensures kept { self.new ≡ record self.old { store = self.new.store } }
+        ensures cause { IfErr result (TellsWhy S.Store self.old.store self.new.store) }
         ensures crash { IsQuiet S.Store self.old.store self.new.store }
     {
         self.store.answer(id)
@@ -298,6 +304,7 @@ impl<H: Handler + Drop, S: Alter + Drop> Scheduler<H, S> {
     pub fn failure(&mut self, id: &ByteStr) -> Result<Option<LastError>, store_refusals::Refusal>
         ensures told { TellsOf S.Store id.now (λ events error. error ≡ last_error_of events id.now) result self.old self.new }
         ensures kept { self.new ≡ record self.old { store = self.new.store } }
+        ensures cause { IfErr result (TellsWhy S.Store self.old.store self.new.store) }
         ensures crash { IsQuiet S.Store self.old.store self.new.store }
     {
         self.store.failure(id)
@@ -307,6 +314,7 @@ impl<H: Handler + Drop, S: Alter + Drop> Scheduler<H, S> {
     pub fn is_open(&mut self, id: &ByteStr) -> Result<bool, store_refusals::Refusal>
         ensures told { TellsOf S.Store id.now (λ events is_open. is_open ≡ is_open_after events id.now) result self.old self.new }
         ensures kept { self.new ≡ record self.old { store = self.new.store } }
+        ensures cause { IfErr result (TellsWhy S.Store self.old.store self.new.store) }
         ensures crash { IsQuiet S.Store self.old.store self.new.store }
     {
         self.store.is_open(id)
@@ -316,6 +324,7 @@ impl<H: Handler + Drop, S: Alter + Drop> Scheduler<H, S> {
     pub fn state(&mut self, object: &ByteStr) -> Result<Vec<StateRow>, store_refusals::Refusal>
         ensures told { TellsAlways S.Store (λ events states. states.items ≡ map (state_row object.now) (object_state events object.now)) result self.old self.new }
         ensures kept { self.new ≡ record self.old { store = self.new.store } }
+        ensures cause { IfErr result (TellsWhy S.Store self.old.store self.new.store) }
         ensures crash { IsQuiet S.Store self.old.store self.new.store }
     {
         self.store.state(object)
@@ -326,6 +335,7 @@ impl<H: Handler + Drop, S: Alter + Drop> Scheduler<H, S> {
     pub fn due(&mut self) -> Result<Vec<ByteStr>, store_refusals::Refusal>
         ensures told { TellsAlways S.Store (λ events ids. ids.items ≡ due_after events) result self.old self.new }
         ensures kept { self.new ≡ record self.old { store = self.new.store } }
+        ensures cause { IfErr result (TellsWhy S.Store self.old.store self.new.store) }
         ensures crash { IsQuiet S.Store self.old.store self.new.store }
     {
         self.store.due()
@@ -335,6 +345,7 @@ impl<H: Handler + Drop, S: Alter + Drop> Scheduler<H, S> {
     pub fn next_moment(&mut self) -> Result<Option<u64>, store_refusals::Refusal>
         ensures told { TellsAlways S.Store IsNextMoment result self.old self.new }
         ensures kept { self.new ≡ record self.old { store = self.new.store } }
+        ensures cause { IfErr result (TellsWhy S.Store self.old.store self.new.store) }
         ensures crash { IsQuiet S.Store self.old.store self.new.store }
     {
         self.store.next_moment()

@@ -1,6 +1,7 @@
 use Rattle.std.proofs.Common.{arith}
+use Rattle.journal_store.specs.Causes.{TellsWhy}
 use Rattle.schedule_model.specs.Lends.{held_as}
-use Rattle.durable_schedule.proofs.Parts.{goes_further, none_fed, quiet_on, refused_so, refused_taken_up, rests_so}
+use Rattle.durable_schedule.proofs.Parts.{cause_behind, goes_further, none_fed, quiet_on, refused_so, refused_taken_up, refused_told, rests_so}
 use Rattle.durable_schedule.proofs.Scheduling.{same_quiet}
 use Rattle.durable_schedule.proofs.feeding.feed_in.Goals as goal
 
@@ -40,6 +41,12 @@ returns-in-Err-clause-does g c =
 
 pub returns-in-Err-clause-held : goal.returns-in-Err-clause-held
 returns-in-Err-clause-held g c = rw c.stopped.ensures (refused_taken_up c.loop-len.fed c.in-Err.refusal)
+
+pub returns-in-Err-clause-cause : goal.returns-in-Err-clause-cause
+returns-in-Err-clause-cause g c =
+    rw c.stopped.ensures
+    (refused_told c.loop-len.fed c.in-Err.refusal (TellsWhy g.S.Store c.args.store.now c.feed_part.new.store)
+    (cause_behind g.S.Store c.args.store.now c.loop-len.store c.feed_part.new.store c.loop-len.invariant.quiet c.feed_part.ensures.crash c.in-Err.refusal c.in-Err.ensures.cause))
 
 pub returns-in-Err-clause-crash : goal.returns-in-Err-clause-crash
 returns-in-Err-clause-crash g c = quiet_on g.S.Store c.args.store.now c.loop-len.store c.feed_part.new.store c.loop-len.invariant.quiet c.feed_part.ensures.crash

@@ -1,6 +1,7 @@
 use Rattle.std.proofs.Common.{◌≢◌, arith, List, [], ℕ, refl, subst, ap, ◌∙◌, length, Option, Ok, Err}
 use Rattle.sqlite.specs.Held.{state}
 use Rattle.store_refusals.specs.declared.refusal.Refusal.{Refusal}
+use Rattle.store_refusals.proofs.Causes.{tells_to_write}
 use Rattle.store_steps.specs.declared.frame.FrameReply.{FrameReply}
 use Rattle.store_calls.specs.Calls.{PutsBehind}
 use Rattle.store_calls.specs.Frames.{Accepts, AcceptsFirst, TakesEach}
@@ -74,6 +75,10 @@ returns-in-Err-accepted-clause-does g c clean s is =
       moves_shown c.args.count c.in-Ok.bytes (held_as c.args.invocation.now c.args.number c.args.attempt.now) c.first_output.new.self c.in-Ok.ensures s it.0 (reply.Refused (refusal.Store c.in-Err-accepted.refusal)) c.first_output.new.self
           (subst (λ (bytes : List ℕ). Accepts c.args.invocation.now c.args.number bytes (Err c.in-Err-accepted.refusal) s it.0) c.as_slice.ensures it.2, refl),
     )
+
+pub returns-in-Err-accepted-clause-cause : goal.returns-in-Err-accepted-clause-cause
+returns-in-Err-accepted-clause-cause g c =
+    tells_to_write (state g.S.Store c.args.store.now.connection) (state g.S.Store c.accept-accepted.new.self.connection) c.in-Err-accepted.refusal c.in-Err-accepted.ensures.cause
 
 pub returns-in-Err-accepted-clause-settled : goal.returns-in-Err-accepted-clause-settled
 returns-in-Err-accepted-clause-settled g c taken = absurd taken

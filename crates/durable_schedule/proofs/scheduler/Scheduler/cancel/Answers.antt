@@ -15,8 +15,8 @@ returns g c =
     let id = c.args.invocation.now in
     rw c.placed.ensures
     (performs_stored g.S.Store g.H.Handler.next_call (event.Cancel id) old c.cancel.new.self (λ place. reply.Placed place) (Cancels id)
-    (λ told s t it. (replies_place (λ told. Cancels id told s t) told it, refl)) (λ place. tt) (λ why never. never) (λ answer t database all. all)
+    (λ told s t it. (replies_place (λ told. Cancels id told s t) told it, refl)) (λ place. tt) (λ place. refl) (λ why never. never) (λ answer t database all. all)
     tt (λ answer. tt) tt
     (crashes g.S.Store g.H.Handler.next_call (event.Cancel id) old (Adds (model.Event.Cancel id)) c.cancel.new.self
     (λ s t it. (reply.Placed (1 + length (entries_of s.events id)), old.held, ((refl, it), refl))) c.cancel.ensures.crash)
-    c.cancel.result c.cancel.ensures.does c.cancel.ensures.settled)
+    c.cancel.result c.cancel.ensures.does c.cancel.ensures.settled c.cancel.ensures.cause)

@@ -17,8 +17,8 @@ returns g c =
     let value = c.args.value in
     rw c.placed.ensures
     (performs_stored g.S.Store g.H.Handler.next_call (event.Result id n value) old c.result.new.self (λ place. reply.Placed place) (Completes id n value)
-    (λ told s t it. (replies_place (λ told. Completes id n value told s t) told it, refl)) (λ place. tt) (λ why never. never) (λ answer t database all. all)
+    (λ told s t it. (replies_place (λ told. Completes id n value told s t) told it, refl)) (λ place. tt) (λ place. refl) (λ why never. never) (λ answer t database all. all)
     c.result_fits.ensures (λ answer. tt) tt
     (crashes g.S.Store g.H.Handler.next_call (event.Result id n value) old (Adds (model.Event.Complete id n value)) c.result.new.self
     (λ s t it. (reply.Placed (1 + length (entries_of s.events id)), old.held, ((refl, it), refl))) c.result.ensures.crash)
-    c.result.result c.result.ensures.does c.result.ensures.settled)
+    c.result.result c.result.ensures.does c.result.ensures.settled c.result.ensures.cause)

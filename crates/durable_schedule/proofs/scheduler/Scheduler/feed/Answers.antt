@@ -16,6 +16,6 @@ returns-in-Some g c =
     let old = c.args.self.now in
     let fed = c.feed_in in
     performs_quiet g.S.Store g.H.Handler.next_call (event.Feed c.args.invocation.now c.args.number c.args.count) old fed.result _ (λ never. never) refl tt tt (spares_taken_up _ _ _ fed.ensures.held)
-    fed.ensures.crash fed.ensures.crash
+    fed.ensures.crash fed.ensures.crash fed.ensures.cause
     (finds g.S.Store (FeedsOne c.args.count) c.args.invocation.now c.args.number old.held c.get_mut.result c.get_mut.ensures.found c.in-Some.attempt c.in-Some.is old.store fed.new.store fed.new.attempt fed.result
     fed.ensures.does)

@@ -15,6 +15,7 @@ returns-in-Begin g c =
       fits = did.ensures.moment;
       live = tt;
       spares = spares_all _ _ _ _ _ (spares_taken_up did.result old did.new.self did.ensures.held) tt;
+      cause = did.ensures.cause;
       crash = crashes g.S.Store g.H.Handler.next_call (event.Begin it.invocation it.handler it.now) old (BeginsSome it.invocation it.now) did.new.self.store
           (λ s t one. begins_with g.H.Handler.next_call old.options it.invocation it.handler it.now old.held s t one) did.ensures.crash;
     })

@@ -19,8 +19,8 @@ returns g c =
     let value = c.args.value in
     rw (c.placed.ensures, ← c.into_key.ensures)
     (performs_stored g.S.Store g.H.Handler.next_call (event.Signal id key value) old c.signal.new.self (λ place. reply.Placed place) (Signals id key value)
-    (λ told s t it. (replies_place (λ told. Signals id key value told s t) told it, refl)) (λ place. tt) (λ why never. never) (λ answer t database all. all)
+    (λ told s t it. (replies_place (λ told. Signals id key value told s t) told it, refl)) (λ place. tt) (λ place. refl) (λ why never. never) (λ answer t database all. all)
     (subst (λ (k : SignalKey). ResultFits (signal_arrival k value)) (sym c.into_key.ensures) c.signal_fits.ensures) (λ answer. tt) tt
     (crashes g.S.Store g.H.Handler.next_call (event.Signal id key value) old (Adds (model.Event.Signal id key value)) c.signal.new.self
     (λ s t it. (reply.Placed (1 + length (entries_of s.events id)), old.held, ((refl, it), refl))) c.signal.ensures.crash)
-    c.signal.result c.signal.ensures.does c.signal.ensures.settled)
+    c.signal.result c.signal.ensures.does c.signal.ensures.settled c.signal.ensures.cause)

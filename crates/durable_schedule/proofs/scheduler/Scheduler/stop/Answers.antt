@@ -3,9 +3,10 @@ use Rattle.schedule_model.specs.declared.event.Event.TheVariants as event
 use Rattle.schedule_model.specs.declared.event.Reply.TheVariants as reply
 use Rattle.schedule_model.specs.Schedule.{StopsOne}
 use Rattle.store_calls.specs.Calls.{Stops}
+use Rattle.journal_store.specs.Causes.{TellsWhy}
 use Rattle.durable_schedule.specs.Scheduled.{reply_to}
 use Rattle.durable_schedule.proofs.Holding.{misses, finds}
-use Rattle.durable_schedule.proofs.Replying.{is_done, replies_done, told_taken_up}
+use Rattle.durable_schedule.proofs.Replying.{is_done, replies_done, told_refused, told_taken_up}
 use Rattle.durable_schedule.proofs.Scheduling.{performs_quiet, performs_unheld, same_quiet, spares_taken_up}
 use Rattle.durable_schedule.proofs.scheduler.Scheduler.stop.Goals as goal
 
@@ -25,5 +26,6 @@ returns-in-Some g c =
     (performs_quiet g.S.Store g.H.Handler.next_call (event.Stop id n) old (reply_to (λ _. reply.Done) told) _ (λ never. never) refl tt (λ live. is_done told (c.stop.ensures.live live))
     (spares_taken_up _ _ _ (told_taken_up told))
     c.stop.ensures.crash c.stop.ensures.crash
+    (told_refused (λ _. reply.Done) (TellsWhy g.S.Store old.store c.stop.new.self) (λ done. refl) told c.stop.ensures.cause)
     (finds g.S.Store StopsOne id n old.held c.get_mut.result c.get_mut.ensures.found c.in-Some.field-0 c.in-Some.is old.store c.stop.new.self c.in-Some.field-0.now (reply_to (λ _. reply.Done) told)
     (λ clean s is. let it = c.stop.ensures.does clean s is in (it.0, it.1, (replies_done (λ told. Stops id n told s it.0) told it.2, refl)))))

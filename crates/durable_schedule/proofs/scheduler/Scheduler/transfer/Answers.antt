@@ -27,5 +27,6 @@ returns-in-Some g c =
       fits = tt;
       live = taken.ensures.live;
       spares = spares_all _ _ _ _ _ (spares_taken_up _ _ _ taken.ensures.held) tt;
+      cause = taken.ensures.cause;
       crash = finds_crashed g.S.Store Moves id n old.held there.result there.ensures.found attempt c.in-Some.is old.store taken.new.store taken.ensures.crash;
     }

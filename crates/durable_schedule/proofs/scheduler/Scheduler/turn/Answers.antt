@@ -36,7 +36,7 @@ returns-in-Some g c =
     let n = c.args.number in
     let outcome = c.args.outcome in
     let Turn = TurnsOne g.H.Handler.next_call outcome in
-    performs_quiet g.S.Store g.H.Handler.next_call (event.Turn id n outcome) old (reply.Turned c.turn.result) _ (λ never. never) refl tt tt (spares_taken_up _ _ _ tt) refl (same_quiet g.S.Store old.store)
+    performs_quiet g.S.Store g.H.Handler.next_call (event.Turn id n outcome) old (reply.Turned c.turn.result) _ (λ never. never) refl tt tt (spares_taken_up _ _ _ tt) refl (same_quiet g.S.Store old.store) tt
     (unless_mismatch g.S.Store Turn (held_of old.held id n) old.held (tells_mismatch outcome) (sym c.tells_mismatch.ensures ∙ c.if-tells_mismatch.false) _ (reply.Turned c.turn.result) old.store old.store
     (finds g.S.Store Turn id n old.held c.get_mut.result c.get_mut.ensures.found
     c.in-Some.attempt c.in-Some.is old.store old.store c.turn.new.self (reply.Turned c.turn.result)
