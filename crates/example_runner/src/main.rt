@@ -65,8 +65,9 @@ fn go_on_with_all<S: Alter + Drop>(
     now: u64,
 ) -> Result<()> {
     scheduler.apply(Event::Tick(now));
-    let Ok(ids) = scheduler.due() else {
-        bail!("the file cannot be read");
+    let ids = match scheduler.due() {
+        Ok(ids) => ids,
+        Err(why) => bail!("the file cannot be read: {why:?}"),
     };
     for id in ids {
         let outcome = go_on(scheduler, rt.alloc(), &id, now)?;
@@ -83,7 +84,7 @@ fn print_next<S: Alter + Drop>(
     match scheduler.next_moment() {
         Ok(Some(moment)) => println!(rt; "next {moment}")?,
         Ok(None) => println!(rt; "nothing sleeps")?,
-        Err(_) => bail!("the file cannot be read"),
+        Err(why) => bail!("the file cannot be read: {why:?}"),
     }
     Ok(())
 }
@@ -98,7 +99,7 @@ fn add<S: Alter + Drop>(
     let new = named(rt.alloc(), name, now)?;
     match scheduler.apply(Event::Invoke(new)) {
         Reply::Done => println!(rt; "{name}: added")?,
-        Reply::Refused(refusal) => bail!("{name}: refused {}", refusal.name()),
+        Reply::Refused(refusal) => bail!("{name}: refused {}, {refusal:?}", refusal.name()),
         _ => bail!("{name}: not added"),
     }
     Ok(())

@@ -71,6 +71,10 @@ pub fn go_on<S: Alter + Drop>(
         count: ALL,
     });
     match moved {
+        Reply::Moved {
+            refusal: Some(refusal),
+            ..
+        } => Ok(Outcome::Refused(Refusal::Store(refusal))),
         Reply::Refused(refusal) => Ok(Outcome::Refused(refusal)),
         _ => Ok(outcome),
     }
