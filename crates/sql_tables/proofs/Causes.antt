@@ -1,5 +1,5 @@
 -- A cause over a longer way, and the cause of one statement.
-use Rattle.std.proofs.Common.{◌≡◌, ◌⊎◌, ◌∙◌, ℕ, ◌≤◌, true, false, arith, inl, inr, refl, sym, ap, subst, subst₂, append-nil, length, List, None, Some, Ok, Err, Option, IsTrue, IsSome, IsErrAnd, IfErr, Result}
+use Rattle.std.proofs.Common.{◌≡◌, ◌∙◌, ℕ, ◌≤◌, true, false, arith, inl, inr, refl, sym, ap, subst, subst₂, append-nil, length, List, None, Some, Ok, Err, Option, IsTrue, IsSome, IsErrAnd, IfErr, Result}
 use Rattle.sqlite_trees.specs.Tree.{Trees}
 use Rattle.sqlite.specs.declared.error.Error.{Error}
 use Rattle.sqlite_value.specs.Order.{Row}
@@ -12,15 +12,14 @@ use Rattle.sqlite_resolve.specs.declared.error.CompileError.{CompileError}
 use Rattle.sqlite_schema.specs.declared.command.Returning.{Returning}
 use Rattle.sqlite.specs.Effect.{Database, RefusesToRead}
 use Rattle.sqlite.specs.Listing.{IsSourceOf, reads_listing, understood}
-use Rattle.sqlite.specs.State.{State, Fails, FailsToQuery, FailsToShow, HasCause, HasCleanDisk, IsNotRun, IsNoStatement, IsTooLate, IsUnchanged, Survives, is_disk_error, store_error}
+use Rattle.sqlite.specs.State.{State, Fails, FailsToQuery, FailsToShow, HasCause, HasCleanDisk, IsNotRun, IsNoStatement, Survives, is_disk_error, store_error}
 use Rattle.sqlite.specs.Held.{Held, state}
 use Rattle.sqlite_trees.specs.declared.store.Store.{Ghosts}
 use Rattle.sql_tables.specs.declared.read.ReadError.{ReadError}
-use Rattle.sql_tables.specs.declared.read.ReadError.TheVariants as read
 use Rattle.sql_tables.specs.declared.read.RowError.{RowError}
 use Rattle.sql_tables.specs.declared.read.RowError.TheVariants.{Foreign, OutOfMemory}
 use Rattle.sql_tables.specs.Reading.{read_error}
-use Rattle.sql_tables.specs.Causes.{HasFailed, IsCause, IsCauseToWrite, IsReadable, TellsReadCause, is_shut_error}
+use Rattle.sql_tables.specs.Causes.{HasFailed, IsCause, IsReadable, IsStatementText, TellsReadCause, is_shut_error}
 
 failed_wider : (a b c d : State) → a.faults ≤ b.faults → c.faults ≤ d.faults → HasFailed b c → HasFailed a d
 failed_wider a b c d before behind failed = omega (arith, before, behind, failed)
@@ -48,21 +47,6 @@ module _ (a b c : State) (C D : Trees → Type 0) (e : Error) (first : Survives 
   cause_before (inr (inr (inl shut))) = inr (inr (inl (shut.0, λ was. failed_wider a a b c (omega arith) then.counts (shut.1 was))))
   cause_before (inr (inr (inr limit))) = inr (inr (inr limit))
 
-  pub write_cause_later : HasCleanDisk c → IsCauseToWrite b c e → IsCauseToWrite a c e
-  unfolding IsCauseToWrite
-  write_cause_later clean (inl cause) = inl (cause_later clean cause)
-  write_cause_later clean (inr own) = inr own
-
-  pub write_cause_before : IsCauseToWrite a b e → IsCauseToWrite a c e
-  unfolding IsCauseToWrite
-  write_cause_before (inl cause) = inl (cause_before cause)
-  write_cause_before (inr own) = inr own
-
--- what a question is refused for, a change may be
-pub cause_to_write : (a b : State) (e : Error) → IsCause a b e → IsCauseToWrite a b e
-unfolding IsCauseToWrite
-cause_to_write a b e cause = inl cause
-
 -- ---- one question
 
 -- the store failed
@@ -79,40 +63,53 @@ module _ (old new : State) (TooBig : Type 0) (e : Error) (big : TooBig → IsTru
   pub failed_cause : Fails old new TooBig e → IsCause old new e
   failed_cause fails = failed_by fails.0 fails.1 fails.2
 
+-- a text that is one statement is not refused for what it is
+module _ (schema : Schema) (sql : List ℕ) (params : Row) (begun : State) (has : IsTrue begun.is_open → begun.now.schema ≡ schema) (text : IsStatementText schema sql params) where
+  known : IsTrue begun.is_open → understood begun.now.schema sql ≡ Ok text.compiled
+  known opened = ap (λ (s : Schema). understood s sql) (has opened) ∙ text.is
+
+  pub same_text : (c : Compiled) → understood begun.now.schema sql ≡ Ok c → IsTrue begun.is_open → c ≡ text.compiled
+  same_text c is opened = let same : ◌≡◌ {A = Result Compiled CompileError} (Ok c) (Ok text.compiled) = sym is ∙ known opened in cc
+
+  pub is_statement : (e : Error) → IsNoStatement begun sql params e → IsTrue begun.is_open → ⊥
+  is_statement e (inl none) opened = let clash : ◌≡◌ {A = Result Compiled CompileError} (Ok text.compiled) (Err none.0) = sym (known opened) ∙ none.1 in absurd cc
+  is_statement e (inr (c, is, inl short)) opened = absurd (short.0 (subst (λ (c : Compiled). length sql ≤ c.tail) (sym (same_text c is opened)) text.whole))
+  is_statement e (inr (c, is, inr (inl others))) opened = absurd (others.0 (text.given ∙ ap (λ (c : Compiled). length c.names) (sym (same_text c is opened))))
+  is_statement e (inr (c, is, inr (inr clock))) opened = absurd (clock.0 (ap (λ (c : Compiled). c.formats) (same_text c is opened) ∙ text.plain.1))
+
+  pub values : (c : Compiled) (now : ℕ) → understood begun.now.schema sql ≡ Ok c → IsTrue begun.is_open → timed params c.formats now ≡ params
+  values c now is opened =
+      ap (λ (c : Compiled). timed params c.formats now) (same_text c is opened) ∙ ap (λ formats. timed params formats now) text.plain.1 ∙ append-nil params
+
+  pub not_run_cause : (new : State) (e : Error) → IsNotRun begun new sql params e → IsCause begun new e
+  unfolding IsNotRun
+  not_run_cause new e (inl none) = absurd (is_statement e none.0 none.1.0.was_open)
+  not_run_cause new e (inr fails) = failed_cause begun new ⊥ e (λ no opened. no) fails
+
 -- a text that asks for rows of the tables is refused for a cause
 module _ (schema : Schema) (sql : List ℕ) (params : Row) (begun new : State) (e : Error) (has : IsTrue begun.is_open → begun.now.schema ≡ schema) (it : IsReadable schema sql params) where
-  known : IsTrue begun.is_open → understood begun.now.schema sql ≡ Ok it.compiled
-  known opened = ap (λ (s : Schema). understood s sql) (has opened) ∙ it.is
-
-  same_text : (c : Compiled) → understood begun.now.schema sql ≡ Ok c → IsTrue begun.is_open → c ≡ it.compiled
-  same_text c is opened = let same : ◌≡◌ {A = Result Compiled CompileError} (Ok c) (Ok it.compiled) = sym is ∙ known opened in cc
-
-  no_statement : IsNoStatement begun sql params e → IsUnchanged begun new → IsCause begun new e
-  no_statement (inl none) same = let clash : ◌≡◌ {A = Result Compiled CompileError} (Ok it.compiled) (Err none.0) = sym (known same.0.was_open) ∙ none.1 in absurd cc
-  no_statement (inr (c, is, inl short)) same = absurd (short.0 (subst (λ (c : Compiled). length sql ≤ c.tail) (sym (same_text c is same.0.was_open)) it.whole))
-  no_statement (inr (c, is, inr (inl others))) same = absurd (others.0 (it.given ∙ ap (λ (c : Compiled). length c.names) (sym (same_text c is same.0.was_open))))
-  no_statement (inr (c, is, inr (inr clock))) same = absurd (clock.0 (ap (λ (c : Compiled). c.formats) (same_text c is same.0.was_open) ∙ it.plain.1))
+  same : (c : Compiled) → understood begun.now.schema sql ≡ Ok c → IsTrue begun.is_open → c ≡ it.text.compiled
+  same = same_text schema sql params begun has it.text
 
   no_returning : (c : Compiled) (what : Returning) → understood begun.now.schema sql ≡ Ok c → Some what ≡ c.returning → IsTrue begun.is_open → ⊥
-  no_returning c what is some opened = let clash : Some what ≡ None = some ∙ ap (λ (c : Compiled). c.returning) (same_text c is opened) ∙ it.plain.0 in cc
+  no_returning c what is some opened = let clash : Some what ≡ None = some ∙ ap (λ (c : Compiled). c.returning) (same c is opened) ∙ it.text.plain.0 in cc
 
   not_shown : (c : Compiled) (now : ℕ) → understood begun.now.schema sql ≡ Ok c → (o : Option Returning) → o ≡ c.returning → FailsToShow begun new sql c (timed params c.formats now) e o → IsCause begun new e
   unfolding IsCause
   not_shown c now is None none fails =
       let opened = fails.3.0.was_open in
-      let its = same_text c is opened in
+      let its = same c is opened in
       let source : fails.0 ≡ begun.now = subst (λ b. IsSourceOf b begun.now fails.0) (ap (λ (s : Schema). reads_listing s sql) (has opened) ∙ it.unlisted) fails.1 in
-      let given : timed params c.formats now ≡ params = ap (λ (c : Compiled). timed params c.formats now) its ∙ ap (λ formats. timed params formats now) it.plain.1 ∙ append-nil params in
-      let refused : RefusesToRead begun.step_limit it.compiled.command fails.0 params e =
+      let given = values schema sql params begun has it.text c now is opened in
+      let refused : RefusesToRead begun.step_limit it.text.compiled.command fails.0 params e =
       subst₂ (λ (c : Compiled) (r : Row). RefusesToRead begun.step_limit c.command fails.0 r e) its given fails.2 in
       inr (inr (inr (it.accepted begun.step_limit fails.0 e (ap (λ (d : Database). d.schema) source ∙ has opened) refused)))
   not_shown c now is (Some what) some (inl own) = absurd (no_returning c what is some own.1.0.was_open)
   not_shown c now is (Some what) some (inr fails) = failed_cause begun new _ e (λ big opened. no_returning c what is some opened) fails
 
   pub asked_cause : FailsToQuery sql params begun new e → IsCause begun new e
-  unfolding FailsToQuery IsNotRun
-  asked_cause (inl (inl none)) = no_statement none.0 none.1
-  asked_cause (inl (inr fails)) = failed_cause begun new ⊥ e (λ no opened. no) fails
+  unfolding FailsToQuery
+  asked_cause (inl none) = not_run_cause schema sql params begun has it.text new e none
   asked_cause (inr shown) = not_shown shown.0 shown.1.now shown.1.is shown.0.returning refl shown.2
 
 -- inside a transaction that was just begun it is asked as before

@@ -1,5 +1,5 @@
 -- What tests and casts make of cells.
-use Rattle.std.proofs.Common.{◌≡◌, ◌==◌, ◌&&◌, nat_lt, arith, cond, Ordering, Less, Equal, Greater, ℕ, ℤ, pos, Bool, true, false, List, Option, None, Some, refl, sym, ap, ◌∙◌, bytes_eq}
+use Rattle.std.proofs.Common.{◌≡◌, ◌==◌, ◌&&◌, nat_lt, arith, cond, Less, Equal, Greater, ℕ, ℤ, pos, Bool, true, false, List, Option, None, Some, refl, sym, ap, ◌∙◌, bytes_eq}
 use Rattle.std.specs.Prelude.{nat_abs}
 use Rattle.std.specs.Ordering.{int_cmp, int_eq, is_eq, is_ge, is_gt, is_le}
 use Rattle.std.proofs.lemmas.Bool.{eq-eqb, eqb-true, le-ltb, ltb-true}

@@ -1,5 +1,5 @@
 -- A text that asks for rows of one table is refused for nothing of its own.
-use Rattle.std.proofs.Common.{◌≡◌, ◌⊎◌, ◌∙◌, ℕ, ◌≤◌, nat_le, length, true, false, inl, inr, sym, ap, subst, List, [], None, Option, Ok, Err, Result, IsTrue, IsSome, arith}
+use Rattle.std.proofs.Common.{◌≡◌, ◌∙◌, ℕ, ◌≤◌, length, true, false, inl, inr, sym, subst, List, [], Option, Ok, Err, Result, IsSome}
 use Rattle.sqlite_value.specs.Order.{Row}
 use Rattle.sqlite_trees.specs.Tree.{Trees}
 use Rattle.sqlite_typing.specs.Types.{accepts_program}
@@ -34,11 +34,7 @@ module _ (schema : Schema) (sql : List ℕ) (params : Row) (p : Program) (names 
   pub readable_by : (r : Result Compiled CompileError) → understood schema sql ≡ r → command_of r ≡ Select p names → IsPlain r → IsWhole r (length sql) (length params) → reads_listing schema sql ≡ false → IsReadable schema sql params
   readable_by (Err e) is command plain whole unlisted = absurd plain
   readable_by (Ok c) is command plain whole unlisted = record {
-    compiled = c;
-    is = is;
-    whole = whole.0;
-    given = whole.1;
-    plain = plain;
+    text = record { compiled = c; is = is; whole = whole.0; given = whole.1; plain = plain };
     unlisted = unlisted;
     accepted = λ limit db cause has refused. nothing_refused limit db cause has (subst (λ (k : Command). RefusesToRead limit k db params cause) command refused);
   }

@@ -32,7 +32,7 @@ put_permutes new (r ∷ rows) free = go (value_cmp (rowid r) (rowid new)) free (
     go Equal free more = absurd (cc)
     go Greater free more = IsPermutation-refl _
 
-mapped : {X Y : Type 0} (f : X → Y) (xs : List X) (x : X) → Has xs x → Has (map f xs) (f x)
+pub mapped : {X Y : Type 0} (f : X → Y) (xs : List X) (x : X) → Has xs x → Has (map f xs) (f x)
 mapped f [] x h = absurd h
 mapped f (y ∷ xs) x (inl e) = inl (ap f e)
 mapped f (y ∷ xs) x (inr h) = inr (mapped f xs x h)

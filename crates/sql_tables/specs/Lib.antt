@@ -5,4 +5,5 @@ pub mod Changes
 pub mod Columns
 pub mod Content
 pub mod Reading
+pub mod Refusals
 pub mod Statements

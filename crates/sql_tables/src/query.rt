@@ -1,13 +1,12 @@
 //! Statements: questions about the tables, and changes inside a transaction.
 
 ghost use Rattle.std.specs.Prelude.{◌≡◌, false, IfErr, IfOk, IsTrue, OnOk};
-ghost use Rattle.sqlite.specs.Schema.{Schema};
 ghost use Rattle.sqlite.specs.Held.{state};
 ghost use Rattle.sqlite.specs.State.{HasCleanDisk, KeepsCommit, Survives};
 ghost use Rattle.sqlite.specs.Values.{bound};
 ghost use Rattle.sqlite.specs.declared.error.Error.{Error as SqlError};
 ghost use Rattle.sql_tables.specs.Asking.{HasRun, IsAnswer, IsKept};
-ghost use Rattle.sql_tables.specs.Causes.{IsReadable, TellsReadCause, TellsWriteCause};
+ghost use Rattle.sql_tables.specs.Causes.{IsQuestion, RefusesToRun, TellsReadCause};
 
 use crate::read::ReadError;
 use sqlite::types::ValueRef;
@@ -22,7 +21,7 @@ pub fn rows_by<S: Alter>(
     requires { (state S.Store conn.old).in_transaction ≡ false }
     ensures answers { HasCleanDisk (state S.Store conn.new) → IfOk result (λ rows. IsTrue (state S.Store conn.old).is_open × IsAnswer sql.now (bound params.now) (state S.Store conn.old) rows.items) }
     ensures refused { IfErr result (λ e. (cause : SqlError) × (e ≡ ReadError.Refused cause)) }
-    ensures cause { (schema : Schema) → (IsTrue (state S.Store conn.old).is_open → (state S.Store conn.old).now.schema ≡ schema) → IsReadable schema sql.now (bound params.now) → IfErr result (TellsReadCause (state S.Store conn.old) (state S.Store conn.new)) }
+    ensures cause { IsQuestion sql.now (bound params.now) (state S.Store conn.old) → IfErr result (TellsReadCause (state S.Store conn.old) (state S.Store conn.new)) }
     ensures kept { IsKept (state S.Store conn.old) (state S.Store conn.new) }
     ensures idle { (state S.Store conn.new).in_transaction ≡ false }
     ensures crash { Survives (state S.Store conn.old) (state S.Store conn.new) (λ _. ⊥) }
@@ -45,7 +44,7 @@ pub fn run<S: Alter>(
 ) -> Result<(), Error>
     ensures same_reference { tx.new.conn.ghost_name ≡ tx.old.conn.ghost_name }
     ensures ran { HasCleanDisk (state S.Store tx.new.conn.now) → OnOk result (HasRun sql.now (bound params.now) (state S.Store tx.old.conn.now) (state S.Store tx.new.conn.now)) }
-    ensures cause { IfErr result (TellsWriteCause (state S.Store tx.old.conn.now) (state S.Store tx.new.conn.now)) }
+    ensures refused { HasCleanDisk (state S.Store tx.new.conn.now) → IfErr result (RefusesToRun sql.now (bound params.now) (state S.Store tx.old.conn.now) (state S.Store tx.new.conn.now)) }
     ensures kept { HasCleanDisk (state S.Store tx.new.conn.now) → KeepsCommit (state S.Store tx.old.conn.now) (state S.Store tx.new.conn.now) }
     ensures survives { Survives (state S.Store tx.old.conn.now) (state S.Store tx.new.conn.now) (λ _. ⊥) }
 {

@@ -4,12 +4,11 @@ ghost use Rattle.std.specs.Prelude.{◌≡◌, ◌≢◌, false, List, Option, m
 ghost use Rattle.std.specs.List.{AllByRecursion};
 ghost use Rattle.std.specs.Option.{option_to_list};
 ghost use Rattle.sqlite.specs.Held.{state};
-ghost use Rattle.sqlite.specs.Schema.{Schema};
 ghost use Rattle.sqlite.specs.State.{HasCleanDisk, Survives};
 ghost use Rattle.sqlite.specs.Values.{bound};
 ghost use Rattle.sqlite_value.specs.Order.{Row as Cells};
 ghost use Rattle.sql_tables.specs.Asking.{IsAnswer, IsKept, IsOther};
-ghost use Rattle.sql_tables.specs.Causes.{IsReadable, TellsReadCause};
+ghost use Rattle.sql_tables.specs.Causes.{IsQuestion, TellsReadCause};
 
 use crate::query::rows_by;
 use crate::read::{ReadError, RowError};
@@ -64,7 +63,7 @@ pub fn one_by<R: Stored, S: Alter>(
     requires { (state S.Store conn.old).in_transaction ≡ false }
     ensures answers { HasCleanDisk (state S.Store conn.new) → IfOk result (λ o. IsTrue (state S.Store conn.old).is_open × IsAnswer sql.now (bound params.now) (state S.Store conn.old) (map R.Stored.cells (option_to_list o)) × IfSome o R.Stored.fits) }
     ensures foreign { HasCleanDisk (state S.Store conn.new) → IfErr result (λ e. e ≡ ReadError.Foreign → IsTrue (state S.Store conn.old).is_open × IsOther sql.now (bound params.now) (state S.Store conn.old) (λ rows. (o : Option R) × IfSome o R.Stored.fits × (map R.Stored.cells (option_to_list o) ≡ rows))) }
-    ensures cause { (schema : Schema) → (IsTrue (state S.Store conn.old).is_open → (state S.Store conn.old).now.schema ≡ schema) → IsReadable schema sql.now (bound params.now) → IfErr result (TellsReadCause (state S.Store conn.old) (state S.Store conn.new)) }
+    ensures cause { IsQuestion sql.now (bound params.now) (state S.Store conn.old) → IfErr result (TellsReadCause (state S.Store conn.old) (state S.Store conn.new)) }
     ensures kept { IsKept (state S.Store conn.old) (state S.Store conn.new) }
     ensures idle { (state S.Store conn.new).in_transaction ≡ false }
     ensures crash { Survives (state S.Store conn.old) (state S.Store conn.new) (λ _. ⊥) }
@@ -84,7 +83,7 @@ pub fn all_by<R: Stored, S: Alter>(
     requires { (state S.Store conn.old).in_transaction ≡ false }
     ensures answers { HasCleanDisk (state S.Store conn.new) → IfOk result (λ xs. IsTrue (state S.Store conn.old).is_open × IsAnswer sql.now (bound params.now) (state S.Store conn.old) (map R.Stored.cells xs.items) × AllByRecursion R.Stored.fits xs.items) }
     ensures foreign { HasCleanDisk (state S.Store conn.new) → IfErr result (λ e. e ≡ ReadError.Foreign → IsTrue (state S.Store conn.old).is_open × IsOther sql.now (bound params.now) (state S.Store conn.old) (λ rows. (xs : List R) × AllByRecursion R.Stored.fits xs × (map R.Stored.cells xs ≡ rows))) }
-    ensures cause { (schema : Schema) → (IsTrue (state S.Store conn.old).is_open → (state S.Store conn.old).now.schema ≡ schema) → IsReadable schema sql.now (bound params.now) → IfErr result (TellsReadCause (state S.Store conn.old) (state S.Store conn.new)) }
+    ensures cause { IsQuestion sql.now (bound params.now) (state S.Store conn.old) → IfErr result (TellsReadCause (state S.Store conn.old) (state S.Store conn.new)) }
     ensures kept { IsKept (state S.Store conn.old) (state S.Store conn.new) }
     ensures idle { (state S.Store conn.new).in_transaction ≡ false }
     ensures crash { Survives (state S.Store conn.old) (state S.Store conn.new) (λ _. ⊥) }

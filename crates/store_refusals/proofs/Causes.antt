@@ -6,7 +6,7 @@ use Rattle.sqlite.specs.State.{State, Survives}
 use Rattle.sql_tables.specs.declared.read.ReadError.{ReadError}
 use Rattle.sql_tables.specs.declared.read.ReadError.TheVariants as reading
 use Rattle.sql_tables.specs.Causes.{TellsReadCause}
-use Rattle.sql_tables.proofs.Causes.{cause_before, cause_later, cause_to_write, write_cause_before, write_cause_later}
+use Rattle.sql_tables.proofs.Causes.{cause_before, cause_later}
 use Rattle.store_refusals.specs.declared.refusal.Refusal.{Refusal}
 use Rattle.store_refusals.specs.declared.refusal.Refusal.TheVariants.{OutOfMemory, StatementRefused}
 use Rattle.journal_model.specs.Cause.{Cause, Tests}
@@ -14,7 +14,7 @@ use Rattle.journal_model.specs.Cause as model
 use Rattle.protocol_stream.specs.declared.encoder.EncodingError.{EncodingError}
 use Rattle.protocol_stream.specs.declared.encoder.EncodingError.TheVariants as encoding
 use Rattle.store_refusals.specs.Refused.{encoding_refusal, reading_refusal, refusal_by, refusal_of}
-use Rattle.store_refusals.specs.Causes.{IsUnasked, TellsCause, TellsCauseToWrite}
+use Rattle.store_refusals.specs.Causes.{IsUnasked, TellsCause}
 
 -- ---- a refusal that is passed on
 
@@ -110,22 +110,3 @@ module _ (a b c : State) (C D : Trees → Type 0) (first : Survives a b C) (then
   pub err_before : {A : Type 0} (r : Result A Refusal) → IfErr r (TellsCause a b) → IfErr r (TellsCause a c)
   err_before (Ok x) tells = tt
   err_before (Err why) tells = tells_before why tells
-
-  pub tells_later_to_write : (why : Refusal) → TellsCauseToWrite b c why → TellsCauseToWrite a c why
-  tells_later_to_write why tells clean cause is = write_cause_later a b c C D cause first then clean (tells clean cause is)
-
-  pub tells_before_to_write : (why : Refusal) → TellsCauseToWrite a b why → TellsCauseToWrite a c why
-  tells_before_to_write why tells clean cause is = write_cause_before a b c C D cause first then (tells (omega (arith, then.clean, clean)) cause is)
-
-  pub err_later_to_write : {A : Type 0} (r : Result A Refusal) → IfErr r (TellsCauseToWrite b c) → IfErr r (TellsCauseToWrite a c)
-  err_later_to_write (Ok x) tells = tt
-  err_later_to_write (Err why) tells = tells_later_to_write why tells
-
--- ---- what a question tells, where something is written too
-
-pub tells_to_write : (a b : State) (why : Refusal) → TellsCause a b why → TellsCauseToWrite a b why
-tells_to_write a b why tells clean cause is = cause_to_write a b cause (tells clean cause is)
-
-pub err_to_write : {A : Type 0} (a b : State) (r : Result A Refusal) → IfErr r (TellsCause a b) → IfErr r (TellsCauseToWrite a b)
-err_to_write a b (Ok x) tells = tt
-err_to_write a b (Err why) tells = tells_to_write a b why tells

@@ -22,17 +22,17 @@ use Rattle.store_tables.specs.Kinds.{kept_kind}
 use Rattle.store_tables.specs.Records.{EntryRow, FitsEntry, entry_cells, with_entry}
 use Rattle.store_tables.proofs.Moves.{IsInsert, Moves, entries_turned, inserted}
 
-terms : List Term
+unfoldable pub terms : List Term
 terms = lit Null ∷ col 0 0 ∷ col 0 1 ∷ col 0 2 ∷ col 0 3 ∷ col 0 4 ∷ col 0 5 ∷ col 0 6 ∷ col 0 7 ∷ col 0 8 ∷ []
 
-adds : (e : EntryRow) → IsInsert add_entry_text (entry_cells e) (entry_cells e) 0 terms 10
+pub adds : (e : EntryRow) → IsInsert add_entry_text (entry_cells e) (entry_cells e) 0 terms 10
 unfolding understood everything terms
 adds e = record { command = refl; plain = (refl, refl); values = refl }
 
 cast_shorts : (o : Option ℕ) → cast Integer (or_null short_cell o) ≡ or_null short_cell o
 cast_shorts = cast_or_null Integer short_cell cast_null (λ n. cast_int (pos n))
 
-casts : (e : EntryRow) → cast_all entry_columns (entry_cells e) ≡ entry_cells e
+pub casts : (e : EntryRow) → cast_all entry_columns (entry_cells e) ≡ entry_cells e
 casts e = rw (cast_int (pos e.place), cast_int (pos (kept_kind e.kind)), cast_shorts e.completion, cast_shorts e.second_completion, cast_shorts e.answered, cast_shorts e.arrival, cast_int (cast_signed w64 e.moment)) refl
 
 pub entry_added : (e : EntryRow) → FitsEntry e → (old new : State) → old.now.schema ≡ store_schema → HasRun add_entry_text (entry_cells e) old new → Moves (with_entry e) old new

@@ -33,13 +33,13 @@ use Rattle.store_tables.specs.declared.row.Closing.TheVariants.{Ended, Failed}
 use Rattle.store_tables.proofs.Matching.{cells_match, equal, match_cells, one_test, tests_of}
 use Rattle.store_tables.proofs.Moves.{IsInsert, Moves, inserted, invocations_turned, none_refers}
 
-terms : List Term
+unfoldable pub terms : List Term
 terms =
     lit Null ∷ col 0 0 ∷ col 0 1 ∷ col 0 2 ∷ col 0 3 ∷ col 0 4 ∷ col 0 5 ∷ col 0 6 ∷ col 0 7 ∷ col 0 8 ∷ col 0 9
     ∷ col 0 10 ∷ col 0 11 ∷ col 0 12 ∷ col 0 13 ∷ col 0 14 ∷ col 0 15 ∷ col 0 16 ∷ col 0 17 ∷ col 0 18
     ∷ col 0 19 ∷ col 0 20 ∷ col 0 21 ∷ []
 
-adds : (i : InvocationRow) → IsInsert add_invocation_text (invocation_cells i) (invocation_cells i) 1 terms 23
+pub adds : (i : InvocationRow) → IsInsert add_invocation_text (invocation_cells i) (invocation_cells i) 1 terms 23
 unfolding understood everything terms
 adds i = record { command = refl; plain = (refl, refl); values = refl }
 
@@ -66,7 +66,7 @@ cast_behavior = cast_or_null Integer (λ (e : LastError). short_cell e.behavior)
 cast_message : (o : Option LastError) → cast Words (or_null (λ (e : LastError). Text e.message) o) ≡ or_null (λ (e : LastError). Text e.message) o
 cast_message = cast_or_null Words (λ (e : LastError). Text e.message) refl (λ e. refl)
 
-casts : (i : InvocationRow) → cast_all invocation_columns (invocation_cells i) ≡ invocation_cells i
+pub casts : (i : InvocationRow) → cast_all invocation_columns (invocation_cells i) ≡ invocation_cells i
 casts i =
     rw (
       cast_int (pos (version_number i.version)),
@@ -101,24 +101,24 @@ invocation_added i fits old new has run =
 abbrev params_of : List ℕ → Progress → Row
 params_of id p = Text id ∷ progress_cells p
 
-sets : List Term
+unfoldable pub sets : List Term
 sets =
     col 1 1 ∷ col 1 2 ∷ col 1 3 ∷ col 1 4 ∷ col 1 5 ∷ col 0 1 ∷ col 0 2 ∷ col 0 3 ∷ col 0 4 ∷ col 0 5
     ∷ col 0 6 ∷ col 0 7 ∷ col 0 8 ∷ col 0 9 ∷ col 0 10 ∷ col 0 11 ∷ col 0 12 ∷ col 0 13 ∷ col 0 14
     ∷ col 0 15 ∷ col 0 16 ∷ col 0 17 ∷ []
 
-set_is : command_of (understood store_schema set_progress_text) ≡ Update 1 (program_of (rows_of 1 (tests_of (equal 0 0 ∷ [])) (col 1 0 ∷ col 1 0 ∷ sets) []))
+pub set_is : command_of (understood store_schema set_progress_text) ≡ Update 1 (program_of (rows_of 1 (tests_of (equal 0 0 ∷ [])) (col 1 0 ∷ col 1 0 ∷ sets) []))
 unfolding understood everything sets
 set_is = refl
 
-set_plain : IsPlain (understood store_schema set_progress_text)
+pub set_plain : IsPlain (understood store_schema set_progress_text)
 unfolding understood everything
 set_plain = (refl, refl)
 
-has_id : List ℕ → Progress → Row → Bool
+pub has_id : List ℕ → Progress → Row → Bool
 has_id id p cells = match_cells (params_of id p) (equal 0 0 ∷ []) cells
 
-has_id_there : (id : List ℕ) (p : Progress) (r : Row) → passes (params_of id p) (tests_of (equal 0 0 ∷ [])) r ≡ has_id id p (drop 1 r)
+pub has_id_there : (id : List ℕ) (p : Progress) (r : Row) → passes (params_of id p) (tests_of (equal 0 0 ∷ [])) r ≡ has_id id p (drop 1 r)
 unfolding has_id
 has_id_there id p r = cells_match (params_of id p) (equal 0 0 ∷ []) r
 
@@ -126,27 +126,27 @@ has_id_is : (id : List ℕ) (p : Progress) (i : InvocationRow) → has_id id p (
 unfolding has_id
 has_id_is id p i = one_test _ _ (same_text i.id id)
 
-changed : List ℕ → Progress → Row → Row
+pub changed : List ℕ → Progress → Row → Row
 changed id p cells = eval_all sets (params_of id p ∷ (Null ∷ cells) ∷ [])
 
-changed_is : (id : List ℕ) (p : Progress) (i : InvocationRow) → changed id p (invocation_cells i) ≡ invocation_cells (record i { progress = p })
+pub changed_is : (id : List ℕ) (p : Progress) (i : InvocationRow) → changed id p (invocation_cells i) ≡ invocation_cells (record i { progress = p })
 unfolding changed sets
 changed_is id p i = refl
 
-changed_there : (id : List ℕ) (p : Progress) (r : Row) → eval_all sets (params_of id p ∷ r ∷ []) ≡ changed id p (drop 1 r)
+pub changed_there : (id : List ℕ) (p : Progress) (r : Row) → eval_all sets (params_of id p ∷ r ∷ []) ≡ changed id p (drop 1 r)
 unfolding changed sets
 changed_there id p [] = refl
 changed_there id p (x ∷ r) = refl
 
 -- the columns of an invocation
-abbrev IsInvocation : Row → Type 0
+abbrev pub IsInvocation : Row → Type 0
 IsInvocation cells = (i : InvocationRow) × (cells ≡ invocation_cells i)
 
-are_invocations : (is : List InvocationRow) → AllByRecursion IsInvocation (map invocation_cells is)
+pub are_invocations : (is : List InvocationRow) → AllByRecursion IsInvocation (map invocation_cells is)
 are_invocations [] = tt
 are_invocations (i ∷ is) = ((i, refl), are_invocations is)
 
-set_cells : (id : List ℕ) (p : Progress) (i : InvocationRow) → cond (has_id id p (invocation_cells i)) (changed id p (invocation_cells i)) (invocation_cells i) ≡ invocation_cells (set_in id p i)
+pub set_cells : (id : List ℕ) (p : Progress) (i : InvocationRow) → cond (has_id id p (invocation_cells i)) (changed id p (invocation_cells i)) (invocation_cells i) ≡ invocation_cells (set_in id p i)
 set_cells id p i =
     rw (has_id_is id p i, changed_is id p i)
     (elim (bytes_eq i.id id) as (λ b. cond b (invocation_cells (record i { progress = p })) (invocation_cells i) ≡ invocation_cells (if b then record i { progress = p } else i)) [ true ↦ refl | false ↦ refl ])

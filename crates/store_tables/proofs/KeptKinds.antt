@@ -1,5 +1,5 @@
 -- Types of entries, there and back.
-use Rattle.std.proofs.Common.{◌≡◌, ◌≢◌, ◌≤◌, ◌<◌, ◌+◌, ◌-◌, ◌^◌, ◌∙◌, nat_lt, ℕ, Bool, true, false, if◌then◌else◌, Option, Some, None, refl, sym, ap, subst, arith}
+use Rattle.std.proofs.Common.{◌≡◌, ◌≢◌, ◌≤◌, ◌<◌, ◌+◌, ◌-◌, ◌^◌, ◌∙◌, nat_lt, ℕ, Bool, true, false, if◌then◌else◌, Some, None, refl, sym, ap, subst, arith}
 use Rattle.std.proofs.lemmas.Bool.{le-ltb, lt-ltb, ltb-true, ltb-false}
 use Rattle.protocol_types.specs.declared.message_type.MessageType.{MessageType}
 use Rattle.protocol_types.specs.declared.message_type.MessageType.TheVariants.{CustomEntry}

@@ -2,7 +2,9 @@ pub mod Asked
 pub mod Asking
 pub mod Back
 pub mod Caused
+pub mod Cells
 pub mod Chained
+pub mod Changes
 pub mod Columns
 pub mod Committed
 pub mod Entries
@@ -10,9 +12,14 @@ pub mod Found
 pub mod Invocations
 pub mod KeptKinds
 pub mod Making
+pub mod Marking
 pub mod Matching
 pub mod Moves
 pub mod Orders
 pub mod Readable
+pub mod Refusals
+pub mod Ruled
 pub mod Sleeps
 pub mod States
+pub mod Texts
+pub mod Unrefused

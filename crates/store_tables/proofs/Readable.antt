@@ -1,5 +1,5 @@
 -- The questions are refused for nothing of their own.
-use Rattle.std.proofs.Common.{◌≡◌, ◌⊎◌, ◌≤◌, ℕ, Bool, true, List, [], ◌∷◌, length, map, inl, inr, refl, arith}
+use Rattle.std.proofs.Common.{◌≡◌, ℕ, true, List, [], ◌∷◌, length, map, inl, inr, refl, arith}
 use Rattle.sqlite.specs.declared.types.Value.TheVariants.{Blob, Text}
 use Rattle.sqlite_value.specs.Order.{Row}
 use Rattle.sqlite_value.specs.declared.keys.Key.{Key}

@@ -21,14 +21,14 @@ use Rattle.store_tables.specs.Records.{SleepRow, FitsSleep, sleep_cells, with_sl
 use Rattle.store_tables.proofs.Matching.{Test, equal, until, match_cells, one_test}
 use Rattle.store_tables.proofs.Moves.{IsDelete, IsInsert, Moves, dropped, inserted, sleeps_turned}
 
-terms : List Term
+unfoldable pub terms : List Term
 terms = lit Null ∷ col 0 0 ∷ col 0 1 ∷ col 0 2 ∷ []
 
-opens : (s : SleepRow) → IsInsert open_sleep_text (sleep_cells s) (sleep_cells s) 3 terms 4
+pub opens : (s : SleepRow) → IsInsert open_sleep_text (sleep_cells s) (sleep_cells s) 3 terms 4
 unfolding understood everything terms
 opens s = record { command = refl; plain = (refl, refl); values = refl }
 
-casts : (s : SleepRow) → cast_all sleep_columns (sleep_cells s) ≡ sleep_cells s
+pub casts : (s : SleepRow) → cast_all sleep_columns (sleep_cells s) ≡ sleep_cells s
 casts s = rw (cast_int (cast_signed w64 s.moment), cast_int (pos s.completion)) refl
 
 pub sleep_opened : (s : SleepRow) → FitsSleep s → (old new : State) → old.now.schema ≡ store_schema → HasRun open_sleep_text (sleep_cells s) old new → Moves (with_sleep s) old new
@@ -49,14 +49,14 @@ others_stay sql params tests it test is old new has run =
       λ r h. sleeps_turned old.now new.now r h change.1.0 (filter (λ s. not (test s)) r.sleeps) (change.1.1 r.sleeps h.sleeps) (all-filter FitsSleep (λ s. not (test s)) r.sleeps h.fit_sleeps),
     )
 
-closes_own : IsDelete close_sleeps_text 4 3 (equal 1 0 ∷ [])
+pub closes_own : IsDelete close_sleeps_text 4 3 (equal 1 0 ∷ [])
 unfolding understood everything
 closes_own = record { command = refl; plain = (refl, refl) }
 
 pub sleeps_closed : (invocation : List ℕ) (old new : State) → old.now.schema ≡ store_schema → HasRun close_sleeps_text (Text invocation ∷ []) old new → Moves (without_sleeps invocation) old new
 sleeps_closed invocation = others_stay close_sleeps_text (Text invocation ∷ []) (equal 1 0 ∷ []) closes_own (is_sleep_of invocation) (λ s. one_test _ _ (same_text s.invocation invocation))
 
-closes_until : IsDelete close_sleeps_until_text 4 3 (until 0 0 ∷ [])
+pub closes_until : IsDelete close_sleeps_until_text 4 3 (until 0 0 ∷ [])
 unfolding understood everything
 closes_until = record { command = refl; plain = (refl, refl) }
 

@@ -18,14 +18,14 @@ use Rattle.store_tables.specs.Records.{StateRow, FitsState, state_cells, with_st
 use Rattle.store_tables.proofs.Matching.{Test, equal, match_cells, one_test, two_tests}
 use Rattle.store_tables.proofs.Moves.{IsDelete, IsInsert, Moves, dropped, inserted, states_turned}
 
-terms : List Term
+unfoldable pub terms : List Term
 terms = lit Null ∷ col 0 0 ∷ col 0 1 ∷ col 0 2 ∷ []
 
-adds : (s : StateRow) → IsInsert add_state_text (state_cells s) (state_cells s) 4 terms 4
+pub adds : (s : StateRow) → IsInsert add_state_text (state_cells s) (state_cells s) 4 terms 4
 unfolding understood everything terms
 adds s = record { command = refl; plain = (refl, refl); values = refl }
 
-casts : (s : StateRow) → cast_all state_columns (state_cells s) ≡ state_cells s
+pub casts : (s : StateRow) → cast_all state_columns (state_cells s) ≡ state_cells s
 casts s = refl
 
 pub state_added : (s : StateRow) → FitsState s → (old new : State) → old.now.schema ≡ store_schema → HasRun add_state_text (state_cells s) old new → Moves (with_state s) old new
@@ -46,14 +46,14 @@ others_stay sql params tests it test is old new has run =
       λ r h. states_turned old.now new.now r h change.1.0 (filter (λ s. not (test s)) r.states) (change.1.1 r.states h.states) (all-filter FitsState (λ s. not (test s)) r.states h.fit_states),
     )
 
-drops_key : IsDelete drop_state_text 5 4 (equal 0 0 ∷ equal 1 1 ∷ [])
+pub drops_key : IsDelete drop_state_text 5 4 (equal 0 0 ∷ equal 1 1 ∷ [])
 unfolding understood everything
 drops_key = record { command = refl; plain = (refl, refl) }
 
 pub state_dropped : (object key : List ℕ) (old new : State) → old.now.schema ≡ store_schema → HasRun drop_state_text (Text object ∷ Blob key ∷ []) old new → Moves (without_state object key) old new
 state_dropped object key = others_stay drop_state_text (Text object ∷ Blob key ∷ []) (equal 0 0 ∷ equal 1 1 ∷ []) drops_key (is_at_key object key) (λ s. two_tests _ _ _ _ (same_text s.object object) (same_blob s.key key))
 
-drops_object : IsDelete drop_states_text 5 4 (equal 0 0 ∷ [])
+pub drops_object : IsDelete drop_states_text 5 4 (equal 0 0 ∷ [])
 unfolding understood everything
 drops_object = record { command = refl; plain = (refl, refl) }
 

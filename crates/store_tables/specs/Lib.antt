@@ -4,6 +4,7 @@ pub mod Kinds
 pub mod Parts
 pub mod Questions
 pub mod Records
+pub mod Refusals
 pub mod Statements
 pub mod Steps
 pub mod Tables

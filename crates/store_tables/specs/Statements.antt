@@ -1,5 +1,11 @@
--- The texts of the statements.
-use Rattle.std.specs.Prelude.{List, ℕ, codes}
+-- The texts of the statements, and which of them make a write.
+use Rattle.std.specs.Prelude.{List, [], ◌∷◌, ℕ, codes, flat_map}
+use Rattle.sqlite.specs.declared.types.Value.TheVariants.{Blob, Text}
+use Rattle.sqlite_value.specs.Order.{Row}
+use Rattle.sql_tables.specs.Cells.{long_cell}
+use Rattle.sql_tables.specs.Causes.{Statement}
+use Rattle.store_tables.specs.Records.{Write, entry_cells, invocation_cells, progress_cells, sleep_cells, state_cells}
+use Rattle.store_tables.specs.declared.row.Write.TheVariants.{AddInvocation, SetProgress, AddEntry, PutState, DropState, DropStates, OpenSleep, CloseSleeps, CloseSleepsUntil}
 
 abbrev pub mark_text : List ℕ
 mark_text = codes "INSERT INTO meta VALUES ('journal_store', 1)"
@@ -75,3 +81,26 @@ sleeps_until_text = codes "SELECT * FROM sleep WHERE moment <= ?1 ORDER BY invoc
 
 abbrev pub first_sleep_text : List ℕ
 first_sleep_text = codes "SELECT * FROM sleep WHERE moment >= ?1 ORDER BY moment LIMIT 1"
+
+-- ---- writes
+
+abbrev pub statement : List ℕ → Row → Statement
+statement sql params = record { sql = sql; params = params }
+
+abbrev pub drop_state : List ℕ → List ℕ → Statement
+drop_state object key = statement drop_state_text (Text object ∷ Blob key ∷ [])
+
+abbrev pub statements_of : Write → List Statement
+statements_of (AddInvocation invocation) = statement add_invocation_text (invocation_cells invocation) ∷ []
+statements_of (SetProgress id progress) = statement set_progress_text (Text id ∷ progress_cells progress) ∷ []
+statements_of (AddEntry entry) = statement add_entry_text (entry_cells entry) ∷ []
+statements_of (PutState state) = drop_state state.object state.key ∷ statement add_state_text (state_cells state) ∷ []
+statements_of (DropState object key) = drop_state object key ∷ []
+statements_of (DropStates object) = statement drop_states_text (Text object ∷ []) ∷ []
+statements_of (OpenSleep sleep) = statement open_sleep_text (sleep_cells sleep) ∷ []
+statements_of (CloseSleeps invocation) = statement close_sleeps_text (Text invocation ∷ []) ∷ []
+statements_of (CloseSleepsUntil moment) = statement close_sleeps_until_text (long_cell moment ∷ []) ∷ []
+
+-- of one write after another
+abbrev pub statements_of_all : List Write → List Statement
+statements_of_all writes = flat_map statements_of writes

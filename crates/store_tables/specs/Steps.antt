@@ -7,7 +7,7 @@ use Rattle.sqlite_trees.specs.declared.store.Store.{Ghosts}
 use Rattle.sqlite.specs.Held.{Held, state}
 use Rattle.sqlite.specs.declared.error.Error.{Error}
 use Rattle.sqlite.specs.State.{State, HasCleanDisk, KeepsCommit, Survives}
-use Rattle.sql_tables.specs.Causes.{TellsWriteCause}
+use Rattle.sql_tables.specs.Causes.{AreMade, Statement, TellsWriteCause}
 use Rattle.sql_tables.specs.declared.read.ReadError.{ReadError}
 use Rattle.sql_tables.specs.declared.read.ReadError.TheVariants.{Foreign}
 use Rattle.store_tables.specs.Records.{Records, Write, Holds, applied_all}
@@ -17,23 +17,28 @@ use Rattle.store_tables.specs.Tables.{store_schema}
 abbrev pub Turns : (Records → Records) → Trees → Trees → Type 0
 Turns change old new = (r : Records) → Holds old r → Holds new (change r)
 
--- inside a transaction the records are changed so
-pub record Steps (change : Records → Records) (old new : State) : Type 0 where
+-- inside a transaction these statements change the records so
+pub record Steps (change : Records → Records) (statements : List Statement) (old new : State) : Type 0 where
   pub was_open : IsTrue old.is_open
   pub schema : new.now.schema ≡ store_schema
   pub inside : IsTrue new.in_transaction
   pub records : Turns change old.now.trees new.now.trees
+  pub made : AreMade old.step_limit statements old.now new.now
 
--- a statement inside a transaction changes the records so; until the commit, a crash knows nothing of it
-pub record Alters {S : Type 0} (g : Ghosts S) (change : Records → Records) (old new : Held S) (result : Result (Unit {0}) Error) : Type 0 where
-  pub done : HasCleanDisk (state g new) → OnOk result (Steps change (state g old) (state g new))
-  pub why : IfErr result (TellsWriteCause (state g old) (state g new))
+-- inside a transaction these statements change the records so, or one of them is refused; until the commit, a crash knows nothing of it
+pub record Alters {S : Type 0} (g : Ghosts S) (change : Records → Records) (statements : List Statement) (old new : Held S) (result : Result (Unit {0}) Error) : Type 0 where
+  pub done : HasCleanDisk (state g new) → OnOk result (Steps change statements (state g old) (state g new))
+  pub why : IfErr result (TellsWriteCause statements (state g old) (state g new))
   pub kept : HasCleanDisk (state g new) → KeepsCommit (state g old) (state g new)
   pub survives : Survives (state g old) (state g new) (λ _. ⊥)
 
 -- a connection that is open has the tables of a store; one that is shut says nothing
 abbrev pub IsStore : State → Type 0
 IsStore s = HasCleanDisk s → IsTrue s.is_open → s.now.schema ≡ store_schema
+
+-- the same, inside a transaction
+abbrev pub IsWriting : State → Type 0
+IsWriting s = IsStore s × (HasCleanDisk s → IsTrue s.in_transaction)
 
 -- these tables are just made, inside a transaction: they have no rows
 pub record IsMade (whole : Schema) (s : State) : Type 0 where

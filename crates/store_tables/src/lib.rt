@@ -1,9 +1,10 @@
 //! The tables of a journal store: what is recorded of invocations, their journals and the state of objects. Nothing above this
-//! crate speaks of SQL, of rows or of columns.
+//! crate speaks of rows or of columns, nor of SQL, but where the database refused a statement.
 #![tactic(auto)]
 
 mod from_row;
 mod kind;
+mod laws;
 mod layout;
 mod opening;
 mod order;
@@ -12,6 +13,7 @@ mod row;
 mod tables;
 mod write;
 
+pub use laws::refused_for_place;
 pub use layout::{is_empty_schema, is_store_schema};
 pub use opening::{is_ready, open};
 pub use read::{

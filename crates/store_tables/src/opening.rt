@@ -4,8 +4,7 @@ ghost use Rattle.std.specs.Prelude.{◌≡◌, ◌≢◌, Some, false, IfErr, If
 ghost use Rattle.sqlite.specs.Held.{state};
 ghost use Rattle.sqlite.specs.State.{HasCleanDisk, KeepsCommit, Survives};
 ghost use Rattle.sql_tables.specs.Asking.{IsKept};
-ghost use Rattle.sqlite.specs.declared.error.Error.{Error as SqlError};
-ghost use Rattle.sql_tables.specs.Causes.{TellsReadCause, TellsWriteCause};
+ghost use Rattle.sql_tables.specs.Causes.{TellsCause, TellsReadCause};
 ghost use Rattle.sql_tables.specs.Columns.{no_schema};
 ghost use Rattle.store_tables.specs.Records.{Holds, IsMarked, Records, no_records, the_mark};
 ghost use Rattle.store_tables.specs.Steps.{IsMade, IsStore};
@@ -20,10 +19,11 @@ use sqlite::{Alter, Connection, Error, Transaction};
 use std::alloc::Global;
 
 fn make_tables<S: Alter>(tx: &mut Transaction<'_, S>) -> Result<(), Error>
-    requires { HasCleanDisk (state S.Store tx.old.conn.now) → IsTrue (state S.Store tx.old.conn.now).is_open → (state S.Store tx.old.conn.now).now.schema ≡ no_schema }
+    requires empty { HasCleanDisk (state S.Store tx.old.conn.now) → IsTrue (state S.Store tx.old.conn.now).is_open → (state S.Store tx.old.conn.now).now.schema ≡ no_schema }
+    requires inside { HasCleanDisk (state S.Store tx.old.conn.now) → IsTrue (state S.Store tx.old.conn.now).in_transaction }
     ensures same_reference { tx.new.conn.ghost_name ≡ tx.old.conn.ghost_name }
     ensures ok { HasCleanDisk (state S.Store tx.new.conn.now) → OnOk result (IsMade with_state (state S.Store tx.new.conn.now)) }
-    ensures cause { IfErr result (TellsWriteCause (state S.Store tx.old.conn.now) (state S.Store tx.new.conn.now)) }
+    ensures cause { IfErr result (TellsCause (state S.Store tx.old.conn.now) (state S.Store tx.new.conn.now)) }
     ensures kept { HasCleanDisk (state S.Store tx.new.conn.now) → KeepsCommit (state S.Store tx.old.conn.now) (state S.Store tx.new.conn.now) }
     ensures survives { Survives (state S.Store tx.old.conn.now) (state S.Store tx.new.conn.now) (λ _. ⊥) }
 {
@@ -58,7 +58,7 @@ fn index_invocations<S: Alter>(tx: &mut Transaction<'_, S>) -> Result<(), Error>
     requires { HasCleanDisk (state S.Store tx.old.conn.now) → IsMade with_state (state S.Store tx.old.conn.now) }
     ensures same_reference { tx.new.conn.ghost_name ≡ tx.old.conn.ghost_name }
     ensures ok { HasCleanDisk (state S.Store tx.new.conn.now) → OnOk result (IsMade with_awake (state S.Store tx.new.conn.now)) }
-    ensures cause { IfErr result (TellsWriteCause (state S.Store tx.old.conn.now) (state S.Store tx.new.conn.now)) }
+    ensures cause { IfErr result (TellsCause (state S.Store tx.old.conn.now) (state S.Store tx.new.conn.now)) }
     ensures kept { HasCleanDisk (state S.Store tx.new.conn.now) → KeepsCommit (state S.Store tx.old.conn.now) (state S.Store tx.new.conn.now) }
     ensures survives { Survives (state S.Store tx.old.conn.now) (state S.Store tx.new.conn.now) (λ _. ⊥) }
 {
@@ -78,7 +78,7 @@ fn index_entries<S: Alter>(tx: &mut Transaction<'_, S>) -> Result<(), Error>
     requires { HasCleanDisk (state S.Store tx.old.conn.now) → IsMade with_awake (state S.Store tx.old.conn.now) }
     ensures same_reference { tx.new.conn.ghost_name ≡ tx.old.conn.ghost_name }
     ensures ok { HasCleanDisk (state S.Store tx.new.conn.now) → OnOk result (IsMade with_arrival (state S.Store tx.new.conn.now)) }
-    ensures cause { IfErr result (TellsWriteCause (state S.Store tx.old.conn.now) (state S.Store tx.new.conn.now)) }
+    ensures cause { IfErr result (TellsCause (state S.Store tx.old.conn.now) (state S.Store tx.new.conn.now)) }
     ensures kept { HasCleanDisk (state S.Store tx.new.conn.now) → KeepsCommit (state S.Store tx.old.conn.now) (state S.Store tx.new.conn.now) }
     ensures survives { Survives (state S.Store tx.old.conn.now) (state S.Store tx.new.conn.now) (λ _. ⊥) }
 {
@@ -113,7 +113,7 @@ fn index_sleeps<S: Alter>(tx: &mut Transaction<'_, S>) -> Result<(), Error>
     requires { HasCleanDisk (state S.Store tx.old.conn.now) → IsMade with_arrival (state S.Store tx.old.conn.now) }
     ensures same_reference { tx.new.conn.ghost_name ≡ tx.old.conn.ghost_name }
     ensures ok { HasCleanDisk (state S.Store tx.new.conn.now) → OnOk result (IsMade store_schema (state S.Store tx.new.conn.now)) }
-    ensures cause { IfErr result (TellsWriteCause (state S.Store tx.old.conn.now) (state S.Store tx.new.conn.now)) }
+    ensures cause { IfErr result (TellsCause (state S.Store tx.old.conn.now) (state S.Store tx.new.conn.now)) }
     ensures kept { HasCleanDisk (state S.Store tx.new.conn.now) → KeepsCommit (state S.Store tx.old.conn.now) (state S.Store tx.new.conn.now) }
     ensures survives { Survives (state S.Store tx.old.conn.now) (state S.Store tx.new.conn.now) (λ _. ⊥) }
 {
@@ -127,10 +127,11 @@ fn index_sleeps<S: Alter>(tx: &mut Transaction<'_, S>) -> Result<(), Error>
 
 /// All tables by name, and then all indexes.
 fn make_schema<S: Alter>(tx: &mut Transaction<'_, S>) -> Result<(), Error>
-    requires { HasCleanDisk (state S.Store tx.old.conn.now) → IsTrue (state S.Store tx.old.conn.now).is_open → (state S.Store tx.old.conn.now).now.schema ≡ no_schema }
+    requires empty { HasCleanDisk (state S.Store tx.old.conn.now) → IsTrue (state S.Store tx.old.conn.now).is_open → (state S.Store tx.old.conn.now).now.schema ≡ no_schema }
+    requires inside { HasCleanDisk (state S.Store tx.old.conn.now) → IsTrue (state S.Store tx.old.conn.now).in_transaction }
     ensures same_reference { tx.new.conn.ghost_name ≡ tx.old.conn.ghost_name }
     ensures ok { HasCleanDisk (state S.Store tx.new.conn.now) → OnOk result (IsMade store_schema (state S.Store tx.new.conn.now)) }
-    ensures cause { IfErr result (TellsWriteCause (state S.Store tx.old.conn.now) (state S.Store tx.new.conn.now)) }
+    ensures cause { IfErr result (TellsCause (state S.Store tx.old.conn.now) (state S.Store tx.new.conn.now)) }
     ensures kept { HasCleanDisk (state S.Store tx.new.conn.now) → KeepsCommit (state S.Store tx.old.conn.now) (state S.Store tx.new.conn.now) }
     ensures survives { Survives (state S.Store tx.old.conn.now) (state S.Store tx.new.conn.now) (λ _. ⊥) }
 {
@@ -145,7 +146,7 @@ fn add_mark<S: Alter>(tx: &mut Transaction<'_, S>) -> Result<(), Error>
     requires { HasCleanDisk (state S.Store tx.old.conn.now) → IsMade store_schema (state S.Store tx.old.conn.now) }
     ensures same_reference { tx.new.conn.ghost_name ≡ tx.old.conn.ghost_name }
     ensures ok { HasCleanDisk (state S.Store tx.new.conn.now) → OnOk result (((state S.Store tx.new.conn.now).now.schema ≡ store_schema) × IsTrue (state S.Store tx.new.conn.now).in_transaction × Holds (state S.Store tx.new.conn.now).now.trees no_records) }
-    ensures cause { IfErr result (TellsWriteCause (state S.Store tx.old.conn.now) (state S.Store tx.new.conn.now)) }
+    ensures cause { IfErr result (TellsCause (state S.Store tx.old.conn.now) (state S.Store tx.new.conn.now)) }
     ensures kept { HasCleanDisk (state S.Store tx.new.conn.now) → KeepsCommit (state S.Store tx.old.conn.now) (state S.Store tx.new.conn.now) }
     ensures survives { Survives (state S.Store tx.old.conn.now) (state S.Store tx.new.conn.now) (λ _. ⊥) }
 {
@@ -157,7 +158,7 @@ fn create<S: Alter>(conn: &mut Connection<S>) -> Result<(), Error>
     requires empty { HasCleanDisk (state S.Store conn.old) → IsTrue (state S.Store conn.old).is_open → (state S.Store conn.old).now.schema ≡ no_schema }
     requires idle { (state S.Store conn.old).in_transaction ≡ false }
     ensures made { HasCleanDisk (state S.Store conn.new) → OnOk result (((state S.Store conn.new).now.schema ≡ store_schema) × Holds (state S.Store conn.new).now.trees no_records) }
-    ensures cause { IfErr result (TellsWriteCause (state S.Store conn.old) (state S.Store conn.new)) }
+    ensures cause { IfErr result (TellsCause (state S.Store conn.old) (state S.Store conn.new)) }
     ensures undone { OnErr result (IsKept (state S.Store conn.old) (state S.Store conn.new)) }
     ensures idle { (state S.Store conn.new).in_transaction ≡ false }
     ensures crash { Survives (state S.Store conn.old) (state S.Store conn.new) (λ trees. Holds trees no_records) }
@@ -204,7 +205,7 @@ pub fn open<S: Alter>(alloc: Global, conn: &mut Connection<S>) -> Result<(), Rea
     ensures store { OnOk result (IsStore (state S.Store conn.new)) }
     ensures refused { OnErr result (IsKept (state S.Store conn.old) (state S.Store conn.new)) }
     ensures foreign { HasCleanDisk (state S.Store conn.new) → IfErr result (λ e. e ≡ ReadError.Foreign → ((state S.Store conn.old).now.schema ≢ no_schema) × ((state S.Store conn.old).now.schema ≡ store_schema → (r : Records) → Holds (state S.Store conn.old).now.trees r → ⊥)) }
-    ensures cause { IfErr result (λ e. (cause : SqlError) → e ≡ ReadError.Refused cause → TellsWriteCause (state S.Store conn.old) (state S.Store conn.new) cause) }
+    ensures cause { IfErr result (TellsReadCause (state S.Store conn.old) (state S.Store conn.new)) }
     ensures idle { (state S.Store conn.new).in_transaction ≡ false }
     ensures crash { Survives (state S.Store conn.old) (state S.Store conn.new) (λ trees. ((state S.Store conn.old).now.schema ≡ no_schema) × Holds trees no_records) }
 {

@@ -36,10 +36,12 @@ impl<S: Alter> StoreTables<S> {
         self.alloc
     }
 
-    /// Whether no transaction is under way, as it always is: as long as the connection is open, a crash leaves the tables alone.
+    /// Whether no transaction is under way, as it always is: as long as the connection is open, its tables are those of a store, and a
+    /// crash leaves them alone.
     pub fn is_settled(&self) -> bool
         ensures value { result ≡ true }
         ensures settled { IsTrue (state S.Store self.now).is_open → Lasts (state S.Store self.now) }
+        ensures store { IsStore (state S.Store self.now) }
     {
         self.connection.is_autocommit()
     }

@@ -1,6 +1,6 @@
 //! Changes of the records, and one transaction over a list of them.
 
-ghost use Rattle.std.specs.Prelude.{◌≡◌, IfSome, IsUtf8, OnOk};
+ghost use Rattle.std.specs.Prelude.{◌≡◌, ◌∷◌, [], IfSome, IsUtf8};
 ghost use Rattle.sqlite.specs.Held.{state};
 ghost use Rattle.sqlite.specs.State.{HasCleanDisk};
 ghost use Rattle.sqlite.specs.Values.{bound_value, or_null};
@@ -9,8 +9,9 @@ ghost use Rattle.sqlite_value.specs.declared.value.Value.TheVariants.{Text as Wo
 ghost use Rattle.sql_tables.specs.Causes.{TellsWriteCause};
 ghost use Rattle.sql_tables.specs.Cells.{IsLong, IsShort, long_cell, short_cell};
 ghost use Rattle.store_tables.specs.Looks.{Makes};
-ghost use Rattle.store_tables.specs.Records.{applied, closing_cell, delay_of, with_entry, with_invocation, with_progress, with_sleep, with_state, without_sleeps, without_sleeps_until, without_state, without_states};
-ghost use Rattle.store_tables.specs.Steps.{Alters, IsStore};
+ghost use Rattle.store_tables.specs.Records.{applied, closing_cell, delay_of, state_cells, with_entry, with_invocation, with_progress, with_sleep, with_state, without_sleeps, without_sleeps_until, without_state, without_states};
+ghost use Rattle.store_tables.specs.Statements.{add_state_text, statement, statements_of, statements_of_all};
+ghost use Rattle.store_tables.specs.Steps.{Alters, IsWriting};
 
 use crate::kind::kept_kind;
 use crate::row::{
@@ -79,9 +80,9 @@ fn add_invocation<S: Alter>(
     tx: &mut Transaction<'_, S>,
     invocation: &InvocationRow,
 ) -> Result<(), Error>
-    requires { IsStore (state S.Store tx.old.conn.now) }
+    requires { IsWriting (state S.Store tx.old.conn.now) }
     ensures same_reference { tx.new.conn.ghost_name ≡ tx.old.conn.ghost_name }
-    ensures alters { Alters S.Store (with_invocation invocation.now) tx.old.conn.now tx.new.conn.now result }
+    ensures alters { Alters S.Store (with_invocation invocation.now) (statements_of (Write.AddInvocation invocation.now)) tx.old.conn.now tx.new.conn.now result }
 {
     let progress = &invocation.progress;
     run(
@@ -119,9 +120,9 @@ fn set_progress<S: Alter>(
     id: &ByteStr,
     progress: &Progress,
 ) -> Result<(), Error>
-    requires { IsStore (state S.Store tx.old.conn.now) }
+    requires { IsWriting (state S.Store tx.old.conn.now) }
     ensures same_reference { tx.new.conn.ghost_name ≡ tx.old.conn.ghost_name }
-    ensures alters { Alters S.Store (with_progress id.now progress.now) tx.old.conn.now tx.new.conn.now result }
+    ensures alters { Alters S.Store (with_progress id.now progress.now) (statements_of (Write.SetProgress id.now progress.now)) tx.old.conn.now tx.new.conn.now result }
 {
     run(
         tx,
@@ -150,9 +151,9 @@ fn set_progress<S: Alter>(
 }
 
 fn add_entry<S: Alter>(tx: &mut Transaction<'_, S>, entry: &EntryRow) -> Result<(), Error>
-    requires { IsStore (state S.Store tx.old.conn.now) }
+    requires { IsWriting (state S.Store tx.old.conn.now) }
     ensures same_reference { tx.new.conn.ghost_name ≡ tx.old.conn.ghost_name }
-    ensures alters { Alters S.Store (with_entry entry.now) tx.old.conn.now tx.new.conn.now result }
+    ensures alters { Alters S.Store (with_entry entry.now) (statements_of (Write.AddEntry entry.now)) tx.old.conn.now tx.new.conn.now result }
 {
     run(
         tx,
@@ -172,9 +173,9 @@ fn add_entry<S: Alter>(tx: &mut Transaction<'_, S>, entry: &EntryRow) -> Result<
 }
 
 fn add_state<S: Alter>(tx: &mut Transaction<'_, S>, row: &StateRow) -> Result<(), Error>
-    requires { IsStore (state S.Store tx.old.conn.now) }
+    requires { IsWriting (state S.Store tx.old.conn.now) }
     ensures same_reference { tx.new.conn.ghost_name ≡ tx.old.conn.ghost_name }
-    ensures alters { Alters S.Store (with_state row.now) tx.old.conn.now tx.new.conn.now result }
+    ensures alters { Alters S.Store (with_state row.now) (statement add_state_text (state_cells row.now) ∷ []) tx.old.conn.now tx.new.conn.now result }
 {
     run(
         tx,
@@ -188,9 +189,9 @@ fn drop_state<S: Alter>(
     object: &ByteStr,
     key: &Bytes,
 ) -> Result<(), Error>
-    requires { IsStore (state S.Store tx.old.conn.now) }
+    requires { IsWriting (state S.Store tx.old.conn.now) }
     ensures same_reference { tx.new.conn.ghost_name ≡ tx.old.conn.ghost_name }
-    ensures alters { Alters S.Store (without_state object.now key.now) tx.old.conn.now tx.new.conn.now result }
+    ensures alters { Alters S.Store (without_state object.now key.now) (statements_of (Write.DropState object.now key.now)) tx.old.conn.now tx.new.conn.now result }
 {
     run(
         tx,
@@ -200,26 +201,26 @@ fn drop_state<S: Alter>(
 }
 
 fn drop_states<S: Alter>(tx: &mut Transaction<'_, S>, object: &ByteStr) -> Result<(), Error>
-    requires { IsStore (state S.Store tx.old.conn.now) }
+    requires { IsWriting (state S.Store tx.old.conn.now) }
     ensures same_reference { tx.new.conn.ghost_name ≡ tx.old.conn.ghost_name }
-    ensures alters { Alters S.Store (without_states object.now) tx.old.conn.now tx.new.conn.now result }
+    ensures alters { Alters S.Store (without_states object.now) (statements_of (Write.DropStates object.now)) tx.old.conn.now tx.new.conn.now result }
 {
     run(tx, "DELETE FROM state WHERE object = ?1", &[text(object)])
 }
 
 fn put_state<S: Alter>(tx: &mut Transaction<'_, S>, row: &StateRow) -> Result<(), Error>
-    requires { IsStore (state S.Store tx.old.conn.now) }
+    requires { IsWriting (state S.Store tx.old.conn.now) }
     ensures same_reference { tx.new.conn.ghost_name ≡ tx.old.conn.ghost_name }
-    ensures alters { Alters S.Store (λ r. with_state row.now (without_state row.now.object row.now.key r)) tx.old.conn.now tx.new.conn.now result }
+    ensures alters { Alters S.Store (λ r. with_state row.now (without_state row.now.object row.now.key r)) (statements_of (Write.PutState row.now)) tx.old.conn.now tx.new.conn.now result }
 {
     drop_state(tx, &row.object, &row.key)?;
     add_state(tx, row)
 }
 
 fn open_sleep<S: Alter>(tx: &mut Transaction<'_, S>, sleep: &SleepRow) -> Result<(), Error>
-    requires { IsStore (state S.Store tx.old.conn.now) }
+    requires { IsWriting (state S.Store tx.old.conn.now) }
     ensures same_reference { tx.new.conn.ghost_name ≡ tx.old.conn.ghost_name }
-    ensures alters { Alters S.Store (with_sleep sleep.now) tx.old.conn.now tx.new.conn.now result }
+    ensures alters { Alters S.Store (with_sleep sleep.now) (statements_of (Write.OpenSleep sleep.now)) tx.old.conn.now tx.new.conn.now result }
 {
     run(
         tx,
@@ -233,9 +234,9 @@ fn open_sleep<S: Alter>(tx: &mut Transaction<'_, S>, sleep: &SleepRow) -> Result
 }
 
 fn close_sleeps<S: Alter>(tx: &mut Transaction<'_, S>, invocation: &ByteStr) -> Result<(), Error>
-    requires { IsStore (state S.Store tx.old.conn.now) }
+    requires { IsWriting (state S.Store tx.old.conn.now) }
     ensures same_reference { tx.new.conn.ghost_name ≡ tx.old.conn.ghost_name }
-    ensures alters { Alters S.Store (without_sleeps invocation.now) tx.old.conn.now tx.new.conn.now result }
+    ensures alters { Alters S.Store (without_sleeps invocation.now) (statements_of (Write.CloseSleeps invocation.now)) tx.old.conn.now tx.new.conn.now result }
 {
     run(
         tx,
@@ -245,17 +246,17 @@ fn close_sleeps<S: Alter>(tx: &mut Transaction<'_, S>, invocation: &ByteStr) -> 
 }
 
 fn close_sleeps_until<S: Alter>(tx: &mut Transaction<'_, S>, moment: u64) -> Result<(), Error>
-    requires { IsStore (state S.Store tx.old.conn.now) }
+    requires { IsWriting (state S.Store tx.old.conn.now) }
     ensures same_reference { tx.new.conn.ghost_name ≡ tx.old.conn.ghost_name }
-    ensures alters { Alters S.Store (without_sleeps_until moment) tx.old.conn.now tx.new.conn.now result }
+    ensures alters { Alters S.Store (without_sleeps_until moment) (statements_of (Write.CloseSleepsUntil moment)) tx.old.conn.now tx.new.conn.now result }
 {
     run(tx, "DELETE FROM sleep WHERE moment <= ?1", &[long(moment)])
 }
 
 fn apply<S: Alter>(tx: &mut Transaction<'_, S>, write: &Write) -> Result<(), Error>
-    requires { IsStore (state S.Store tx.old.conn.now) }
+    requires { IsWriting (state S.Store tx.old.conn.now) }
     ensures same_reference { tx.new.conn.ghost_name ≡ tx.old.conn.ghost_name }
-    ensures alters { Alters S.Store (applied write.now) tx.old.conn.now tx.new.conn.now result }
+    ensures alters { Alters S.Store (applied write.now) (statements_of write.now) tx.old.conn.now tx.new.conn.now result }
 {
     match write {
         Write::AddInvocation(invocation) => add_invocation(tx, invocation),
@@ -273,7 +274,7 @@ fn apply<S: Alter>(tx: &mut Transaction<'_, S>, write: &Write) -> Result<(), Err
 /// All of the writes or none of them, also over a crash, in one transaction. Once they are told to be made, a crash leaves them
 /// alone. Where there are none, nothing is done.
 pub fn commit_all<S: Alter>(tables: &mut StoreTables<S>, writes: &[Write]) -> Result<(), Error>
-    ensures { Makes S.Store writes.now (TellsWriteCause (state S.Store tables.old) (state S.Store tables.new)) tables.old tables.new result }
+    ensures { Makes S.Store writes.now (TellsWriteCause (statements_of_all writes.now) (state S.Store tables.old) (state S.Store tables.new)) tables.old tables.new result }
 {
     if writes.is_empty() {
         return Ok(());

@@ -3,7 +3,7 @@ use Rattle.std.proofs.lemmas.Bool.{cases_Bool}
 use Rattle.sqlite.specs.Held.{state}
 use Rattle.sqlite.specs.State.{State, KeepsCommit}
 use Rattle.sqlite.specs.Values.{bound}
-use Rattle.sql_tables.proofs.Own.{run_cause}
+use Rattle.sql_tables.proofs.Refused.{passed_refusal}
 use Rattle.sql_tables.proofs.Queries.{failed_run_keeps, keeps_itself, run_keeps, went_inside}
 use Rattle.sql_tables.proofs.query.run.Goals as goal
 
@@ -30,8 +30,8 @@ returns-clause-ran g c clean =
     let ran = c.in_ok-execute.ensures.runs clean inside in
     record { count = c.in_ok-execute.field-0; ran = ran.0; was_open = ran.1.was_open; inside = ran.1.mode }
 
-pub returns-in_err-execute-clause-cause : goal.returns-in_err-execute-clause-cause
-returns-in_err-execute-clause-cause g c =
+pub returns-in_err-execute-clause-refused : goal.returns-in_err-execute-clause-refused
+returns-in_err-execute-clause-refused g c clean =
     let old : State = state g.S.Store c.args.tx.now.conn.now in
     let new : State = state g.S.Store c.execute.new.self.conn.now in
-    run_cause old new c.args.sql.now (bound c.args.params.now) c.in_err-execute.field-0.0 c.from_residual.result c.from_residual.ensures.1 (λ outside. (c.in_err-execute.ensures.ended outside).0) c.in_err-execute.ensures.runs
+    passed_refusal c.args.sql.now (bound c.args.params.now) old new c.in_err-execute.field-0.0 c.from_residual.result c.from_residual.ensures.1 (λ outside. (c.in_err-execute.ensures.ended outside).0) (c.in_err-execute.ensures.runs clean)

@@ -1,9 +1,12 @@
-use Rattle.std.proofs.Common.{arith}
+use Rattle.std.proofs.Common.{arith, []}
 use Rattle.sqlite.specs.State.{State, HasCleanDisk}
 use Rattle.sqlite.specs.Held.{state}
+use Rattle.sql_tables.specs.Causes.{RefusesToRun}
 use Rattle.sql_tables.proofs.Queries.{keeps_on, on_ok}
-use Rattle.store_tables.proofs.Caused.{passed_later, survives_on, told_later}
-use Rattle.store_tables.proofs.Making.{entries_indexed}
+use Rattle.store_tables.specs.Tables.{by_arrival_text}
+use Rattle.store_tables.proofs.Caused.{passed, passed_later, survives_on, told_by, told_later}
+use Rattle.store_tables.proofs.Texts.{makes_by_answered, makes_by_arrival, makes_by_completion, makes_by_place, makes_by_second_completion}
+use Rattle.store_tables.proofs.Unrefused.{index_there, index_told}
 use Rattle.store_tables.proofs.opening.index_entries.Goals as goal
 
 pub returns-in_err-run-2-clause-kept : goal.returns-in_err-run-2-clause-kept
@@ -58,19 +61,27 @@ returns-clause-ok g c clean =
     let e : State = state g.S.Store c.run-3.new.tx.conn.now in
     let f : State = state g.S.Store c.run-4.new.tx.conn.now in
     let h : State = state g.S.Store c.run-5.new.tx.conn.now in
-    let clean_f : HasCleanDisk f = omega (arith, c.run-5.ensures.survives.clean) in
-    let clean_e : HasCleanDisk e = omega (arith, c.run-4.ensures.survives.clean) in
-    let clean_d : HasCleanDisk d = omega (arith, c.run-3.ensures.survives.clean) in
-    let clean_b : HasCleanDisk b = omega (arith, c.run-2.ensures.survives.clean) in
-    let clean_a : HasCleanDisk a = omega (arith, c.run.ensures.survives.clean) in
-    on_ok c.run-5.result (c.run-5.ensures.ran clean) (λ last. entries_indexed a b d e f h (c.requires clean_a) (c.in_ok-run.ensures.ran clean_b) (c.in_ok-run-2.ensures.ran clean_d) (c.in_ok-run-3.ensures.ran clean_e) (c.in_ok-run-4.ensures.ran clean_f) last)
+    let made_b = index_there makes_by_place a b c.run.ensures.survives c.requires c.in_ok-run.ensures.ran in
+    let made_d = index_there makes_by_completion b d c.run-2.ensures.survives made_b c.in_ok-run-2.ensures.ran in
+    let made_e = index_there makes_by_second_completion d e c.run-3.ensures.survives made_d c.in_ok-run-3.ensures.ran in
+    let made_f = index_there makes_by_answered e f c.run-4.ensures.survives made_e c.in_ok-run-4.ensures.ran in
+    on_ok c.run-5.result (c.run-5.ensures.ran clean) (λ last. index_there makes_by_arrival f h c.run-5.ensures.survives made_f (λ _. last) clean)
+
+pub returns-in_err-run-clause-cause : goal.returns-in_err-run-clause-cause
+returns-in_err-run-clause-cause g c =
+    let a : State = state g.S.Store c.args.tx.now.conn.now in
+    let b : State = state g.S.Store c.run.new.tx.conn.now in
+    passed a b c.in_err-run.field-0.0 c.from_residual.result c.from_residual.ensures.1
+    (index_told makes_by_place a b c.run.ensures.survives c.requires c.in_err-run.field-0.0 c.in_err-run.ensures.refused)
 
 pub returns-in_err-run-2-clause-cause : goal.returns-in_err-run-2-clause-cause
 returns-in_err-run-2-clause-cause g c =
     let a : State = state g.S.Store c.args.tx.now.conn.now in
     let b : State = state g.S.Store c.run.new.tx.conn.now in
     let d : State = state g.S.Store c.run-2.new.tx.conn.now in
-    passed_later a b d (λ _. ⊥) (λ _. ⊥) c.run.ensures.survives c.run-2.ensures.survives c.in_err-run-2.field-0.0 c.from_residual-in_err-run-2.result c.from_residual-in_err-run-2.ensures.1 c.in_err-run-2.ensures.cause
+    let made_b = index_there makes_by_place a b c.run.ensures.survives c.requires c.in_ok-run.ensures.ran in
+    passed_later a b d (λ _. ⊥) (λ _. ⊥) c.run.ensures.survives c.run-2.ensures.survives c.in_err-run-2.field-0.0 c.from_residual-in_err-run-2.result c.from_residual-in_err-run-2.ensures.1
+    (index_told makes_by_completion b d c.run-2.ensures.survives made_b c.in_err-run-2.field-0.0 c.in_err-run-2.ensures.refused)
 
 pub returns-in_err-run-3-clause-cause : goal.returns-in_err-run-3-clause-cause
 returns-in_err-run-3-clause-cause g c =
@@ -78,7 +89,10 @@ returns-in_err-run-3-clause-cause g c =
     let b : State = state g.S.Store c.run.new.tx.conn.now in
     let d : State = state g.S.Store c.run-2.new.tx.conn.now in
     let e : State = state g.S.Store c.run-3.new.tx.conn.now in
-    passed_later a d e (λ _. ⊥) (λ _. ⊥) (survives_on a b d c.run.ensures.survives c.run-2.ensures.survives) c.run-3.ensures.survives c.in_err-run-3.field-0.0 c.from_residual-in_err-run-3.result c.from_residual-in_err-run-3.ensures.1 c.in_err-run-3.ensures.cause
+    let made_b = index_there makes_by_place a b c.run.ensures.survives c.requires c.in_ok-run.ensures.ran in
+    let made_d = index_there makes_by_completion b d c.run-2.ensures.survives made_b c.in_ok-run-2.ensures.ran in
+    passed_later a d e (λ _. ⊥) (λ _. ⊥) (survives_on a b d c.run.ensures.survives c.run-2.ensures.survives) c.run-3.ensures.survives c.in_err-run-3.field-0.0 c.from_residual-in_err-run-3.result c.from_residual-in_err-run-3.ensures.1
+    (index_told makes_by_second_completion d e c.run-3.ensures.survives made_d c.in_err-run-3.field-0.0 c.in_err-run-3.ensures.refused)
 
 pub returns-in_err-run-4-clause-cause : goal.returns-in_err-run-4-clause-cause
 returns-in_err-run-4-clause-cause g c =
@@ -87,7 +101,11 @@ returns-in_err-run-4-clause-cause g c =
     let d : State = state g.S.Store c.run-2.new.tx.conn.now in
     let e : State = state g.S.Store c.run-3.new.tx.conn.now in
     let f : State = state g.S.Store c.run-4.new.tx.conn.now in
-    passed_later a e f (λ _. ⊥) (λ _. ⊥) (survives_on a d e (survives_on a b d c.run.ensures.survives c.run-2.ensures.survives) c.run-3.ensures.survives) c.run-4.ensures.survives c.in_err-run-4.field-0.0 c.from_residual-in_err-run-4.result c.from_residual-in_err-run-4.ensures.1 c.in_err-run-4.ensures.cause
+    let made_b = index_there makes_by_place a b c.run.ensures.survives c.requires c.in_ok-run.ensures.ran in
+    let made_d = index_there makes_by_completion b d c.run-2.ensures.survives made_b c.in_ok-run-2.ensures.ran in
+    let made_e = index_there makes_by_second_completion d e c.run-3.ensures.survives made_d c.in_ok-run-3.ensures.ran in
+    passed_later a e f (λ _. ⊥) (λ _. ⊥) (survives_on a d e (survives_on a b d c.run.ensures.survives c.run-2.ensures.survives) c.run-3.ensures.survives) c.run-4.ensures.survives c.in_err-run-4.field-0.0 c.from_residual-in_err-run-4.result c.from_residual-in_err-run-4.ensures.1
+    (index_told makes_by_answered e f c.run-4.ensures.survives made_e c.in_err-run-4.field-0.0 c.in_err-run-4.ensures.refused)
 
 pub returns-clause-cause : goal.returns-clause-cause
 returns-clause-cause g c =
@@ -97,4 +115,9 @@ returns-clause-cause g c =
     let e : State = state g.S.Store c.run-3.new.tx.conn.now in
     let f : State = state g.S.Store c.run-4.new.tx.conn.now in
     let h : State = state g.S.Store c.run-5.new.tx.conn.now in
-    told_later a f h (λ _. ⊥) (λ _. ⊥) (survives_on a e f (survives_on a d e (survives_on a b d c.run.ensures.survives c.run-2.ensures.survives) c.run-3.ensures.survives) c.run-4.ensures.survives) c.run-5.ensures.survives c.run-5.result c.run-5.ensures.cause
+    let made_b = index_there makes_by_place a b c.run.ensures.survives c.requires c.in_ok-run.ensures.ran in
+    let made_d = index_there makes_by_completion b d c.run-2.ensures.survives made_b c.in_ok-run-2.ensures.ran in
+    let made_e = index_there makes_by_second_completion d e c.run-3.ensures.survives made_d c.in_ok-run-3.ensures.ran in
+    let made_f = index_there makes_by_answered e f c.run-4.ensures.survives made_e c.in_ok-run-4.ensures.ran in
+    told_later a f h (λ _. ⊥) (λ _. ⊥) (survives_on a e f (survives_on a d e (survives_on a b d c.run.ensures.survives c.run-2.ensures.survives) c.run-3.ensures.survives) c.run-4.ensures.survives) c.run-5.ensures.survives c.run-5.result
+    (told_by f h c.run-5.result (RefusesToRun by_arrival_text [] f h) c.run-5.ensures.refused (index_told makes_by_arrival f h c.run-5.ensures.survives made_f))

@@ -38,4 +38,4 @@ returns-in_err-mark-clause-foreign g c clean =
 pub returns-in_err-mark-clause-cause : goal.returns-in_err-mark-clause-cause
 returns-in_err-mark-clause-cause g c =
     read_cause_by (state g.S.Store c.args.conn.now) (state g.S.Store c.one_by.new.conn) _ c.from_residual.result c.from_residual.ensures.1 (λ clean.
-    c.in_err-mark.ensures.cause store_schema (c.requires.store (omega (arith, c.one_by.ensures.crash.clean, clean))) reads_marks clean)
+    c.in_err-mark.ensures.cause (store_schema, c.requires.store (omega (arith, c.one_by.ensures.crash.clean, clean)), reads_marks) clean)

@@ -42,4 +42,4 @@ pub returns-clause-cause : goal.returns-clause-cause
 returns-clause-cause g c it =
     rw (← c.tables.view_is) (
     cause_if_clean (state g.S.Store c.tables.inside.connection) (state g.S.Store c.all_by.new.conn) c.all_by.result (λ clean.
-    c.all_by.ensures.cause store_schema (c.tables.invariant.0 (omega (arith, c.all_by.ensures.crash.clean, clean))) it))
+    c.all_by.ensures.cause (store_schema, c.tables.invariant.0 (omega (arith, c.all_by.ensures.crash.clean, clean)), it)))

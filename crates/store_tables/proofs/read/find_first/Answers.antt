@@ -34,4 +34,4 @@ pub returns-clause-cause : goal.returns-clause-cause
 returns-clause-cause g c it =
     rw (← c.tables.view_is) (
     cause_if_clean (state g.S.Store c.tables.inside.connection) (state g.S.Store c.one_by.new.conn) c.one_by.result (λ clean.
-    c.one_by.ensures.cause store_schema (c.tables.invariant.0 (omega (arith, c.one_by.ensures.crash.clean, clean))) it))
+    c.one_by.ensures.cause (store_schema, c.tables.invariant.0 (omega (arith, c.one_by.ensures.crash.clean, clean)), it)))

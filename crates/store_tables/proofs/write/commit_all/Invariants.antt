@@ -2,6 +2,7 @@ use Rattle.std.proofs.Common.{◌≡◌, ◌⊎◌, [], take, IsTrue}
 use Rattle.sqlite.specs.Held.{state}
 use Rattle.sqlite.specs.State.{HasCleanDisk, KeepsCommit, Survives}
 use Rattle.store_tables.specs.Records.{applied_all}
+use Rattle.store_tables.specs.Statements.{statements_of_all}
 use Rattle.store_tables.specs.Steps.{Steps, Turns}
 use Rattle.store_tables.proofs.write.commit_all.Given as goal
 
@@ -15,5 +16,6 @@ invariant-loop-write g l =
       kept : HasCleanDisk now → KeepsCommit old now;
       opened : HasCleanDisk now → (take l.write-index l.writes ≡ []) ⊎ IsTrue old.is_open;
       turns : HasCleanDisk now → Turns (applied_all (take l.write-index l.writes)) old.now.trees now.now.trees;
-      steps : HasCleanDisk now → IsTrue old.is_open → Steps (applied_all (take l.write-index l.writes)) old now;
+      steps : HasCleanDisk now → IsTrue old.is_open → Steps (applied_all (take l.write-index l.writes)) (statements_of_all (take l.write-index l.writes)) old now;
+      inside : HasCleanDisk now → IsTrue now.in_transaction;
     }

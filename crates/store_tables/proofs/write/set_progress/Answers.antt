@@ -1,16 +1,15 @@
-use Rattle.std.proofs.Common.{◌∷◌}
+use Rattle.std.proofs.Common.{◌∷◌, refl}
 use Rattle.sqlite.specs.declared.types.Value.TheVariants.{Text}
-use Rattle.sqlite.specs.Held.{state}
-use Rattle.sql_tables.specs.Asking.{HasRun}
 use Rattle.store_tables.specs.Statements.{set_progress_text}
 use Rattle.store_tables.specs.Records.{progress_cells, with_progress}
 use Rattle.store_tables.proofs.Invocations.{error_fits, progress_set}
+use Rattle.store_tables.proofs.Changes.{sets_progress}
 use Rattle.store_tables.proofs.Moves.{altered}
 use Rattle.store_tables.proofs.write.set_progress.Goals as goal
 
 pub returns-clause-alters : goal.returns-clause-alters
 returns-clause-alters g c =
-    altered g.S.Store (with_progress c.args.id.now c.args.progress.now) set_progress_text (Text c.args.id.now ∷ progress_cells c.args.progress.now) _ c.args.tx.now.conn.now c.run.new.tx.conn.now c.run.result
+    altered g.S.Store (with_progress c.args.id.now c.args.progress.now) set_progress_text (Text c.args.id.now ∷ progress_cells c.args.progress.now) c.args.tx.now.conn.now c.run.new.tx.conn.now (sets_progress c.args.id.now c.args.progress.now)
     (progress_set c.args.id.now c.args.progress.now (record {
       open_object = c.text_or_null.ensures.fits;
       handed = c.short_or_null.ensures.fits;
@@ -23,4 +22,4 @@ returns-clause-alters g c =
       heard = c.short_or_null-2.ensures.fits;
       arrivals = c.short-5.ensures.fits;
     }))
-    c.requires c.run.ensures.ran (λ ran. let run : HasRun set_progress_text (Text c.args.id.now ∷ progress_cells c.args.progress.now) (state g.S.Store c.args.tx.now.conn.now) (state g.S.Store c.run.new.tx.conn.now) = rw (c.text.ensures.cell, c.text_or_null.ensures.cell, c.blob_or_null.ensures, c.short_or_null.ensures.cell, c.closing.ensures, c.blob_or_null-2.ensures, c.error_code.ensures.cell, c.error_behavior.ensures.cell, c.error_delay.ensures.cell, c.error_message.ensures.cell, c.short.ensures.cell, c.short-2.ensures.cell, c.long.ensures.cell, c.short-3.ensures.cell, c.short-4.ensures.cell, c.short_or_null-2.ensures.cell, c.short-5.ensures.cell, c.flag.ensures) at ran in run) c.run.ensures.cause c.run.ensures.kept c.run.ensures.survives
+    c.requires c.run.ensures.survives _ (rw (c.text.ensures.cell, c.text_or_null.ensures.cell, c.blob_or_null.ensures, c.short_or_null.ensures.cell, c.closing.ensures, c.blob_or_null-2.ensures, c.error_code.ensures.cell, c.error_behavior.ensures.cell, c.error_delay.ensures.cell, c.error_message.ensures.cell, c.short.ensures.cell, c.short-2.ensures.cell, c.long.ensures.cell, c.short-3.ensures.cell, c.short-4.ensures.cell, c.short_or_null-2.ensures.cell, c.short-5.ensures.cell, c.flag.ensures) refl) c.run.result c.run.ensures.ran c.run.ensures.refused c.run.ensures.kept
