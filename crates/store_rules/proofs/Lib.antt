@@ -1,0 +1,12 @@
+pub mod Ascending
+pub mod Events
+pub mod Laws
+pub mod Records
+pub mod Room
+pub mod Rowids
+pub mod Rows
+pub mod Sizes
+pub mod Spared
+pub mod Stands
+pub mod Storable
+pub mod Unbroken

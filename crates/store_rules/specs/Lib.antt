@@ -1,0 +1,5 @@
+pub mod Events
+pub mod Keys
+pub mod Room
+pub mod Rowids
+pub mod Size
