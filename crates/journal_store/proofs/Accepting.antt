@@ -19,6 +19,8 @@ use Rattle.journal_store.specs.declared.accept.Accepted.{Accepted}
 use Rattle.journal_store.specs.Stored.{Stored}
 use Rattle.journal_store.specs.Stands.{Leads, Endures, IsQuiet, Settles}
 use Rattle.journal_store.specs.Accepting.{HasTaken, OutlastsFrames, SettlesFrames, SettlesNext, TakesNext}
+use Rattle.journal_store.specs.Causes.{TellsWhyUnwritten, TriesFrame, TriesFrameBehind}
+use Rattle.journal_store.proofs.Causing.{tried_behind}
 use Rattle.journal_store.proofs.Enduring.{endures_on, quiet_endures}
 use Rattle.journal_store.proofs.Lasting.{kept_then}
 
@@ -103,6 +105,17 @@ module _ {S : Type 0} (g : Ghosts S) (id : Text) (n : ℕ) (first old new : Stor
           rests = t.2.1 (m.2.live live);
         },
       )
+
+  -- where the database refused it, it was tried behind those before
+  pub refused_tried : Endures g (TakesFirst id n) first old → (why : Refusal) → after ≡ replies → TellsWhyUnwritten g old new (TriesFrame id n) why
+      → TellsWhyUnwritten g first new (TriesFrameBehind id n after) why
+  refused_tried before why same =
+      tried_behind g (GoesOn id n replies) (TriesFrame id n) (TriesFrameBehind id n after) first old new _ _ before lives so_far
+      (λ s m at event taken tried. (
+        subst (λ (all : List FrameReply). TakesEach id n all s at) (sym same) (subst (TakesEach id n replies s) (sym tried.0) taken.taken),
+        tried.1,
+      ))
+      why
 
   -- ---- what lasts
 

@@ -1,5 +1,5 @@
 -- An arrival is recorded.
-use Rattle.std.proofs.Common.{◌≡◌, ℕ, ◌+◌, ◌∙◌, sym, subst, length, inr, true, List, [], ◌∷◌, None, Result, Ok, Err, IfOk, IfErr, OnOk, OnErr, IsTrue}
+use Rattle.std.proofs.Common.{◌≡◌, ℕ, ◌+◌, ◌∙◌, sym, subst, length, inr, true, List, [], ◌∷◌, None, Result, Ok, Err, IfOk, IfErr, OnOk, OnErr}
 use Rattle.sqlite_trees.specs.Tree.{Trees}
 use Rattle.sqlite.specs.State.{State, HasCleanDisk, Survives}
 use Rattle.sql_tables.specs.Asking.{IsKept as Asked}
@@ -11,13 +11,12 @@ use Rattle.journal_model.specs.Cause.{causes_of}
 use Rattle.store_tables.specs.Looks.{HasWritten}
 use Rattle.store_frames.specs.Read.{IsReadIn}
 use Rattle.store_refusals.specs.declared.refusal.Refusal.{Refusal}
-use Rattle.store_refusals.specs.Refused.{is_circumstance}
-use Rattle.store_refusals.specs.Causes.{TellsCauseToWrite}
 use Rattle.store_arrivals.specs.declared.arrival.PreparedArrival.{PreparedArrival}
 use Rattle.store_arrivals.specs.Arrivals.{IsMadeReady}
 use Rattle.store_live.specs.Attempts.{Attempts}
 use Rattle.store_live_laws.specs.Agrees.{does_record}
 use Rattle.journal_store.specs.Stands.{Stands}
+use Rattle.journal_store.specs.Writing.{IsUnwritten}
 use Rattle.journal_store.proofs.Leading.{Does}
 use Rattle.journal_store.proofs.Standing.{all_stored, store_still, stands_recorded}
 
@@ -28,7 +27,7 @@ pub arrival_recorded : (events : List Event) (event : Event) (id : Text) (old mi
     → Survives old mid P → Asked old mid → Survives mid new Q → HasCleanDisk new
     → (causes_of events event ≡ []) × IsMadeReady events event id made
     → IfOk result (λ place. place ≡ made.place) → OnOk result (HasWritten made.writes.items mid new)
-    → IfErr result (λ why. IsTrue (is_circumstance why) × TellsCauseToWrite mid new why) → OnErr result (Asked mid new) → after ≡ before → Stands events old before.attempts
+    → IfErr result (IsUnwritten made.writes.items mid new) → OnErr result (Asked mid new) → after ≡ before → Stands events old before.attempts
     → Does events event (λ place. place ≡ 1 + length (entries_of events id)) result new after.attempts
 arrival_recorded events event id old mid new P Q before after made (Ok place) does plain read earlier asked lives clean ready place_is wrote why undone same stands =
     let store = store_still events old mid P earlier asked stands.kept in
@@ -37,8 +36,8 @@ arrival_recorded events event id old mid new P Q before after made (Ok place) do
       place_is ∙ ready.1.place,
       subst (λ (all : Attempts). Stands (event ∷ events) new all.attempts) (sym same) (stands_recorded events event new before.attempts does plain then stands.live),
     )
-arrival_recorded events event id old mid new P Q before after made (Err why) does plain read earlier asked lives clean ready place_is wrote circumstance undone same stands =
+arrival_recorded events event id old mid new P Q before after made (Err why) does plain read earlier asked lives clean ready place_is wrote refused undone same stands =
     let store = store_still events old mid P earlier asked stands.kept in (
-      inr circumstance.0,
+      inr refused.circumstance,
       subst (λ (all : Attempts). Stands events new all.attempts) (sym same) (record { kept = store_still events mid new Q lives undone store; live = stands.live }),
     )

@@ -1,5 +1,5 @@
 -- An attempt is begun.
-use Rattle.std.proofs.Common.{◌≡◌, ℕ, refl, sym, ap, ap₂, subst, ◌∙◌, inr, not, ◌&&◌, is_some, List, [], ◌∷◌, Option, Some, None, Result, Ok, Err, IfErr, IfOk, OnOk, OnErr, IsTrue}
+use Rattle.std.proofs.Common.{◌≡◌, ℕ, refl, sym, ap, ap₂, subst, ◌∙◌, inr, not, ◌&&◌, is_some, List, [], ◌∷◌, Option, Some, None, Result, Ok, Err, IfErr, IfOk, OnOk, OnErr}
 use Rattle.sqlite_trees.specs.Tree.{Trees}
 use Rattle.sqlite.specs.State.{State, HasCleanDisk, Survives}
 use Rattle.sql_tables.specs.Asking.{IsKept as Asked}
@@ -11,8 +11,6 @@ use Rattle.journal_model.specs.Cause.{Tests, UnknownInvocation, InvocationClosed
 use Rattle.protocol_types.specs.Version.{version_number}
 use Rattle.store_tables.specs.Looks.{HasWritten}
 use Rattle.store_refusals.specs.declared.refusal.Refusal.{Refusal}
-use Rattle.store_refusals.specs.Refused.{is_circumstance}
-use Rattle.store_refusals.specs.Causes.{TellsCauseToWrite}
 use Rattle.store_invocations.specs.declared.attempt.PreparedAttempt.{PreparedAttempt}
 use Rattle.store_invocations.specs.Begun.{IsBegun}
 use Rattle.store_live.specs.Input.{at_begin}
@@ -21,6 +19,7 @@ use Rattle.store_live_laws.specs.Agrees.{Agrees, IsBegunAs}
 use Rattle.store_live_laws.proofs.Begun.{begun}
 use Rattle.store_calls.specs.declared.begun.BegunAttempt.{BegunAttempt}
 use Rattle.journal_store.specs.Stands.{Stands}
+use Rattle.journal_store.specs.Writing.{IsUnwritten}
 use Rattle.journal_store.specs.Attempts.{IsToldAs, fresh}
 use Rattle.journal_store.proofs.Leading.{Does, IsBegunAttempt}
 use Rattle.journal_store.proofs.Standing.{all_stored, store_still, stands_after}
@@ -51,7 +50,7 @@ pub begin_recorded : (events : List Event) (id : Text) (now : ℕ) (old mid new 
     → causes_of events (Event.Begin id now) ≡ those_that_hold ((not (is_some (invocation_begun events id)), UnknownInvocation) ∷ more)
     → Survives old mid P → Asked old mid → Survives mid new Q → HasCleanDisk new → (causes_of events (Event.Begin id now) ≡ []) × IsBegun events id now made
     → IfOk result (IsToldAs made) → OnOk result (HasWritten made.writes.items mid new)
-    → OnOk result (IsNow id (Some (fresh made.number made.version made.known made.arrivals)) attempts left) → IfErr result (λ why. IsTrue (is_circumstance why) × TellsCauseToWrite mid new why) → OnErr result (Asked mid new) → OnErr result (left ≡ attempts)
+    → OnOk result (IsNow id (Some (fresh made.number made.version made.known made.arrivals)) attempts left) → IfErr result (IsUnwritten made.writes.items mid new) → OnErr result (Asked mid new) → OnErr result (left ≡ attempts)
     → Stands events old attempts → Does events (Event.Begin id now) (IsBegunAttempt events id now) result new left
 begin_recorded events id now old mid new P Q attempts left made more (Ok told) tests before asked lives clean ready is wrote put why undone same stands =
     let store = store_still events old mid P before asked stands.kept in
@@ -61,9 +60,9 @@ begin_recorded events id now old mid new P Q attempts left made more (Ok told) t
       record { number = is.0 ∙ ready.1.number; version = ap version_number is.1 ∙ ready.1.version; start = is.2 ∙ ready.1.start },
       stands_after events (Event.Begin id now) id (Some _) new attempts left refl refl after agrees put stands.live,
     )
-begin_recorded events id now old mid new P Q attempts left made more (Err why) tests before asked lives clean ready is wrote put circumstance undone same stands =
+begin_recorded events id now old mid new P Q attempts left made more (Err why) tests before asked lives clean ready is wrote put refused undone same stands =
     let store = store_still events old mid P before asked stands.kept in (
-      inr circumstance.0,
+      inr refused.circumstance,
       record {
         kept = store_still events mid new Q lives undone store;
         live = subst (λ (all : ByInvocation). (one : Text) → Agrees events one (attempt_of all one)) (sym same) stands.live;

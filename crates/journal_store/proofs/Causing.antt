@@ -1,59 +1,123 @@
 -- The cause that a call passes on where the database refused a statement.
-use Rattle.std.proofs.Common.{◌≡◌, ◌⊎◌, ℕ, subst, inl, inr, List, Option, IsSome, Some, None, Result, Ok, Err, IfErr, IfSome, IsErrAnd, IsTrue}
+use Rattle.std.proofs.Common.{◌≡◌, ◌⊎◌, ℕ, refl, subst, inl, inr, List, Option, IsSome, Some, None, Result, Ok, Err, IfErr, IfSome, IsTrue, arith}
 use Rattle.sqlite_trees.specs.Tree.{Trees}
 use Rattle.sqlite_trees.specs.declared.store.Store.{Ghosts}
+use Rattle.sqlite.specs.Effect.{Database}
 use Rattle.sqlite.specs.Held.{Held, state}
-use Rattle.sqlite.specs.State.{State, Survives}
+use Rattle.sqlite.specs.State.{State, HasCleanDisk, Survives}
 use Rattle.sqlite.specs.declared.error.Error.{Error}
 use Rattle.sqlite.specs.declared.error.Error.TheVariants.{SqliteFailure}
 use Rattle.sqlite.specs.declared.error.ErrorCode.TheVariants as code
-use Rattle.sql_tables.specs.Causes.{IsCause, IsCauseToWrite, TellsWriteCause, is_own}
-use Rattle.sql_tables.specs.declared.read.ReadError.{ReadError}
-use Rattle.sql_tables.specs.declared.read.ReadError.TheVariants as reading
+use Rattle.sql_tables.specs.Asking.{IsKept}
+use Rattle.sql_tables.specs.Causes.{AreRefused, IsCause, IsCauseToWrite}
+use Rattle.sql_tables.specs.Refusals.{has_no_place}
+use Rattle.sql_tables.proofs.Causes.{cause_later}
+use Rattle.journal_model.specs.Event.{Event}
 use Rattle.store_tables.specs.Looks.{Looks}
-use Rattle.store_tables.specs.Steps.{Lands}
+use Rattle.store_tables.specs.Steps.{IsStore, Lands}
+use Rattle.store_tables.specs.Statements.{statements_of_all}
 use Rattle.store_tables.specs.declared.row.Write.{Write}
+use Rattle.store_tables.proofs.Ruled.{rules_refuse}
 use Rattle.store_refusals.specs.declared.refusal.Refusal.{Refusal}
-use Rattle.store_refusals.specs.Refused.{is_circumstance, reading_refusal}
-use Rattle.store_refusals.specs.Causes.{TellsCauseToWrite}
-use Rattle.store_refusals.proofs.Causes.{tells_later_to_write}
+use Rattle.store_invocations.specs.Rows.{IsStoreOf}
+use Rattle.store_calls.specs.Standing.{Standing}
+use Rattle.journal_store.specs.Stored.{Stored}
+use Rattle.journal_store.specs.Stands.{IsStanding, KeepsAll, Leads}
 use Rattle.journal_store.specs.Writing.{Writes}
-use Rattle.journal_store.specs.Causes.{AskingWantsMemory, RunsWell, WritingWantsMemory}
+use Rattle.journal_store.specs.Causes.{AreWritesOf, AskingWantsMemory, RefusesEvent, RefusesTried, RunsWell, TellsWhy, TellsWhyUnwritten, Tries, TriesEvent, WritingWantsMemory}
+use Rattle.journal_store.proofs.Standing.{store_still}
 
--- ---- what is written behind a question
+-- a question that is refused, of a call that writes
+pub asked_unwritten : {S : Type 0} (g : Ghosts S) (Tried : Tries) (old new : Stored S) (why : Refusal) → TellsWhy g old new why → TellsWhyUnwritten g old new Tried why
+asked_unwritten g Tried old new why tells clean cause is = inl (tells clean cause is)
 
-written_later : {A : Type 0} (a b c : State) (D : Trees → Type 0) (P : Refusal → Type 0) (result : Result A Refusal) → Survives a b (λ _. ⊥) → Survives b c D
-    → IfErr result (λ why. P why × TellsCauseToWrite b c why) → IfErr result (TellsCauseToWrite a c)
-written_later a b c D P (Ok answer) first then why = tt
-written_later a b c D P (Err refused) first then why = tells_later_to_write a b c (λ _. ⊥) D first then refused why.1
+-- ---- what is written of an event
 
-pub written_cause : {S A : Type 0} (g : Ghosts S) (a mid b : Held S) (writes : List Write) (result : Result A Refusal) → Looks g a mid → Writes g writes mid b result
-    → IfErr result (TellsCauseToWrite (state g a) (state g b))
-written_cause g a mid b writes result looks wrote =
-    written_later (state g a) (state g mid) (state g b) (Lands writes (state g mid)) (λ why. IsTrue (is_circumstance why)) result looks.crash wrote.crash wrote.why
+-- an open store that keeps the events has them in its tables
+pub all_held : (events : List Event) (s : State) → IsStoreOf events s → HasCleanDisk s → IsTrue s.is_open → KeepsAll events s.now.trees
+all_held events s store clean opened =
+    let k = store.keeps clean opened in
+    record { read = store.read; records = k.records; held = k.held; kept = k.kept }
 
--- ---- frames
+-- whatever the store stood for, these are the writes of the event that is tried then
+abbrev pub AreTried : {S : Type 0} → Ghosts S → Tries → Held S → Stored S → List Write → Type 0
+AreTried g Tried mid old writes =
+    HasCleanDisk (state g mid) → (s : Standing) → IsStanding g s old → (event : Event) × Tried s s event × AreWritesOf s.events event writes
 
--- a refused frame behind what was done before it
-pub frame_later : (a b c : State) (C D : Trees → Type 0) → Survives a b C → Survives b c D → (refused : Option Refusal) → IfSome refused (TellsCauseToWrite b c)
-    → IfSome refused (TellsCauseToWrite a c)
-frame_later a b c C D first then None tells = tt
-frame_later a b c C D first then (Some why) tells = tells_later_to_write a b c C D first then why tells
+module _ {S : Type 0} (g : Ghosts S) (Tried : Tries) (mid : Held S) (old new : Stored S) (writes : List Write) (looks : Looks g old.connection mid) (tried : AreTried g Tried mid old writes) where
+  refuses_tried : (cause : Error) → IsStore (state g mid) → HasCleanDisk (state g mid) → HasCleanDisk (state g new.connection) → IsKept (state g mid) (state g new.connection) → IsTrue (state g mid).is_open
+      → AreRefused (state g mid).step_limit (statements_of_all writes) (state g mid).now cause → RefusesTried g Tried old new cause
+  refuses_tried cause tables early clean undone opened refused = record {
+    before = (state g mid).now;
+    left = λ is_open. (undone clean is_open).1;
+    refuses = λ s is.
+        let it = tried early s is in
+        let store = store_still s.events (state g old.connection) (state g mid) (λ _. ⊥) looks.crash looks.kept is.stands.kept in (
+          s,
+          it.0,
+          it.1,
+          record {
+            schema = tables early opened;
+            keeps = all_held s.events (state g mid) store early opened;
+            writes = writes;
+            are = it.2;
+            refused = subst (λ (limit : Option ℕ). AreRefused limit (statements_of_all writes) (state g mid).now cause) looks.crash.limit refused;
+          },
+        );
+  }
 
--- ---- opening
+  tried_cause : (cause : Error) → IsStore (state g mid) → HasCleanDisk (state g new.connection) → Survives (state g mid) (state g new.connection) (Lands writes (state g mid)) → IsKept (state g mid) (state g new.connection)
+      → IsCauseToWrite (statements_of_all writes) (state g mid) (state g new.connection) cause → IsCause (state g old.connection) (state g new.connection) cause ⊎ RefusesTried g Tried old new cause
+  unfolding IsCauseToWrite
+  tried_cause cause tables clean lives undone (inl own) =
+      inl (cause_later (state g old.connection) (state g mid) (state g new.connection) (λ _. ⊥) (Lands writes (state g mid)) cause looks.crash lives clean own)
+  tried_cause cause tables clean lives undone (inr (opened, refused)) = inr (refuses_tried cause tables (omega (arith, lives.clean, clean)) clean undone opened refused)
 
--- what opening the tables is refused for
-opening_tells : (a b : State) (e : ReadError) (why : Refusal) → why ≡ reading_refusal e → ((cause : Error) → e ≡ reading.Refused cause → TellsWriteCause a b cause) → TellsCauseToWrite a b why
-opening_tells a b (reading.Refused own) why gives tells clean cause is =
-    let same : reading.Refused own ≡ reading.Refused cause = cc in
-    tells cause same clean
-opening_tells a b reading.Foreign why gives tells clean cause is = cc
-opening_tells a b reading.OutOfMemory why gives tells clean cause is = cc
+  -- they are written behind a question, or refused
+  pub tried_by : {A : Type 0} (result : Result A Refusal) → Writes g writes mid new.connection result → IfErr result (TellsWhyUnwritten g old new Tried)
+  tried_by (Ok answer) wrote = tt
+  tried_by (Err why) wrote = λ clean cause is. tried_cause cause (wrote.why.store cause is) clean wrote.crash wrote.undone (wrote.why.cause clean cause is)
 
-pub opening_cause : {A : Type 0} (a b : State) (e : ReadError) (result : Result A Refusal) → IsErrAnd result (λ why. why ≡ reading_refusal e)
-    → ((cause : Error) → e ≡ reading.Refused cause → TellsWriteCause a b cause) → IfErr result (TellsCauseToWrite a b)
-opening_cause a b e (Ok x) gives tells = absurd gives
-opening_cause a b e (Err why) gives tells = opening_tells a b e why gives tells
+-- those of one event
+pub event_tried : {S A : Type 0} (g : Ghosts S) (event : Event) (mid : Held S) (old new : Stored S) (writes : List Write) (result : Result A Refusal) → Looks g old.connection mid
+    → (HasCleanDisk (state g mid) → (events : List Event) → IsStoreOf events (state g old.connection) → AreWritesOf events event writes) → Writes g writes mid new.connection result
+    → IfErr result (TellsWhyUnwritten g old new (TriesEvent event))
+event_tried g event mid old new writes result looks are wrote =
+    tried_by g (TriesEvent event) mid old new writes looks (λ clean s is. (event, (refl, refl), are clean s.events is.stands.kept)) result wrote
+
+-- ---- behind what was done before
+
+module _ {S : Type 0} (g : Ghosts S) (Between : Standing → Standing → Type 0) (Inner Outer : Tries) (first old new : Stored S) (C D : Trees → Type 0)
+    (earlier : Survives (state g first.connection) (state g old.connection) C) (then : Survives (state g old.connection) (state g new.connection) D) (leads : Leads g Between first old)
+    (so : (s m at : Standing) (event : Event) → Between s m → Inner m at event → Outer s at event) where
+  cause_behind : (cause : Error) → HasCleanDisk (state g new.connection) → IsCause (state g old.connection) (state g new.connection) cause ⊎ RefusesTried g Inner old new cause
+      → IsCause (state g first.connection) (state g new.connection) cause ⊎ RefusesTried g Outer first new cause
+  cause_behind cause clean (inl own) = inl (cause_later (state g first.connection) (state g old.connection) (state g new.connection) C D cause earlier then clean own)
+  cause_behind cause clean (inr it) = inr (record {
+    before = it.before;
+    left = it.left;
+    refuses = λ s is.
+        let m = leads (omega (arith, then.clean, clean)) s is in
+        let tried = it.refuses m.0 m.1 in (
+          tried.0,
+          tried.1,
+          so s m.0 tried.0 tried.1 m.2 tried.2,
+          record {
+            schema = tried.3.schema;
+            keeps = tried.3.keeps;
+            writes = tried.3.writes;
+            are = tried.3.are;
+            refused = subst (λ (limit : Option ℕ). AreRefused limit (statements_of_all tried.3.writes) it.before cause) earlier.limit tried.3.refused;
+          },
+        );
+  })
+
+  pub tried_behind : (why : Refusal) → TellsWhyUnwritten g old new Inner why → TellsWhyUnwritten g first new Outer why
+  tried_behind why tells clean cause is = cause_behind cause clean (tells clean cause is)
+
+  pub frame_behind : (refused : Option Refusal) → IfSome refused (TellsWhyUnwritten g old new Inner) → IfSome refused (TellsWhyUnwritten g first new Outer)
+  frame_behind None tells = tt
+  frame_behind (Some why) tells = tried_behind why tells
 
 -- ---- over a connection that runs well
 
@@ -64,15 +128,21 @@ cause_wants old new cause runs (inr (inl disk)) = absurd (runs.works disk.1)
 cause_wants old new cause runs (inr (inr (inl shut))) = absurd (runs.works (shut.1 runs.was_open))
 cause_wants old new cause runs (inr (inr (inr limit))) = let none : IsSome {T = ℕ} None = subst (λ (o : Option ℕ). IsSome o) runs.unlimited limit.1 in cc
 
-write_wants : (old new : State) (cause : Error) → RunsWell old new → IsCauseToWrite old new cause → (cause ≡ SqliteFailure code.OutOfMemory) ⊎ IsTrue (is_own cause)
-unfolding IsCauseToWrite
-write_wants old new cause runs (inl it) = inl (cause_wants old new cause runs it)
-write_wants old new cause runs (inr own) = inr own
-
 pub asking_wants : {S : Type 0} (g : Ghosts S) → AskingWantsMemory g
 asking_wants g old new runs why tells cause is =
     cause_wants (state g old.connection) (state g new.connection) cause runs (tells runs.clean cause is)
 
-pub writing_wants : {S : Type 0} (g : Ghosts S) → WritingWantsMemory g
-writing_wants g old new runs why tells cause is =
-    write_wants (state g old.connection) (state g new.connection) cause runs (tells runs.clean cause is)
+-- where SQL's rules refuse a statement of an event, a row finds no place
+without_place : (limit : Option ℕ) → limit ≡ None → (events : List Event) (event : Event) (before : Database) (cause : Error) → RefusesEvent limit events event before cause → IsTrue (has_no_place cause)
+without_place limit unlimited events event before cause it = elim (rules_refuse limit it.writes before it.keeps.records cause it.schema it.keeps.held it.refused) [
+  | inl place ↦ place
+  | inr met ↦ let none : IsSome {T = ℕ} None = subst (λ (o : Option ℕ). IsSome o) unlimited met.1 in absurd cc
+]
+
+pub writing_wants : {S : Type 0} (g : Ghosts S) (Tried : Tries) → WritingWantsMemory g Tried
+writing_wants g Tried old new runs s is why tells cause refused = elim (tells runs.clean cause refused) [
+  | inl own ↦ inl (cause_wants (state g old.connection) (state g new.connection) cause runs own)
+  | inr it ↦
+      let tried = it.refuses s is in
+      inr (without_place (state g old.connection).step_limit runs.unlimited tried.0.events tried.1 it.before cause tried.3, it)
+]

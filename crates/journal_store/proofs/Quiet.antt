@@ -1,5 +1,5 @@
 -- The events of a live attempt that write nothing: bytes are handed out, the input is closed, the attempt is stopped.
-use Rattle.std.proofs.Common.{◌≡◌, ◌⊎◌, ℕ, refl, sym, ap, ap₂, arith, subst, ◌∙◌, Bool, true, false, inl, inr, not, take, length, List, [], ◌∷◌, Option, Some, None, option_map, IsTrue, ◌==◌}
+use Rattle.std.proofs.Common.{◌≡◌, ◌⊎◌, ℕ, refl, sym, ap, ap₂, arith, subst, ◌∙◌, Bool, true, false, inl, inr, not, length, List, [], ◌∷◌, Option, Some, None, option_map, IsTrue, ◌==◌}
 use Rattle.std.proofs.lemmas.Bool.{eqb-true, ne_eqb}
 use Rattle.sqlite.specs.State.{State}
 use Rattle.journal_model.specs.Notification.{Text}

@@ -43,5 +43,5 @@ invokes g a mid b live new writes (Ok done) looks ready wrote clean s is =
     adds g s (stored a live) (stored b live) is (Event.Invoke new) (stands_invoked s.events new (state g b) live.attempts made.0 is.stands.kept.accepted after is.stands.live) (λ id. refl)
 invokes g a mid b live new writes (Err why) looks ready wrote clean s is =
     let store = store_kept s.events (state g a) (state g mid) looks.crash looks.kept is.stands.kept in
-    refuses g s (stored a live) (stored b live) is (Event.Invoke new) why (inr wrote.why.0)
+    refuses g s (stored a live) (stored b live) is (Event.Invoke new) why (inr wrote.why.circumstance)
     (record { kept = store_still s.events (state g mid) (state g b) (Lands writes (state g mid)) wrote.crash wrote.undone store; live = is.stands.live }) (λ id. refl)

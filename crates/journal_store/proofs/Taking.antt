@@ -1,5 +1,5 @@
 -- A frame is taken, or refused.
-use Rattle.std.proofs.Common.{◌≡◌, ℕ, ◌+◌, refl, sym, ap, ap₂, subst, ◌∙◌, inl, inr, arith, drop, length, Bool, true, false, not, List, [], ◌∷◌, Option, Some, None, option_map, Result, Ok, Err, IfOk, OnOk, OnErr, IsTrue}
+use Rattle.std.proofs.Common.{◌≡◌, ℕ, refl, sym, ap, subst, ◌∙◌, inl, inr, arith, drop, Bool, true, false, not, List, [], ◌∷◌, Option, Some, None, option_map, Result, Ok, Err, IfOk, OnOk, OnErr, IsTrue}
 use Rattle.sqlite_trees.specs.declared.store.Store.{Ghosts}
 use Rattle.sqlite_trees.specs.Tree.{Trees}
 use Rattle.sqlite.specs.Held.{Held, state}
@@ -13,8 +13,6 @@ use Rattle.journal_model.specs.Cause.{FrameNotAccepted, causes_of, those_that_ho
 use Rattle.protocol_stream.specs.declared.frame.TheConstants.{HEADER_LEN}
 use Rattle.protocol_types.specs.Version.{version_number}
 use Rattle.protocol_stream.specs.Item.{Item, unknown, message, item_at}
-use Rattle.store_frames.specs.declared.frame.AttemptFrame.{AttemptFrame}
-use Rattle.store_frames.specs.Answer.{IsFrame}
 use Rattle.store_frames.specs.Meaning.{frame_of}
 use Rattle.store_frames.specs.Read.{IsReadIn}
 use Rattle.store_tables.specs.declared.row.Write.{Write}
@@ -47,6 +45,8 @@ use Rattle.journal_store.specs.Stored.{Stored, stored}
 use Rattle.journal_store.specs.Stands.{Stands, IsStanding, Leads, Keeps, KeepsAll, Endures, WaitsNow}
 use Rattle.journal_store.specs.Taking.{HasMessage, HasMessageOf, IsEndedBy, IsFirstOf, IsSeen, IsSeenOf, SettlesStep, after_noted, passed}
 use Rattle.journal_store.specs.Writing.{Writes}
+use Rattle.journal_store.specs.Causes.{TriesFrame}
+use Rattle.journal_store.proofs.Causing.{AreTried}
 use Rattle.journal_store.proofs.Lasting.{outlasts_now}
 use Rattle.journal_store.proofs.Outcomes.{outcome_left}
 use Rattle.journal_store.proofs.Standing.{all_stored, landed, store_still, stands_after, stands_still}
@@ -225,6 +225,12 @@ module _ {S : Type 0} (g : Ghosts S) (a mid b : Held S) (before after : Attempts
       → (causes_of events event ≡ []) × IsTaken events id n frame made
   ready_of made prepared clean events stands = prepared clean events stands.kept n frame (live_of events stands) (read_of events stands) one.seen.read
 
+  -- what was made ready are the writes of this frame
+  pub frame_tried : (made : PreparedFrame) → IsPrepared (Ok made) → AreTried g (TriesFrame id n) mid (stored a before) made.writes.items
+  frame_tried made prepared clean s is =
+      let next = next_item g (stored a before) (stored b after) s is id n one.attempt (message one.seen.message_is) left_of one.found one.seen.first in
+      (event, (refl, (frame, left_of, next, refl)), (ready_of made prepared clean s.events is.stands).1.writes)
+
   -- it is refused, and with it its attempt where the cause lies in it
   pub seen_refused : (why : Refusal) → Looks g a mid → IsEndedBy (lies_in_frame why) id before.attempts after.attempts
       → IsPrepared (Err why)
@@ -276,7 +282,7 @@ module _ {S : Type 0} (g : Ghosts S) (a mid b : Held S) (before after : Attempts
   seen_taken made (Err why) looks wrote prepared replied now same clean s is =
       let store = store_still s.events (state g a) (state g mid) (λ _. ⊥) looks.crash looks.kept is.stands.kept in
       let between : Stands s.events (state g mid) before.attempts = record { kept = store; live = is.stands.live } in
-      let it = item_waits g (stored a before) (stored b after) s is id n one.attempt (message one.seen.message_is) left_of one.found one.seen.first why one.here (inr wrote.why.0) (not_in_frame why wrote.why.0)
+      let it = item_waits g (stored a before) (stored b after) s is id n one.attempt (message one.seen.message_is) left_of one.found one.seen.first why one.here (inr wrote.why.circumstance) (not_in_frame why wrote.why.circumstance)
       (stands_still s.events (state g mid) (state g b) (Lands made.writes.items (state g mid)) before.attempts after.attempts wrote.crash wrote.undone same between) same in
       (it.0, it.1, (inr it.2, tt))
 

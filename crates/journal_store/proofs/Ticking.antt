@@ -93,7 +93,7 @@ module _ {S : Type 0} (g : Ghosts S) (a mid b : Held S) (before after : Attempts
       (to.0, to.1, (counted ∙ it.1.count, to.2))
   ticks (Err why) wrote counted same clean s is =
       let store = store_kept s.events (state g a) (state g mid) looks.crash looks.kept is.stands.kept in
-      refuses g s (stored a before) (stored b after) is (Event.Tick now) why (inr wrote.why.0)
+      refuses g s (stored a before) (stored b after) is (Event.Tick now) why (inr wrote.why.circumstance)
       (subst (λ (all : Attempts). Stands s.events (state g b) all.attempts) (sym same)
       (record { kept = store_still s.events (state g mid) (state g b) (Lands made.writes.items (state g mid)) wrote.crash wrote.undone store; live = is.stands.live })) (still_waits before after same)
 

@@ -7,7 +7,7 @@ ghost use Rattle.store_calls.specs.Frames.{Accepts, AcceptsFirst, TakesFirst, Ta
 ghost use Rattle.journal_store.specs.Accepting.{SettlesFrames, SettlesNext, TakesNext, told};
 ghost use Rattle.journal_store.specs.Stands.{Endures, Leads};
 ghost use Rattle.journal_store.specs.Words.{state, IsKept, attempt_of, has_number};
-ghost use Rattle.journal_store.specs.Causes.{TellsWhy, TellsWhyUnwritten};
+ghost use Rattle.journal_store.specs.Causes.{TellsWhy, TellsWhyUnwritten, TriesFrame, TriesFrameBehind, TriesFrameOf};
 
 use crate::store::Store;
 use bytes::ByteStr;
@@ -35,7 +35,7 @@ fn take_next<S: Alter + Drop>(
     ensures does { Leads S.Store (TakesNext id.now attempt result replies.old.items replies.new.items) store.old store.new }
     ensures settled { SettlesNext S.Store id.now attempt result replies.old.items replies.new.items store.old store.new }
     ensures kept { replies.new.items ≡ replies.old.items → IsKept (state S.Store store.old.connection) (state S.Store store.new.connection) }
-    ensures cause { IfErr result (TellsWhyUnwritten S.Store store.old store.new) }
+    ensures cause { IfErr result (TellsWhyUnwritten S.Store store.old store.new (TriesFrame id.now attempt)) }
     ensures crash { Endures S.Store (TakesOne id.now attempt) store.old store.new }
 {
     if replies.reserve(1).is_err() {
@@ -56,7 +56,7 @@ fn take_all<S: Alter + Drop>(store: &mut Store<S>, id: &ByteStr, attempt: u32) -
     ensures does { Leads S.Store (λ s t. is_live s.events id.now attempt ≡ true → TakesFrames id.now attempt result.replies.items result.refusal s t) store.old store.new }
     ensures settled { SettlesFrames S.Store (λ s m. m ≡ s) id.now attempt result.replies.items result.refusal store.old store.new }
     ensures kept { result.replies.items ≡ [] → IsKept (state S.Store store.old.connection) (state S.Store store.new.connection) }
-    ensures cause { IfSome result.refusal (TellsWhyUnwritten S.Store store.old store.new) }
+    ensures cause { IfSome result.refusal (TellsWhyUnwritten S.Store store.old store.new (TriesFrameBehind id.now attempt result.replies.items)) }
     ensures crash { Endures S.Store (TakesFirst id.now attempt) store.old store.new }
 {
     let mut replies = Vec::new(store.alloc());
@@ -89,7 +89,7 @@ impl<S: Alter + Drop> Store<S> {
         ensures kept { OnErr result (IsKept (state S.Store self.old.connection) (state S.Store self.new.connection)) }
         ensures kept_unanswered { IfOk result (λ accepted. accepted.replies.items ≡ [] → IsKept (state S.Store self.old.connection) (state S.Store self.new.connection)) }
         ensures cause { IfErr result (TellsWhy S.Store self.old self.new) }
-        ensures cause_of_frame { IfOk result (λ accepted. IfSome accepted.refusal (TellsWhyUnwritten S.Store self.old self.new)) }
+        ensures cause_of_frame { IfOk result (λ accepted. IfSome accepted.refusal (TellsWhyUnwritten S.Store self.old self.new (TriesFrameOf id.now attempt bytes.now accepted.replies.items))) }
         ensures crash { Endures S.Store (AcceptsFirst id.now attempt bytes.now) self.old self.new }
     {
         match self.feed(id, attempt, bytes) {

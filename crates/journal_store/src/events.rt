@@ -8,7 +8,7 @@ ghost use Rattle.journal_store.specs.Attempts.{BeginsSome, IsToldAs, fresh};
 ghost use Rattle.journal_store.specs.Stands.{EnduresAlways, KeepsOutputs, Leads, Settles, WaitsAfter};
 ghost use Rattle.journal_store.specs.Words.{state, IsKept};
 ghost use Rattle.journal_store.specs.Writing.{Writes};
-ghost use Rattle.journal_store.specs.Causes.{TellsWhyUnwritten};
+ghost use Rattle.journal_store.specs.Causes.{TellsWhyUnwritten, TriesEvent};
 
 use crate::store::Store;
 use bytes::ByteStr;
@@ -27,6 +27,8 @@ use store_tables::{StoreTables, Write, commit_all};
 pub(crate) fn commit<S: Alter>(tables: &mut StoreTables<S>, writes: &[Write]) -> Result<(), Refusal>
     ensures { Writes S.Store writes.now tables.old tables.new result }
 {
+    // It does nothing: its contract says over what tables a write is refused.
+    let _settled = tables.is_settled();
     match commit_all(tables, writes) {
         Ok(()) => Ok(()),
         Err(cause) => Err(Refusal::StatementRefused(cause)),
@@ -133,7 +135,7 @@ impl<S: Alter + Drop> Store<S> {
         ensures live { self.new.live ≡ self.old.live }
         ensures settled { OnOk result (Settles S.Store (Invokes new result) self.old self.new) }
         ensures kept { OnErr result (IsKept (state S.Store self.old.connection) (state S.Store self.new.connection)) }
-        ensures cause { IfErr result (TellsWhyUnwritten S.Store self.old self.new) }
+        ensures cause { IfErr result (TellsWhyUnwritten S.Store self.old self.new (TriesEvent (Event.Invoke new))) }
         ensures crash { EnduresAlways S.Store (Adds (Event.Invoke new)) self.old self.new }
     {
         let prepared = prepare_invoke(&mut self.tables, &new);
@@ -155,7 +157,7 @@ impl<S: Alter + Drop> Store<S> {
         ensures waits { KeepsOutputs self.old.live.attempts self.new.live.attempts }
         ensures settled { OnOk result (Settles S.Store (Completes id.now completion brought result) self.old self.new) }
         ensures kept { OnErr result (IsKept (state S.Store self.old.connection) (state S.Store self.new.connection)) }
-        ensures cause { IfErr result (TellsWhyUnwritten S.Store self.old self.new) }
+        ensures cause { IfErr result (TellsWhyUnwritten S.Store self.old self.new (TriesEvent (Event.Complete id.now completion brought))) }
         ensures crash { EnduresAlways S.Store (Adds (Event.Complete id.now completion brought)) self.old self.new }
     {
         match prepare_result(&mut self.tables, id, completion, brought) {
@@ -170,7 +172,7 @@ impl<S: Alter + Drop> Store<S> {
         ensures waits { WaitsAfter id.now (Some []) result self.old.live.attempts self.new.live.attempts }
         ensures settled { OnOk result (Settles S.Store (BeginsAttempt id.now now result) self.old self.new) }
         ensures kept { OnErr result (IsKept (state S.Store self.old.connection) (state S.Store self.new.connection)) }
-        ensures cause { IfErr result (TellsWhyUnwritten S.Store self.old self.new) }
+        ensures cause { IfErr result (TellsWhyUnwritten S.Store self.old self.new (TriesEvent (Event.Begin id.now now))) }
         ensures crash { EnduresAlways S.Store (BeginsSome id.now now) self.old self.new }
     {
         match prepare_begin(&mut self.tables, id, now) {

@@ -10,7 +10,7 @@ ghost use Rattle.store_invocations.specs.Rows.{IsStoreOf};
 ghost use Rattle.journal_store.specs.Opened.{CanBeTaken, ComesBack, IsNotTaken, MakesTables};
 ghost use Rattle.journal_store.specs.Stands.{Stands};
 ghost use Rattle.journal_store.specs.Words.{state, HasCleanDisk, Survives, IsKept};
-ghost use Rattle.store_refusals.specs.Causes.{TellsCauseToWrite};
+ghost use Rattle.store_refusals.specs.Causes.{TellsCause};
 
 use crate::store::Store;
 use sqlite::{Alter, Connection};
@@ -37,7 +37,7 @@ fn take_tables<S: Alter>(alloc: Global, conn: &mut Connection<S>) -> Result<(), 
     ensures idle { OnOk result ((state S.Store conn.new).in_transaction ≡ false) }
     ensures refused { OnErr result (ComesBack (state S.Store conn.old) (state S.Store conn.new)) }
     ensures why { HasCleanDisk (state S.Store conn.new) → IfErr result (IsNotTaken (state S.Store conn.old)) }
-    ensures cause { IfErr result (TellsCauseToWrite (state S.Store conn.old) (state S.Store conn.new)) }
+    ensures cause { IfErr result (TellsCause (state S.Store conn.old) (state S.Store conn.new)) }
     ensures busy { (state S.Store conn.old).in_transaction ≡ true → (result ≡ Err ForeignRow) × (conn.new ≡ conn.old) }
     ensures crash { Survives (state S.Store conn.old) (state S.Store conn.new) (MakesTables (state S.Store conn.old)) }
 {
@@ -58,7 +58,7 @@ impl<S: Alter + Drop> Store<S> {
         ensures crash { IfOk result (λ store. Survives (state S.Store connection) (state S.Store store.connection) (MakesTables (state S.Store connection))) }
         ensures refused { IfErr result (λ left. ComesBack (state S.Store connection) (state S.Store left.connection)) }
         ensures why { IfErr result (λ left. HasCleanDisk (state S.Store left.connection) → IsNotTaken (state S.Store connection) left.refusal) }
-        ensures cause { IfErr result (λ left. TellsCauseToWrite (state S.Store connection) (state S.Store left.connection) left.refusal) }
+        ensures cause { IfErr result (λ left. TellsCause (state S.Store connection) (state S.Store left.connection) left.refusal) }
         ensures busy { (state S.Store connection).in_transaction ≡ true → result ≡ Err (record { connection = connection; refusal = ForeignRow }) }
     {
         let mut taken = connection;

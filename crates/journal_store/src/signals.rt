@@ -6,7 +6,7 @@ ghost use Rattle.store_calls.specs.Standing.{Adds};
 ghost use Rattle.store_calls.specs.Calls.{Cancels, Signals};
 ghost use Rattle.journal_store.specs.Stands.{EnduresAlways, KeepsOutputs, Leads, Settles};
 ghost use Rattle.journal_store.specs.Words.{state, IsKept};
-ghost use Rattle.journal_store.specs.Causes.{TellsWhyUnwritten};
+ghost use Rattle.journal_store.specs.Causes.{TellsWhyUnwritten, TriesEvent};
 
 use crate::store::Store;
 use bytes::ByteStr;
@@ -27,7 +27,7 @@ impl<S: Alter + Drop> Store<S> {
         ensures waits { KeepsOutputs self.old.live.attempts self.new.live.attempts }
         ensures settled { OnOk result (Settles S.Store (Signals id.now (key_of key) brought result) self.old self.new) }
         ensures kept { OnErr result (IsKept (state S.Store self.old.connection) (state S.Store self.new.connection)) }
-        ensures cause { IfErr result (TellsWhyUnwritten S.Store self.old self.new) }
+        ensures cause { IfErr result (TellsWhyUnwritten S.Store self.old self.new (TriesEvent (Event.Signal id.now (key_of key) brought))) }
         ensures crash { EnduresAlways S.Store (Adds (Event.Signal id.now (key_of key) brought)) self.old self.new }
     {
         match prepare_signal(&mut self.tables, id, key, brought) {
@@ -43,7 +43,7 @@ impl<S: Alter + Drop> Store<S> {
         ensures waits { KeepsOutputs self.old.live.attempts self.new.live.attempts }
         ensures settled { OnOk result (Settles S.Store (Cancels id.now result) self.old self.new) }
         ensures kept { OnErr result (IsKept (state S.Store self.old.connection) (state S.Store self.new.connection)) }
-        ensures cause { IfErr result (TellsWhyUnwritten S.Store self.old self.new) }
+        ensures cause { IfErr result (TellsWhyUnwritten S.Store self.old self.new (TriesEvent (Event.Cancel id.now))) }
         ensures crash { EnduresAlways S.Store (Adds (Event.Cancel id.now)) self.old self.new }
     {
         match prepare_cancel(&mut self.tables, id) {

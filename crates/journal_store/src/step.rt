@@ -8,7 +8,7 @@ ghost use Rattle.journal_store.specs.Stands.{Endures, Leads};
 ghost use Rattle.journal_store.specs.Taking.{HasMessage, HasMessageOf, HasRoomToNote, IsEndedBy, IsFirstOf, IsFirstSeen, IsSeenOf, SettlesStep, after_noted, after_room, passed};
 ghost use Rattle.journal_store.specs.Words.{state, IsKept, AreAsBefore, attempt_of, has_number};
 ghost use Rattle.journal_store.specs.Writing.{Writes};
-ghost use Rattle.journal_store.specs.Causes.{TellsWhyUnwritten};
+ghost use Rattle.journal_store.specs.Causes.{TellsWhyUnwritten, TriesFrame};
 
 use crate::attempt::{is_live, stale_refusal};
 use crate::events::commit;
@@ -185,7 +185,7 @@ impl<S: Alter + Drop> Store<S> {
         ensures does { Leads S.Store (Steps id.now attempt result) self.old self.new }
         ensures settled { SettlesStep S.Store id.now attempt result self.old self.new }
         ensures kept { OnErr result (IsKept (state S.Store self.old.connection) (state S.Store self.new.connection)) }
-        ensures cause { IfErr result (TellsWhyUnwritten S.Store self.old self.new) }
+        ensures cause { IfErr result (TellsWhyUnwritten S.Store self.old self.new (TriesFrame id.now attempt)) }
         ensures crash { Endures S.Store (TakesOne id.now attempt) self.old self.new }
     {
         let SeenFrame { frame, len, facts } = seen;
@@ -206,7 +206,7 @@ impl<S: Alter + Drop> Store<S> {
         ensures does { Leads S.Store (Steps id.now attempt result) self.old self.new }
         ensures settled { SettlesStep S.Store id.now attempt result self.old self.new }
         ensures kept { OnErr result (IsKept (state S.Store self.old.connection) (state S.Store self.new.connection)) }
-        ensures cause { IfErr result (TellsWhyUnwritten S.Store self.old self.new) }
+        ensures cause { IfErr result (TellsWhyUnwritten S.Store self.old self.new (TriesFrame id.now attempt)) }
         ensures crash { Endures S.Store (TakesOne id.now attempt) self.old self.new }
     {
         if !is_live(&self.live, id, attempt) {

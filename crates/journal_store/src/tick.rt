@@ -6,7 +6,7 @@ ghost use Rattle.store_calls.specs.Calls.{Ticks};
 ghost use Rattle.journal_store.specs.Stands.{EnduresAlways, KeepsOutputs, Leads, Settles};
 ghost use Rattle.journal_store.specs.Words.{state, IsKept};
 ghost use Rattle.journal_store.specs.Writing.{Writes};
-ghost use Rattle.journal_store.specs.Causes.{TellsWhyUnwritten};
+ghost use Rattle.journal_store.specs.Causes.{TellsWhyUnwritten, TriesEvent};
 
 use crate::events::commit;
 use crate::store::Store;
@@ -37,7 +37,7 @@ impl<S: Alter + Drop> Store<S> {
         ensures waits { KeepsOutputs self.old.live.attempts self.new.live.attempts }
         ensures settled { OnOk result (Settles S.Store (Ticks now result) self.old self.new) }
         ensures kept { OnErr result (IsKept (state S.Store self.old.connection) (state S.Store self.new.connection)) }
-        ensures cause { IfErr result (TellsWhyUnwritten S.Store self.old self.new) }
+        ensures cause { IfErr result (TellsWhyUnwritten S.Store self.old self.new (TriesEvent (Event.Tick now))) }
         ensures crash { EnduresAlways S.Store (Adds (Event.Tick now)) self.old self.new }
     {
         // It does nothing: its contract says that a tick of which nothing is written lasts too.

@@ -1,5 +1,5 @@
 -- A store over a database that was just made in memory.
-use Rattle.std.proofs.Common.{◌≡◌, ◌⊎◌, ◌∙◌, ◌&&◌, ℕ, true, refl, sym, subst, ap₂, inl, inr, List, [], ◌∷◌, Option, None, Result, Ok, Err, IfErr, IsErrAnd, IsSome, IsTrue}
+use Rattle.std.proofs.Common.{◌≡◌, ◌∙◌, ◌&&◌, ℕ, true, refl, sym, subst, ap₂, inl, inr, List, [], ◌∷◌, Option, None, Result, Ok, Err, IfErr, IsErrAnd, IsSome, IsTrue}
 use Rattle.std.specs.List.{AllZip}
 use Rattle.sqlite_disk.specs.declared.Disk.{Ghosts}
 use Rattle.sqlite_pool.specs.Pool.{files}
@@ -21,11 +21,11 @@ use Rattle.sqlite.specs.Opening.{is_open_error}
 use Rattle.sqlite.specs.State.{State, HasCleanDisk, is_disk_error}
 use Rattle.sqlite.proofs.OpenLemmas.{pool_files}
 use Rattle.sql_tables.specs.Columns.{no_schema}
-use Rattle.sql_tables.specs.Causes.{IsCause, IsCauseToWrite, is_own, is_shut_error}
+use Rattle.sql_tables.specs.Causes.{IsCause, is_shut_error}
 use Rattle.store_refusals.specs.declared.refusal.Refusal.{Refusal}
 use Rattle.store_refusals.specs.declared.refusal.Refusal.TheVariants.{StatementRefused}
 use Rattle.store_refusals.specs.Refused.{is_circumstance}
-use Rattle.store_refusals.specs.Causes.{TellsCauseToWrite}
+use Rattle.store_refusals.specs.Causes.{TellsCause}
 use Rattle.journal_store.specs.Opened.{IsNotTaken}
 use Rattle.store_files.specs.Made.{IsEmptyAndIdle, TellsUnmade}
 
@@ -68,7 +68,7 @@ unmade_by e (Err why) gives tells = subst TellsUnmade (sym gives) tells
 
 -- the connection was not opened
 pub unopened_unmade : (error : Error) → IsTrue (is_open_error error) → TellsUnmade (StatementRefused error)
-unopened_unmade error named cause is = let same : error ≡ cause = cc in inl (subst (λ (e : Error). IsTrue (is_open_error e)) same named)
+unopened_unmade error named cause is = let same : error ≡ cause = cc in subst (λ (e : Error). IsTrue (is_open_error e)) same named
 
 disk_opens : (e : Error) → IsTrue (is_disk_error e) → IsTrue (is_open_error e)
 disk_opens (SqliteFailure code.SystemIoFailure) is = refl
@@ -88,11 +88,6 @@ cause_unmade old new cause unlimited (inr (inl disk)) = disk_opens cause disk.0
 cause_unmade old new cause unlimited (inr (inr (inl shut))) = shut_opens cause shut.0
 cause_unmade old new cause unlimited (inr (inr (inr limit))) = let none : IsSome {T = ℕ} None = subst (λ (o : Option ℕ). IsSome o) unlimited limit.1 in cc
 
-write_unmade : (old new : State) (cause : Error) → old.step_limit ≡ None → IsCauseToWrite old new cause → IsTrue (is_open_error cause) ⊎ IsTrue (is_own cause)
-unfolding IsCauseToWrite
-write_unmade old new cause unlimited (inl it) = inl (cause_unmade old new cause unlimited it)
-write_unmade old new cause unlimited (inr own) = inr own
-
 -- the connection was opened, and no store over it
-pub refused_unmade : (old new : State) (why : Refusal) → old.step_limit ≡ None → HasCleanDisk new → TellsCauseToWrite old new why → TellsUnmade why
-refused_unmade old new why unlimited clean tells cause is = write_unmade old new cause unlimited (tells clean cause is)
+pub refused_unmade : (old new : State) (why : Refusal) → old.step_limit ≡ None → HasCleanDisk new → TellsCause old new why → TellsUnmade why
+refused_unmade old new why unlimited clean tells cause is = cause_unmade old new cause unlimited (tells clean cause is)

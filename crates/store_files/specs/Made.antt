@@ -1,5 +1,5 @@
 -- A database that was just made in files that lie in memory.
-use Rattle.std.specs.Prelude.{◌≡◌, ◌⊎◌, false, [], None, IsTrue}
+use Rattle.std.specs.Prelude.{◌≡◌, false, [], None, IsTrue}
 use Rattle.sqlite_disk.specs.declared.Disk.{Ghosts}
 use Rattle.sqlite_trees.specs.Objects.{catalog_tree}
 use Rattle.sqlite_trees.specs.View.{IsClean}
@@ -10,7 +10,6 @@ use Rattle.sqlite.specs.State.{State, HasCleanDisk}
 use Rattle.sqlite.specs.Steps.{IsFresh}
 use Rattle.sqlite.specs.Opening.{is_open_error}
 use Rattle.sql_tables.specs.Columns.{no_schema}
-use Rattle.sql_tables.specs.Causes.{is_own}
 use Rattle.store_refusals.specs.declared.refusal.Refusal.{Refusal}
 use Rattle.store_refusals.specs.declared.refusal.Refusal.TheVariants.{StatementRefused}
 
@@ -28,6 +27,6 @@ pub record IsEmptyAndIdle (s : State) : Type 0 where
   pub idle : s.in_transaction ≡ false
   pub unlimited : s.step_limit ≡ None
 
--- where the database refused something, it was for an error of opening one, or for what a statement is refused for itself
+-- where the database refused something, it was for an error of opening one
 abbrev pub TellsUnmade : Refusal → Type 0
-TellsUnmade why = (cause : Error) → why ≡ StatementRefused cause → IsTrue (is_open_error cause) ⊎ IsTrue (is_own cause)
+TellsUnmade why = (cause : Error) → why ≡ StatementRefused cause → IsTrue (is_open_error cause)

@@ -16,7 +16,7 @@ use Rattle.sqlite.specs.Opening.{is_open_error}
 use Rattle.sqlite.specs.Files.{AreFoundIn, FailsToOpenFiles, IsCleanLeft, LeavesFiles, file_state, image_of}
 use Rattle.store_refusals.specs.declared.refusal.Refusal.{Refusal}
 use Rattle.store_refusals.specs.declared.refusal.Refusal.TheVariants.{ForeignRow}
-use Rattle.store_refusals.specs.Causes.{TellsCauseToWrite}
+use Rattle.store_refusals.specs.Causes.{TellsCause}
 use Rattle.journal_store.specs.Opened.{ComesBack, IsNotTaken}
 use Rattle.store_files.specs.Taken.{WasOpened}
 
@@ -50,6 +50,6 @@ module _ {D : Type 0} {g : Ghosts D} where
     pub opened : WasOpened image was
     pub back : ComesBack (file_state was) (file_state connection)
     pub cause : HasCleanDisk (file_state connection) → IsNotTaken (file_state was) why
-    pub told : TellsCauseToWrite (file_state was) (file_state connection) why
+    pub told : TellsCause (file_state was) (file_state connection) why
     pub seen : HasCleanDisk (file_state connection) → IsTrue (file_state connection).is_open → AreFoundIn image (file_state connection).now.trees
     pub spared : HasCleanDisk (file_state connection) → why ≡ ForeignRow → (trees : Trees) → (file_state connection).may_leave trees → (file_state was).may_leave trees

@@ -1,9 +1,7 @@
 use Rattle.std.proofs.Common.{rules, refl, Ok, Err}
-use Rattle.sqlite.specs.Held.{state}
-use Rattle.store_refusals.proofs.Causes.{tells_later_to_write}
 use Rattle.store_calls.specs.Frames.{TakesFirst}
 use Rattle.journal_store.proofs.Enduring.{same_endures}
-use Rattle.journal_store.proofs.Accepting.{first_endures, goes_further, kept_on, none_taken, refused_settled, refused_so, rests_settled, rests_so, settled_on}
+use Rattle.journal_store.proofs.Accepting.{first_endures, goes_further, kept_on, none_taken, refused_settled, refused_so, refused_tried, rests_settled, rests_so, settled_on}
 use Rattle.journal_store.proofs.accept.take_all.Goals as goal
 
 pub loop-replies-init : goal.loop-replies-init
@@ -70,5 +68,5 @@ returns-in-Err-clause-kept g c =
 
 pub returns-in-Err-clause-cause : goal.returns-in-Err-clause-cause
 returns-in-Err-clause-cause g c =
-    tells_later_to_write (state g.S.Store c.args.store.now.connection) (state g.S.Store c.loop-replies.store.connection) (state g.S.Store c.take_next.new.store.connection) _ _
-    c.loop-replies.invariant.crash c.take_next.ensures.crash c.in-Err.why c.in-Err.ensures.cause
+    refused_tried g.S.Store c.args.id.now c.args.attempt c.args.store.now c.loop-replies.store c.take_next.new.store c.loop-replies.replies.items c.take_next.new.replies.items
+    c.loop-replies.invariant.taken c.take_next.ensures.crash c.loop-replies.invariant.crash c.in-Err.why c.in-Err.ensures.settled c.in-Err.ensures.cause

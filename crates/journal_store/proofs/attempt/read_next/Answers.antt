@@ -1,4 +1,4 @@
-use Rattle.std.proofs.Common.{sym, subst, [], refl}
+use Rattle.std.proofs.Common.{sym, subst, []}
 use Rattle.sqlite.specs.Held.{state}
 use Rattle.store_refusals.specs.Refused.{IsRefused}
 use Rattle.store_refusals.proofs.Causes.{cause_by}

@@ -1,8 +1,10 @@
-use Rattle.std.proofs.Common.{arith}
+use Rattle.std.proofs.Common.{arith, Ok}
 use Rattle.sqlite.specs.Held.{state}
+use Rattle.store_calls.specs.Calls.{Feeds}
+use Rattle.journal_store.specs.Causes.{TriesFrameBehind, TriesFrameOf}
 use Rattle.journal_store.proofs.Accepting.{accepts, accept_endures, accept_settled}
 use Rattle.journal_store.proofs.Lasting.{kept_then}
-use Rattle.journal_store.proofs.Causing.{frame_later}
+use Rattle.journal_store.proofs.Causing.{frame_behind}
 use Rattle.journal_store.proofs.store.Store.accept.Goals as goal
 
 pub returns-in-Ok-clause-does : goal.returns-in-Ok-clause-does
@@ -26,5 +28,8 @@ returns-in-Ok-clause-kept_unanswered g c none =
 
 pub returns-in-Ok-clause-cause_of_frame : goal.returns-in-Ok-clause-cause_of_frame
 returns-in-Ok-clause-cause_of_frame g c =
-    frame_later (state g.S.Store c.args.self.now.connection) (state g.S.Store c.feed.new.self.connection) (state g.S.Store c.take_all.new.store.connection) _ _
-    c.feed.ensures.crash c.take_all.ensures.crash c.take_all.result.refusal c.take_all.ensures.cause
+    let id = c.args.id.now in
+    let bytes = c.args.bytes.now in
+    let replies = c.take_all.result.replies.items in
+    frame_behind g.S.Store (Feeds id c.args.attempt bytes (Ok tt)) (TriesFrameBehind id c.args.attempt replies) (TriesFrameOf id c.args.attempt bytes replies)
+    c.args.self.now c.feed.new.self c.take_all.new.store _ _ c.feed.ensures.crash c.take_all.ensures.crash c.in-Ok.ensures.does (λ s m at event put tried. (m, put, tried)) c.take_all.result.refusal c.take_all.ensures.cause

@@ -2,17 +2,17 @@ use Rattle.std.proofs.Common.{refl, arith}
 use Rattle.sqlite.specs.State.{State, HasCleanDisk}
 use Rattle.sqlite.specs.Held.{state}
 use Rattle.journal_model.specs.Event.{Event}
-use Rattle.store_refusals.proofs.Causes.{tells_to_write}
 use Rattle.store_calls.specs.Calls.{BeginsAttempt}
 use Rattle.journal_store.specs.Attempts.{BeginsSome}
 use Rattle.journal_store.specs.Stored.{stored}
+use Rattle.journal_store.specs.Causes.{TriesEvent}
 use Rattle.journal_store.proofs.Enduring.{begin_landed}
 use Rattle.journal_store.proofs.Lasting.{settled_written, undone_kept}
 use Rattle.journal_store.proofs.Leading.{begins}
 use Rattle.journal_store.proofs.Recording.{looked}
 use Rattle.journal_store.proofs.Beginning.{begin_recorded, other_tests}
 use Rattle.journal_store.proofs.Standing.{commits_after}
-use Rattle.journal_store.proofs.Causing.{written_cause}
+use Rattle.journal_store.proofs.Causing.{asked_unwritten, event_tried}
 use Rattle.journal_store.proofs.store.Store.begin.Goals as goal
 
 pub returns-in-Ok-clause-does : goal.returns-in-Ok-clause-does
@@ -53,8 +53,9 @@ returns-in-Ok-clause-kept g c =
 
 pub returns-in-Ok-clause-cause : goal.returns-in-Ok-clause-cause
 returns-in-Ok-clause-cause g c =
-    rw (← c.self.view_is) (written_cause g.S.Store c.self.inside.tables c.prepare_begin.new.tables c.record_begin.new.self.connection c.in-Ok.made.writes.items c.record_begin.result c.prepare_begin.ensures.looks c.record_begin.ensures.made)
+    rw (← c.self.view_is) (event_tried g.S.Store (Event.Begin c.args.id.now c.args.now) c.prepare_begin.new.tables (stored c.self.inside.tables c.self.inside.live) c.record_begin.new.self c.in-Ok.made.writes.items c.record_begin.result
+    c.prepare_begin.ensures.looks (λ clean events store. (c.in-Ok.ensures.prepared clean events store).1.writes) c.record_begin.ensures.made)
 
 pub returns-in-Err-clause-cause : goal.returns-in-Err-clause-cause
 returns-in-Err-clause-cause g c =
-    rw (← c.self.view_is) (tells_to_write (state g.S.Store c.self.inside.tables) (state g.S.Store c.prepare_begin.new.tables) c.in-Err.why c.in-Err.ensures.cause)
+    rw (← c.self.view_is) (asked_unwritten g.S.Store (TriesEvent (Event.Begin c.args.id.now c.args.now)) (stored c.self.inside.tables c.self.inside.live) (stored c.prepare_begin.new.tables c.self.inside.live) c.in-Err.why c.in-Err.ensures.cause)

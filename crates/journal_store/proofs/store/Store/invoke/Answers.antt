@@ -2,14 +2,15 @@ use Rattle.std.proofs.Common.{arith}
 use Rattle.sqlite.specs.State.{State}
 use Rattle.sqlite.specs.Held.{state}
 use Rattle.journal_model.specs.Event.{Event}
-use Rattle.store_refusals.proofs.Causes.{tells_to_write}
 use Rattle.store_calls.specs.Standing.{Adds}
 use Rattle.store_calls.specs.Calls.{Invokes}
 use Rattle.store_calls.proofs.Landing.{invoked}
+use Rattle.journal_store.specs.Stored.{stored}
+use Rattle.journal_store.specs.Causes.{TriesEvent}
 use Rattle.journal_store.proofs.Lasting.{settled_written, undone_kept}
 use Rattle.journal_store.proofs.Recording.{invokes, looked}
 use Rattle.journal_store.proofs.Standing.{commits_after}
-use Rattle.journal_store.proofs.Causing.{written_cause}
+use Rattle.journal_store.proofs.Causing.{asked_unwritten, event_tried}
 use Rattle.journal_store.proofs.store.Store.invoke.Goals as goal
 
 pub returns-in-Ok-clause-does : goal.returns-in-Ok-clause-does
@@ -42,8 +43,9 @@ returns-in-Ok-clause-kept g c =
 
 pub returns-in-Ok-clause-cause : goal.returns-in-Ok-clause-cause
 returns-in-Ok-clause-cause g c =
-    rw (← c.self.view_is) (written_cause g.S.Store c.self.inside.tables c.prepare_invoke-prepared.new.tables c.commit_ready.new.tables c.in-Ok.writes.items c.commit_ready.result c.prepare_invoke-prepared.ensures.looks c.commit_ready.ensures)
+    rw (← c.self.view_is) (event_tried g.S.Store (Event.Invoke c.args.new) c.prepare_invoke-prepared.new.tables (stored c.self.inside.tables c.self.inside.live) (stored c.commit_ready.new.tables c.self.inside.live) c.in-Ok.writes.items c.commit_ready.result
+    c.prepare_invoke-prepared.ensures.looks (λ clean events store. (c.in-Ok.ensures.prepared clean events store).1) c.commit_ready.ensures)
 
 pub returns-in-Err-clause-cause : goal.returns-in-Err-clause-cause
 returns-in-Err-clause-cause g c =
-    rw (← c.self.view_is) (tells_to_write (state g.S.Store c.self.inside.tables) (state g.S.Store c.prepare_invoke-prepared.new.tables) c.in-Err.why c.in-Err.ensures.cause)
+    rw (← c.self.view_is) (asked_unwritten g.S.Store (TriesEvent (Event.Invoke c.args.new)) (stored c.self.inside.tables c.self.inside.live) (stored c.prepare_invoke-prepared.new.tables c.self.inside.live) c.in-Err.why c.in-Err.ensures.cause)

@@ -1,4 +1,4 @@
-use Rattle.std.proofs.Common.{rules, ◌≡◌, ◌∙◌, sym, ap, subst, true, false, arith, [], Result, Err, refl}
+use Rattle.std.proofs.Common.{rules, ◌≡◌, ◌∙◌, sym, ap, subst, true, false, [], Result, Err, refl}
 use Rattle.sqlite.specs.Held.{state}
 use Rattle.journal_model.specs.Notification.{Bytes}
 use Rattle.journal_model.specs.Event.{Event}

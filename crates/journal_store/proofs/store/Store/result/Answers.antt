@@ -2,10 +2,10 @@ use Rattle.std.proofs.Common.{refl, arith}
 use Rattle.sqlite.specs.State.{State, HasCleanDisk}
 use Rattle.sqlite.specs.Held.{state}
 use Rattle.journal_model.specs.Event.{Event}
-use Rattle.store_refusals.proofs.Causes.{tells_to_write}
 use Rattle.store_calls.specs.Standing.{Adds}
 use Rattle.store_calls.specs.Calls.{Completes}
 use Rattle.journal_store.specs.Stored.{stored}
+use Rattle.journal_store.specs.Causes.{TriesEvent}
 use Rattle.journal_store.proofs.Enduring.{complete_landed}
 use Rattle.journal_store.proofs.Lasting.{settled_written, undone_kept}
 use Rattle.journal_store.proofs.Leading.{arrives}
@@ -13,7 +13,7 @@ use Rattle.journal_store.proofs.Recording.{looked}
 use Rattle.journal_store.proofs.Arriving.{arrival_recorded}
 use Rattle.journal_store.proofs.Standing.{commits_after}
 use Rattle.journal_store.proofs.Waiting.{still_waits}
-use Rattle.journal_store.proofs.Causing.{written_cause}
+use Rattle.journal_store.proofs.Causing.{asked_unwritten, event_tried}
 use Rattle.journal_store.proofs.store.Store.result.Goals as goal
 
 pub returns-in-Ok-clause-does : goal.returns-in-Ok-clause-does
@@ -61,8 +61,9 @@ returns-in-Ok-clause-kept g c =
 
 pub returns-in-Ok-clause-cause : goal.returns-in-Ok-clause-cause
 returns-in-Ok-clause-cause g c =
-    rw (← c.self.view_is) (written_cause g.S.Store c.self.inside.tables c.prepare_result.new.tables c.record_arrival.new.self.connection c.in-Ok.made.writes.items c.record_arrival.result c.prepare_result.ensures.looks c.record_arrival.ensures.made)
+    rw (← c.self.view_is) (event_tried g.S.Store (Event.Complete c.args.id.now c.args.completion c.args.brought) c.prepare_result.new.tables (stored c.self.inside.tables c.self.inside.live) c.record_arrival.new.self c.in-Ok.made.writes.items c.record_arrival.result
+    c.prepare_result.ensures.looks (λ clean events store. (c.in-Ok.ensures.prepared clean events store).1.writes) c.record_arrival.ensures.made)
 
 pub returns-in-Err-clause-cause : goal.returns-in-Err-clause-cause
 returns-in-Err-clause-cause g c =
-    rw (← c.self.view_is) (tells_to_write (state g.S.Store c.self.inside.tables) (state g.S.Store c.prepare_result.new.tables) c.in-Err.why c.in-Err.ensures.cause)
+    rw (← c.self.view_is) (asked_unwritten g.S.Store (TriesEvent (Event.Complete c.args.id.now c.args.completion c.args.brought)) (stored c.self.inside.tables c.self.inside.live) (stored c.prepare_result.new.tables c.self.inside.live) c.in-Err.why c.in-Err.ensures.cause)

@@ -1,10 +1,11 @@
 use Rattle.std.proofs.Common.{rules, ◌≡◌, true, refl, Err}
-use Rattle.sqlite.specs.Held.{state}
-use Rattle.store_refusals.proofs.Causes.{tells_to_write}
 use Rattle.store_live.specs.Attempts.{attempt_of}
 use Rattle.store_live_laws.specs.Agrees.{has_number}
 use Rattle.store_calls.specs.Frames.{Steps}
+use Rattle.journal_store.specs.Stored.{stored}
+use Rattle.journal_store.specs.Causes.{TriesFrame}
 use Rattle.journal_store.proofs.Calls.{dead, step_dead}
+use Rattle.journal_store.proofs.Causing.{asked_unwritten}
 use Rattle.journal_store.proofs.Taking.{header_refused, none_waits, no_room}
 use Rattle.journal_store.proofs.store.Store.step.Goals as goal
 
@@ -40,4 +41,4 @@ returns-in-Ok-Partial-clause-settled g c = rw (← c.self.view_is) refl
 
 pub returns-then-not-is_live-clause-cause : goal.returns-then-not-is_live-clause-cause
 returns-then-not-is_live-clause-cause g c =
-    rw (← c.self.view_is) (tells_to_write (state g.S.Store c.self.inside.tables) (state g.S.Store c.stale_refusal.new.tables) c.stale_refusal.result c.stale_refusal.ensures.cause)
+    rw (← c.self.view_is) (asked_unwritten g.S.Store (TriesFrame c.args.id.now c.args.attempt) (stored c.self.inside.tables c.self.inside.live) (stored c.stale_refusal.new.tables c.self.inside.live) c.stale_refusal.result c.stale_refusal.ensures.cause)

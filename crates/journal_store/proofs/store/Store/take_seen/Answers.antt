@@ -1,12 +1,12 @@
 use Rattle.std.proofs.Common.{arith}
 use Rattle.sqlite.specs.State.{State}
 use Rattle.sqlite.specs.Held.{state}
-use Rattle.store_refusals.proofs.Causes.{tells_to_write}
 use Rattle.journal_store.specs.Stored.{stored}
+use Rattle.journal_store.specs.Causes.{TriesFrame}
 use Rattle.journal_store.proofs.Enduring.{quiet_endures}
 use Rattle.journal_store.proofs.Lasting.{undone_kept}
-use Rattle.journal_store.proofs.Taking.{is_here, seen_lands, seen_refused, seen_settled, seen_taken, steps_so}
-use Rattle.journal_store.proofs.Causing.{written_cause}
+use Rattle.journal_store.proofs.Taking.{frame_tried, is_here, seen_lands, seen_refused, seen_settled, seen_taken, steps_so}
+use Rattle.journal_store.proofs.Causing.{asked_unwritten, tried_by}
 use Rattle.journal_store.proofs.store.Store.take_seen.Goals as goal
 
 pub returns-in-Ok-clause-does : goal.returns-in-Ok-clause-does
@@ -48,8 +48,11 @@ returns-in-Ok-clause-settled g c =
 
 pub returns-in-Ok-clause-cause : goal.returns-in-Ok-clause-cause
 returns-in-Ok-clause-cause g c =
-    rw (← c.self.view_is) (written_cause g.S.Store c.self.inside.tables c.prepare_frame.new.tables c.take_prepared.new.self.connection c.in-Ok.made.writes.items c.take_prepared.result c.prepare_frame.ensures.looks c.take_prepared.ensures.made)
+    let one = is_here c.self.inside.tables c.self.inside.live c.args.self.now c.self.view_is c.args.id.now c.args.attempt c.args.seen c.requires.live c.requires.seen in
+    rw (← c.self.view_is) (tried_by g.S.Store (TriesFrame c.args.id.now c.args.attempt) c.prepare_frame.new.tables (stored c.self.inside.tables c.self.inside.live) c.take_prepared.new.self c.in-Ok.made.writes.items c.prepare_frame.ensures.looks
+    (frame_tried g.S.Store c.self.inside.tables c.prepare_frame.new.tables c.take_prepared.new.self.connection c.self.inside.live c.take_prepared.new.self.live c.args.id.now c.args.attempt c.args.seen one
+    c.in-Ok.made c.in-Ok.ensures.prepared) c.take_prepared.result c.take_prepared.ensures.made)
 
 pub returns-in-Err-clause-cause : goal.returns-in-Err-clause-cause
 returns-in-Err-clause-cause g c =
-    rw (← c.self.view_is) (tells_to_write (state g.S.Store c.self.inside.tables) (state g.S.Store c.prepare_frame.new.tables) c.in-Err.why c.in-Err.ensures.cause)
+    rw (← c.self.view_is) (asked_unwritten g.S.Store (TriesFrame c.args.id.now c.args.attempt) (stored c.self.inside.tables c.self.inside.live) (stored c.prepare_frame.new.tables c.end_refused.new.live) c.in-Err.why c.in-Err.ensures.cause)

@@ -2,12 +2,13 @@ use Rattle.std.proofs.Common.{arith}
 use Rattle.sqlite.specs.State.{State}
 use Rattle.sqlite.specs.Held.{state}
 use Rattle.journal_model.specs.Event.{Event}
-use Rattle.store_refusals.proofs.Causes.{tells_to_write}
+use Rattle.journal_store.specs.Stored.{stored}
+use Rattle.journal_store.specs.Causes.{TriesEvent}
 use Rattle.journal_store.proofs.Lasting.{undone_kept}
 use Rattle.journal_store.proofs.Recording.{looked}
 use Rattle.journal_store.proofs.Ticking.{tick_lands, tick_settled, ticks}
 use Rattle.journal_store.proofs.Waiting.{still_waits}
-use Rattle.journal_store.proofs.Causing.{written_cause}
+use Rattle.journal_store.proofs.Causing.{asked_unwritten, event_tried}
 use Rattle.journal_store.proofs.store.Store.tick.Goals as goal
 
 pub returns-in-Ok-clause-does : goal.returns-in-Ok-clause-does
@@ -43,8 +44,9 @@ returns-in-Ok-clause-kept g c =
 
 pub returns-in-Ok-clause-cause : goal.returns-in-Ok-clause-cause
 returns-in-Ok-clause-cause g c =
-    rw (← c.self.view_is) (written_cause g.S.Store c.self.inside.tables c.prepare_tick.new.tables c.record_tick.new.self.connection c.in-Ok.made.writes.items c.record_tick.result c.prepare_tick.ensures.looks c.record_tick.ensures.made)
+    rw (← c.self.view_is) (event_tried g.S.Store (Event.Tick c.args.now) c.prepare_tick.new.tables (stored c.self.inside.tables c.self.inside.live) c.record_tick.new.self c.in-Ok.made.writes.items c.record_tick.result
+    c.prepare_tick.ensures.looks (λ clean events store. let ready = (c.in-Ok.ensures.prepared clean events store).1 in (ready.ids, ready.ending, ready.writes)) c.record_tick.ensures.made)
 
 pub returns-in-Err-clause-cause : goal.returns-in-Err-clause-cause
 returns-in-Err-clause-cause g c =
-    rw (← c.self.view_is) (tells_to_write (state g.S.Store c.self.inside.tables) (state g.S.Store c.prepare_tick.new.tables) c.in-Err.why c.in-Err.ensures.cause)
+    rw (← c.self.view_is) (asked_unwritten g.S.Store (TriesEvent (Event.Tick c.args.now)) (stored c.self.inside.tables c.self.inside.live) (stored c.prepare_tick.new.tables c.self.inside.live) c.in-Err.why c.in-Err.ensures.cause)
