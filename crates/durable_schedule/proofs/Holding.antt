@@ -1,9 +1,11 @@
 -- Calls on an attempt that is held, or is not.
-use Rattle.std.proofs.Common.{◌≡◌, refl, subst, ℕ, Bool, true, false, List, Option, Some, None}
+use Rattle.std.proofs.Common.{◌≡◌, refl, sym, subst, ℕ, Bool, true, false, List, Option, Some, None, IfSome}
 use Rattle.std.specs.Borrow.{MutBor}
 use Rattle.std.specs.Option.{option_copied_mut, option_map}
 use Rattle.sqlite_trees.specs.declared.store.Store.{Ghosts}
 use Rattle.journal_model.specs.Notification.{Text}
+use Rattle.store_refusals.specs.declared.refusal.Refusal.{Refusal}
+use Rattle.schedule_model.specs.declared.event.Event.TheVariants as event
 use Rattle.schedule_model.specs.declared.event.Reply.{Reply}
 use Rattle.schedule_model.specs.declared.event.Reply.TheVariants as reply
 use Rattle.schedule_model.specs.declared.event.Refusal.TheVariants as refusal
@@ -17,7 +19,7 @@ use Rattle.store_calls.proofs.Taking.{same_stays}
 use Rattle.journal_store.specs.Stored.{Stored}
 use Rattle.journal_store.specs.Stands.{Endures, Leads}
 use Rattle.journal_store.proofs.Enduring.{endures_so}
-use Rattle.durable_schedule.specs.Scheduled.{LeadsMoved}
+use Rattle.durable_schedule.specs.Scheduled.{LeadsMoved, TellsCauseOf, TellsCauseOfMove}
 
 -- what is done to one that is held
 abbrev Changes : Type 0 → Type 1
@@ -52,6 +54,11 @@ module _ {H S : Type 0} (g : Ghosts S) (Change : Changes H) (id : Text) (n : ℕ
         subst (λ (o : Option (HeldAttempt H)). IfHeld Change o s held answer t (with_attempt held (held_as id n changed) changed)) (held_is (Some lent) is) (changed, it, refl)
 
     module _ (old new : Stored S) where
+      -- what a move tells of it is told of the one that is held
+      pub finds_cause : (count : ℕ) (answer : Reply) (why : Option Refusal) → IfSome why (TellsCauseOfMove g count (held_as id n lent.now) answer old new) → IfSome why (TellsCauseOf g (event.Move id n count) held answer old new)
+      finds_cause count answer None told = tt
+      finds_cause count answer (Some why) told = (held_as id n lent.now, sym (held_is (Some lent) is), told)
+
       -- it is changed in its place
       pub finds : (changed : Attempt H) (answer : Reply) → Leads g (λ (s t : Standing). Change (held_as id n lent.now) s answer t changed) old new
           → Leads g (λ (s t : Standing). IfHeld Change (held_of held id n) s held answer t (with_attempt held (held_as id n changed) changed)) old new

@@ -1,5 +1,5 @@
 -- A move: bytes of an attempt that were shown are accepted and let go; and what a crash leaves of it.
-use Rattle.std.proofs.Common.{◌≡◌, ◌∙◌, refl, sym, ap, subst, ℕ, List, ◌∷◌, length, min, take, Bool, true, false, Option, Some, None, Ok, Err, inl, inr}
+use Rattle.std.proofs.Common.{◌≡◌, ◌∙◌, refl, sym, ap, subst, ℕ, List, ◌∷◌, length, min, take, Bool, true, false, Option, Some, None, IfSome, Ok, Err, inl, inr}
 use Rattle.sqlite_trees.specs.declared.store.Store.{Ghosts}
 use Rattle.journal_model.specs.Notification.{Bytes, Text}
 use Rattle.journal_model.specs.Event.{Event}
@@ -19,9 +19,10 @@ use Rattle.store_calls.specs.Calls.{PutsBehind, RefusesBytes}
 use Rattle.store_calls.specs.Frames.{Accepts, AcceptsFirst, Rests}
 use Rattle.store_calls.proofs.Taking.{live_or_over, same_stays}
 use Rattle.journal_store.specs.Stored.{Stored}
+use Rattle.journal_store.specs.Causes.{TellsWhyUnwritten, TriesFrameOf}
 use Rattle.journal_store.specs.Stands.{Endures}
 use Rattle.journal_store.proofs.Enduring.{endures_so}
-use Rattle.durable_schedule.specs.Scheduled.{MovesSome}
+use Rattle.durable_schedule.specs.Scheduled.{MovesSome, TellsCauseOfMove}
 
 -- these bytes were moved, and leave the attempt; or they are refused, and it is as it was
 abbrev AcceptsOne : {H : Type 0} → Bytes → HeldAttempt H → Standing → Reply → Standing → Attempt H → Type 0
@@ -46,6 +47,14 @@ moves_shown {H} count bytes one between shows s t (reply.Refused (refusal.Store 
   subst (λ (a : Attempt H). Gathers one.attempt a) (sym it.1) shows.gathers,
 )
 moves_shown {H} count bytes one between shows s t _ changed it = absurd it
+
+-- a frame of them is what a move tried
+pub shown_cause : {H S : Type 0} (g : Ghosts S) (count : ℕ) (bytes : Bytes) (one : HeldAttempt H) (between : Attempt H) → ShowsFirst count bytes one.attempt between
+    → (old new : Stored S) (len frames : ℕ) (replies : List FrameReply) → frames ≡ length replies → (told : Option Refusal)
+    → IfSome told (TellsWhyUnwritten g old new (TriesFrameOf one.invocation one.number bytes replies)) → IfSome told (TellsCauseOfMove g count one (reply.Moved len frames told) old new)
+shown_cause g count bytes one between shows old new len frames replies many None tells = tt
+shown_cause g count bytes one between shows old new len frames replies many (Some why) tells =
+    (replies, many, subst (λ (some : Bytes). TellsWhyUnwritten g old new (TriesFrameOf one.invocation one.number some replies) why) shows.first tells)
 
 -- memory was refused, and nothing has changed
 pub memory_refuses : (id : Text) (n : ℕ) (s t : Standing) → Stays s t → RefusesBytes (is_live s.events id n) id n OutOfMemory s t

@@ -81,7 +81,7 @@ module _ {H S : Type 0} (g : Ghosts S) (function : H → Handler) where
   module _ (one : Event H) (old : Scheduler H S) where
     -- nothing of it is written
     pub performs_quiet : (answer : Reply) (new : Scheduler H S) → (IsWritten one answer → ⊥) → new.options ≡ old.options → FitsEvent one → TakesLive one answer old.store → SparesAtOnce answer old new
-        → CommitsNothing g one old.store new.store → IsQuiet g old.store new.store → IfSome (refusal_told answer) (TellsCauseOf g one old.store new.store) → LeadsBy g function one answer old new
+        → CommitsNothing g one old.store new.store → IsQuiet g old.store new.store → IfSome (refusal_told answer) (TellsCauseOf g one old.held answer old.store new.store) → LeadsBy g function one answer old new
         → Performs g function one answer old new
     performs_quiet answer new never options fits live spares nothing quiet cause does = record {
       does = does;
@@ -96,7 +96,7 @@ module _ {H S : Type 0} (g : Ghosts S) (function : H → Handler) where
 
     -- all is as it was
     performs_nothing : (answer : Reply) → (IsWritten one answer → ⊥) → FitsEvent one → TakesLive one answer old.store → CommitsNothing g one old.store old.store
-        → IfSome (refusal_told answer) (TellsCauseOf g one old.store old.store) → LeadsBy g function one answer old old → Performs g function one answer old old
+        → IfSome (refusal_told answer) (TellsCauseOf g one old.held answer old.store old.store) → LeadsBy g function one answer old old → Performs g function one answer old old
     performs_nothing answer never fits live nothing cause does =
         performs_quiet answer old never refl fits live (record { unheld = λ is. refl; mismatch = λ is. refl }) nothing (same_quiet g old.store) cause does
 
@@ -139,7 +139,7 @@ module _ {H S : Type 0} (g : Ghosts S) (function : H → Handler) where
         stored_lasts (Err why) settled written clean s is = absurd (never why written)
 
         pub performs_stored : FitsEvent one → ((answer : Reply) → TakesLive one answer old.store) → CommitsNothing g one old.store store → Endures g (AppliesWith function old.options one old.held) old.store store
-            → (told : Result A Refusal) → Leads g (Did told) old.store store → OnOk told (Settles g (Did told) old.store store) → IfErr told (TellsCauseOf g one old.store store)
+            → (told : Result A Refusal) → Leads g (Did told) old.store store → OnOk told (Settles g (Did told) old.store store) → IfErr told (TellsCauseOf g one old.held (reply_to says told) old.store store)
             → Performs g function one (reply_to says told) old new
         performs_stored fits live nothing crash told does settled cause = record {
           does = stored_leads told does;
@@ -148,7 +148,7 @@ module _ {H S : Type 0} (g : Ghosts S) (function : H → Handler) where
           fits = fits;
           live = live (reply_to says told);
           spares = spares_all g one (reply_to says told) old new (stored_spares told) nothing;
-          cause = told_refused says (TellsCauseOf g one old.store store) silent told cause;
+          cause = told_refused says (TellsCauseOf g one old.held (reply_to says told) old.store store) silent told cause;
           crash = crash;
         }
 

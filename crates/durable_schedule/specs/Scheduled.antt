@@ -1,5 +1,5 @@
 -- What a scheduler stands for, and what its calls make of that.
-use Rattle.std.specs.Prelude.{◌≡◌, ◌≢◌, ◌==◌, ℕ, true, if◌then◌else◌, List, length, Option, Some, None, Result, Ok, Err, IfSome}
+use Rattle.std.specs.Prelude.{◌≡◌, ◌≢◌, ◌==◌, ℕ, true, if◌then◌else◌, List, length, take, Option, Some, None, Result, Ok, Err, IfSome}
 use Rattle.sqlite_trees.specs.declared.store.Store.{Ghosts}
 use Rattle.sqlite.specs.Held.{state}
 use Rattle.sqlite.specs.State.{State, HasCleanDisk}
@@ -12,12 +12,12 @@ use Rattle.store_refusals.specs.declared.refusal.Refusal.TheVariants.{OutOfMemor
 use Rattle.store_refusals.specs.Prepared.{Tells}
 use Rattle.store_invocations.specs.Rows.{Decides, known_tests}
 use Rattle.journal_store.specs.Accepting.{OutlastsFrames}
-use Rattle.journal_store.specs.Causes.{TellsWhy, TellsWhyUnwritten}
+use Rattle.journal_store.specs.Causes.{TellsWhy, TellsWhyUnwritten, TriesEvent, TriesFrameOf}
 use Rattle.journal_store.specs.Stored.{Stored}
 use Rattle.journal_store.specs.Words.{attempt_of, has_number}
 use Rattle.journal_store.specs.Stands.{Endures, IsQuiet, IsStanding, Leads, Outlasts}
 use Rattle.schedule_model.specs.Attempts.attempts
-use Rattle.schedule_model.specs.Attempts.{Attempt}
+use Rattle.schedule_model.specs.Attempts.{Attempt, output_of}
 use Rattle.schedule_model.specs.declared.event.Event as scheduled
 use Rattle.schedule_model.specs.declared.event.Event.TheVariants as event
 use Rattle.schedule_model.specs.declared.event.Reply.{Reply}
@@ -25,6 +25,8 @@ use Rattle.schedule_model.specs.declared.event.Reply.TheVariants as reply
 use Rattle.schedule_model.specs.declared.event.Refusal as own
 use Rattle.schedule_model.specs.declared.event.Refusal.TheVariants as refusal
 use Rattle.schedule_model.specs.declared.held.HeldAttempt.{HeldAttempt}
+use Rattle.schedule_model.specs.Held.{held_of}
+use Rattle.store_steps.specs.declared.frame.FrameReply.{FrameReply}
 use Rattle.store_calls.specs.Calls.{HandsOut}
 use Rattle.store_calls.specs.Frames.{Rests}
 use Rattle.store_calls.specs.Standing.{Standing}
@@ -135,13 +137,28 @@ refusal_told (reply.Moved bytes frames why) = why
 refusal_told (reply.Refused (refusal.Store why)) = Some why
 refusal_told _ = None
 
--- An event that only asks tells the database's own cause, and so does one that writes, or what it is refused for itself; a turn asks nothing.
-abbrev pub TellsCauseOf : {H S : Type 0} → Ghosts S → scheduled.Event H → Stored S → Stored S → Refusal → Type 0
-TellsCauseOf g (event.Turn id attempt outcome) old new why = ⊥
-TellsCauseOf g (event.Feed id attempt count) old new why = TellsWhy g old new why
-TellsCauseOf g (event.Close id attempt) old new why = TellsWhy g old new why
-TellsCauseOf g (event.Stop id attempt) old new why = TellsWhy g old new why
-TellsCauseOf g _ old new why = TellsWhyUnwritten g old new why
+-- Bytes were moved, and behind the frames that were answered the next one of them is refused; or bytes are refused whole, which only asks.
+abbrev pub TellsCauseOfMove : {H S : Type 0} → Ghosts S → (count : ℕ) → HeldAttempt H → Reply → Stored S → Stored S → Refusal → Type 0
+TellsCauseOfMove g count one (reply.Moved bytes frames told) old new why =
+    (replies : List FrameReply) × (frames ≡ length replies)
+    × TellsWhyUnwritten g old new (TriesFrameOf one.invocation one.number (take count (output_of one.attempt)) replies) why
+TellsCauseOfMove g count one _ old new why = TellsWhy g old new why
+
+-- An event that only asks tells the database's own cause. One that writes tells that, or for what SQL's rules refuse a statement of it; a move,
+-- one of the next frame of the attempt that is held. A turn asks nothing.
+abbrev pub TellsCauseOf : {H S : Type 0} → Ghosts S → scheduled.Event H → (held : List (HeldAttempt H)) → Reply → Stored S → Stored S → Refusal → Type 0
+TellsCauseOf g (event.Invoke one) held answer old new why = TellsWhyUnwritten g old new (TriesEvent (Event.Invoke one)) why
+TellsCauseOf g (event.Result id completion value) held answer old new why = TellsWhyUnwritten g old new (TriesEvent (Event.Complete id completion value)) why
+TellsCauseOf g (event.Signal id key value) held answer old new why = TellsWhyUnwritten g old new (TriesEvent (Event.Signal id key value)) why
+TellsCauseOf g (event.Cancel id) held answer old new why = TellsWhyUnwritten g old new (TriesEvent (Event.Cancel id)) why
+TellsCauseOf g (event.Tick now) held answer old new why = TellsWhyUnwritten g old new (TriesEvent (Event.Tick now)) why
+TellsCauseOf g (event.Begin id handler now) held answer old new why = TellsWhyUnwritten g old new (TriesEvent (Event.Begin id now)) why
+TellsCauseOf g (event.Feed id attempt count) held answer old new why = TellsWhy g old new why
+TellsCauseOf g (event.Close id attempt) held answer old new why = TellsWhy g old new why
+TellsCauseOf g (event.Turn id attempt outcome) held answer old new why = ⊥
+TellsCauseOf {H} g (event.Move id attempt count) held answer old new why =
+    (one : HeldAttempt H) × (held_of held id attempt ≡ Some one) × TellsCauseOfMove g count one answer old new why
+TellsCauseOf g (event.Stop id attempt) held answer old new why = TellsWhy g old new why
 
 -- ---- what lasts of that
 
@@ -196,7 +213,7 @@ module _ {H S : Type 0} (g : Ghosts S) (function : H → Handler) where
     pub fits : FitsEvent one
     pub live : TakesLive one answer old.store
     pub spares : Spares g one answer old new
-    pub cause : IfSome (refusal_told answer) (TellsCauseOf g one old.store new.store)
+    pub cause : IfSome (refusal_told answer) (TellsCauseOf g one old.held answer old.store new.store)
     pub crash : Endures g (AppliesWith function old.options one old.held) old.store new.store
 
 -- ---- what a scheduler stands for

@@ -1,11 +1,10 @@
 //! How an attempt that is held is made, and how its bytes go to the store.
 ghost use Rattle.std.specs.Prelude.{◌≡◌, false, IfSome};
-ghost use Rattle.journal_store.specs.Causes.{TellsWhyUnwritten};
 ghost use Rattle.journal_store.specs.Stands.{Endures, Leads};
 ghost use Rattle.schedule_model.specs.Attempts.{has_stopped, IsMadeAndFed};
 ghost use Rattle.schedule_model.specs.Lends.{held_as};
 ghost use Rattle.schedule_model.specs.Schedule.{MovesOne};
-ghost use Rattle.durable_schedule.specs.Scheduled.{HasTakenFrames, IsLive, IsMovedIfHeld, IsTakenUp, LeadsMoved, MovesSome, refusal_told};
+ghost use Rattle.durable_schedule.specs.Scheduled.{HasTakenFrames, IsLive, IsMovedIfHeld, IsTakenUp, LeadsMoved, MovesSome, TellsCauseOfMove, refusal_told};
 
 use bytes::{ByteStr, Bytes};
 use journal_model::Handler;
@@ -70,7 +69,7 @@ pub(crate) fn take_in<H: Handler + Drop, S: Alter + Drop>(
     ensures settled { HasTakenFrames result → LeadsMoved S.Store invocation.now number result (λ s t. MovesOne count (held_as invocation.now number attempt.old) s result t attempt.new) store.old store.new }
     ensures held { IsTakenUp result }
     ensures live { IsLive invocation.now number store.old → IsMovedIfHeld result }
-    ensures cause { IfSome (refusal_told result) (TellsWhyUnwritten S.Store store.old store.new) }
+    ensures cause { IfSome (refusal_told result) (TellsCauseOfMove S.Store count (held_as invocation.now number attempt.old) result store.old store.new) }
     ensures crash { Endures S.Store (MovesSome count (held_as invocation.now number attempt.old)) store.old store.new }
 {
     let bytes = match attempt.first_output(count) {

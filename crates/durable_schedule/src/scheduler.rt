@@ -3,6 +3,7 @@ ghost use Rattle.std.specs.Prelude.{◌≡◌, ◌<◌, ◌^◌, [], map, IfErr,
 ghost use Rattle.sqlite.specs.Held.{state};
 ghost use Rattle.sqlite.specs.State.{HasCleanDisk};
 ghost use Rattle.journal_model.specs.Attempt.{due as due_after};
+ghost use Rattle.journal_model.specs.Event as model;
 ghost use Rattle.journal_model.specs.Journal.{is_open as is_open_after, object_state};
 ghost use Rattle.due_model.specs.NextMoment.{IsNextMoment};
 ghost use Rattle.store_model.specs.Kept.{state_row};
@@ -10,7 +11,7 @@ ghost use Rattle.store_model.specs.Progress.{last_error_of};
 ghost use Rattle.store_invocations.specs.Told.{entries_told};
 ghost use Rattle.store_invocations.specs.Answered.{answer_told};
 ghost use Rattle.journal_store.specs.Attempts.{BeginsSome};
-ghost use Rattle.journal_store.specs.Causes.{TellsWhy, TellsWhyUnwritten};
+ghost use Rattle.journal_store.specs.Causes.{TellsWhy, TellsWhyUnwritten, TriesEvent};
 ghost use Rattle.journal_store.specs.Stands.{Endures, EnduresAlways, IsQuiet, Leads, Settles};
 ghost use Rattle.schedule_model.specs.Schedule.{BeginDoes, Applies, Scheduled};
 ghost use Rattle.schedule_model.specs.Fitting.{FitsEvent};
@@ -121,7 +122,7 @@ impl<H: Handler + Drop, S: Alter + Drop> Scheduler<H, S> {
         ensures settled { HasBegun result → Settles S.Store (λ s t. BeginDoes self.old.options invocation handler now s self.old.held result t self.new.held) self.old.store self.new.store }
         ensures moment { now < 2 ^ 64 }
         ensures held { IsTakenUp result }
-        ensures cause { IfSome (refusal_told result) (TellsWhyUnwritten S.Store self.old.store self.new.store) }
+        ensures cause { IfSome (refusal_told result) (TellsWhyUnwritten S.Store self.old.store self.new.store (TriesEvent (model.Event.Begin invocation now))) }
         ensures crash { EnduresAlways S.Store (BeginsSome invocation now) self.old.store self.new.store }
     {
         let begun = match self.store.begin(&invocation, now) {
@@ -263,8 +264,9 @@ impl<H: Handler + Drop, S: Alter + Drop> Scheduler<H, S> {
         // Where it is refused before the store is asked (X1, X2), all is as it was; a turn leaves the store as it was; and bytes that are handed
         // out, an input that is closed and a stop commit nothing: this too whatever the store stands for, and whatever the disk returned.
         ensures spares { Spares S.Store event result self.old self.new }
-        // Where the database refused a statement, the refusal tells its own cause; a turn is refused by no store.
-        ensures cause { IfSome (refusal_told result) (TellsCauseOf S.Store event self.old.store self.new.store) }
+        // Where the database refused a statement, the refusal tells its own cause, or for what SQL's rules refuse a statement of this event:
+        // of a move, of the frame that was tried among its bytes. A turn is refused by no store.
+        ensures cause { IfSome (refusal_told result) (TellsCauseOf S.Store event self.old.held result self.old.store self.new.store) }
         ensures crash { Endures S.Store (AppliesWith H.next_call self.old.options event self.old.held) self.old.store self.new.store }
     {
         self.perform(event)

@@ -1,12 +1,12 @@
-use Rattle.std.proofs.Common.{◌≢◌, arith, List, [], ℕ, refl, subst, ap, ◌∙◌, length, Option, Ok, Err}
+use Rattle.std.proofs.Common.{◌≢◌, arith, List, [], ℕ, refl, subst, ap, ◌∙◌, length, Option, IfSome, Ok, Err}
 use Rattle.sqlite.specs.Held.{state}
 use Rattle.store_refusals.specs.declared.refusal.Refusal.{Refusal}
-use Rattle.store_refusals.proofs.Causes.{tells_to_write}
 use Rattle.store_steps.specs.declared.frame.FrameReply.{FrameReply}
 use Rattle.store_calls.specs.Calls.{PutsBehind}
 use Rattle.store_calls.specs.Frames.{Accepts, AcceptsFirst, TakesEach}
 use Rattle.store_calls.proofs.Taking.{same_stays}
 use Rattle.journal_store.specs.Accepting.{OutlastsFrames}
+use Rattle.journal_store.specs.Causes.{TellsWhyUnwritten, TriesFrameOf}
 use Rattle.journal_store.specs.Stands.{Endures}
 use Rattle.store_calls.specs.Standing.{Standing}
 use Rattle.journal_store.proofs.Enduring.{same_endures}
@@ -15,7 +15,7 @@ use Rattle.schedule_model.specs.declared.event.Reply.TheVariants as reply
 use Rattle.schedule_model.specs.declared.event.Refusal.TheVariants as refusal
 use Rattle.durable_schedule.specs.Scheduled.{MovesSome}
 use Rattle.durable_schedule.proofs.Lasting.{rest_lasts}
-use Rattle.durable_schedule.proofs.Moving.{memory_refuses, moves_crashed, moves_shown}
+use Rattle.durable_schedule.proofs.Moving.{memory_refuses, moves_crashed, moves_shown, shown_cause}
 use Rattle.durable_schedule.proofs.held.take_in.Goals as goal
 
 -- no bytes were shown
@@ -66,6 +66,18 @@ returns-in-Ok-accepted-clause-settled g c taken clean s is =
       ),
     )
 
+pub returns-in-Ok-accepted-clause-cause : goal.returns-in-Ok-accepted-clause-cause
+returns-in-Ok-accepted-clause-cause g c =
+    let id = c.args.invocation.now in
+    let n = c.args.number in
+    let accepted = c.in-Ok-accepted.accepted in
+    let replies = accepted.replies.items in
+    let old = c.args.store.now in
+    let new = c.accept-accepted.new.self in
+    shown_cause g.S.Store c.args.count c.in-Ok.bytes (held_as id n c.args.attempt.now) c.first_output.new.self c.in-Ok.ensures old new c.len-len.result c.len-frames.result replies
+    (omega (arith, c.len-frames.ensures, accepted.replies.ok.0)) accepted.refusal
+    (subst (λ (bytes : List ℕ). IfSome accepted.refusal (TellsWhyUnwritten g.S.Store old new (TriesFrameOf id n bytes replies))) c.as_slice.ensures c.in-Ok-accepted.ensures.cause_of_frame)
+
 -- or refused
 pub returns-in-Err-accepted-clause-does : goal.returns-in-Err-accepted-clause-does
 returns-in-Err-accepted-clause-does g c clean s is =
@@ -77,8 +89,7 @@ returns-in-Err-accepted-clause-does g c clean s is =
     )
 
 pub returns-in-Err-accepted-clause-cause : goal.returns-in-Err-accepted-clause-cause
-returns-in-Err-accepted-clause-cause g c =
-    tells_to_write (state g.S.Store c.args.store.now.connection) (state g.S.Store c.accept-accepted.new.self.connection) c.in-Err-accepted.refusal c.in-Err-accepted.ensures.cause
+returns-in-Err-accepted-clause-cause g c = c.in-Err-accepted.ensures.cause
 
 pub returns-in-Err-accepted-clause-settled : goal.returns-in-Err-accepted-clause-settled
 returns-in-Err-accepted-clause-settled g c taken = absurd taken

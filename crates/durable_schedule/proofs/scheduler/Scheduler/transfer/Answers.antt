@@ -1,7 +1,8 @@
 use Rattle.std.proofs.Common.{refl}
 use Rattle.schedule_model.specs.declared.event.Event.TheVariants as event
 use Rattle.schedule_model.specs.Schedule.{MovesOne}
-use Rattle.durable_schedule.proofs.Holding.{misses, finds, finds_lasting, finds_crashed}
+use Rattle.durable_schedule.specs.Scheduled.{refusal_told}
+use Rattle.durable_schedule.proofs.Holding.{misses, finds, finds_cause, finds_lasting, finds_crashed}
 use Rattle.durable_schedule.proofs.Scheduling.{performs_unheld, spares_all, spares_taken_up}
 use Rattle.durable_schedule.proofs.scheduler.Scheduler.transfer.Goals as goal
 
@@ -23,10 +24,10 @@ returns-in-Some g c =
     record {
       does = finds g.S.Store Moves id n old.held there.result there.ensures.found attempt c.in-Some.is old.store taken.new.store taken.new.attempt taken.result taken.ensures.does;
       lasts = λ some. finds_lasting g.S.Store Moves id n old.held there.result there.ensures.found attempt c.in-Some.is old.store taken.new.store taken.new.attempt taken.result (taken.ensures.settled some);
-      options = refl;
+      options = refl {a = old.options};
       fits = tt;
       live = taken.ensures.live;
       spares = spares_all _ _ _ _ _ (spares_taken_up _ _ _ taken.ensures.held) tt;
-      cause = taken.ensures.cause;
+      cause = finds_cause g.S.Store Moves id n old.held there.result there.ensures.found attempt c.in-Some.is old.store taken.new.store c.args.count taken.result (refusal_told taken.result) taken.ensures.cause;
       crash = finds_crashed g.S.Store Moves id n old.held there.result there.ensures.found attempt c.in-Some.is old.store taken.new.store taken.ensures.crash;
     }
