@@ -1,6 +1,7 @@
 pub mod Feeding
 pub mod Growing
 mod Apart
+mod Causing
 mod Handing
 mod Telling
 pub mod Running

@@ -2,6 +2,7 @@
 ghost use Rattle.std.specs.Prelude.{◌≡◌, [], IfOk, IfErr};
 ghost use Rattle.sqlite.specs.Held.{state};
 ghost use Rattle.sqlite.specs.State.{HasCleanDisk, Survives};
+ghost use Rattle.schedule_runs.specs.Causes.{TellsCauses};
 ghost use Rattle.schedule_runs.specs.Front.{KeepsFirst, RecordsFaithfully, StandsFor};
 
 use crate::{NoRoom, run_schedule};
@@ -28,6 +29,8 @@ pub fn run_new_schedule<H: Handler + Drop, S: Alter + Drop>(
 ) -> Result<(Scheduler<H, S>, Vec<Reply>), NoRoom<S>>
     ensures faithful { IfOk result (λ done. StandsFor S.Store [] store → HasCleanDisk (state S.Store done.0.store.connection) → RecordsFaithfully S.Store H.next_call options events.items done.1.items done.0) }
     ensures crash { IfOk result (λ done. StandsFor S.Store [] store → Survives (state S.Store store.connection) (state S.Store done.0.store.connection) (KeepsFirst H.next_call options events.items)) }
+    // Where the database refused a statement, the reply tells its own cause.
+    ensures causes { IfOk result (λ done. TellsCauses S.Store H.next_call options events.items done.1.items store done.0) }
     ensures err { IfErr result (λ refused. refused.store ≡ store) }
 {
     invocations_stand_alone();

@@ -9,6 +9,7 @@ ghost use Rattle.store_calls.specs.Standing.{Standing};
 ghost use Rattle.journal_store.specs.Stands.{Endures, IsStanding, Outlasts};
 ghost use Rattle.schedule_laws.specs.Schedules.{AppliesAll, FitsEvent, Scheduled};
 ghost use Rattle.durable_schedule.specs.Scheduled.{IsScheduled};
+ghost use Rattle.schedule_runs.specs.Causes.{TellsCauses};
 ghost use Rattle.schedule_runs.specs.Runs.{LastsBehind, Leaves, LeavesFirst, at_first};
 
 mod front;
@@ -75,6 +76,8 @@ pub fn run_schedule<H: Handler + Drop, S: Alter + Drop>(
     ensures options { IfOk result (λ done. done.0.options ≡ options) }
     // What each event brings is within its types, which `schedules_keep` asks of each.
     ensures fits { IfOk result (λ done. AllByRecursion FitsEvent events.items) }
+    // Where the database refused a statement, the reply tells its own cause, as `Scheduler::apply` does of each event.
+    ensures causes { IfOk result (λ done. TellsCauses S.Store H.next_call options events.items done.1.items store done.0) }
     // What a crash anywhere in it leaves is what it could leave before, or what the first of the events leave, of which the same is told.
     ensures crash { IfOk result (λ done. Endures S.Store (LeavesFirst H.next_call options events.items) store done.0.store) }
     ensures err { IfErr result (λ refused. refused.store ≡ store) }

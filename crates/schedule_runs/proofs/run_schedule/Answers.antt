@@ -9,6 +9,8 @@ use Rattle.schedule_runs.specs.Runs.{AppliesFirst}
 use Rattle.journal_store.proofs.Enduring.{same_endures}
 use Rattle.schedule_runs.proofs.Running.{LeadsFirst, all_kept, all_left, all_yielded, each_more, one_endures}
 use Rattle.schedule_runs.proofs.Settling.{AppliesOne, SettlesOne, one_leads, none_leads}
+use Rattle.schedule_runs.specs.Causes.{TellsCauses}
+use Rattle.schedule_runs.proofs.Causing.{causes_on}
 use Rattle.schedule_runs.proofs.run_schedule.Goals as goal
 
 pub loop-event-preserved : goal.loop-event-preserved
@@ -25,6 +27,12 @@ loop-event-preserved g c =
           (subst (λ (o : VMOptions). AppliesOne g.H.Handler.next_call o g.S.Store one c.apply.result old new) inv.options c.apply.ensures.does)
           (subst (λ (o : VMOptions). SettlesOne g.H.Handler.next_call o g.S.Store one c.apply.result old new) inv.options c.apply.ensures.settled) c.apply.ensures.spares
           (subst (λ (o : VMOptions). Endures g.S.Store (AppliesWith g.H.Handler.next_call o one old.held) old.store new.store) inv.options c.apply.ensures.crash));
+      causes = subst (λ (rs : List Reply). TellsCauses g.S.Store g.H.Handler.next_call c.args.options (yielded ++ one ∷ []) rs c.args.store new) (sym c.put.ensures.items)
+          (causes_on g.S.Store g.H.Handler.next_call c.args.options yielded c.loop-event.replies.items one c.apply.result c.args.store old new inv.causes (record {
+            does = subst (λ (o : VMOptions). AppliesOne g.H.Handler.next_call o g.S.Store one c.apply.result old new) inv.options c.apply.ensures.does;
+            cause = c.apply.ensures.cause;
+            crash = subst (λ (o : VMOptions). Endures g.S.Store (AppliesWith g.H.Handler.next_call o one old.held) old.store new.store) inv.options c.apply.ensures.crash;
+          }));
       fits = each_more FitsEvent yielded one inv.fits c.apply.ensures.fits;
       crash = one_endures g.H.Handler.next_call c.args.options g.S.Store yielded c.loop-event.replies.items one c.args.store old new inv.applies inv.crash
           (subst (λ (o : VMOptions). Endures g.S.Store (AppliesWith g.H.Handler.next_call o one old.held) old.store new.store) inv.options c.apply.ensures.crash);
@@ -40,6 +48,8 @@ loop-event-init g c =
     record {
       applies = subst (λ (rs : List Reply). LeadsFirst g.H.Handler.next_call c.args.options g.S.Store [] rs c.args.store first) (sym c.in-Ok.ensures.items)
           (none_leads g.H.Handler.next_call c.args.options g.S.Store c.args.store first same (sym c.new-scheduler.ensures.held));
+      causes = subst (λ (rs : List Reply). TellsCauses g.S.Store g.H.Handler.next_call c.args.options [] rs c.args.store first) (sym c.in-Ok.ensures.items)
+          (record { first = first; over = sym same; held = c.new-scheduler.ensures.held; told = refl });
       fits = tt;
       crash = subst (λ (store : Stored g.row.S.Denot). Endures g.S.Store (AppliesFirst g.H.Handler.next_call c.args.options []) c.args.store store) same
           (same_endures g.S.Store (AppliesFirst g.H.Handler.next_call c.args.options []) c.args.store);
@@ -62,6 +72,12 @@ returns-clause-applies g c clean s is =
           c.invocations_stand_alone.ensures.stand c.invocations_stand_alone.ensures.state c.invocations_stand_alone.ensures.answer c.schedules_keep.ensures.begins_told c.schedules_keep.ensures.told c.args.events.items c.loop-event.replies.items s it.0 (subst (λ (es : List (Event g.row.H.Denot)). AllByRecursion FitsEvent es) all c.loop-event.invariant.fits) it.2,
       it.3,
     )
+
+pub returns-clause-causes : goal.returns-clause-causes
+returns-clause-causes g c =
+    let h = c.into_iter-event-iterator.ensures.into_iter_gives in
+    let all = all_yielded c.into_iter-event-iterator.result c.args.events.items h.0 (h.1 ∙ c.args.events.ok.0) c.loop-event.yielded c.loop-event.event-iterator c.loop-event.yielded_by c.next.result c.next.new.self c.in-None.is c.next.ensures.steps in
+    subst (λ (es : List (Event g.row.H.Denot)). TellsCauses g.S.Store g.H.Handler.next_call c.args.options es c.loop-event.replies.items c.args.store c.loop-event.scheduler) all c.loop-event.invariant.causes
 
 pub returns-clause-fits : goal.returns-clause-fits
 returns-clause-fits g c =
