@@ -20,7 +20,7 @@ use Rattle.journal_model.specs.Run.{Handler, Invocation, Progress, Ending, GoesO
 use Rattle.journal_model.proofs.Extension.{continued-steps}
 use Rattle.journal_model.proofs.Continuing.{run_requests-beginning}
 use Rattle.attempt_model.specs.Standing.{ComesOnce}
-use Rattle.attempt_tables.proofs.Tables.{results-append}
+use Rattle.attempt_laws.proofs.Tables.{results-append}
 use Rattle.attempt_laws.proofs.Following.{known-more}
 
 -- whether some of the requests asks for a completion, and how often it is known

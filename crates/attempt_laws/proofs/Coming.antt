@@ -27,9 +27,9 @@ use Rattle.journal_laws.proofs.Leaving.{or-true_left, or-true_right}
 use Rattle.attempt_model.specs.Attempts.{gives_id, ComeAsAsked}
 use Rattle.attempt_model.specs.Results.{are_keys_text}
 use Rattle.attempt_model.specs.Standing.{is_id_if_known, AreOfKind}
-use Rattle.attempt_tables.proofs.Tables.{results-append}
-use Rattle.attempt_calls.proofs.CallKinds.{no_child}
-use Rattle.attempt_calls.proofs.Ids.{both-true, first-true, second-true, is_in}
+use Rattle.attempt_laws.proofs.Tables.{results-append}
+use Rattle.attempt_laws.proofs.CallKinds.{no_child}
+use Rattle.attempt_laws.proofs.Ids.{both-true, first-true, second-true, is_in}
 use Rattle.attempt_laws.proofs.Apart.{own-run, IsApart, apart}
 
 abbrev pub gives : ℕ → List Request → Bool

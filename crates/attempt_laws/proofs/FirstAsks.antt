@@ -14,8 +14,8 @@ use Rattle.journal_laws.proofs.Pruning.{pruned-awake, pruned-again}
 use Rattle.journal_laws.proofs.Leaving.{or-false}
 use Rattle.attempt_model.specs.Results.{Ready, Slots, ready_after, handle_state, Resolution, Awake, Asleep, resolution_of}
 use Rattle.attempt_model.specs.Standing.{TablesStand, ResolvesAsDefined}
-use Rattle.attempt_tables.proofs.Tables.{from_here, all_read, front_states, leaves_in_front, arrive}
-use Rattle.attempt_tables.proofs.Waking.{awake-map, pruned-map, least-some, least-none}
+use Rattle.attempt_laws.proofs.Tables.{from_here, all_read, front_states, leaves_in_front, arrive}
+use Rattle.attempt_laws.proofs.Waking.{awake-map, pruned-map, least-some, least-none}
 
 -- the last that is looked for
 found-last : (find_at : ℕ → Option NotificationResult) (from more : ℕ) → first_found find_at from (suc more) ≡ or_else (first_found find_at from more) (find_at (from + suc more))

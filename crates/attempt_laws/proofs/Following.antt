@@ -16,9 +16,9 @@ use Rattle.attempt_model.specs.Attempts.{with_entries, Happening, Comes, Turns, 
 use Rattle.attempt_model.specs.Machine.{Machine, machine_at_start, with_arrival, Mismatch, UncompletedInReplay, EndInReplay, KeysNotText, ChildNotId, Refused, Reply, Answered, AwaitsTree, AwaitsChild, Finished, FailedBy, reply_to}
 use Rattle.attempt_model.specs.Requests.{Commands}
 use Rattle.attempt_model.specs.Standing.{IsShown, Stands, ComesOnce, AreOfKind, Fits, next_call, RepliesAsRun, AreReflexive}
-use Rattle.attempt_tables.proofs.Tables.{results-append}
-use Rattle.attempt_calls.proofs.Simulating.{simulates}
-use Rattle.attempt_calls.proofs.Standing.{begins, goes_same, reads_on, fits_on}
+use Rattle.attempt_laws.proofs.Tables.{results-append}
+use Rattle.attempt_laws.proofs.Simulating.{simulates}
+use Rattle.attempt_laws.proofs.Standing.{begins, goes_same, reads_on, fits_on}
 
 -- the journal, entry by entry
 reads_from : (start : StartState) (commands : Commands) (arrivals : List Arrival) (entries : List Entry)

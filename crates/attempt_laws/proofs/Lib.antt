@@ -1,3 +1,15 @@
+pub mod Tables
+pub mod Making
+pub mod Taking
+pub mod Waking
+pub mod Children
+pub mod Standing
+pub mod CallKinds
+pub mod Ids
+pub mod Reading
+pub mod Answering
+pub mod Awaiting
+pub mod Simulating
 pub mod MachineRows
 pub mod Following
 pub mod Apart

@@ -1,3 +1,8 @@
+//! What has come and what handles stand for in the machine of an attempt is what the definitions of the run say: one arrival on, one step
+//! on, in an await that looks at one notification a step, and where a cancellation looks for its children. Lemmas alone, in `proofs/`.
+//!
+//! Each call of a handler is answered by the machine of an attempt as the run answers it. Lemmas alone, in `proofs/`, by the kind of the call.
+//!
 //! An attempt that replays answers as the one run of its handler: laws over a machine without bytes. Each function does nothing, and
 //! its contract is the law. Worked rows are computed in `proofs/MachineRows.antt`.
 //!

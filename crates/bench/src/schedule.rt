@@ -8,7 +8,7 @@ mod timed;
 mod waiting;
 
 use crate::fault::Fault;
-use durable_schedule::Scheduler;
+use scheduler::Scheduler;
 use events::Place;
 use growth::tell_growth;
 use handlers::{Numbers, Told, tell_both};

@@ -15,7 +15,7 @@ use Rattle.journal_model.specs.Run.{Handler, Invocation, Progress, GoesOn, run}
 use Rattle.journal_model.proofs.Continuing.{run-next}
 use Rattle.attempt_model.specs.Machine.{Machine, Mismatch, UncompletedInReplay, EndInReplay, KeysNotText, ChildNotId, Refused, Reply, Answered, AwaitsTree, AwaitsChild, Finished, FailedBy, next_slot, reply_to}
 use Rattle.attempt_model.specs.Standing.{AreOfKind, Fits, AreReflexive, next_call, RepliesAsRun, AnswersNext, WaitsWithRun}
-use Rattle.attempt_calls.proofs.Simulating.{simulates}
+use Rattle.attempt_laws.proofs.Simulating.{simulates}
 use Rattle.attempt_laws.proofs.Apart.{own-run, apart}
 use Rattle.body_laws.specs.Bodies.{Body, Executor, has_come, bodies_of_call, bodies_left, has_handle, body_awaited, without_body, handing_out, executes_or_awaits, reply_after, executor_reply, bodies_of, suspends, is_executing, AwaitsTreeOf}
 use Rattle.body_laws.specs.Standing.{Among, has_arrived, count_bodies, count_proposed, Ascends, WasExecuted, BodiesStand, StandsWithBodies, AnswersWithBodies, RepliesWithBodies, WaitsWithBodies}

@@ -13,7 +13,7 @@ use Rattle.journal_model.specs.Journal.{completion}
 use Rattle.journal_model.specs.Run.{Handler, Invocation, Progress, run}
 use Rattle.attempt_model.specs.Machine.{machine_at_start, Mismatch, UncompletedInReplay, EndInReplay, KeysNotText, ChildNotId, Refused, Reply, Answered, AwaitsTree, AwaitsChild, Finished, FailedBy, reply_to}
 use Rattle.attempt_model.specs.Standing.{IsShown, ComesOnce, AreOfKind, Fits, next_call, AreReflexive}
-use Rattle.attempt_calls.proofs.Standing.{goes_same, fits_on}
+use Rattle.attempt_laws.proofs.Standing.{goes_same, fits_on}
 use Rattle.attempt_laws.proofs.Following.{once-before}
 use Rattle.body_laws.specs.Bodies.{Body, Executor, executor_over, without_body, reads_arrival, reads_outcome, has_handle, body_awaited, ExecutorReply, Answers, Executes, AwaitsTreeOf, AwaitsChildOf, Finishes, Fails, executes_or_awaits, reply_after, executor_reply, suspends, is_executing, proposing}
 use Rattle.body_laws.specs.Executing.{BodyEnd, Proposes, FailsAttempt, Happening, Comes, Acknowledges, Closes, Turns, Attempting, AttemptState, Live, Over, Misled, attempt_with_arrival, attempt_told, attempt_acknowledged, attempt_closed, attempt_after_reply, waits_on, after_body, turn_reply, attempt_after_turn, attempt_after, arrivals_read, proposed_by, Suspended, Waiting, turn_of, turn_of_body}

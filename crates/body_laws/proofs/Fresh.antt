@@ -14,10 +14,10 @@ use Rattle.journal_model.specs.Delivery.{results_for, known_results, deliveries,
 use Rattle.journal_model.specs.Journal.{completes}
 use Rattle.attempt_model.specs.Results.{Ready, Slots, first_of}
 use Rattle.attempt_model.specs.Standing.{only_last, TablesStand}
-use Rattle.attempt_tables.proofs.Tables.{results-append}
+use Rattle.attempt_laws.proofs.Tables.{results-append}
 use Rattle.body_laws.specs.Standing.{has_arrived}
 
--- completions that were made are below the next one (as in `attempt_tables`)
+-- completions that were made are below the next one (as in `attempt_laws`)
 abbrev IdBelow : ℕ → NotificationId → Type 0
 IdBelow n (CompletionId m) = m < n
 IdBelow n _ = Unit {0}

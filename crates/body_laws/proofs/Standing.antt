@@ -15,8 +15,8 @@ use Rattle.journal_model.specs.Journal.{completes, completion}
 use Rattle.journal_model.specs.Run.{Handler, Invocation, Progress, GoesOn, run, run_requests}
 use Rattle.attempt_model.specs.Machine.{Machine, machine_at_start, with_arrival}
 use Rattle.attempt_model.specs.Standing.{IsShown, Stands, ComesOnce}
-use Rattle.attempt_tables.proofs.Tables.{results-append}
-use Rattle.attempt_calls.proofs.Standing.{begins, goes_same, reads_on}
+use Rattle.attempt_laws.proofs.Tables.{results-append}
+use Rattle.attempt_laws.proofs.Standing.{begins, goes_same, reads_on}
 use Rattle.body_laws.specs.Bodies.{Body, Executor, executor_over, without_body, reads_arrival, reads_outcome, after_acknowledgement, acknowledges, proposing, bodies_of}
 use Rattle.body_laws.specs.Standing.{Among, has_arrived, count_bodies, count_proposed, Ascends, WasExecuted, BodiesStand, StandsWithBodies}
 use Rattle.body_laws.specs.Laws.{is_early, ComesAsCached}

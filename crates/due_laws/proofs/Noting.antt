@@ -15,7 +15,7 @@ use Rattle.journal_laws.proofs.ObjectState.{begun_before, open_when_accepted}
 use Rattle.input_laws.proofs.Events.{added_by, begun_same, entries_first, arrivals_now, nothing_added, not_begun, unborn_open, no_frames}
 use Rattle.input_laws.proofs.Handed.{other_begins}
 use Rattle.input_laws.proofs.LiveAttempts.{numbered, taken_live, none_live, live_now}
-use Rattle.completion_laws.proofs.Once.{arrivals_arrived}
+use Rattle.input_laws.proofs.Once.{arrivals_arrived}
 use Rattle.due_laws.specs.Awake.{arrivals_heard, heard_at, heard_in, or_kept, heard_of, or_zero, not_heard, is_awake_kept, noted_of, after_arrivals, answers_at_once, after_frame, is_still, NotedInvoked, NotedFollows, NotedTicks, NotedUnticked, NotedElsewhere, NotedStill, NotedRefused, NotedOpened, LiveIsAwake}
 use Rattle.due_laws.proofs.Growing.{awake_grows}
 use Rattle.due_laws.proofs.Heard.{heard_now, heard_anew, was_told, heard_is_within}

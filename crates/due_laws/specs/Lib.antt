@@ -1,3 +1,5 @@
+pub mod Noted
+pub mod NextMoment
 pub mod Awake
 pub mod Listing
 pub mod Rows

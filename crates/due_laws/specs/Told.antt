@@ -1,5 +1,5 @@
 -- What an attempt was handed, with its start frame, where it is handed bytes a part at a time. The first two are defined alike in
--- `schedule_runs`, which stands above.
+-- `durable_schedule`, which stands above.
 use Rattle.std.specs.Prelude.{◌≡◌, ℕ, ◌≤◌, ◌==◌, if◌then◌else◌, List, [], ◌∷◌, ◌++◌, take, bytes_eq}
 use Rattle.std.specs.List.{concat}
 use Rattle.protocol_types.specs.declared.message_type.MessageType.TheVariants.{Start}

@@ -1,3 +1,7 @@
+//! An invocation is due where a new attempt of it could go on. What is noted of it, so that this is known without reading its journal: how
+//! many of its arrivals its last attempt was handed, how many there are, and a flag. These are definitions over the accepted events; the
+//! crate `due_laws` has the laws.
+//!
 //! Two questions that a store answers without reading a journal. Which invocations are due? Those with a flag, which is kept with each and
 //! changed by its events, and without a live attempt. And what is handed out of an attempt's input? Its frames one by one, each from the row
 //! of one entry, in parts of any size. These are laws over the accepted events; the functions do nothing, and their contracts are the laws.

@@ -1,6 +1,15 @@
-pub mod Scheduling
-pub mod Moving
-pub mod Holding
-pub mod Parts
-pub mod Lasting
-pub mod Replying
+pub mod Feeding
+pub mod Growing
+mod Apart
+mod Causing
+mod Handing
+mod Telling
+pub mod Running
+pub mod Quieting
+pub mod Refusing
+pub mod Crashing
+pub mod Settling
+pub mod Schedules
+mod Reopening
+mod Adding
+mod Fronting

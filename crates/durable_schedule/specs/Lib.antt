@@ -1,3 +1,7 @@
-pub mod Scheduled
-pub mod Attempts
+pub mod Causes
+pub mod Front
+pub mod Handed
+pub mod Runs
 pub mod Schedules
+pub mod Passed
+pub mod Attempts

@@ -10,8 +10,8 @@ use Rattle.store_refusals.specs.declared.refusal.Refusal.{Refusal}
 use Rattle.store_refusals.specs.Names.{name_of}
 use Rattle.store_refusals.specs.Refused.{IsRefused}
 use Rattle.journal_store.specs.Stands.{IsQuiet}
-use Rattle.schedule_runs.specs.Passed.{Scheduler, IsScheduled}
-use Rattle.schedule_runs.specs.Schedules.{Scheduled}
+use Rattle.durable_schedule.specs.Passed.{Scheduler, IsScheduled}
+use Rattle.durable_schedule.specs.Schedules.{Scheduled}
 use Rattle.script_lines.specs.Text.{due_line, refused_text}
 use Rattle.durable_script.specs.Reaching.{Reaches, Nowhere}
 use Rattle.durable_script.specs.Shown.{Looks, ShowsDue}

@@ -4,7 +4,7 @@ use Rattle.std.specs.List.{AllByRecursion, flat_map}
 use Rattle.journal_model.specs.Notification.{Arrival as Brought}
 use Rattle.journal_model.specs.Journal.{Entry, Recorded, Arrived, entries_of}
 use Rattle.journal_model.specs.Attempt.{notification_type}
-use Rattle.feeding_laws.proofs.Arrivals.{decodes}
+use Rattle.vm_input_laws.proofs.Arrivals.{decodes}
 use Rattle.store_invocations.specs.Told.{entry_told, told_from}
 use Rattle.durable_script.specs.declared.entry.ShownEntry.{ShownEntry}
 use Rattle.durable_script.specs.declared.entry.ShownEntry.TheVariants.{Arrival, Request}

@@ -6,11 +6,11 @@ use Rattle.built_in_handlers.specs.BuiltIn.{function_of}
 use Rattle.journal_model.specs.Notification.{Text}
 use Rattle.journal_model.specs.Run.{Handler}
 use Rattle.vm_types.specs.Options.{default_options}
-use Rattle.schedule_runs.proofs.Running.{each_more}
-use Rattle.schedule_runs.proofs.Schedules.{schedules_grow}
-use Rattle.schedule_runs.specs.Passed.{LeavesHolds, ReplaysInLine}
-use Rattle.schedule_runs.specs.Schedules.event
-use Rattle.schedule_runs.specs.Schedules.{FitsEvent, Event, Reply, Scheduled, AppliesAll, Brings}
+use Rattle.durable_schedule.proofs.Running.{each_more}
+use Rattle.durable_schedule.proofs.Schedules.{schedules_grow}
+use Rattle.durable_schedule.specs.Passed.{LeavesHolds, ReplaysInLine}
+use Rattle.durable_schedule.specs.Schedules.event
+use Rattle.durable_schedule.specs.Schedules.{FitsEvent, Event, Reply, Scheduled, AppliesAll, Brings}
 use Rattle.script_lines.specs.declared.line.Line.{Line}
 use Rattle.script_lines.specs.declared.line.Line.TheVariants.{Invoke, Result, Signal, Cancel, Tick, Begin, Feed, Close, Turn, Move, Stop, Due, Show, State}
 use Rattle.script_lines.specs.declared.outcome.LineOutcome.{LineOutcome}

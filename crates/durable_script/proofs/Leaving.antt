@@ -10,11 +10,11 @@ use Rattle.vm_types.specs.Options.{default_options}
 use Rattle.journal_store.specs.Stored.{Stored}
 use Rattle.journal_store.specs.Stands.{Endures, IsStanding, Keeps}
 use Rattle.store_calls.specs.Standing.{Standing}
-use Rattle.schedule_runs.proofs.Running.{all_left}
-use Rattle.schedule_runs.specs.Passed.laws
-use Rattle.schedule_runs.specs.Passed.{AllAnswerAlone, AllKeepState, AllStandAlone, Scheduler}
-use Rattle.schedule_runs.specs.Runs.{at_first}
-use Rattle.schedule_runs.specs.Schedules.{Scheduled}
+use Rattle.durable_schedule.proofs.Running.{all_left}
+use Rattle.durable_schedule.specs.Passed.laws
+use Rattle.durable_schedule.specs.Passed.{AllAnswerAlone, AllKeepState, AllStandAlone, Scheduler}
+use Rattle.durable_schedule.specs.Runs.{at_first}
+use Rattle.durable_schedule.specs.Schedules.{Scheduled}
 use Rattle.durable_script.specs.Reaching.{IsAt, KeepsCut, Reaches}
 use Rattle.durable_script.specs.Run.{DoneLine, DoesAll, DoesFirst, AreSchedule, AreCut, AreDone}
 use Rattle.durable_script.proofs.Following.{lines_are, cut_of}

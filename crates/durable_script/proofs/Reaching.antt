@@ -10,8 +10,8 @@ use Rattle.journal_model.specs.Event as model
 use Rattle.vm_types.specs.declared.options.VMOptions.{VMOptions}
 use Rattle.vm_types.specs.Options.{default_options}
 use Rattle.journal_store.specs.Stored.{Stored}
-use Rattle.schedule_runs.specs.Passed.{Scheduler, AppliesWith, IsScheduled}
-use Rattle.schedule_runs.specs.Schedules.{FitsEvent, Event, Reply, HeldAttempt, Scheduled, Does, Applies}
+use Rattle.durable_schedule.specs.Passed.{Scheduler, AppliesWith, IsScheduled}
+use Rattle.durable_schedule.specs.Schedules.{FitsEvent, Event, Reply, HeldAttempt, Scheduled, Does, Applies}
 use Rattle.journal_store.specs.Stands.{Endures, Keeps}
 use Rattle.journal_store.proofs.Enduring.{same_endures}
 use Rattle.durable_script.specs.Line.{AppliesOne}

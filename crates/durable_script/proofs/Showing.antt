@@ -19,8 +19,8 @@ use Rattle.store_invocations.specs.declared.recorded.RecordedEntry.{RecordedEntr
 use Rattle.store_invocations.specs.Told.{entries_told}
 use Rattle.store_invocations.specs.Answered.{answer_told}
 use Rattle.journal_store.specs.Stands.{IsQuiet}
-use Rattle.schedule_runs.specs.Passed.{Scheduler, IsScheduled}
-use Rattle.schedule_runs.specs.Schedules.{Scheduled}
+use Rattle.durable_schedule.specs.Passed.{Scheduler, IsScheduled}
+use Rattle.durable_schedule.specs.Schedules.{Scheduled}
 use Rattle.script_lines.specs.Text.{refused_text}
 use Rattle.durable_script.specs.declared.entry.ShownEntry.{ShownEntry}
 use Rattle.durable_script.specs.Entries.{AreShown, SomeUnread}

@@ -3,8 +3,8 @@ use Rattle.std.proofs.Common.{◌≡◌, ℕ, suc, ◌+◌, ◌≤◌, true, Opt
 use Rattle.sqlite_trees.specs.declared.store.Store.{Ghosts}
 use Rattle.built_in_handlers.specs.declared.built_in.BuiltIn.{BuiltIn}
 use Rattle.journal_model.specs.Notification.{Text}
-use Rattle.schedule_runs.specs.Passed.{Scheduler}
-use Rattle.schedule_runs.specs.Schedules.{Reply, Scheduled}
+use Rattle.durable_schedule.specs.Passed.{Scheduler}
+use Rattle.durable_schedule.specs.Schedules.{Reply, Scheduled}
 use Rattle.script_lines.specs.declared.outcome.LineOutcome.{LineOutcome}
 use Rattle.durable_script.specs.Line.{goes_on, turn_of, AppliesOne, TakesTurn, TurnsGoOn, TookTurns}
 use Rattle.durable_script.specs.Printed.{refused_memory}

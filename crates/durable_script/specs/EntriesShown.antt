@@ -6,7 +6,7 @@ use Rattle.journal_model.specs.Event.{Event}
 use Rattle.journal_model.specs.Journal.{Entry, Recorded, Arrived, entries_of}
 use Rattle.journal_model.specs.Spelling.{request_type, request_payload}
 use Rattle.protocol_types.specs.MessageType.{number_of}
-use Rattle.feeding_laws.specs.Arrivals.{ArrivalFits}
+use Rattle.vm_input_laws.specs.Arrivals.{ArrivalFits}
 use Rattle.store_invocations.specs.Told.{entries_told}
 use Rattle.script_lines.specs.Text.{request_line}
 use Rattle.script_lines.specs.Arrival.{arrival_line}

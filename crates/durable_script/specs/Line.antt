@@ -12,9 +12,9 @@ use Rattle.journal_model.specs.declared.notification.NotificationResult.TheVaria
 use Rattle.journal_model.specs.declared.invocation.StateMode as model
 use Rattle.journal_model.specs.declared.invocation.StateMode.TheVariants as mode
 use Rattle.vm_types.specs.Options.{default_options}
-use Rattle.schedule_runs.specs.Attempts.turn
-use Rattle.schedule_runs.specs.Schedules.event
-use Rattle.schedule_runs.specs.Schedules.{FitsEvent, Event, Reply, Turned, Scheduled, Applies}
+use Rattle.durable_schedule.specs.Attempts.turn
+use Rattle.durable_schedule.specs.Schedules.event
+use Rattle.durable_schedule.specs.Schedules.{FitsEvent, Event, Reply, Turned, Scheduled, Applies}
 use Rattle.script_lines.specs.declared.line.Line.{Line}
 use Rattle.script_lines.specs.declared.line.Line.TheVariants.{Invoke, Result, Signal, Cancel, Tick, Begin, Feed, Close, Turn, Move, Stop, Due, Show, State}
 use Rattle.script_lines.specs.declared.outcome.LineOutcome.{LineOutcome}

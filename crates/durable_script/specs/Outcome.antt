@@ -1,7 +1,7 @@
 -- How the body of a run ends that a line's turns execute.
 use Rattle.std.specs.Prelude.{[], Option, Some, None}
 use Rattle.protocol_errors.specs.Error.{plain_error}
-use Rattle.schedule_runs.specs.Attempts.{RunOutcome}
+use Rattle.durable_schedule.specs.Attempts.{RunOutcome}
 use Rattle.script_lines.specs.declared.outcome.LineOutcome.{LineOutcome}
 use Rattle.script_lines.specs.declared.outcome.LineOutcome.TheVariants as outcome
 use Rattle.vm_refusals.specs.declared.retries.RetryPolicy.TheVariants.{Infinite}

@@ -1,10 +1,10 @@
 -- What a line prints for the reply that it got, without its line feed.
 use Rattle.std.specs.Prelude.{◌≡◌, ℕ, List, Some, None, Result, IfOk}
-use Rattle.schedule_runs.specs.Attempts.turn
-use Rattle.schedule_runs.specs.Attempts.{Turn}
-use Rattle.schedule_runs.specs.Schedules.reply
-use Rattle.schedule_runs.specs.Schedules.{Reply, name_of}
-use Rattle.schedule_runs.specs.Schedules.refusal
+use Rattle.durable_schedule.specs.Attempts.turn
+use Rattle.durable_schedule.specs.Attempts.{Turn}
+use Rattle.durable_schedule.specs.Schedules.reply
+use Rattle.durable_schedule.specs.Schedules.{Reply, name_of}
+use Rattle.durable_schedule.specs.Schedules.refusal
 use Rattle.store_refusals.specs.Names as store
 use Rattle.store_refusals.specs.declared.refusal.Refusal.TheVariants.{OutOfMemory}
 use Rattle.script_lines.specs.declared.text.LastTurn.{LastTurn}

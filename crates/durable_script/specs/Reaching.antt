@@ -7,8 +7,8 @@ use Rattle.sqlite.specs.Held.{state}
 use Rattle.built_in_handlers.specs.declared.built_in.BuiltIn.{BuiltIn}
 use Rattle.vm_types.specs.Options.{default_options}
 use Rattle.journal_store.specs.Stands.{KeepsAll}
-use Rattle.schedule_runs.specs.Passed.{Scheduler, IsScheduled}
-use Rattle.schedule_runs.specs.Schedules.{Scheduled}
+use Rattle.durable_schedule.specs.Passed.{Scheduler, IsScheduled}
+use Rattle.durable_schedule.specs.Schedules.{Scheduled}
 
 module _ {S : Type 0} (g : Ghosts S) where
   -- it has the default options, and stands for this

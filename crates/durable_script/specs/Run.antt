@@ -12,9 +12,9 @@ use Rattle.vm_types.specs.Options.{default_options}
 use Rattle.journal_store.specs.Stored.{Stored}
 use Rattle.journal_store.specs.Stands.{Endures, IsStanding}
 use Rattle.store_calls.specs.Standing.{Standing}
-use Rattle.schedule_runs.specs.Passed.{HoldsOf}
-use Rattle.schedule_runs.specs.Runs.{Leaves, at_first}
-use Rattle.schedule_runs.specs.Schedules.{AppliesAll, Brings, Event, HeldAttempt, Reply, Scheduled}
+use Rattle.durable_schedule.specs.Passed.{HoldsOf}
+use Rattle.durable_schedule.specs.Runs.{Leaves, at_first}
+use Rattle.durable_schedule.specs.Schedules.{AppliesAll, Brings, Event, HeldAttempt, Reply, Scheduled}
 use Rattle.built_in_handlers.specs.BuiltIn.{function_of}
 use Rattle.built_in_handlers.specs.Handlers.{nap, nap99, race, both, ask, pair, twice, keys, read, effect, go, hook}
 use Rattle.script_lines.specs.declared.word.HandlerName.{HandlerName}
@@ -163,7 +163,7 @@ module _ {S : Type 0} (g : Ghosts S) where
   pub record AreDone (store after : Stored S) (done : List DoneLine) : Type 0 where
     -- Whatever the store stood for, unless the disk failed: the lines were done on it by a new scheduler, and what they came to is what the
     -- store that is left stands for. Of that all is said that a schedule leaves: with it the next script begins, by
-    -- `schedule_runs::reopened_stores_hold` also over a store that is opened again.
+    -- `durable_schedule::reopened_stores_hold` also over a store that is opened again.
     pub leads : HasCleanDisk (state g after.connection) → (s : Standing) → IsStanding g s store
         → (end : Scheduled BuiltIn) × IsStanding g end.standing after × DoesAll done (at_first s) end × AreSchedule done (at_first s) end
     -- a crash leaves what it could leave before, or what the first of the lines came to, of which the same is said

@@ -16,7 +16,7 @@ use Rattle.store_refusals.specs.Refused.{IsRefused}
 use Rattle.store_invocations.specs.Rows.{known_tests}
 use Rattle.store_invocations.specs.Told.{entries_told}
 use Rattle.store_invocations.specs.Answered.{answer_told}
-use Rattle.schedule_runs.specs.Schedules.{Scheduled}
+use Rattle.durable_schedule.specs.Schedules.{Scheduled}
 use Rattle.script_lines.specs.Text.{value_line, failure_line, open_text, refused_text, state_line, due_line}
 use Rattle.durable_script.specs.declared.entry.ShownEntry.{ShownEntry}
 use Rattle.durable_script.specs.Entries.{AreShown, SomeUnread, entry_text}

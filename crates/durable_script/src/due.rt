@@ -8,7 +8,7 @@ ghost use Rattle.durable_script.specs.Shown.{Looks, ShowsDue};
 use crate::reply::reply_line;
 use built_in_handlers::BuiltIn;
 use bytes::ByteStr;
-use schedule_runs::Scheduler;
+use durable_schedule::Scheduler;
 use script_lines::text::{LineReply, ShownDue};
 use sqlite::Alter;
 use std::alloc::{AllocError, Global};

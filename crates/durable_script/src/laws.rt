@@ -3,7 +3,7 @@ ghost use Rattle.durable_script.specs.EntriesShown.{EntriesAreShown};
 ghost use Rattle.durable_script.specs.Run.{HandlersAreNamed, LinesFollow};
 
 use built_in_handlers::BuiltIn;
-use schedule_runs::schedules_leave;
+use durable_schedule::schedules_leave;
 
 /// Behind each line of a script, what is recorded of an invocation is of the one uninterrupted run of the handler that its lines name,
 /// if what was recorded before is.

@@ -13,5 +13,5 @@ mod state;
 
 pub use entry::{ShownEntry, read_entries};
 pub use run::{ScriptEnd, run_script};
-pub use schedule_runs::{Event, Reply, Scheduler, run_schedule};
+pub use durable_schedule::{Event, Reply, Scheduler, run_schedule};
 pub use script_lines::fault::ScriptFault;

@@ -4,7 +4,7 @@ ghost use Rattle.durable_script.specs.Outcome.{given_outcome};
 
 use bytes::Bytes;
 use protocol_errors::{Error, InvocationErrorCode};
-use schedule_runs::{RunOutcome, TerminalFailure};
+use durable_schedule::{RunOutcome, TerminalFailure};
 use script_lines::outcome::LineOutcome;
 use sequence::Sequence;
 use std::alloc::{AllocError, Global};

@@ -3,7 +3,7 @@ ghost use Rattle.std.specs.Prelude.{◌≡◌, ◌∷◌, [], ◌++◌, IfOk, st
 ghost use Rattle.script_lines.specs.Text.{reply_text};
 ghost use Rattle.durable_script.specs.Printed.{word_of, printed};
 
-use schedule_runs::{Reply, Turn};
+use durable_schedule::{Reply, Turn};
 use script_lines::text::{LastTurn, LineReply};
 use std::alloc::{AllocError, Global};
 

@@ -7,7 +7,7 @@ ghost use Rattle.durable_script.specs.Run.{DoesAll, DoesFirst, DoesLines, RunsSc
 use crate::runner::Runner;
 use built_in_handlers::BuiltIn;
 use journal_store::Store;
-use schedule_runs::{
+use durable_schedule::{
     frames_are_taken, invocations_stand_alone, records_of_runs, schedules_keep, schedules_leave,
 };
 use script_lines::fault::ScriptFault;

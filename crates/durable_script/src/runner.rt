@@ -16,7 +16,7 @@ use built_in_handlers::BuiltIn;
 use bytes::{ByteStr, Bytes};
 use journal_model::{Failure, NewInvocation, NotificationResult};
 use journal_store::Store;
-use schedule_runs::{Event, OutsideSignal, Refusal, Reply, Scheduler, Turn};
+use durable_schedule::{Event, OutsideSignal, Refusal, Reply, Scheduler, Turn};
 use script_lines::fault::ScriptFault;
 use script_lines::line::{Line, parse_line};
 use script_lines::outcome::LineOutcome;

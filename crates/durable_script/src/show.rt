@@ -10,7 +10,7 @@ use crate::reply::reply_line;
 use built_in_handlers::BuiltIn;
 use bytes::ByteStr;
 use journal_model::NonEmptyValue;
-use schedule_runs::Scheduler;
+use durable_schedule::Scheduler;
 use script_lines::text::{LineReply, ShownAnswer, ShownOpenness};
 use sqlite::Alter;
 use std::alloc::AllocError;

@@ -9,7 +9,7 @@ ghost use Rattle.durable_script.specs.Shown.{Looks, ShowsState};
 use crate::reply::reply_line;
 use built_in_handlers::BuiltIn;
 use bytes::ByteStr;
-use schedule_runs::{Scheduler, StateRow};
+use durable_schedule::{Scheduler, StateRow};
 use script_lines::text::{LineReply, ShownState};
 use sqlite::Alter;
 use std::alloc::AllocError;

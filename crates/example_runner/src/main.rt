@@ -8,7 +8,7 @@ mod work;
 use anyhow::{Result, bail};
 use bytes::{ByteStr, Bytes};
 use rounds::Rounds;
-use schedule_runs::{
+use durable_schedule::{
     Event, NewInvocation, Reply, Scheduler, Sequence, StateMode, Store, VMOptions,
 };
 use sqlite::{Alter, File, FileStore, Unknown};

@@ -3,7 +3,7 @@ ghost use Rattle.std.specs.Prelude.{◌≡◌, ◌<◌, length, IfOk};
 ghost use Rattle.example_runner.specs.Rounds as rounding;
 
 use bytes::{ByteStr, Bytes};
-use schedule_runs::{
+use durable_schedule::{
     Answer, AwaitedFuture, Call, Handler, Input, Moment, NonEmptyValue, NotificationHandle,
     PayloadOptions,
 };

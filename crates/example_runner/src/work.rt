@@ -1,7 +1,7 @@
 //! What one call does: each invocation that is due is gone on with.
 use crate::rounds::Rounds;
 use bytes::ByteStr;
-use schedule_runs::{Event, Refusal, Reply, RunOutcome, Scheduler, Turn};
+use durable_schedule::{Event, Refusal, Reply, RunOutcome, Scheduler, Turn};
 use sqlite::Alter;
 use std::alloc::{AllocError, Global};
 

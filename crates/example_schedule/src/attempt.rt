@@ -1,7 +1,7 @@
 //! One attempt of an invocation.
 use crate::reminder::Reminder;
 use crate::{begin, feed, transfer, turn};
-use schedule_runs::{Event, Reply, Scheduler, Turn};
+use durable_schedule::{Event, Reply, Scheduler, Turn};
 use sqlite::Alter;
 
 /// Goes on with the invocation at this moment, as far as it comes.

@@ -1,6 +1,6 @@
 //! Every call that asks for something and waits for nothing, made in one attempt, and what is recorded of it.
 use crate::{ALL, id, invocation};
-use schedule_runs::{Event, RecordedEntry, Reply, RunOutcome, Scheduler, Sequence, Turn};
+use durable_schedule::{Event, RecordedEntry, Reply, RunOutcome, Scheduler, Sequence, Turn};
 use sqlite::Alter;
 use std::alloc::{AllocError, Global};
 use std::io;

@@ -17,7 +17,7 @@ use calls::{make_calls, print_types};
 use orders::take_orders;
 use payment::pay;
 use reminder::Reminder;
-use schedule_runs::{
+use durable_schedule::{
     Event, NewInvocation, NoRoom, Reply, RunOutcome, Scheduler, Sequence, StateMode, Store,
     VMOptions, run_new_schedule,
 };

@@ -1,7 +1,7 @@
 //! Orders of one customer, which share her state.
 use crate::stamp::Stamp;
 use bytes::{ByteStr, Bytes};
-use schedule_runs::{Event, NewInvocation, Reply, RunOutcome, Scheduler, Sequence, StateMode};
+use durable_schedule::{Event, NewInvocation, Reply, RunOutcome, Scheduler, Sequence, StateMode};
 use sqlite::Alter;
 use std::alloc::Global;
 use std::io;

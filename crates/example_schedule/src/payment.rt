@@ -4,7 +4,7 @@ ghost use Rattle.example_schedule.specs.Payment as paying;
 
 use crate::{ALL, id, invocation};
 use bytes::{ByteStr, Bytes};
-use schedule_runs::{
+use durable_schedule::{
     Answer, AwaitedFuture, Call, Event, Handler, Input, NonEmptyValue, NotificationHandle,
     PayloadOptions, Reply, RetryPolicy, RunExitResult, RunOutcome, Scheduler, Value,
 };

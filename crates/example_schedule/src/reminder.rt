@@ -3,7 +3,7 @@ ghost use Rattle.std.specs.Prelude.{◌≡◌};
 ghost use Rattle.example_schedule.specs.Reminder as reminding;
 
 use bytes::{ByteStr, Bytes};
-use schedule_runs::{
+use durable_schedule::{
     Answer, AwaitedFuture, Call, Handler, Input, Moment, NonEmptyValue, NotificationHandle,
     PayloadOptions,
 };

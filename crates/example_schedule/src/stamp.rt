@@ -3,7 +3,7 @@ ghost use Rattle.std.specs.Prelude.{◌≡◌, IfOk};
 ghost use Rattle.example_schedule.specs.Stamp as stamping;
 
 use bytes::{ByteStr, Bytes};
-use schedule_runs::{
+use durable_schedule::{
     Answer, AwaitedFuture, Call, Handler, Input, NonEmptyValue, NotificationHandle, PayloadOptions,
     Value,
 };

@@ -5,3 +5,6 @@ pub mod News
 pub mod Telling
 pub mod LiveAttempts
 pub mod InputRows
+pub mod Once
+pub mod Results
+pub mod CompletionRows

@@ -1,3 +1,4 @@
 pub mod Reading
 pub mod Message
 pub mod Laws
+pub mod Once

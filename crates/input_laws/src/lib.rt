@@ -1,8 +1,11 @@
 //! What was an attempt told? Laws of its input, of what it was handed and of what it has read. The functions do nothing: their
 //! contracts are the laws.
+//!
+//! How often does a completion come? The function does nothing: its contract is the law.
 #![tactic(auto)]
 
 ghost use Rattle.input_laws.specs.Laws.{HandedIsRead, InputsAreMessages, ReadIsHanded};
+ghost use Rattle.input_laws.specs.Once.{CompletionsComeWhenAsked, CompletionsRecordedOnce};
 
 /// The input of an attempt is messages, which carry all recorded arrivals, by place.
 pub fn inputs_are_messages()
@@ -13,4 +16,10 @@ pub fn inputs_are_messages()
 pub fn read_is_handed()
     ensures first { ReadIsHanded }
     ensures all { HandedIsRead }
+{}
+
+/// What is recorded of an invocation asks for each completion once at most, and each comes once at most, after it was asked for.
+pub fn completions_are_recorded_once()
+    ensures counted { CompletionsRecordedOnce }
+    ensures by_result { CompletionsComeWhenAsked }
 {}

@@ -3,4 +3,4 @@ pub use journal_model::{Notification, NotificationId, NotificationResult};
 pub use vm_awaits::{
     AsyncResultsState, AwaitState, CreateHandleError, FlatTree, ResolveFutureResult,
 };
-pub use vm_results::{ReadyNotifications, Slots};
+pub use vm_awaits::{ReadyNotifications, Slots};

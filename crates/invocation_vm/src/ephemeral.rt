@@ -1,2 +1,2 @@
 //! The reads of which nothing is recorded.
-pub use vm_ephemeral::{EphemeralCommands, RegisterError};
+pub use vm_types::{EphemeralCommands, RegisterError};

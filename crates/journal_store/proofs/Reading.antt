@@ -25,8 +25,8 @@ use Rattle.store_live.specs.Attempts.{Attempts, ByInvocation, attempt_of, Change
 use Rattle.store_live_laws.specs.Agrees.{Agrees, has_number}
 use Rattle.store_live_laws.proofs.Left.{left_told}
 use Rattle.store_live_laws.proofs.Steps.{is_read}
-use Rattle.store_row_laws.specs.Memory.{InputCounts, arrival_read, frame_read, plain_read, row_asked, told_read}
-use Rattle.store_row_laws.proofs.Reading.{inputs_count}
+use Rattle.store_live_laws.specs.Memory.{InputCounts, arrival_read, frame_read, plain_read, row_asked, told_read}
+use Rattle.store_live_laws.proofs.Reading.{inputs_count}
 use Rattle.journal_store.specs.Stored.{stored}
 use Rattle.journal_store.specs.Stands.{KeepsOutputs, Stands}
 use Rattle.journal_store.specs.Attempts.{FitsNext, HasRead, HasRoomFor, IsWanted, IsWantedBy, ReadsNext, after_wanted, has_closed, rest_kept}

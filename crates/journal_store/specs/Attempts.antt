@@ -16,7 +16,7 @@ use Rattle.store_live.specs.declared.attempt.LiveAttempt.{LiveAttempt}
 use Rattle.store_live.specs.declared.input.FrameRead.{FrameRead}
 use Rattle.store_live.specs.Input.{at_begin, next_ordinal, next_row}
 use Rattle.store_live.specs.Attempts.{CountsFrame, after_frame, attempt_of}
-use Rattle.store_row_laws.specs.Memory.{frame_read, row_asked}
+use Rattle.store_live_laws.specs.Memory.{frame_read, row_asked}
 use Rattle.store_live_laws.specs.Agrees.{cause_of_stale, has_number}
 use Rattle.store_calls.specs.declared.begun.BegunAttempt.{BegunAttempt}
 use Rattle.store_calls.specs.Standing.{Standing}

@@ -17,7 +17,7 @@ ghost use Rattle.journal_store.specs.Causes.{TellsWhy};
 use crate::store::Store;
 use bytes::{ByteStr, Bytes};
 use sqlite::Alter;
-use store_inputs::next_frame;
+use store_reads::next_frame;
 use store_invocations::open_row;
 use store_live::{FrameRead, LiveAttempts};
 use store_refusals::Refusal;

@@ -1,7 +1,7 @@
 // Which invocations are due, and when the next sleep ends.
 ghost use Rattle.std.specs.Prelude.{◌≡◌, not, filter, is_some, IfErr};
 ghost use Rattle.journal_model.specs.Attempt.{due as due_after};
-ghost use Rattle.due_model.specs.NextMoment.{IsNextMoment};
+ghost use Rattle.due_laws.specs.NextMoment.{IsNextMoment};
 ghost use Rattle.journal_store.specs.Stands.{IsQuiet, TellsAlways};
 ghost use Rattle.journal_store.specs.Words.{attempt_of};
 ghost use Rattle.journal_store.specs.Causes.{TellsWhy};
@@ -9,7 +9,7 @@ ghost use Rattle.journal_store.specs.Causes.{TellsWhy};
 use crate::store::Store;
 use bytes::ByteStr;
 use sqlite::Alter;
-use store_due::{awake_ids, next_moment};
+use store_reads::{awake_ids, next_moment};
 use store_live::LiveAttempts;
 use store_refusals::Refusal;
 

@@ -1,6 +1,6 @@
 -- How targets, and what commands choose among, are printed.
 use Rattle.std.specs.Prelude.{ℕ, List, ◌++◌, decimal, codes}
-use Rattle.protocol_shown.specs.Texts.{quoted, optional_text}
+use Rattle.protocol_types.specs.Texts.{quoted, optional_text}
 use Rattle.protocol_records.specs.Texts.{failure_text, value_text, void_text}
 use Rattle.protocol_calls.specs.declared.complete_awakeable_command.CompleteAwakeableCommandResult.{CompleteAwakeableCommandResult}
 use Rattle.protocol_calls.specs.declared.complete_awakeable_command.CompleteAwakeableCommandResult.TheVariants as awakeables

@@ -5,7 +5,7 @@ use crate::{
     CompleteAwakeableCommandResult, IdempotentRequestTarget, InvocationTarget,
     SendSignalCommandResult, SendSignalCommandSignalId, WorkflowTarget,
 };
-use protocol_shown::{Shown, show_labelled};
+use protocol_types::{Shown, show_labelled};
 use std::fmt;
 
 impl Shown for WorkflowTarget {

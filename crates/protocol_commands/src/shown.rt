@@ -2,7 +2,7 @@
 ghost use Rattle.protocol_commands.specs.Texts.{state_result_text, completion_text};
 
 use crate::{CompletePromiseCommandCompletion, GetEagerStateCommandResult};
-use protocol_shown::Shown;
+use protocol_types::Shown;
 use std::fmt;
 
 impl Shown for GetEagerStateCommandResult {

@@ -1,12 +1,12 @@
 -- Commands that call other invocations. How two of them differ, as text.
 use Rattle.std.specs.Prelude.{ℕ, false, List, nat_eq, decimal, codes}
 use Rattle.std.specs.Cmp.Lexicographic.{pointwise}
-use Rattle.protocol_headers.specs.Parts.{same_text}
-use Rattle.protocol_headers.specs.Records.{same_header}
-use Rattle.protocol_headers.specs.Payloads.{same_payload}
-use Rattle.protocol_headers.specs.Calls.{Called, called_by, called_one_way}
-use Rattle.protocol_headers.specs.Passed.{CallCommandMessage, OneWayCallCommandMessage}
-use Rattle.protocol_shown.specs.Texts.{quoted, escaped, list_text}
+use Rattle.protocol_equality.specs.Parts.{same_text}
+use Rattle.protocol_equality.specs.Records.{same_header}
+use Rattle.protocol_equality.specs.Payloads.{same_payload}
+use Rattle.protocol_equality.specs.Calls.{Called, called_by, called_one_way}
+use Rattle.protocol_equality.specs.Passed.{CallCommandMessage, OneWayCallCommandMessage}
+use Rattle.protocol_types.specs.Texts.{quoted, escaped, list_text}
 use Rattle.protocol_records.specs.Texts.{header_text}
 use Rattle.protocol_differences.specs.Lines.{Compared, ◌before◌, field_line, text_line, optional_line, id_line, name_line}
 

@@ -1,6 +1,6 @@
 -- The first and the last command, and the sleep. How two of them differ, as text.
 use Rattle.std.specs.Prelude.{ℕ, false, List, [], codes}
-use Rattle.protocol_headers.specs.Payloads.{same_output_result}
+use Rattle.protocol_equality.specs.Payloads.{same_output_result}
 use Rattle.protocol_records.specs.Texts.{output_result_text}
 use Rattle.protocol_differences.specs.Lines.{Compared, ◌before◌, optional_line, id_line, name_line}
 use Rattle.protocol_records.specs.declared.input_command.InputCommandMessage.{InputCommandMessage}

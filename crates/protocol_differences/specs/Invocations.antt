@@ -1,8 +1,8 @@
 -- Commands about invocations and awakeables that are there already. How two of them differ, as text.
 use Rattle.std.specs.Prelude.{ℕ, false, List, codes}
-use Rattle.protocol_headers.specs.Choices.{same_signal_id, same_signal_result, same_invocation_target}
-use Rattle.protocol_headers.specs.Passed.{awakeable_result_text, signal_id_text, signal_result_text, invocation_target_text, SendSignalCommandMessage, AttachInvocationCommandMessage, GetInvocationOutputCommandMessage, CompleteAwakeableCommandMessage}
-use Rattle.protocol_headers.specs.Payloads.{same_awakeable_result}
+use Rattle.protocol_equality.specs.Choices.{same_signal_id, same_signal_result, same_invocation_target}
+use Rattle.protocol_equality.specs.Passed.{awakeable_result_text, signal_id_text, signal_result_text, invocation_target_text, SendSignalCommandMessage, AttachInvocationCommandMessage, GetInvocationOutputCommandMessage, CompleteAwakeableCommandMessage}
+use Rattle.protocol_equality.specs.Payloads.{same_awakeable_result}
 use Rattle.protocol_differences.specs.Lines.{Compared, ◌before◌, text_line, optional_line, id_line, name_line}
 
 abbrev pub send_signal_command_lines : SendSignalCommandMessage → SendSignalCommandMessage → Compared

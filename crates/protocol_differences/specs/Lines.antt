@@ -3,9 +3,9 @@ use Rattle.std.specs.Prelude.{◌≡◌, ◌↔◌, ℕ, Bool, true, false, ◌&
 use Rattle.std.specs.Option.{option_eq}
 use Rattle.std.proofs.Common.{sym, ◌∙◌}
 use Rattle.std.proofs.lemmas.Bool.{and_parts, and_from}
-use Rattle.protocol_shown.specs.Texts.{quoted, escaped, optional_text}
-use Rattle.protocol_headers.specs.Parts.{same_text}
-use Rattle.protocol_headers.specs.Tells.{Tells}
+use Rattle.protocol_types.specs.Texts.{quoted, escaped, optional_text}
+use Rattle.protocol_equality.specs.Parts.{same_text}
+use Rattle.protocol_equality.specs.Tells.{Tells}
 
 -- a line begins with a line feed; where the field is the same there is none
 unfoldable pub compared_line : Bool → List ℕ → List ℕ → List ℕ → List ℕ

@@ -1,7 +1,7 @@
 -- Commands on promises, and the effect. How two of them differ, as text.
 use Rattle.std.specs.Prelude.{ℕ, false, List, codes}
-use Rattle.protocol_headers.specs.Passed.{completion_text, GetPromiseCommandMessage, PeekPromiseCommandMessage, CompletePromiseCommandMessage, RunCommandMessage}
-use Rattle.protocol_headers.specs.Payloads.{same_completion}
+use Rattle.protocol_equality.specs.Passed.{completion_text, GetPromiseCommandMessage, PeekPromiseCommandMessage, CompletePromiseCommandMessage, RunCommandMessage}
+use Rattle.protocol_equality.specs.Payloads.{same_completion}
 use Rattle.protocol_differences.specs.Lines.{Compared, ◌before◌, text_line, optional_line, id_line, name_line}
 
 abbrev pub get_promise_command_lines : GetPromiseCommandMessage → GetPromiseCommandMessage → Compared

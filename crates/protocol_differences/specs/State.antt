@@ -1,8 +1,8 @@
 -- Commands on the object's state. How two of them differ, as text.
 use Rattle.std.specs.Prelude.{ℕ, false, List, codes}
-use Rattle.protocol_headers.specs.Passed.{state_result_text, GetLazyStateCommandMessage, GetLazyStateKeysCommandMessage, GetEagerStateCommandMessage, GetEagerStateKeysCommandMessage, SetStateCommandMessage, ClearStateCommandMessage, ClearAllStateCommandMessage}
-use Rattle.protocol_headers.specs.Records.{same_state_keys}
-use Rattle.protocol_headers.specs.Payloads.{same_content, same_state_result}
+use Rattle.protocol_equality.specs.Passed.{state_result_text, GetLazyStateCommandMessage, GetLazyStateKeysCommandMessage, GetEagerStateCommandMessage, GetEagerStateKeysCommandMessage, SetStateCommandMessage, ClearStateCommandMessage, ClearAllStateCommandMessage}
+use Rattle.protocol_equality.specs.Records.{same_state_keys}
+use Rattle.protocol_equality.specs.Payloads.{same_content, same_state_result}
 use Rattle.protocol_records.specs.Texts.{state_keys_text, value_text}
 use Rattle.protocol_differences.specs.Lines.{Compared, ◌before◌, bytes_line, optional_line, id_line, name_line}
 

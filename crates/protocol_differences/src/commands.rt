@@ -1,7 +1,7 @@
 // What is printed of each command.
 ghost use Rattle.std.specs.Prelude.{false, refl};
-ghost use Rattle.protocol_headers.specs.Commands.{output_command_tells, sleep_command_tells, get_lazy_state_command_tells, get_lazy_state_keys_command_tells, get_eager_state_command_tells, get_eager_state_keys_command_tells, set_state_command_tells, clear_state_command_tells, clear_all_state_command_tells, get_promise_command_tells, peek_promise_command_tells, complete_promise_command_tells, run_command_tells, send_signal_command_tells, attach_invocation_command_tells, get_invocation_output_command_tells, complete_awakeable_command_tells};
-ghost use Rattle.protocol_headers.specs.Calls.{call_command_tells, one_way_call_command_tells};
+ghost use Rattle.protocol_equality.specs.Commands.{output_command_tells, sleep_command_tells, get_lazy_state_command_tells, get_lazy_state_keys_command_tells, get_eager_state_command_tells, get_eager_state_keys_command_tells, set_state_command_tells, clear_state_command_tells, clear_all_state_command_tells, get_promise_command_tells, peek_promise_command_tells, complete_promise_command_tells, run_command_tells, send_signal_command_tells, attach_invocation_command_tells, get_invocation_output_command_tells, complete_awakeable_command_tells};
+ghost use Rattle.protocol_equality.specs.Calls.{call_command_tells, one_way_call_command_tells};
 ghost use Rattle.protocol_differences.specs.Calls.{call_command_difference, call_command_lines, one_way_call_command_difference, one_way_call_command_lines};
 ghost use Rattle.protocol_differences.specs.Control.{input_command_difference, output_command_difference, output_command_lines, sleep_command_difference, sleep_command_lines};
 ghost use Rattle.protocol_differences.specs.Invocations.{send_signal_command_difference, send_signal_command_lines, attach_invocation_command_difference, attach_invocation_command_lines, get_invocation_output_command_difference, get_invocation_output_command_lines, complete_awakeable_command_difference, complete_awakeable_command_lines};
@@ -11,7 +11,7 @@ ghost use Rattle.protocol_differences.specs.Lines.{silent_told};
 
 use crate::CommandMessageHeaderDiff;
 use crate::lines::{write_field, write_id, write_payload};
-use protocol_headers::{
+use protocol_equality::{
     AttachInvocationCommandMessage, CallCommandMessage, ClearAllStateCommandMessage,
     ClearStateCommandMessage, CompleteAwakeableCommandMessage, CompletePromiseCommandMessage,
     GetEagerStateCommandMessage, GetEagerStateKeysCommandMessage,

@@ -1,6 +1,6 @@
 //! Laws of printed differences. Each function does nothing: its contract is the law.
 ghost use Rattle.std.specs.Prelude.{◌≡◌, [], false};
-ghost use Rattle.protocol_headers.specs.Laws.{AreHeaderEqual};
+ghost use Rattle.protocol_equality.specs.Laws.{AreHeaderEqual};
 
 use crate::CommandMessageHeaderDiff;
 

@@ -3,8 +3,8 @@ ghost use Rattle.std.specs.Fmt.{WritesOnOk};
 ghost use Rattle.std.specs.Prelude.{false};
 ghost use Rattle.protocol_differences.specs.Lines.{compared_line, id_line};
 
-use protocol_headers::{Same, SameBesidesPayload};
-use protocol_shown::{Shown, show_labelled};
+use protocol_equality::{Same, SameBesidesPayload};
+use protocol_types::{Shown, show_labelled};
 use std::fmt;
 use std::fmt::Write;
 

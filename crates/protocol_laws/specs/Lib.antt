@@ -5,3 +5,8 @@ pub mod JoinsCommands
 pub mod JoinsFuture
 pub mod JoinsRecords
 pub mod ReadFits
+pub mod Commands
+pub mod Laws
+pub mod Payloads
+pub mod Records
+pub mod Requests

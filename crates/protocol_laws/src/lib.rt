@@ -1,8 +1,11 @@
 //! Laws of every record, and of every value that was read: it fits, so they hold of it. Each function does nothing: its
 //! contract is the law.
+//!
+//! That records are spelled as the definitions of durable execution spell what they stand for. Each function does nothing: its
+//! contract is the law.
 #![tactic(auto)]
 
-ghost use Rattle.std.specs.Prelude.{◌≡◌, ◌++◌, ◌^◌, ◌<◌, ℕ, List, None, length};
+ghost use Rattle.std.specs.Prelude.{List, None, length, ℕ, ◌++◌, ◌<◌, ◌^◌, ◌≡◌};
 ghost use Rattle.protocol_wire.specs.Fields.{fields};
 ghost use Rattle.protocol_wire.specs.Check.{payload_fault};
 ghost use Rattle.protocol_wire.specs.Parts.{payload_of};
@@ -10,6 +13,7 @@ ghost use Rattle.protocol_wire.specs.Decodes.{IsRead};
 ghost use Rattle.protocol_wire.specs.declared.record.TheConstants.{LEVELS};
 ghost use Rattle.protocol_laws.specs.ReadFits.{AreBytes};
 
+pub mod laws;
 mod records;
 
 use protocol_wire::Record;

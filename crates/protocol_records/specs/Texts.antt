@@ -1,6 +1,6 @@
 -- How records that others hold are printed, and the result of an output.
 use Rattle.std.specs.Prelude.{ℕ, List, ◌++◌, decimal, codes}
-use Rattle.protocol_shown.specs.Texts.{quoted, escaped, list_text}
+use Rattle.protocol_types.specs.Texts.{quoted, escaped, list_text}
 use Rattle.protocol_records.specs.declared.header.Header.{Header}
 use Rattle.protocol_records.specs.declared.failure.FailureMetadata.{FailureMetadata}
 use Rattle.protocol_records.specs.declared.failure.Failure.{Failure}

@@ -3,7 +3,7 @@ ghost use Rattle.std.specs.Prelude.{Some};
 ghost use Rattle.protocol_records.specs.Texts.{header_text, failure_metadata_text, failure_text, value_text, void_text, state_keys_text, output_result_text};
 
 use crate::{Failure, FailureMetadata, Header, OutputCommandResult, StateKeys, Value, Void};
-use protocol_shown::{Shown, show_labelled};
+use protocol_types::{Shown, show_labelled};
 use std::fmt;
 use std::fmt::Write;
 

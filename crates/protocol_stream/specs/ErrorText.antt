@@ -1,7 +1,7 @@
 -- What errors of bytes print.
 use Rattle.std.specs.Prelude.{ℕ, ℤ, ◌/◌, ◌%◌, false, List, [], ◌∷◌, ◌++◌, codes}
 use Rattle.std.specs.Fmt.{signed_decimal}
-use Rattle.protocol_shown.specs.Texts.{hex_byte}
+use Rattle.protocol_types.specs.Texts.{hex_byte}
 use Rattle.protocol_types.specs.TypeText.{type_text}
 use Rattle.protocol_types.specs.declared.message_type.MessageType.{MessageType}
 use Rattle.protocol_wire.specs.declared.check.Fault.{Fault}

@@ -4,7 +4,7 @@ ghost use Rattle.std.specs.Fmt.{WritesOnOk};
 ghost use Rattle.protocol_stream.specs.ErrorText.{unknown_type_text, fault_text, unread_payload_text, asked_text, there_text, missing_field_text, decoding_text, encoding_text};
 
 use crate::{DecodingError, EncodingError, MessageType, NotificationField, UnknownMessageType};
-use protocol_shown::HexByte;
+use protocol_types::HexByte;
 use protocol_wire::Fault;
 use std::fmt;
 

@@ -3,3 +3,4 @@ pub mod Laws
 pub mod MessageType
 pub mod TypeText
 pub mod Version
+pub mod Texts

@@ -10,21 +10,21 @@ use Rattle.journal_model.specs.Journal.{recorded_requests}
 use Rattle.journal_model.specs.Attempt.{input_bytes, is_input_closed}
 use Rattle.journal_model.specs.Cause.{IsAccepted}
 use Rattle.input_laws.specs.Message.{InputMessage, piece_of, arrivals_carried, requests_carried}
-use Rattle.turn_laws.specs.Begun.{proposals_in, IsProposed}
-use Rattle.turn_laws.specs.Live.{TurnsOfRun}
-use Rattle.turn_laws.specs.Sending.{requests_sent, FollowsSo}
-use Rattle.turn_laws.proofs.Begun.{input_sent}
-use Rattle.turn_laws.proofs.Living.{requests_sent-append, turn_follows}
+use Rattle.live_laws.specs.Begun.{proposals_in, IsProposed}
+use Rattle.live_laws.specs.Live.{TurnsOfRun}
+use Rattle.live_laws.specs.Sending.{requests_sent, FollowsSo}
+use Rattle.live_laws.proofs.Begun.{input_sent}
+use Rattle.live_laws.proofs.LiveTurns.{requests_sent-append, turn_follows}
 use Rattle.attempt_model.specs.Machine.{Machine}
-use Rattle.machine_laws.specs.Living.{LiveAttempt, start_read, HasReadJournal, IsLiveMachine, after_reading, after_turn}
-use Rattle.machine_laws.proofs.Living.{machine_stays, position, is_live}
+use Rattle.live_laws.specs.Living.{LiveAttempt, start_read, HasReadJournal, IsLiveMachine, after_reading, after_turn}
+use Rattle.live_laws.proofs.LiveMachines.{machine_stays, position, is_live}
 use Rattle.body_laws.specs.Bodies.{Body, Executor, bodies_of, acknowledges}
 use Rattle.body_laws.specs.Standing.{Among, has_arrived, count_proposed}
 use Rattle.body_laws.proofs.Lists.{outcome, among-left, among-right}
-use Rattle.executor_laws.specs.Flying.{outcomes_in, OutcomesStand}
-use Rattle.executor_laws.specs.Living.{IsLiveExecutor, outcome_frame}
-use Rattle.executor_laws.proofs.Flying.{outcomes_are_new, others_follow}
-use Rattle.executor_laws.proofs.Living.{begins_coming, body_requested, journal_come}
+use Rattle.replay_laws.specs.Flying.{outcomes_in, OutcomesStand}
+use Rattle.replay_laws.specs.Living.{IsLiveExecutor, outcome_frame}
+use Rattle.replay_laws.proofs.Flying.{outcomes_are_new, others_follow}
+use Rattle.replay_laws.proofs.LiveBodies.{begins_coming, body_requested, journal_come}
 use Rattle.replay_laws.specs.Replaying.{asked_by, IsReplayed}
 use Rattle.replay_laws.specs.Laws.{LivesOn, LivesStay}
 

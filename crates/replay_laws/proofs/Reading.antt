@@ -19,21 +19,21 @@ use Rattle.input_laws.proofs.Telling.{arrivals_carried-append}
 use Rattle.input_laws.proofs.News.{requests_carried-append}
 use Rattle.attempt_model.specs.Machine.{Machine, machine_at_start}
 use Rattle.attempt_model.specs.Attempts.{with_entry}
-use Rattle.attempt_tables.proofs.Tables.{results-append}
-use Rattle.position_laws.specs.Beginning.{AttemptStart}
-use Rattle.position_laws.specs.Reading.{with_messages, IsMachineAt}
-use Rattle.position_laws.proofs.Reading.{messages-written}
-use Rattle.machine_laws.specs.Asking.{are_by_text}
-use Rattle.machine_laws.specs.Living.{LiveAttempt, HoldsStart, start_unread, start_read, HasReadJournal, handed_bytes, after_reading}
+use Rattle.attempt_laws.proofs.Tables.{results-append}
+use Rattle.live_laws.specs.Beginning.{AttemptStart}
+use Rattle.live_laws.specs.Reading.{with_messages, IsMachineAt}
+use Rattle.live_laws.proofs.Reading.{messages-written}
+use Rattle.live_laws.specs.Asking.{are_by_text}
+use Rattle.live_laws.specs.Living.{LiveAttempt, HoldsStart, start_unread, start_read, HasReadJournal, handed_bytes, after_reading}
 use Rattle.body_laws.specs.Bodies.{Body, Executor, reads_arrival, reads_outcome, bodies_of, acknowledges}
 use Rattle.body_laws.specs.Standing.{Among, has_arrived, count_bodies, count_proposed, BodiesStand}
 use Rattle.body_laws.specs.Laws.{is_early}
 use Rattle.body_laws.proofs.Lists.{count-among}
 use Rattle.body_laws.proofs.Standing.{with_machine, body_reads, body_comes, arrived-before, arrived-once}
 use Rattle.body_laws.proofs.Steps.{requested-run}
-use Rattle.executor_laws.specs.Outcomes.{asks_run, runs}
-use Rattle.executor_laws.specs.Living.{reads_messages, AreCached}
-use Rattle.executor_laws.proofs.Outcomes.{runs_first}
+use Rattle.replay_laws.specs.Outcomes.{asks_run, runs}
+use Rattle.replay_laws.specs.Living.{reads_messages, AreCached}
+use Rattle.replay_laws.proofs.Outcomes.{runs_first}
 use Rattle.replay_laws.specs.Replaying.{IsOfJournal, IsBehind, ComesAsAsked, asked_by, IsReplayed}
 use Rattle.replay_laws.specs.Laws.{ReplaysBegin, StaysReplayed, ReplaysStay}
 use Rattle.replay_laws.proofs.Standing.{at, behind_none, asked_once, none_unread, all_arrivals}

@@ -13,19 +13,19 @@ use Rattle.run_laws.proofs.Extending.{begins-less, begins-more}
 use Rattle.input_laws.specs.Message.{InputMessage, CarriesInput, CarriesRequest, CarriesArrival, CarriesOutcome, arrivals_carried, requests_carried}
 use Rattle.input_laws.proofs.News.{requests_carried-append}
 use Rattle.input_laws.proofs.Telling.{arrivals_carried-append}
-use Rattle.completion_laws.specs.Once.{ComeWhenAsked, count_of, numbers_asked}
+use Rattle.input_laws.specs.Once.{ComeWhenAsked, count_of, numbers_asked}
 use Rattle.attempt_model.specs.Results.{are_keys_text}
 use Rattle.attempt_model.specs.Standing.{IsShown}
 use Rattle.attempt_laws.proofs.Apart.{comes_once}
 use Rattle.attempt_laws.proofs.Coming.{all-front, all-both, kinds_by_asking}
-use Rattle.position_laws.specs.Reading.{IsInRun}
-use Rattle.position_laws.specs.Turning.{HasPosition}
-use Rattle.position_laws.proofs.Reading.{none_before, none_behind, machine_position}
-use Rattle.machine_laws.specs.Asking.{GiveIds, keys_are_text, are_by_text, AsksByText}
-use Rattle.machine_laws.specs.Living.{LiveAttempt, HasReadJournal}
-use Rattle.machine_laws.proofs.Asking.{fewer_come, fewer_give, come_as_asked}
+use Rattle.live_laws.specs.Reading.{IsInRun}
+use Rattle.live_laws.specs.MachineTurn.{HasPosition}
+use Rattle.live_laws.proofs.Reading.{none_before, none_behind, machine_position}
+use Rattle.live_laws.specs.Asking.{GiveIds, keys_are_text, are_by_text, AsksByText}
+use Rattle.live_laws.specs.Living.{LiveAttempt, HasReadJournal}
+use Rattle.live_laws.proofs.Asking.{fewer_come, fewer_give, come_as_asked}
 use Rattle.body_laws.specs.Bodies.{Executor}
-use Rattle.executor_laws.proofs.Flying.{begins_once}
+use Rattle.replay_laws.proofs.Flying.{begins_once}
 use Rattle.replay_laws.specs.Replaying.{IsBehind, asked_by, IsReplayed}
 use Rattle.replay_laws.specs.Laws.{StandsReplayed, ReplaysStand}
 

@@ -14,19 +14,19 @@ use Rattle.input_laws.specs.Message.{InputMessage, CarriesInput, CarriesRequest,
 use Rattle.attempt_model.specs.Machine.{Machine, Reply, Answered, AwaitsTree, AwaitsChild, Finished, FailedBy, reply_to}
 use Rattle.attempt_model.specs.Standing.{AreOfKind, Fits, next_call, AreReflexive}
 use Rattle.attempt_laws.proofs.Coming.{all-both}
-use Rattle.position_laws.specs.Reading.{IsInRun}
-use Rattle.position_laws.specs.Replies.{SendsReply, goes_on, StandsBehind}
-use Rattle.position_laws.specs.Turning.{MakesTurns}
-use Rattle.position_laws.proofs.Turning.{machine_turns}
-use Rattle.machine_laws.specs.Asking.{are_by_text}
-use Rattle.machine_laws.specs.Living.{LiveAttempt, start_read, HasReadJournal, after_turn}
+use Rattle.live_laws.specs.Reading.{IsInRun}
+use Rattle.live_laws.specs.Replies.{SendsReply, goes_on, StandsBehind}
+use Rattle.live_laws.specs.MachineTurn.{MakesTurns}
+use Rattle.live_laws.proofs.MachineTurn.{machine_turns}
+use Rattle.live_laws.specs.Asking.{are_by_text}
+use Rattle.live_laws.specs.Living.{LiveAttempt, start_read, HasReadJournal, after_turn}
 use Rattle.body_laws.specs.Bodies.{Body, Executor, without_body, body_awaited, handing_out, executes_or_awaits, reply_after, executor_reply, bodies_left, proposing}
 use Rattle.body_laws.specs.Standing.{BodiesStand, has_arrived, count_proposed, StandsWithBodies, ExecutesBody, RepliesWithBodies}
 use Rattle.body_laws.proofs.Lists.{outcome, among-left, proposed-append}
 use Rattle.body_laws.proofs.Progress.{none-left}
 use Rattle.body_laws.proofs.Standing.{steps-same, with_steps, body_proposes}
 use Rattle.body_laws.proofs.Calling.{calls_simulate}
-use Rattle.executor_laws.specs.Outcomes.{runs}
+use Rattle.replay_laws.specs.Outcomes.{runs}
 use Rattle.replay_laws.specs.Replaying.{IsBehind, ComesAsAsked, asked_by, IsReplayed}
 use Rattle.replay_laws.specs.Laws.{TurnsReplayed, ReplaysTurn}
 use Rattle.replay_laws.proofs.Standing.{replay_stands}

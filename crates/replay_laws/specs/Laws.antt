@@ -12,18 +12,18 @@ use Rattle.journal_model.specs.Event.{Event, Frame}
 use Rattle.journal_model.specs.Attempt.{input_bytes, is_input_closed}
 use Rattle.journal_model.specs.Cause.{IsAccepted}
 use Rattle.input_laws.specs.Message.{InputMessage, piece_of, arrivals_carried, requests_carried}
-use Rattle.turn_laws.specs.Live.{TurnsOfRun}
-use Rattle.turn_laws.specs.Sending.{requests_sent, FollowsSo}
+use Rattle.live_laws.specs.Live.{TurnsOfRun}
+use Rattle.live_laws.specs.Sending.{requests_sent, FollowsSo}
 use Rattle.attempt_model.specs.Machine.{Machine, machine_at_start}
 use Rattle.attempt_model.specs.Standing.{AreOfKind, Fits, next_call, AreReflexive}
-use Rattle.position_laws.specs.Beginning.{AttemptStart}
-use Rattle.position_laws.specs.Reading.{IsInRun}
-use Rattle.machine_laws.specs.Asking.{are_by_text, AsksByText}
-use Rattle.machine_laws.specs.Living.{LiveAttempt, attempt_begun, HasReadJournal, handed_bytes, after_reading, after_turn}
+use Rattle.live_laws.specs.Beginning.{AttemptStart}
+use Rattle.live_laws.specs.Reading.{IsInRun}
+use Rattle.live_laws.specs.Asking.{are_by_text, AsksByText}
+use Rattle.live_laws.specs.Living.{LiveAttempt, attempt_begun, HasReadJournal, handed_bytes, after_reading, after_turn}
 use Rattle.body_laws.specs.Standing.{Among, has_arrived, count_proposed}
 use Rattle.body_laws.specs.Bodies.{Body, bodies_of, Executor, executor_over, ExecutorReply, Answers, Executes, AwaitsTreeOf, AwaitsChildOf, Finishes, Fails, executor_reply, proposing}
-use Rattle.executor_laws.specs.Flying.{outcomes_in}
-use Rattle.executor_laws.specs.Living.{reads_messages, AreCached, outcome_frame, IsLiveExecutor}
+use Rattle.replay_laws.specs.Flying.{outcomes_in}
+use Rattle.replay_laws.specs.Living.{reads_messages, AreCached, outcome_frame, IsLiveExecutor}
 use Rattle.replay_laws.specs.Replaying.{CanReplay, IsBehind, ComesAsAsked, asked_by, IsReplayed}
 
 -- ---- its begin

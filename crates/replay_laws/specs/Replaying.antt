@@ -7,16 +7,16 @@ use Rattle.journal_model.specs.Notification.{Bytes, Arrival}
 use Rattle.journal_model.specs.Request.{Request}
 use Rattle.journal_model.specs.Run.{Handler, run, BeginsRun}
 use Rattle.journal_model.specs.Attempt.{input_bytes}
-use Rattle.state_laws.specs.Keys.{HasTextKeys}
+use Rattle.run_laws.specs.Keys.{HasTextKeys}
 use Rattle.input_laws.specs.Message.{InputMessage, CarriesInput, CarriesRequest, CarriesArrival, CarriesOutcome, piece_of, arrivals_carried, requests_carried}
-use Rattle.completion_laws.specs.Once.{ComeWhenAsked}
-use Rattle.position_laws.specs.Beginning.{AttemptStart, ShowsStart}
-use Rattle.position_laws.specs.Reading.{IsMachineAt}
-use Rattle.machine_laws.specs.Asking.{GiveIds, keys_are_text, are_by_text}
-use Rattle.machine_laws.specs.Living.{LiveAttempt, HoldsStart, HasReadJournal}
+use Rattle.input_laws.specs.Once.{ComeWhenAsked}
+use Rattle.live_laws.specs.Beginning.{AttemptStart, ShowsStart}
+use Rattle.live_laws.specs.Reading.{IsMachineAt}
+use Rattle.live_laws.specs.Asking.{GiveIds, keys_are_text, are_by_text}
+use Rattle.live_laws.specs.Living.{LiveAttempt, HoldsStart, HasReadJournal}
 use Rattle.body_laws.specs.Bodies.{Executor, acknowledges}
 use Rattle.body_laws.specs.Standing.{Among, has_arrived, count_proposed, BodiesStand}
-use Rattle.executor_laws.specs.Outcomes.{runs}
+use Rattle.replay_laws.specs.Outcomes.{runs}
 
 -- ---- what it is begun with
 

@@ -1,10 +1,39 @@
+//! An executor is the machine of an attempt with the bodies of its runs (`body_laws`); here it is that of an invocation's live attempt, and
+//! its outcomes go to a store. These laws say that for a run nothing is recorded but what its attempt has proposed, that no outcome on its
+//! way is refused since its run is not open, and that the attempt stays what it is from its begin on, whatever events bring to it. The
+//! functions do nothing: their contracts are the laws.
+//!
 //! An attempt that replays a journal, whoever feeds it: a host, a bench that replays recorded handlers, or a store. What is known of it
 //! between turns speaks of the journal, of what has come behind it, and of what the attempt has asked for, and of no store: so these laws
 //! hold of any bytes of such a journal, in any cut, and any turns between them. The live attempt of a store is an instance, and stays one
 //! where it is stopped or overtaken. The functions do nothing: their contracts are the laws.
 #![tactic(auto)]
 
+ghost use Rattle.replay_laws.specs.Flying.{OthersFollow, OutcomesAreNew, OutcomesAreOpen, OutcomesBegin, OutcomesStay};
+ghost use Rattle.replay_laws.specs.Living.{ExecutorsBegin, ExecutorsStayLive};
+ghost use Rattle.replay_laws.specs.Outcomes.{OutcomesAreTaken};
 ghost use Rattle.replay_laws.specs.Laws.{LivesReplay, LivesStay, ReplaysBegin, ReplaysStand, ReplaysStay, ReplaysTurn};
+
+/// For a run nothing comes but what its attempt has proposed.
+pub fn outcomes_are_taken()
+    ensures { OutcomesAreTaken }
+{}
+
+/// What an attempt has proposed of its runs is recorded once, behind their requests, and is never refused since a run is not open.
+pub fn outcomes_stand()
+    ensures begins { OutcomesBegin }
+    ensures stays { OutcomesStay }
+    ensures sends { OutcomesAreNew }
+    ensures others { OthersFollow }
+    ensures opened { OutcomesAreOpen }
+{}
+
+/// The live attempt with the bodies of its runs: it is so as it begins, and whatever events bring and hand to it. As it reads, and behind its
+/// turns, it is so since it replays its journal (`replay_laws`).
+pub fn executors_live()
+    ensures begins { ExecutorsBegin }
+    ensures stays { ExecutorsStayLive }
+{}
 
 /// An attempt replays as it begins, as more is to come that it has asked for, as it is handed the next bytes, and as it reads; a turn leaves
 /// it so, also one that executes the body of a run and proposes its outcome.

@@ -1,2 +1,9 @@
 pub mod Position
-pub mod Laws
+pub mod RunLaws
+pub mod Suspended
+pub mod WakingLaws
+pub mod Keys
+pub mod Taken
+pub mod Held
+pub mod HeadlineLaws
+pub mod Settled

@@ -15,30 +15,30 @@ use Rattle.protocol_errors.specs.declared.error.Error.{Error}
 use Rattle.protocol_types.specs.declared.version.Version.{Version}
 use Rattle.input_laws.proofs.Events.{itself, start_same}
 use Rattle.input_laws.proofs.LiveAttempts.{live_now, closed_now}
-use Rattle.turn_laws.specs.Sending.{FollowsSo}
-use Rattle.turn_laws.proofs.Keeping.{one_event}
-use Rattle.position_laws.specs.Beginning.{AttemptStart}
-use Rattle.machine_laws.specs.Living.{LiveAttempt, handed_bytes, after_reading}
+use Rattle.live_laws.specs.Sending.{FollowsSo}
+use Rattle.live_laws.proofs.Keeping.{one_event}
+use Rattle.live_laws.specs.Beginning.{AttemptStart}
+use Rattle.live_laws.specs.Living.{LiveAttempt, handed_bytes, after_reading}
 use Rattle.vm_types.specs.Options.{run_options}
 use Rattle.vm_types.specs.declared.options.VMOptions.{VMOptions}
-use Rattle.turning_laws.specs.Attempts.{Feeds, ClosesInput, output_of, Attempt}
-use Rattle.executor_laws.specs.Living.{IsLiveExecutor}
-use Rattle.turning_laws.specs.Bodies.{Executor}
-use Rattle.turning_laws.specs.Machine.{Written}
-use Rattle.turning_laws.specs.Sending.sent
-use Rattle.turning_laws.specs.Sending.{Sent, sent_stream, sent_frame, frame_meant, IsOfStore}
-use Rattle.turning_laws.proofs.Stored.{notes_of_store}
-use Rattle.turning_laws.specs.Keeping.{early_error, FailsWith, LacksMemory, ClosesEarly, StaysClosed}
-use Rattle.turning_laws.specs.Serving.{HasBodies, Serves, machine_failed}
-use Rattle.turning_laws.specs.Turning.{turns_answered}
-use Rattle.turning_laws.specs.Words.{item_at, Input}
+use Rattle.vm_attempt_laws.specs.Attempts.{Feeds, ClosesInput, output_of, Attempt}
+use Rattle.replay_laws.specs.Living.{IsLiveExecutor}
+use Rattle.vm_attempt_laws.specs.Bodies.{Executor}
+use Rattle.vm_attempt_laws.specs.Machine.{Written}
+use Rattle.vm_attempt_laws.specs.Sending.sent
+use Rattle.vm_attempt_laws.specs.Sending.{Sent, sent_stream, sent_frame, frame_meant, IsOfStore}
+use Rattle.vm_attempt_laws.proofs.Stored.{notes_of_store}
+use Rattle.vm_attempt_laws.specs.Keeping.{early_error, FailsWith, LacksMemory, ClosesEarly, StaysClosed}
+use Rattle.vm_attempt_laws.specs.Serving.{HasBodies, Serves, machine_failed}
+use Rattle.vm_attempt_laws.specs.Turning.{turns_answered}
+use Rattle.vm_attempt_laws.specs.Words.{item_at, Input}
 use Rattle.vm_start.specs.Failing.{out_of_memory}
 use Rattle.schedule_model.specs.declared.held.HeldAttempt.{HeldAttempt}
 use Rattle.schedule_model.specs.First.{with_first}
 use Rattle.schedule_model.specs.Held.{is_held, held_of}
 use Rattle.schedule_laws.specs.Attending.{Tracked, IsClosedEarly, IsServed, Attends, is_over, lacks_memory, closed_early, is_served, is_left}
 use Rattle.schedule_laws.specs.Following.{given_of, Flies, FollowsBegun, OutcomesFly, ToldOf}
-use Rattle.fitting_laws.proofs.Fits.{may_come}
+use Rattle.schedule_laws.proofs.Fits.{may_come}
 use Rattle.schedule_laws.proofs.Attending.{with_told}
 use Rattle.schedule_laws.proofs.Outcomes.{fly_on, notes_follow, others_fly, told_none}
 use Rattle.schedule_laws.proofs.Following.{IsFlown, flown, flown_still}

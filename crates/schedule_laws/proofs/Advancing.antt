@@ -11,11 +11,11 @@ use Rattle.protocol_types.specs.declared.version.Version.{Version}
 use Rattle.vm_start.specs.Failing.{out_of_memory}
 use Rattle.vm_types.specs.Options.{run_options}
 use Rattle.vm_types.specs.declared.options.VMOptions.{VMOptions}
-use Rattle.turning_laws.specs.Attempts.{output_of, OnlyMoves, TakesOutput, Attempt}
-use Rattle.turning_laws.specs.Sending.{Sent, sent_stream}
-use Rattle.turning_laws.specs.Serving.{HasBodies}
-use Rattle.turning_laws.specs.Turning.{turns_answered}
-use Rattle.turning_laws.specs.Words.{Input}
+use Rattle.vm_attempt_laws.specs.Attempts.{output_of, OnlyMoves, TakesOutput, Attempt}
+use Rattle.vm_attempt_laws.specs.Sending.{Sent, sent_stream}
+use Rattle.vm_attempt_laws.specs.Serving.{HasBodies}
+use Rattle.vm_attempt_laws.specs.Turning.{turns_answered}
+use Rattle.vm_attempt_laws.specs.Words.{Input}
 use Rattle.schedule_model.specs.Attempts.{Advances, Gathers}
 use Rattle.schedule_model.specs.declared.held.HeldAttempt.{HeldAttempt}
 use Rattle.schedule_model.specs.First.{with_first}

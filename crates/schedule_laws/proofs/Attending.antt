@@ -7,8 +7,8 @@ use Rattle.journal_model.specs.Attempt.{live_attempt, is_input_closed}
 use Rattle.journal_model.specs.Run.{Handler}
 use Rattle.protocol_types.specs.declared.version.Version.{Version}
 use Rattle.vm_types.specs.declared.options.VMOptions.{VMOptions}
-use Rattle.turning_laws.specs.Attempts.{Attempt}
-use Rattle.turning_laws.specs.Sending.{Sent}
+use Rattle.vm_attempt_laws.specs.Attempts.{Attempt}
+use Rattle.vm_attempt_laws.specs.Sending.{Sent}
 use Rattle.schedule_laws.specs.Attending.{Tracked, IsServed, IsLeft, Attends, AttendsAs, is_over, lacks_memory, closed_early, is_served, is_left}
 use Rattle.schedule_laws.specs.Following.{ToldOf}
 

@@ -16,22 +16,22 @@ use Rattle.protocol_types.specs.declared.version.Version.{Version}
 use Rattle.protocol_types.specs.declared.version.Version.TheVariants as versions_are
 use Rattle.input_laws.proofs.Events.{itself, not_begun, start_same}
 use Rattle.input_laws.proofs.Handed.{begun_is}
-use Rattle.turn_laws.specs.Sending.{FollowsSo}
-use Rattle.turn_laws.proofs.Keeping.{one_event}
-use Rattle.turn_laws.proofs.Schedules.{begins_of_run}
-use Rattle.position_laws.specs.Beginning.{AttemptStart, start_after}
-use Rattle.machine_laws.specs.Living.{attempt_begun}
+use Rattle.live_laws.specs.Sending.{FollowsSo}
+use Rattle.live_laws.proofs.Keeping.{one_event}
+use Rattle.live_laws.proofs.Schedules.{begins_of_run}
+use Rattle.live_laws.specs.Beginning.{AttemptStart, start_after}
+use Rattle.live_laws.specs.Living.{attempt_begun}
 use Rattle.vm_types.specs.Options.{run_options}
 use Rattle.vm_types.specs.declared.options.VMOptions.{VMOptions}
-use Rattle.turning_laws.specs.Attempts.{Feeds, output_of}
-use Rattle.turning_laws.specs.Reading.{IsRunOf}
-use Rattle.turning_laws.specs.Sending.{frame_meant}
-use Rattle.executor_laws.specs.Living.{IsLiveExecutor}
-use Rattle.turning_laws.specs.Bodies.{executor_over}
-use Rattle.turning_laws.specs.Keeping.{LacksMemory, HasNoBodies, attempt_started}
-use Rattle.turning_laws.specs.Serving.{HasBodies, HasNotRead, HasRead, Serves}
-use Rattle.turning_laws.specs.Turning.{turns_answered}
-use Rattle.turning_laws.specs.Words.{machine_at_start, CarriesInput, Input, InputMessage}
+use Rattle.vm_attempt_laws.specs.Attempts.{Feeds, output_of}
+use Rattle.vm_attempt_laws.specs.Reading.{IsRunOf}
+use Rattle.vm_attempt_laws.specs.Sending.{frame_meant}
+use Rattle.replay_laws.specs.Living.{IsLiveExecutor}
+use Rattle.vm_attempt_laws.specs.Bodies.{executor_over}
+use Rattle.vm_attempt_laws.specs.Keeping.{LacksMemory, HasNoBodies, attempt_started}
+use Rattle.vm_attempt_laws.specs.Serving.{HasBodies, HasNotRead, HasRead, Serves}
+use Rattle.vm_attempt_laws.specs.Turning.{turns_answered}
+use Rattle.vm_attempt_laws.specs.Words.{machine_at_start, CarriesInput, Input, InputMessage}
 use Rattle.store_calls.specs.declared.begun.BegunAttempt.{BegunAttempt}
 use Rattle.store_calls.specs.Standing.{Standing, Adds}
 use Rattle.store_calls.specs.Calls.{Begins}
@@ -45,9 +45,9 @@ use Rattle.schedule_model.specs.Fitting.{InvocationFits}
 use Rattle.schedule_laws.specs.Attending.{Tracked, IsServed, Attends, AttendsAs, is_served}
 use Rattle.schedule_laws.specs.Following.{ReplaysInLine, HoldsOf, given_of, Flies, FollowsBegun, FollowsWhere, FollowsTold, Follows, ToldOf}
 use Rattle.schedule_laws.specs.Turned.{start_of, told_start}
-use Rattle.fitting_laws.proofs.Fits.{apart, unborn_fits}
-use Rattle.fitting_laws.specs.Laws.{CanStart, IsFedWell}
-use Rattle.fitting_laws.proofs.Beginnings.{can_start, fed_begun}
+use Rattle.schedule_laws.proofs.Fits.{apart, unborn_fits}
+use Rattle.schedule_laws.specs.FittingLaws.{CanStart, IsFedWell}
+use Rattle.schedule_laws.proofs.Beginnings.{can_start, fed_begun}
 use Rattle.schedule_laws.proofs.Attending.{aside, none_told, told_at, told_other, with_told}
 use Rattle.schedule_laws.proofs.Following.{same_held}
 use Rattle.schedule_laws.proofs.Others.{into, other_on}

@@ -7,16 +7,16 @@ use Rattle.journal_model.specs.Event.{Event}
 use Rattle.journal_model.specs.Attempt.{attempts_begun, live_attempt}
 use Rattle.journal_model.specs.Run.{Handler}
 use Rattle.protocol_types.specs.declared.version.Version.{Version}
-use Rattle.turn_laws.specs.Sending.{FollowsSo}
-use Rattle.turning_laws.specs.Attempts.{output_of}
-use Rattle.turning_laws.specs.Sending.sent
-use Rattle.turning_laws.specs.Sending.{Sent, frame_meant, IsOfStore}
+use Rattle.live_laws.specs.Sending.{FollowsSo}
+use Rattle.vm_attempt_laws.specs.Attempts.{output_of}
+use Rattle.vm_attempt_laws.specs.Sending.sent
+use Rattle.vm_attempt_laws.specs.Sending.{Sent, frame_meant, IsOfStore}
 use Rattle.vm_types.specs.declared.options.VMOptions.{VMOptions}
 use Rattle.schedule_model.specs.declared.held.HeldAttempt.{HeldAttempt}
 use Rattle.schedule_model.specs.First.{with_first}
 use Rattle.schedule_model.specs.Held.{is_held, held_of}
 use Rattle.schedule_model.proofs.Holding.{some_is, some_none, held_with, held_other_number}
-use Rattle.fitting_laws.specs.Fitting.{AllFit}
+use Rattle.schedule_laws.specs.Fitting.{AllFit}
 use Rattle.schedule_laws.specs.Attending.{Tracked, Attends, AttendsAs}
 use Rattle.schedule_laws.specs.Following.{given_of, Flies, FollowsBegun, FollowsWhere, OutcomesFly, ToldOf}
 use Rattle.schedule_laws.proofs.Attending.{aside, told_at, told_other, with_told}

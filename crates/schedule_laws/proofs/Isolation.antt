@@ -21,7 +21,7 @@ use Rattle.journal_laws.proofs.Isolation.{IsToldAlike, frames_of-view, version_o
 use Rattle.journal_laws.proofs.ObjectState.{accepted_followed, open_when_accepted}
 use Rattle.journal_laws.proofs.Refusing.{first_cause, left_alike, refused_alike}
 use Rattle.input_laws.proofs.Events.{itself}
-use Rattle.piece_laws.proofs.Replies.{taken_alike}
+use Rattle.store_calls.proofs.Replies.{taken_alike}
 use Rattle.schedule_laws.proofs.Feeding.{parts_taken}
 use Rattle.schedule_laws.specs.Isolation.{AllAnswerAlone, AllKeepState, AllReplyAlike, AllStandAlone, IsOwn}
 -- passed on, so that crates above name this one alone

@@ -24,7 +24,7 @@ use Rattle.schedule_laws.specs.Following.{FollowsWhere, FollowsTold, ToldOf}
 use Rattle.schedule_laws.proofs.Advancing.{gathered}
 use Rattle.schedule_laws.proofs.Beginning.{made, unheld}
 use Rattle.schedule_laws.proofs.Events.{IsPlain, where_on}
-use Rattle.fitting_laws.proofs.Fits.{apart}
+use Rattle.schedule_laws.proofs.Fits.{apart}
 use Rattle.schedule_laws.proofs.Following.{same_held}
 use Rattle.schedule_laws.proofs.Moving.{stopped, rested, moved}
 use Rattle.schedule_laws.proofs.Others.{into, stands_still, other_on}

@@ -1,3 +1,7 @@
+pub mod Fits
+pub mod Beginnings
+pub mod Handing
+pub mod OutcomesFit
 pub mod Serving
 pub mod Staying
 pub mod Attending

@@ -11,7 +11,7 @@ use Rattle.journal_model.specs.Attempt.{live_attempt, is_input_closed}
 use Rattle.journal_model.specs.Cause.{Cause, causes_of, is_of_frame, IsAccepted}
 use Rattle.journal_model.specs.Headline.{arrivals_handed}
 use Rattle.journal_model.specs.Run.{Handler}
-use Rattle.turn_laws.specs.Sending.{SendsOfRun}
+use Rattle.live_laws.specs.Sending.{SendsOfRun}
 use Rattle.vm_types.specs.declared.options.VMOptions.{VMOptions}
 use Rattle.store_refusals.specs.declared.refusal.Refusal.{Refusal}
 use Rattle.store_refusals.specs.declared.refusal.Refusal.TheVariants as refusal
@@ -24,19 +24,19 @@ use Rattle.store_calls.proofs.Live.{live_when}
 use Rattle.schedule_laws.specs.Following.{given_of, Flies, FollowsBegun, FollowsWhere, FollowsTold, OutcomesFly, ToldOf}
 use Rattle.schedule_laws.proofs.Advancing.{advanced}
 use Rattle.schedule_laws.proofs.Events.{IsPlain, where_on}
-use Rattle.fitting_laws.proofs.Fits.{apart}
+use Rattle.schedule_laws.proofs.Fits.{apart}
 use Rattle.schedule_laws.proofs.Following.{same_held}
 use Rattle.schedule_laws.proofs.Others.{into, stands_still, other_on}
 use Rattle.schedule_laws.proofs.Outcomes.{first_open}
 use Rattle.schedule_laws.proofs.Schedules.{some_none, held_other_invocation}
-use Rattle.turning_laws.proofs.Reading.{none_lie_in_frames}
+use Rattle.vm_attempt_laws.proofs.Reading.{none_lie_in_frames}
 use Rattle.schedule_laws.proofs.Serving.{ServingLaws}
 use Rattle.schedule_laws.proofs.Taking.{first_on_its_way}
 use Rattle.schedule_laws.specs.Attempts.{output_of, Attempt}
-use Rattle.sending_laws.proofs.Taking.{lies_as}
+use Rattle.vm_output_laws.proofs.Taking.{lies_as}
 use Rattle.schedule_laws.specs.Schedules.{HeldAttempt, with_first, is_held, held_of, with_attempt}
 use Rattle.schedule_model.specs.Attempts.{Advances}
-use Rattle.turning_laws.specs.Sending.{Sent, frame_meant, IsOfStore}
+use Rattle.vm_attempt_laws.specs.Sending.{Sent, frame_meant, IsOfStore}
 
 never : (b : Bool) → (b && false) ≡ false
 never true = refl

@@ -7,13 +7,13 @@ use Rattle.journal_model.specs.Attempt.{closes_input}
 use Rattle.journal_model.specs.Cause.{IsAccepted}
 use Rattle.journal_model.specs.Run.{Handler}
 use Rattle.input_laws.proofs.Handed.{other_begins, other_asks}
-use Rattle.turn_laws.specs.Sending.{PassesOn}
+use Rattle.live_laws.specs.Sending.{PassesOn}
 use Rattle.vm_types.specs.declared.options.VMOptions.{VMOptions}
 use Rattle.store_calls.specs.Standing.{Standing, Stays}
 use Rattle.schedule_model.specs.declared.held.HeldAttempt.{HeldAttempt}
 use Rattle.schedule_laws.specs.Following.{FollowsIn, FollowsTold, ToldOf}
 use Rattle.schedule_laws.proofs.Events.{IsPlain, where_on}
-use Rattle.fitting_laws.proofs.Fits.{other_fits}
+use Rattle.schedule_laws.proofs.Fits.{other_fits}
 use Rattle.schedule_laws.proofs.Serving.{ServingLaws}
 
 other_invokes : (id : Text) (event : Event) → is_of id event ≡ false → begins id event ≡ false

@@ -10,16 +10,16 @@ use Rattle.journal_model.specs.Headline.{arrivals_handed}
 use Rattle.journal_model.specs.Run.{Handler, Invocation, BeginsRun}
 use Rattle.protocol_types.specs.declared.version.Version.{Version}
 use Rattle.std.specs.List.{AllByRecursion}
-use Rattle.turn_laws.specs.Sending.{requests_sent, SendsOfRun, FollowsSo, PassesOn}
-use Rattle.turn_laws.specs.Turning.{IsNote, notes}
-use Rattle.turn_laws.proofs.Sending.{sends-append}
-use Rattle.turn_laws.proofs.Turning.{writes_send}
-use Rattle.executor_laws.proofs.Flying.{outcomes_stay, others_follow, outcomes_are_open}
-use Rattle.turning_laws.specs.Bodies.{outcomes_in}
-use Rattle.turning_laws.specs.Keeping.{TellsBy}
-use Rattle.turning_laws.specs.Sending.{Sent, frame_meant}
-use Rattle.turning_laws.specs.Words.{Error}
-use Rattle.sending_laws.specs.Taking.{IsOpenOutcome}
+use Rattle.live_laws.specs.Sending.{requests_sent, SendsOfRun, FollowsSo, PassesOn}
+use Rattle.live_laws.specs.TurnWrites.{IsNote, notes}
+use Rattle.live_laws.proofs.Sending.{sends-append}
+use Rattle.live_laws.proofs.TurnWrites.{writes_send}
+use Rattle.replay_laws.proofs.Flying.{outcomes_stay, others_follow, outcomes_are_open}
+use Rattle.vm_attempt_laws.specs.Bodies.{outcomes_in}
+use Rattle.vm_attempt_laws.specs.Keeping.{TellsBy}
+use Rattle.vm_attempt_laws.specs.Sending.{Sent, frame_meant}
+use Rattle.vm_attempt_laws.specs.Words.{Error}
+use Rattle.vm_output_laws.specs.Taking.{IsOpenOutcome}
 use Rattle.schedule_laws.specs.Following.{OutcomesFly}
 
 -- ---- none is on its way

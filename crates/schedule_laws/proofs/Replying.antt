@@ -8,13 +8,13 @@ use Rattle.journal_model.specs.Journal.{invocation_begun}
 use Rattle.journal_model.specs.Attempt.{live_attempt, input_left}
 use Rattle.journal_model.specs.Cause.{IsAccepted}
 use Rattle.journal_model.specs.Run.{Handler}
-use Rattle.position_laws.specs.Beginning.{AttemptStart}
+use Rattle.live_laws.specs.Beginning.{AttemptStart}
 use Rattle.vm_types.specs.declared.options.VMOptions.{VMOptions}
 use Rattle.due_laws.proofs.Handing.{part_is_taken}
 use Rattle.store_refusals.specs.declared.refusal.Refusal.{Refusal}
 use Rattle.store_calls.specs.Standing.{Standing, Stays, Adds}
 use Rattle.store_calls.specs.Calls.{HandsOut}
-use Rattle.turning_laws.specs.Telling.{Told}
+use Rattle.vm_attempt_laws.specs.Telling.{Told}
 use Rattle.schedule_model.specs.declared.event.Refusal.{Refusal as Cause}
 use Rattle.schedule_laws.specs.Attempts.{Feeds, ClosesInput, Turns, Attempt, Turn, RunOutcome}
 use Rattle.schedule_laws.specs.Attending.{Tracked, Attends}

@@ -1,19 +1,19 @@
 -- An attempt that is over, or whose machine has failed, stays so, and tells it in each turn.
 use Rattle.std.proofs.Common.{◌≡◌, ◌⊎◌, inl, inr, ◌∙◌, Bool, true, false, Option, Some, None, Result, Ok, Err, refl, sym, ap, subst}
-use Rattle.beginning_laws.proofs.Passed.{failed_fed}
+use Rattle.vm_input_laws.proofs.Passed.{failed_fed}
 use Rattle.journal_model.specs.Notification.{Bytes}
 use Rattle.journal_model.specs.Run.{Handler}
 use Rattle.journal_model.specs.declared.handler.Input.{Input}
 use Rattle.protocol_errors.specs.declared.error.Error.{Error}
 use Rattle.vm_start.specs.Failing.{IsCopy, out_of_memory}
-use Rattle.turning_laws.specs.Attempts.finishes
-use Rattle.turning_laws.specs.Attempts.{Feeds, FeedsUnless, ClosesInput, ClosesUnless, OnlyMoves, again, FinishesBy, TakesOutcome, GivesInput, ReadsOrAsks, TurnsWhere, TurnsUnless, TurnsOn, Turns, ran_or_failed, Attempt, Finish, Turn}
-use Rattle.turning_laws.specs.Bodies.{RunOutcome}
-use Rattle.turning_laws.specs.Keeping.{IsLast}
-use Rattle.turning_laws.specs.Machine.outcomes
-use Rattle.turning_laws.specs.Machine.phases
-use Rattle.turning_laws.specs.Machine.{CallOutcome, CoreVM, IsFed, IsReady, MachineState, Phase, is_waiting, input_closed, with_input, ClosesWhere, ClosesInput as ClosesMachine}
-use Rattle.turning_laws.specs.Serving.{AnswersKept, IsOver, finished, machine_failed}
+use Rattle.vm_attempt_laws.specs.Attempts.finishes
+use Rattle.vm_attempt_laws.specs.Attempts.{Feeds, FeedsUnless, ClosesInput, ClosesUnless, OnlyMoves, again, FinishesBy, TakesOutcome, GivesInput, ReadsOrAsks, TurnsWhere, TurnsUnless, TurnsOn, Turns, ran_or_failed, Attempt, Finish, Turn}
+use Rattle.vm_attempt_laws.specs.Bodies.{RunOutcome}
+use Rattle.vm_attempt_laws.specs.Keeping.{IsLast}
+use Rattle.vm_attempt_laws.specs.Machine.outcomes
+use Rattle.vm_attempt_laws.specs.Machine.phases
+use Rattle.vm_attempt_laws.specs.Machine.{CallOutcome, CoreVM, IsFed, IsReady, MachineState, Phase, is_waiting, input_closed, with_input, ClosesWhere, ClosesInput as ClosesMachine}
+use Rattle.vm_attempt_laws.specs.Serving.{AnswersKept, IsOver, finished, machine_failed}
 use Rattle.schedule_laws.specs.Attending.{IsOverBy, by_finish, by_error}
 use Rattle.schedule_laws.specs.Turned.{IsAgain}
 

@@ -12,10 +12,10 @@ use Rattle.protocol_types.specs.Version.{version_number}
 use Rattle.protocol_types.specs.declared.version.Version.{Version}
 use Rattle.protocol_stream.specs.Item.{Item}
 use Rattle.input_laws.proofs.Events.{itself}
-use Rattle.turning_laws.proofs.Reading.{streams_are_read}
-use Rattle.turning_laws.specs.Attempts.{output_of}
-use Rattle.turning_laws.specs.Sending.sent
-use Rattle.turning_laws.specs.Sending.{Sent, Asks, Proposes, Awaits, Suspends, Fails, Ends, is_recorded, sent_stream, sent_message, frame_meant, IsOfStore}
+use Rattle.vm_attempt_laws.proofs.Reading.{streams_are_read}
+use Rattle.vm_attempt_laws.specs.Attempts.{output_of}
+use Rattle.vm_attempt_laws.specs.Sending.sent
+use Rattle.vm_attempt_laws.specs.Sending.{Sent, Asks, Proposes, Awaits, Suspends, Fails, Ends, is_recorded, sent_stream, sent_message, frame_meant, IsOfStore}
 use Rattle.vm_types.specs.declared.options.VMOptions.{VMOptions}
 use Rattle.store_frames.specs.Meaning.{frame_of}
 use Rattle.store_steps.specs.declared.frame.FrameReply.{FrameReply}
@@ -26,11 +26,11 @@ use Rattle.store_calls.proofs.Live.{taken_live}
 use Rattle.schedule_model.specs.declared.held.HeldAttempt.{HeldAttempt}
 use Rattle.schedule_model.specs.Held.{held_of}
 use Rattle.schedule_model.proofs.Holding.{some_is, some_none}
-use Rattle.fitting_laws.specs.Fitting.{FrameFits}
+use Rattle.schedule_laws.specs.Fitting.{FrameFits}
 use Rattle.schedule_laws.specs.Following.{Flies, FollowsWhere, FollowsIn, FollowsTold, ToldOf}
 use Rattle.schedule_laws.proofs.Events.{IsPlain, begun_on}
-use Rattle.fitting_laws.proofs.Fits.{apart, not_same}
-use Rattle.fitting_laws.proofs.Outcomes.{outcome_fits}
+use Rattle.schedule_laws.proofs.Fits.{apart, not_same}
+use Rattle.schedule_laws.proofs.OutcomesFit.{outcome_fits}
 use Rattle.schedule_laws.proofs.Others.{into, stands_still, other_on}
 use Rattle.schedule_laws.proofs.Serving.{ServingLaws}
 

@@ -3,15 +3,15 @@ use Rattle.std.proofs.Common.{◌≡◌, ◌⊎◌, inl, inr, ◌∙◌, ℕ, su
 use Rattle.input_laws.proofs.Handed.{bytes_more}
 use Rattle.journal_model.specs.Attempt.{Piece}
 use Rattle.journal_model.specs.Run.{run_requests}
-use Rattle.turning_laws.specs.Attempts.{Attempt, Turn}
-use Rattle.turning_laws.specs.Bodies.{Body, NonEmptyValue, RunOutcome}
-use Rattle.turning_laws.specs.Keeping.{IsLast}
-use Rattle.turning_laws.specs.Running.{ExecutesFirst}
-use Rattle.turning_laws.specs.Sending.{Sent, frame_meant}
-use Rattle.turning_laws.specs.Serving.{AnswersKept, HasNotRead, HasRead, IsOver, Serves}
-use Rattle.turning_laws.specs.Telling.{Told, HasCome, TurnTells, IsTold, GoesOnTold, TellsOne}
-use Rattle.turning_laws.specs.Turning.{turns_answered, TurnsBehind}
-use Rattle.turning_laws.specs.Words.{after_turn, arrivals_carried, Bytes, Handler, Input, input_bytes, InputMessage, item_at, LiveAttempt, piece_of, Request, requests_carried, Version, VMOptions}
+use Rattle.vm_attempt_laws.specs.Attempts.{Attempt, Turn}
+use Rattle.vm_attempt_laws.specs.Bodies.{Body, NonEmptyValue, RunOutcome}
+use Rattle.vm_attempt_laws.specs.Keeping.{IsLast}
+use Rattle.vm_attempt_laws.specs.Running.{ExecutesFirst}
+use Rattle.vm_attempt_laws.specs.Sending.{Sent, frame_meant}
+use Rattle.vm_attempt_laws.specs.Serving.{AnswersKept, HasNotRead, HasRead, IsOver, Serves}
+use Rattle.vm_attempt_laws.specs.Telling.{Told, HasCome, TurnTells, IsTold, GoesOnTold, TellsOne}
+use Rattle.vm_attempt_laws.specs.Turning.{turns_answered, TurnsBehind}
+use Rattle.vm_attempt_laws.specs.Words.{after_turn, arrivals_carried, Bytes, Handler, Input, input_bytes, InputMessage, item_at, LiveAttempt, piece_of, Request, requests_carried, Version, VMOptions}
 
 -- ---- bytes
 

@@ -12,25 +12,25 @@ use Rattle.journal_model.specs.Headline.{run_of}
 use Rattle.protocol_errors.specs.declared.error.Error.{Error}
 use Rattle.protocol_types.specs.Version.{version_number}
 use Rattle.protocol_types.specs.declared.version.Version.{Version}
-use Rattle.turn_laws.specs.Sending.{requests_sent, FollowsSo}
+use Rattle.live_laws.specs.Sending.{requests_sent, FollowsSo}
 use Rattle.input_laws.specs.Message.{arrivals_carried}
-use Rattle.position_laws.specs.Beginning.{AttemptStart}
-use Rattle.machine_laws.specs.Living.{after_turn}
+use Rattle.live_laws.specs.Beginning.{AttemptStart}
+use Rattle.live_laws.specs.Living.{after_turn}
 use Rattle.vm_start.specs.Failing.{IsCopy, out_of_memory}
 use Rattle.vm_types.specs.Options.{run_options}
 use Rattle.vm_types.specs.declared.options.VMOptions.{VMOptions}
-use Rattle.executor_laws.specs.Flying.{OutcomesStand}
-use Rattle.executor_laws.specs.Living.{IsLiveExecutor}
+use Rattle.replay_laws.specs.Flying.{OutcomesStand}
+use Rattle.replay_laws.specs.Living.{IsLiveExecutor}
 use Rattle.replay_laws.specs.Laws.{LivesOn}
-use Rattle.turning_laws.specs.Attempts.{output_of, Turns, Attempt, Turn}
-use Rattle.turning_laws.specs.Bodies.{IsReplayed, outcome_frame, outcomes_in, RunOutcome}
-use Rattle.turning_laws.specs.Keeping.{IsLast, LacksMemory}
-use Rattle.turning_laws.specs.Machine.phases
-use Rattle.turning_laws.specs.Sending.sent
-use Rattle.turning_laws.specs.Sending.{Sent, frame_meant, IsOfStore}
-use Rattle.turning_laws.specs.Serving.{AnswersKept, IsOver}
-use Rattle.turning_laws.specs.Telling.{Told, HasCome, FailsSo, early, lacks, TurnTells, GoesOnTold}
-use Rattle.turning_laws.specs.Turning.{ProposesAs, RunsOne, TurnKeeps, TurnsBehind}
+use Rattle.vm_attempt_laws.specs.Attempts.{output_of, Turns, Attempt, Turn}
+use Rattle.vm_attempt_laws.specs.Bodies.{IsReplayed, outcome_frame, outcomes_in, RunOutcome}
+use Rattle.vm_attempt_laws.specs.Keeping.{IsLast, LacksMemory}
+use Rattle.vm_attempt_laws.specs.Machine.phases
+use Rattle.vm_attempt_laws.specs.Sending.sent
+use Rattle.vm_attempt_laws.specs.Sending.{Sent, frame_meant, IsOfStore}
+use Rattle.vm_attempt_laws.specs.Serving.{AnswersKept, IsOver}
+use Rattle.vm_attempt_laws.specs.Telling.{Told, HasCome, FailsSo, early, lacks, TurnTells, GoesOnTold}
+use Rattle.vm_attempt_laws.specs.Turning.{ProposesAs, RunsOne, TurnKeeps, TurnsBehind}
 use Rattle.schedule_model.specs.declared.held.HeldAttempt.{HeldAttempt}
 use Rattle.schedule_model.specs.First.{with_first}
 use Rattle.schedule_model.specs.Held.{is_held, held_of}

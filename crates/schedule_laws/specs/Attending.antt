@@ -9,18 +9,18 @@ use Rattle.journal_model.specs.Run.{Handler}
 use Rattle.protocol_types.specs.declared.version.Version.{Version}
 use Rattle.protocol_errors.specs.Code.{internal}
 use Rattle.protocol_errors.specs.declared.error.Error.{Error}
-use Rattle.position_laws.specs.Beginning.{AttemptStart}
-use Rattle.machine_laws.specs.Living.{LiveAttempt}
-use Rattle.executor_laws.specs.Living.{IsLiveExecutor}
+use Rattle.live_laws.specs.Beginning.{AttemptStart}
+use Rattle.live_laws.specs.Living.{LiveAttempt}
+use Rattle.replay_laws.specs.Living.{IsLiveExecutor}
 use Rattle.vm_types.specs.Options.{run_options}
 use Rattle.vm_types.specs.declared.options.VMOptions.{VMOptions}
-use Rattle.turning_laws.specs.Attempts.{again, Attempt, Finish, Turn}
-use Rattle.turning_laws.specs.Keeping.{early_error, LacksMemory}
-use Rattle.turning_laws.specs.Machine.phases
-use Rattle.turning_laws.specs.Machine.{IsCopy}
-use Rattle.turning_laws.specs.Sending.{Sent, frame_meant}
-use Rattle.turning_laws.specs.Serving.{HasBodies, Serves}
-use Rattle.turning_laws.specs.Telling.{Told, HasCome, HasJournal, IsTold, GoesOnTold}
+use Rattle.vm_attempt_laws.specs.Attempts.{again, Attempt, Finish, Turn}
+use Rattle.vm_attempt_laws.specs.Keeping.{early_error, LacksMemory}
+use Rattle.vm_attempt_laws.specs.Machine.phases
+use Rattle.vm_attempt_laws.specs.Machine.{IsCopy}
+use Rattle.vm_attempt_laws.specs.Sending.{Sent, frame_meant}
+use Rattle.vm_attempt_laws.specs.Serving.{HasBodies, Serves}
+use Rattle.vm_attempt_laws.specs.Telling.{Told, HasCome, HasJournal, IsTold, GoesOnTold}
 
 -- what an attempt was begun with, and what was told of it
 pub record Tracked : Type 0 where

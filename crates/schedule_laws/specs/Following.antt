@@ -11,20 +11,20 @@ use Rattle.journal_model.specs.Run.{Handler, Invocation}
 use Rattle.journal_model.specs.Headline.{run_of}
 use Rattle.protocol_types.specs.Version.{version_number}
 use Rattle.protocol_types.specs.declared.version.Version.{Version}
-use Rattle.headline_laws.specs.Held.{Holds}
-use Rattle.turn_laws.specs.Sending.{FollowsSo}
+use Rattle.run_laws.specs.Held.{Holds}
+use Rattle.live_laws.specs.Sending.{FollowsSo}
 use Rattle.vm_types.specs.Options.{run_options}
 use Rattle.vm_types.specs.declared.options.VMOptions.{VMOptions}
 use Rattle.vm_types.specs.declared.options.JournalReplay.TheVariants.{Enabled}
-use Rattle.turning_laws.specs.Attempts.{output_of, Attempt}
-use Rattle.executor_laws.specs.Flying.{OutcomesStand}
-use Rattle.turning_laws.specs.Bodies.{NonEmptyValue}
-use Rattle.turning_laws.specs.Sending.sent
-use Rattle.turning_laws.specs.Sending.{Sent, sent_stream, frame_meant, IsOfStore}
+use Rattle.vm_attempt_laws.specs.Attempts.{output_of, Attempt}
+use Rattle.replay_laws.specs.Flying.{OutcomesStand}
+use Rattle.vm_attempt_laws.specs.Bodies.{NonEmptyValue}
+use Rattle.vm_attempt_laws.specs.Sending.sent
+use Rattle.vm_attempt_laws.specs.Sending.{Sent, sent_stream, frame_meant, IsOfStore}
 use Rattle.store_calls.specs.Standing.{Standing}
 use Rattle.schedule_model.specs.declared.held.HeldAttempt.{HeldAttempt}
 use Rattle.schedule_model.specs.Held.{held_of}
-use Rattle.fitting_laws.specs.Fitting.{AllFit}
+use Rattle.schedule_laws.specs.Fitting.{AllFit}
 use Rattle.schedule_laws.specs.Attending.{Tracked, AttendsAs}
 
 -- What is asked of the options: the journal is replayed, and signals wait in line. Nothing is asked of a handler.

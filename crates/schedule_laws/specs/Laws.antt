@@ -13,7 +13,7 @@ use Rattle.vm_types.specs.declared.options.VMOptions.{VMOptions}
 use Rattle.store_calls.specs.Standing.{Standing}
 use Rattle.store_refusals.specs.declared.refusal.Refusal.{Refusal}
 use Rattle.store_steps.specs.Taken.{lies_in_frame}
-use Rattle.turning_laws.specs.Telling.{Told}
+use Rattle.vm_attempt_laws.specs.Telling.{Told}
 use Rattle.schedule_laws.specs.Attempts.{Attempt}
 use Rattle.schedule_laws.specs.Attending.{Tracked}
 use Rattle.schedule_laws.specs.Following.{ReplaysInLine, HoldsOf, given_of, ToldOf, FollowsTold, Follows}

@@ -1,3 +1,6 @@
+pub mod Fitting
+pub mod Handing
+pub mod FittingLaws
 pub mod Attending
 pub mod Following
 pub mod Turned

@@ -5,13 +5,13 @@ use Rattle.journal_model.specs.Notification.{Bytes, Text}
 use Rattle.journal_model.specs.Event as model
 use Rattle.journal_model.specs.Journal.{invocation_begun}
 use Rattle.journal_model.specs.Run.{Handler}
-use Rattle.position_laws.specs.Beginning.{AttemptStart, start_after}
+use Rattle.live_laws.specs.Beginning.{AttemptStart, start_after}
 use Rattle.protocol_errors.specs.declared.error.Error.{Error}
 use Rattle.vm_start.specs.Failing.{IsCopy, out_of_memory}
 use Rattle.vm_types.specs.Options.{run_options}
 use Rattle.vm_types.specs.declared.options.VMOptions.{VMOptions}
-use Rattle.turning_laws.specs.Bodies.{RunOutcome}
-use Rattle.turning_laws.specs.Telling.{Told, told_nothing, HasCome, TurnTells}
+use Rattle.vm_attempt_laws.specs.Bodies.{RunOutcome}
+use Rattle.vm_attempt_laws.specs.Telling.{Told, told_nothing, HasCome, TurnTells}
 use Rattle.schedule_laws.specs.Attempts.{Turn}
 use Rattle.schedule_laws.specs.Schedules.event
 use Rattle.schedule_laws.specs.Schedules.reply

@@ -1,21 +1,43 @@
+//! Which accepted events can calls bring, and can what is recorded of them be told to an attempt? Laws over lists of events of which each
+//! fits: their numbers are within their types, their texts are UTF-8, and what an attempt asks for is recorded. The functions do nothing:
+//! their contracts are the laws.
+//!
 //! What schedules keep of each invocation, and what they leave: its records are those of the one uninterrupted run of its handler. Laws
 //! over the events of a schedule, the attempts that are held and what is on its way between them. An invocation in its run is what is
 //! recorded of it, what is on its way from its live attempt, and where that attempt stands; what each kind of event keeps of that
 //! follows from what an attempt keeps that serves a live attempt. The functions do nothing: their contracts are the laws.
 #![tactic(auto)]
 
+ghost use Rattle.schedule_laws.specs.Handing.{HandsOutInput};
+ghost use Rattle.schedule_laws.specs.FittingLaws.{AttemptsAreFedWell, AttemptsCanStart, MessagesMayCome};
 ghost use Rattle.schedule_laws.specs.Isolation.{AllAnswerAlone, AllKeepState, AllReplyAlike, AllStandAlone};
 ghost use Rattle.schedule_laws.specs.Laws.{FollowsHolds, FramesAreTaken, HoldsFollows, HoldsHeadline, HoldsNeverLate, HoldsTold, HoldsWakesExactly, KeptByEach, LeavesHolds, NoneRefused, ToldByEach};
 
-use executor_laws::executors_live;
-pub use fitting_laws::inputs_are_handed_out;
+use replay_laws::{executors_live, live_attempts_replay};
 use journal_laws::invocations_isolated;
 use journal_model::Handler;
-use replay_laws::live_attempts_replay;
-use turning_laws::{
-    attempts_begin, closes_keep, events_keep, feeds_keep, overs_stay, takes_keep, turns_keep,
-    turns_tell,
-};
+use vm_attempt_laws::{attempts_begin, closes_keep, events_keep, feeds_keep, overs_stay, takes_keep, turns_keep, turns_tell};
+
+/// What an event brings to the live attempt can be told to it.
+pub fn messages_come_well()
+    ensures { MessagesMayCome }
+{}
+
+/// What an attempt is begun with can be told to it.
+pub fn attempts_are_fed_well()
+    ensures { AttemptsAreFedWell }
+{}
+
+/// It can begin with its start frame.
+pub fn attempts_can_start()
+    ensures { AttemptsCanStart }
+{}
+
+/// What an attempt was handed is a beginning of its input, the journal and then each later arrival by place, and all of it where nothing
+/// is left.
+pub fn inputs_are_handed_out()
+    ensures { HandsOutInput }
+{}
 
 /// Each event keeps an invocation in its run, whatever is stopped, overtaken or refused, and no frame of it is refused for a cause that
 /// lies in the frame. What each reply to a turn says of an attempt is what the run does, over the bytes that this attempt was handed: of a

@@ -3,7 +3,7 @@ use Rattle.std.specs.Prelude.{◌<◌, ◌^◌, IsUtf8}
 use Rattle.protocol_wire.specs.declared.record.TheConstants.{LEVELS}
 use Rattle.protocol_records.specs.InputCommand.{InputCommandFits}
 use Rattle.protocol_controls.specs.Notification.{NotificationFits}
-use Rattle.protocol_spellings.specs.Records.{notification_record}
+use Rattle.protocol_laws.specs.Records.{notification_record}
 use Rattle.protocol_stream.specs.Records.{input_record}
 use Rattle.journal_model.specs.declared.invocation.NewInvocation.{NewInvocation}
 use Rattle.journal_model.specs.Journal.{completion}

@@ -3,7 +3,7 @@ ghost use Rattle.std.specs.Prelude.{◌≡◌, Some};
 ghost use Rattle.journal_model.specs.Request.{SignalKey as Key};
 ghost use Rattle.journal_model.specs.Journal.{id_of_signal};
 ghost use Rattle.protocol_controls.specs.Notification.{NotificationMessageIdFits};
-ghost use Rattle.protocol_spellings.specs.Records.{id_record};
+ghost use Rattle.protocol_laws.specs.Records.{id_record};
 ghost use Rattle.store_arrivals.specs.Signals.{key_of};
 
 use bytes::ByteStr;

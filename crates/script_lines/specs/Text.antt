@@ -2,7 +2,7 @@
 use Rattle.std.specs.Prelude.{ℕ, Bool, true, false, List, [], ◌∷◌, ◌++◌, Some, None, codes, decimal}
 use Rattle.std.specs.List.{flat_map}
 use Rattle.std.specs.Int.{w16, to_be_bytes}
-use Rattle.protocol_shown.specs.Texts.{hex_byte}
+use Rattle.protocol_types.specs.Texts.{hex_byte}
 use Rattle.script_lines.specs.declared.text.LastTurn.{LastTurn}
 use Rattle.script_lines.specs.declared.text.LastTurn.TheVariants.{Answered, Ran, Waiting, Suspended, Ended, Failed}
 use Rattle.script_lines.specs.declared.text.LineReply.{LineReply}

@@ -4,7 +4,7 @@ ghost use Rattle.std.specs.Prelude.{◌≡◌, Some};
 ghost use Rattle.std.specs.Int.{to_be_bytes, w16};
 
 use bytes::ByteStr;
-use protocol_shown::HexByte;
+use protocol_types::HexByte;
 use std::fmt;
 
 /// Bytes as hexadecimal digits in lower case, and a dash where there are none.

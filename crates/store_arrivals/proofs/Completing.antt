@@ -1,7 +1,7 @@
 -- What a completion may be given, and by a frame of which type: as the line of its command tells it.
 use Rattle.std.proofs.Common.{ℕ, ◌==◌, ◌≡◌, refl, sym, ap, inl, Bool, true, false, not, ◌||◌, if◌then◌else◌, List, [], ◌∷◌, Option, Some, None, is_some, option_map, subst, Result, Ok, Err}
 use Rattle.std.proofs.lemmas.Bool.{eqb-true, eq-eqb}
-use Rattle.store_lookups.proofs.Opening.{both_ways}
+use Rattle.store_model.proofs.Opening.{both_ways}
 use Rattle.journal_model.specs.declared.notification.NotificationResult.{NotificationResult}
 use Rattle.journal_model.specs.declared.notification.NotificationId.TheVariants.{CompletionId}
 use Rattle.journal_model.specs.Request.{Request}

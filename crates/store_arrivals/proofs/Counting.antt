@@ -16,9 +16,9 @@ use Rattle.store_tables.specs.declared.row.SleepRow.{SleepRow}
 use Rattle.store_model.specs.Sleeps.{sleep_row}
 use Rattle.store_model.proofs.States.{itself}
 use Rattle.journal_laws.proofs.ObjectState.{begin_when_new}
-use Rattle.store_lookups.specs.Lookups.{due_sleeps, ended_sleeps}
-use Rattle.store_lookups.proofs.DueSleeps.{ended_found}
-use Rattle.store_lookups.proofs.Sleeping.{answer_of_sleep}
+use Rattle.store_model.specs.Lookups.{due_sleeps, ended_sleeps}
+use Rattle.store_model.proofs.DueSleeps.{ended_found}
+use Rattle.store_model.proofs.Sleeping.{answer_of_sleep}
 use Rattle.store_arrivals.specs.Groups.{AllEndedCounted}
 
 -- the rows of some invocations

@@ -21,14 +21,14 @@ use Rattle.store_model.specs.Sleeps.{sleep_row}
 use Rattle.store_model.specs.Kept.{entry_row, rows_from, IsKept}
 use Rattle.store_model.proofs.Following.{arrived_more}
 use Rattle.store_model.specs.Writes.{AreEnding, ends_sleep, rows_added}
-use Rattle.store_lookups.specs.Lookups.{due_sleeps, ended_sleeps}
-use Rattle.store_lookups.proofs.Asking.{ascends}
-use Rattle.store_lookups.proofs.DueSleeps.{all_sorted, ended_found, sleep_cmp_total}
-use Rattle.store_lookups.proofs.Opening.{any-filter, is_some_of}
-use Rattle.store_lookups.proofs.AwaitedSleeps.{asked_asleep, is_sleep}
-use Rattle.store_lookups.proofs.OpenSleeps.{all_alone}
-use Rattle.store_lookups.proofs.Sleeping.{answer_of_sleep, ends_at}
-use Rattle.store_lookups.proofs.Sorting.{sorted_rises}
+use Rattle.store_model.specs.Lookups.{due_sleeps, ended_sleeps}
+use Rattle.store_model.proofs.Asking.{ascends}
+use Rattle.store_model.proofs.DueSleeps.{all_sorted, ended_found, sleep_cmp_total}
+use Rattle.store_model.proofs.Opening.{any-filter, is_some_of}
+use Rattle.store_model.proofs.AwaitedSleeps.{asked_asleep, is_sleep}
+use Rattle.store_model.proofs.OpenSleeps.{all_alone}
+use Rattle.store_model.proofs.Sleeping.{answer_of_sleep, ends_at}
+use Rattle.store_model.proofs.Sorting.{sorted_rises}
 use Rattle.store_arrivals.specs.Groups.{AllEndingGrouped, AllRowsEnded, Group, group_of, those_ended}
 use Rattle.store_arrivals.specs.Ended.{end_row, end_rows}
 use Rattle.store_arrivals.proofs.SideBySide.{are_grouped}

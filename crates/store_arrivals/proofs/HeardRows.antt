@@ -14,13 +14,13 @@ use Rattle.store_frames.specs.Read.{AreRead, IsReadIn, SignalKeyFits}
 use Rattle.store_tables.specs.Questions.{AreArrivals, AreNoArrivals, AreCounted, is_arrival_after}
 use Rattle.store_tables.specs.declared.row.EntryRow.{EntryRow}
 use Rattle.store_model.specs.Kept.{answered_by, entry_row}
-use Rattle.store_lookups.specs.Lookups.{arrival_rows, rows_of_arrivals}
-use Rattle.store_lookups.proofs.Ordinals.{arrivals_found}
+use Rattle.store_model.specs.Lookups.{arrival_rows, rows_of_arrivals}
+use Rattle.store_model.proofs.Ordinals.{arrivals_found}
 use Rattle.sql_tables.specs.declared.read.ReadError.{ReadError}
 use Rattle.sql_tables.specs.declared.read.ReadError.TheVariants as reading
 use Rattle.store_refusals.specs.Prepared.{Keeps}
 use Rattle.store_refusals.specs.Refused.{is_circumstance, reading_refusal}
-use Rattle.store_waking.specs.Kept.{SignalFits, completion_in}
+use Rattle.store_frames.specs.Kept.{SignalFits, completion_in}
 use Rattle.store_arrivals.specs.Woken.{AreRowsOf, IsHeardAs}
 use Rattle.store_arrivals.proofs.Hearing.{those_behind}
 

@@ -13,9 +13,9 @@ use Rattle.store_model.specs.Sleeps.{due_until, sleep_row}
 use Rattle.store_model.specs.Writes.{AreEnding, ends_sleep}
 use Rattle.store_model.proofs.States.{itself}
 use Rattle.store_model.proofs.Ticking.{kept_in_any_order}
-use Rattle.store_lookups.specs.Lookups.{due_sleeps}
-use Rattle.store_lookups.proofs.DueSleeps.{ended_found}
-use Rattle.store_lookups.proofs.Sleeping.{answer_of_sleep}
+use Rattle.store_model.specs.Lookups.{due_sleeps}
+use Rattle.store_model.proofs.DueSleeps.{ended_found}
+use Rattle.store_model.proofs.Sleeping.{answer_of_sleep}
 use Rattle.store_arrivals.specs.Made.{ReadyKeeps}
 
 -- where none passes, all that do not pass are all

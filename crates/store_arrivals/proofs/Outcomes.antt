@@ -23,7 +23,7 @@ use Rattle.protocol_types.specs.declared.message_type.MessageType.{MessageType}
 use Rattle.store_model.specs.Steps.{grown, noted_into}
 use Rattle.store_model.specs.Progress.{progress_of}
 use Rattle.store_model.proofs.States.{itself}
-use Rattle.due_model.specs.Noted.{Noted}
+use Rattle.due_laws.specs.Noted.{Noted}
 use Rattle.due_laws.proofs.Noting.{noted_follows}
 use Rattle.store_refusals.specs.declared.refusal.Refusal.{Refusal}
 use Rattle.store_refusals.specs.declared.refusal.Refusal.TheVariants.{RunNotOpen}

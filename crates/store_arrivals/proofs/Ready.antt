@@ -19,9 +19,9 @@ use Rattle.store_model.specs.Steps.{grown, noted_into}
 use Rattle.store_model.specs.Writes.{ends_sleep, invocation_writes, rows_added}
 use Rattle.store_model.proofs.Following.{ticks}
 use Rattle.store_model.proofs.States.{itself}
-use Rattle.store_lookups.specs.Lookups.{ended_sleeps}
-use Rattle.store_lookups.proofs.Sleeping.{answer_of_sleep}
-use Rattle.due_model.specs.Noted.{Noted}
+use Rattle.store_model.specs.Lookups.{ended_sleeps}
+use Rattle.store_model.proofs.Sleeping.{answer_of_sleep}
+use Rattle.due_laws.specs.Noted.{Noted}
 use Rattle.due_laws.proofs.Noting.{noted_ticks}
 use Rattle.store_arrivals.specs.Woken.{ends_of, flagged}
 use Rattle.store_arrivals.specs.Groups.{Group, group_of, those_ended}

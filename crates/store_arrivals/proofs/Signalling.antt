@@ -16,11 +16,11 @@ use Rattle.store_model.specs.Progress.{progress_of}
 use Rattle.store_model.specs.Kept.{plain_row, answered_by, entry_row}
 use Rattle.store_model.specs.Writes.{invocation_writes, writes_of}
 use Rattle.store_model.specs.Steps.{grown, noted_into}
-use Rattle.due_model.specs.Noted.{Noted}
+use Rattle.due_laws.specs.Noted.{Noted}
 use Rattle.due_laws.proofs.Noting.{noted_follows}
 use Rattle.store_model.proofs.States.{itself}
 use Rattle.store_model.proofs.Following.{follows}
-use Rattle.store_lookups.proofs.Opening.{or_nothing}
+use Rattle.store_model.proofs.Opening.{or_nothing}
 use Rattle.store_refusals.specs.declared.refusal.Refusal.{Refusal}
 use Rattle.store_refusals.specs.Refused.{IsRefused, refusal_by}
 use Rattle.store_invocations.specs.Rows.{Decides, IsOpenRow}

@@ -19,7 +19,7 @@ use Rattle.store_tables.specs.declared.row.InvocationRow.{InvocationRow}
 use Rattle.store_model.specs.Progress.{payload_of_suspension, progress_of}
 use Rattle.store_model.proofs.Same.{version_in}
 use Rattle.store_model.proofs.Versions.{kept_number}
-use Rattle.store_waking.proofs.Suspensions.{IsTold, is_told}
+use Rattle.store_frames.proofs.Suspensions.{IsTold, is_told}
 use Rattle.store_invocations.specs.Rows.{IsRowOf}
 use Rattle.store_arrivals.proofs.Lists.{payload_of_lists}
 

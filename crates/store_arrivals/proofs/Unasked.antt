@@ -5,8 +5,8 @@ use Rattle.protocol_types.specs.declared.message_type.MessageType.{MessageType}
 use Rattle.protocol_stream.specs.declared.command_facts.Completion.{Completion}
 use Rattle.protocol_stream.specs.CommandFacts.{accepts}
 use Rattle.sqlite.specs.State.{State}
-use Rattle.store_waking.specs.declared.fault.KeptFault.{KeptFault}
-use Rattle.store_waking.specs.declared.fault.KeptFault.TheVariants.{OutOfMemory, Foreign}
+use Rattle.store_frames.specs.declared.kept_fault.KeptFault.{KeptFault}
+use Rattle.store_frames.specs.declared.kept_fault.KeptFault.TheVariants.{OutOfMemory, Foreign}
 use Rattle.store_refusals.specs.declared.refusal.Refusal.{Refusal}
 use Rattle.store_refusals.specs.declared.refusal.Refusal.TheVariants.{WrongKind}
 use Rattle.store_refusals.specs.Causes.{IsUnasked, TellsCause}

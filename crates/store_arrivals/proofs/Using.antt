@@ -14,10 +14,10 @@ use Rattle.store_tables.specs.Questions.{has_id}
 use Rattle.store_tables.specs.declared.row.InvocationRow.{InvocationRow}
 use Rattle.store_model.specs.Kept.{IsKept, invocation_row}
 use Rattle.store_model.specs.Sleeps.{sleep_row}
-use Rattle.store_lookups.specs.Lookups.{ended_sleeps}
-use Rattle.store_lookups.proofs.Finding.{all_found}
-use Rattle.store_lookups.proofs.Opening.{both_ways}
-use Rattle.store_lookups.proofs.Sleeping.{answer_of_sleep}
+use Rattle.store_model.specs.Lookups.{ended_sleeps}
+use Rattle.store_model.proofs.Finding.{all_found}
+use Rattle.store_model.proofs.Opening.{both_ways}
+use Rattle.store_model.proofs.Sleeping.{answer_of_sleep}
 use Rattle.store_refusals.specs.declared.refusal.Refusal.{Refusal}
 use Rattle.store_refusals.specs.Refused.{IsRefused, first_of}
 use Rattle.store_refusals.specs.Prepared.{Keeps}

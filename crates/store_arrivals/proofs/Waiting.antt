@@ -13,8 +13,8 @@ use Rattle.store_refusals.specs.Prepared.{Tells}
 use Rattle.store_tables.specs.declared.row.EntryRow.{EntryRow}
 use Rattle.store_tables.specs.Questions.{is_number}
 use Rattle.store_model.specs.Progress.{first_of, second_of}
-use Rattle.store_lookups.specs.Lookups.{row_if, first_row, second_row}
-use Rattle.store_lookups.proofs.Opening.{or_nothing}
+use Rattle.store_model.specs.Lookups.{row_if, first_row, second_row}
+use Rattle.store_model.proofs.Opening.{or_nothing}
 use Rattle.store_arrivals.specs.declared.asking.AskedCompletion.{AskedCompletion}
 use Rattle.store_arrivals.specs.Asked.{as_second, is_first, is_second, first_type, second_type, asked_by}
 

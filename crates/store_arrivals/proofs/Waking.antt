@@ -4,7 +4,7 @@ use Rattle.journal_model.specs.Notification.{Text, Arrival}
 use Rattle.journal_model.specs.Event.{Event, Suspension}
 use Rattle.journal_model.specs.Journal.{recorded_arrivals}
 use Rattle.journal_model.specs.Attempt.{is_woken, suspension_of}
-use Rattle.due_model.specs.Noted.{heard_of, is_awake_kept, not_heard, or_zero}
+use Rattle.due_laws.specs.Noted.{heard_of, is_awake_kept, not_heard, or_zero}
 use Rattle.store_tables.specs.declared.row.InvocationRow.{InvocationRow}
 use Rattle.store_model.specs.Progress.{progress_of}
 use Rattle.store_refusals.specs.declared.refusal.Refusal.{Refusal}

@@ -11,8 +11,8 @@ use Rattle.store_tables.specs.Orders.{AreAlike, AreDue, sleep_cmp}
 use Rattle.store_tables.specs.declared.row.SleepRow.{SleepRow}
 use Rattle.store_model.specs.Sleeps.{due_until}
 use Rattle.store_model.specs.Writes.{AreEnding}
-use Rattle.store_lookups.specs.Lookups.{due_sleeps}
-use Rattle.store_lookups.proofs.DueSleeps.{ended_found}
+use Rattle.store_model.specs.Lookups.{due_sleeps}
+use Rattle.store_model.proofs.DueSleeps.{ended_found}
 use Rattle.store_refusals.specs.declared.refusal.Refusal.{Refusal}
 use Rattle.store_refusals.specs.Refused.{IsRefused, is_circumstance, reading_refusal}
 use Rattle.store_refusals.specs.Prepared.{Keeps, Prepares}

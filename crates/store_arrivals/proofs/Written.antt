@@ -15,11 +15,11 @@ use Rattle.store_tables.specs.declared.row.Write.TheVariants.{SetProgress, AddEn
 use Rattle.store_model.specs.Progress.{progress_of}
 use Rattle.store_model.specs.Kept.{plain_row, answered_by, entry_row}
 use Rattle.store_model.specs.Writes.{invocation_writes, state_writes, writes_of}
-use Rattle.store_lookups.proofs.Opening.{or_nothing}
+use Rattle.store_model.proofs.Opening.{or_nothing}
 use Rattle.store_model.specs.Steps.{grown, noted_into}
 use Rattle.store_model.proofs.Following.{follows}
 use Rattle.store_model.proofs.States.{itself}
-use Rattle.due_model.specs.Noted.{Noted}
+use Rattle.due_laws.specs.Noted.{Noted}
 use Rattle.due_laws.proofs.Noting.{noted_follows}
 use Rattle.store_refusals.specs.declared.refusal.Refusal.{Refusal}
 use Rattle.store_refusals.specs.Refused.{IsRefused}

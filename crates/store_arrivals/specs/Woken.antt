@@ -5,16 +5,16 @@ use Rattle.journal_model.specs.declared.notification.NotificationResult.{Notific
 use Rattle.journal_model.specs.Event.{Event}
 use Rattle.journal_model.specs.Journal.{completion}
 use Rattle.journal_model.specs.Attempt.{is_woken, suspension_of}
-use Rattle.due_model.specs.Noted.{is_awake_kept, not_heard}
+use Rattle.due_laws.specs.Noted.{is_awake_kept, not_heard}
 use Rattle.journal_model.specs.Spelling.{notification_payload}
 use Rattle.store_tables.specs.declared.row.EntryRow.{EntryRow}
 use Rattle.store_tables.specs.declared.row.InvocationRow.{InvocationRow}
 use Rattle.store_tables.specs.declared.row.Progress.{Progress}
 use Rattle.store_refusals.specs.declared.refusal.Refusal.{Refusal}
 use Rattle.store_refusals.specs.declared.refusal.Refusal.TheVariants as refusal
-use Rattle.store_waking.specs.declared.fault.KeptFault.{KeptFault}
-use Rattle.store_waking.specs.declared.fault.KeptFault.TheVariants.{OutOfMemory, Foreign}
-use Rattle.store_waking.specs.Kept.{SignalFits, completion_in}
+use Rattle.store_frames.specs.declared.kept_fault.KeptFault.{KeptFault}
+use Rattle.store_frames.specs.declared.kept_fault.KeptFault.TheVariants.{OutOfMemory, Foreign}
+use Rattle.store_frames.specs.Kept.{SignalFits, completion_in}
 
 abbrev pub fault_refusal : KeptFault → Refusal
 fault_refusal OutOfMemory = refusal.OutOfMemory

@@ -3,7 +3,7 @@
 ghost use Rattle.std.specs.Prelude.{◌≡◌, map, IfOk};
 ghost use Rattle.journal_model.specs.Spelling.{notification_payload};
 ghost use Rattle.protocol_stream.specs.Records.{pair_record};
-ghost use Rattle.protocol_spellings.specs.Records.{arrived_failure_record, id_record, notification_record, result_record};
+ghost use Rattle.protocol_laws.specs.Records.{arrived_failure_record, id_record, notification_record, result_record};
 
 use bytes::{ByteStr, Bytes};
 use journal_model::{Failure, Notification, NotificationId, NotificationResult};

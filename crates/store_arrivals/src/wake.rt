@@ -10,9 +10,9 @@ ghost use Rattle.journal_model.specs.Attempt.{is_woken as is_model_woken};
 ghost use Rattle.protocol_types.specs.Version.{version_number};
 ghost use Rattle.store_frames.specs.Answer.{KeepsSuspension};
 ghost use Rattle.store_frames.specs.Read.{IsFrameRead};
-ghost use Rattle.store_waking.specs.First.{AreFirst};
-ghost use Rattle.store_waking.specs.Kept.{Reads};
-ghost use Rattle.store_waking.specs.Awaited.{IsAwaited};
+ghost use Rattle.store_frames.specs.First.{AreFirst};
+ghost use Rattle.store_frames.specs.Kept.{Reads};
+ghost use Rattle.store_frames.specs.Awaited.{IsAwaited};
 ghost use Rattle.store_tables.specs.Looks.{Looks};
 ghost use Rattle.store_refusals.specs.Prepared.{Tells};
 ghost use Rattle.store_invocations.specs.Rows.{IsStoreOf};
@@ -27,7 +27,7 @@ use sqlite::Alter;
 use std::alloc::Global;
 use store_refusals::Refusal;
 use store_tables::{EntryRow, StoreTables, arrivals_after};
-use store_waking::{FirstArrivals, KeptFault, awaited};
+use store_frames::{FirstArrivals, KeptFault, awaited};
 
 /// What is kept and not read is a row that no store writes.
 fn refusal_of(fault: KeptFault) -> Refusal
@@ -102,7 +102,7 @@ fn woken_by(awaited: Future, heard: Result<FirstArrivals, Refusal>) -> Result<bo
 {
     match heard {
         Ok(first) => {
-            let woken = store_waking::is_woken(&awaited, &first);
+            let woken = store_frames::is_woken(&awaited, &first);
             drop(first);
             drop(awaited);
             Ok(woken)

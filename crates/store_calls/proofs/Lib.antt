@@ -1,3 +1,7 @@
 pub mod Live
 pub mod Landing
 pub mod Taking
+pub mod Replies
+pub mod Behind
+pub mod Frames
+pub mod Pieces

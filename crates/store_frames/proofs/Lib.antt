@@ -4,3 +4,9 @@ pub mod Meanings
 pub mod Payloads
 pub mod Trees
 pub mod Types
+pub mod KeptTrees
+pub mod Suspensions
+pub mod KeptPayloads
+pub mod Waking
+pub mod Awaiting
+pub mod Hearing

@@ -10,7 +10,7 @@ use Rattle.protocol_calls.specs.SendSignalCommand.{send_signal_command_of}
 use Rattle.protocol_calls.specs.declared.send_signal_command.SendSignalCommandMessage.{SendSignalCommandMessage}
 use Rattle.protocol_calls.specs.declared.send_signal_command.SendSignalCommandSignalId.{SendSignalCommandSignalId}
 use Rattle.protocol_calls.specs.declared.send_signal_command.SendSignalCommandResult.{SendSignalCommandResult}
-use Rattle.protocol_spellings.specs.Requests.{signal_key_told, signal_value_told}
+use Rattle.protocol_laws.specs.Requests.{signal_key_told, signal_value_told}
 use Rattle.store_frames.specs.Commands.{request_in}
 
 -- a request, where there is one, is of this type

@@ -21,10 +21,10 @@ use Rattle.protocol_calls.specs.GetInvocationOutputCommand.{get_invocation_outpu
 use Rattle.protocol_calls.specs.CompleteAwakeableCommand.{complete_awakeable_command_of}
 use Rattle.protocol_types.specs.declared.message_type.MessageType.{MessageType}
 use Rattle.protocol_types.specs.declared.message_type.MessageType.TheVariants as types
-use Rattle.protocol_spellings.specs.Commands.{CommandRecord, command_parts}
-use Rattle.protocol_spellings.specs.Requests.{request_told, request_of_output, request_of_get_lazy_state, request_of_get_eager_state, request_of_get_lazy_state_keys, request_of_get_eager_state_keys, request_of_set_state, request_of_clear_state, request_of_clear_all_state, request_of_get_promise, request_of_peek_promise, request_of_complete_promise, request_of_sleep, request_of_call, request_of_one_way_call, request_of_send_signal, request_of_run, request_of_attach_invocation, request_of_get_invocation_output, request_of_complete_awakeable}
-use Rattle.protocol_spellings.proofs.Back.{records_told}
-use Rattle.protocol_spellings.proofs.Requests.{requests_spelled}
+use Rattle.protocol_laws.specs.Commands.{CommandRecord, command_parts}
+use Rattle.protocol_laws.specs.Requests.{request_told, request_of_output, request_of_get_lazy_state, request_of_get_eager_state, request_of_get_lazy_state_keys, request_of_get_eager_state_keys, request_of_set_state, request_of_clear_state, request_of_clear_all_state, request_of_get_promise, request_of_peek_promise, request_of_complete_promise, request_of_sleep, request_of_call, request_of_one_way_call, request_of_send_signal, request_of_run, request_of_attach_invocation, request_of_get_invocation_output, request_of_complete_awakeable}
+use Rattle.protocol_laws.proofs.Back.{records_told}
+use Rattle.protocol_laws.proofs.Requests.{requests_spelled}
 use Rattle.store_frames.specs.declared.command.AskedFor.{AskedFor}
 use Rattle.store_frames.specs.declared.frame.StateUse.{StateUse}
 use Rattle.store_frames.specs.declared.frame.StateUse.TheVariants as uses

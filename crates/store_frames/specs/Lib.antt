@@ -5,3 +5,6 @@ pub mod Meaning
 pub mod Read
 pub mod Requests
 pub mod Told
+pub mod First
+pub mod Kept
+pub mod Awaited

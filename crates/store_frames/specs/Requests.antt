@@ -9,7 +9,7 @@ use Rattle.protocol_types.specs.Feature.{lacks_feature}
 use Rattle.protocol_controls.specs.declared.propose_run_completion.ProposeRunCompletionMessage.{ProposeRunCompletionMessage}
 use Rattle.protocol_controls.specs.declared.propose_run_completion.ProposeRunCompletionResult.{ProposeRunCompletionResult}
 use Rattle.protocol_controls.specs.declared.propose_run_completion.ProposeRunCompletionResult.TheVariants as proposals
-use Rattle.protocol_spellings.specs.Requests.{failure_put_out}
+use Rattle.protocol_laws.specs.Requests.{failure_put_out}
 use Rattle.protocol_trees.specs.Future.{ids_in, future_tree}
 
 -- from version 7 on a suspension waits for a tree, which it must have

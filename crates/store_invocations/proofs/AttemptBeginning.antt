@@ -13,7 +13,7 @@ use Rattle.journal_model.specs.Journal.{is_of, invocation_begun, version_of, obj
 use Rattle.journal_model.specs.Attempt.{attempts_begun, suspension_of, is_woken}
 use Rattle.journal_model.specs.Start.{attempts_since_entry, since_first as model_since_first, state_entry, state_fields, start_payload, start_payload_for, start_payload_of}
 use Rattle.journal_laws.proofs.ObjectState.{begun_before}
-use Rattle.due_model.specs.Noted.{heard_of, not_heard, is_awake_kept}
+use Rattle.due_laws.specs.Noted.{heard_of, not_heard, is_awake_kept}
 use Rattle.protocol_types.specs.Version.{version_number}
 use Rattle.store_tables.specs.declared.row.InvocationRow.{InvocationRow}
 use Rattle.store_tables.specs.declared.row.Progress.{Progress}

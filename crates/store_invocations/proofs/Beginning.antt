@@ -16,7 +16,7 @@ use Rattle.protocol_types.specs.Version.{version_number}
 use Rattle.store_tables.specs.declared.row.InvocationRow.{InvocationRow}
 use Rattle.store_tables.specs.declared.row.Write.{Write}
 use Rattle.store_tables.specs.declared.row.Write.TheVariants.{AddInvocation, AddEntry}
-use Rattle.due_model.specs.Noted.{heard_in, heard_of, or_zero}
+use Rattle.due_laws.specs.Noted.{heard_in, heard_of, or_zero}
 use Rattle.store_model.specs.Places.{handed_in, handed_of}
 use Rattle.store_model.specs.Progress.{first_of, number_or_zero, payload_of_suspension, way_closed, error_in, last_output, progress_of}
 use Rattle.store_model.specs.Kept.{input_row, invocation_row, is_shown_whole, version_kept}

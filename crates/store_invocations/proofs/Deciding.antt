@@ -14,7 +14,7 @@ use Rattle.store_tables.specs.declared.row.StateRow.{StateRow}
 use Rattle.store_tables.specs.Orders.{IsArranged, IsUnarranged}
 use Rattle.store_tables.specs.Questions.{IsJournal, IsNoJournal}
 use Rattle.store_model.specs.Kept.{journal_rows, state_row}
-use Rattle.store_lookups.proofs.Finding.{all_found}
+use Rattle.store_model.proofs.Finding.{all_found}
 use Rattle.store_refusals.specs.declared.refusal.Refusal.{Refusal}
 use Rattle.store_refusals.specs.Refused.{IsRefused, is_circumstance, reading_refusal}
 use Rattle.store_refusals.specs.Prepared.{Keeps, Prepares}

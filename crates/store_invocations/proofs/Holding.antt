@@ -30,8 +30,8 @@ use Rattle.store_frames.specs.Kind.{kind_of, record_of}
 use Rattle.store_frames.specs.Meaning.{asks_ack, command_or_broken, error_frame, frame_by, outcome_or_broken, read_as, read_if_record, suspension_frame, unless_faulty}
 use Rattle.store_frames.specs.Commands.{request_in}
 use Rattle.store_frames.proofs.Types.{request_typed}
-use Rattle.protocol_spellings.specs.Requests.{request_of_output, value_put_out}
-use Rattle.protocol_spellings.proofs.Back.{result_back}
+use Rattle.protocol_laws.specs.Requests.{request_of_output, value_put_out}
+use Rattle.protocol_laws.proofs.Back.{result_back}
 use Rattle.store_frames.specs.Requests.{proposal_told, suspension_of_lists, suspension_of_tree}
 use Rattle.store_frames.specs.Read.{IsFrameRead}
 use Rattle.protocol_laws.specs.Fits.{output_command_fits}

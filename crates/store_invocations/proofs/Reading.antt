@@ -9,9 +9,9 @@ use Rattle.sql_tables.specs.declared.read.ReadError.TheVariants.{Refused, Foreig
 use Rattle.store_tables.specs.Records.{Records}
 use Rattle.store_tables.specs.Questions.{IsFound, IsAmbiguous, has_id}
 use Rattle.store_model.specs.Kept.{IsKept}
-use Rattle.store_lookups.specs.Lookups.{IsOnly}
-use Rattle.store_lookups.proofs.Only.{only_found, only_one}
-use Rattle.store_lookups.proofs.Finding.{all_found}
+use Rattle.store_model.specs.Lookups.{IsOnly}
+use Rattle.store_model.proofs.Only.{only_found, only_one}
+use Rattle.store_model.proofs.Finding.{all_found}
 use Rattle.store_refusals.specs.declared.refusal.Refusal.{Refusal}
 use Rattle.store_refusals.specs.Refused.{is_circumstance, reading_refusal, IsRefused}
 use Rattle.store_refusals.specs.Prepared.{Keeps, Tells}

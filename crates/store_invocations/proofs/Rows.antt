@@ -21,8 +21,8 @@ use Rattle.protocol_types.specs.MessageType.{is_command}
 use Rattle.store_tables.specs.declared.row.EntryRow.{EntryRow}
 use Rattle.store_tables.specs.Questions.{IsJournal, IsNoJournal}
 use Rattle.store_model.specs.Kept.{entry_row, journal_rows, rows_from, rows_of_journal}
-use Rattle.store_lookups.proofs.Finding.{all_found}
-use Rattle.store_lookups.proofs.Framing.{AreAskedBefore, all_asked_before, kind_stays}
+use Rattle.store_model.proofs.Finding.{all_found}
+use Rattle.store_model.proofs.Framing.{AreAskedBefore, all_asked_before, kind_stays}
 use Rattle.store_refusals.specs.declared.refusal.Refusal.TheVariants.{UnknownInvocation}
 use Rattle.store_refusals.specs.Refused.{IsRefused, is_circumstance, reading_refusal}
 use Rattle.store_refusals.specs.Prepared.{Keeps}

@@ -7,7 +7,7 @@ use Rattle.journal_model.specs.Journal.{is_of, invocation_begun, version_of}
 use Rattle.journal_model.specs.Attempt.{begins_attempt, ends_live, live_attempt, closes_input, is_input_closed}
 use Rattle.store_live.specs.declared.attempt.LiveAttempt.{LiveAttempt}
 use Rattle.store_live.specs.Input.{InputKept}
-use Rattle.store_row_laws.specs.Memory.{IsInputOf}
+use Rattle.store_live_laws.specs.Memory.{IsInputOf}
 use Rattle.store_live_laws.specs.Agrees.{IsKeptLive}
 
 pub version_same : (events : List Event) (event : Event) (id : Text) → invocation_begun (event ∷ events) id ≡ invocation_begun events id

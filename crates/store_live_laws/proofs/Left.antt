@@ -6,7 +6,7 @@ use Rattle.journal_model.specs.Attempt.{input_bytes, input_left, input_pieces}
 use Rattle.journal_model.specs.Cause.{is_empty}
 use Rattle.due_laws.specs.Handing.{HandsPart, ReadsRows}
 use Rattle.due_laws.proofs.Handing.{rows_tell}
-use Rattle.store_row_laws.proofs.Reading.{input_agrees}
+use Rattle.store_live_laws.proofs.Reading.{input_agrees}
 use Rattle.store_live_laws.specs.Agrees.{AllLeftIsTold, PartIsTold}
 
 pub left_told : AllLeftIsTold

@@ -13,8 +13,8 @@ use Rattle.store_model.proofs.Same.{same_begun}
 use Rattle.store_live.specs.declared.attempt.LiveAttempt.{LiveAttempt}
 use Rattle.store_live.specs.Before.{IsAsBefore}
 use Rattle.store_live.specs.Input.{InputKept, handed_out as after_hand_out, with_outcome}
-use Rattle.store_row_laws.specs.Memory.{IsInputOf}
-use Rattle.store_row_laws.proofs.Reading.{input_agrees}
+use Rattle.store_live_laws.specs.Memory.{IsInputOf}
+use Rattle.store_live_laws.proofs.Reading.{input_agrees}
 use Rattle.store_live_laws.specs.Agrees.{Agrees, AgreesAtFirst, AgreesElsewhere, AgreesRecorded, AgreesAcknowledged, AgreesAsBefore, AgreesRead, AgreesHandedOut, AgreesClosed, AgreesEnded, AgreesStopped, IsKeptLive, does_record}
 use Rattle.store_live_laws.proofs.Growing.{live_now, goes_on}
 use Rattle.store_live_laws.proofs.Opened.{itself, and_false}

@@ -16,7 +16,7 @@ use Rattle.store_live.specs.declared.attempt.LiveAttempt.{LiveAttempt}
 use Rattle.store_live.specs.Before.{IsAsBefore}
 use Rattle.store_live.specs.Input.{at_begin, next_row}
 use Rattle.store_live.specs.Attempts.{after_close, after_frame, after_hand_out, after_outcome, bytes_out}
-use Rattle.store_row_laws.specs.Memory.{IsInputOf, frame_read, row_asked}
+use Rattle.store_live_laws.specs.Memory.{IsInputOf, frame_read, row_asked}
 
 -- an attempt is kept as the live one of an invocation; of its output the events say nothing
 pub record IsKeptLive (events : List Event) (id : Text) (attempt : LiveAttempt) : Type 0 where

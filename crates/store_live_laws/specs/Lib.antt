@@ -1,1 +1,4 @@
+pub mod Read
+pub mod Kept
+pub mod Memory
 pub mod Agrees

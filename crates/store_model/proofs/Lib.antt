@@ -9,3 +9,16 @@ pub mod Keeping
 pub mod KeptRows
 pub mod Following
 pub mod Versions
+pub mod Only
+pub mod Finding
+pub mod Opening
+pub mod Growing
+pub mod Asking
+pub mod Sleeping
+pub mod Answering
+pub mod Framing
+pub mod Ordinals
+pub mod AwaitedSleeps
+pub mod OpenSleeps
+pub mod Sorting
+pub mod DueSleeps

@@ -4,3 +4,4 @@ pub mod Sleeps
 pub mod Kept
 pub mod Writes
 pub mod Steps
+pub mod Lookups

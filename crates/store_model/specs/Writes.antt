@@ -1,5 +1,5 @@
 -- What an accepted event writes, and that these writes lead from the records kept before it to those kept after it.
-pub use Rattle.due_model.specs.NextMoment.{ends_sleep}
+pub use Rattle.due_laws.specs.NextMoment.{ends_sleep}
 use Rattle.std.specs.Prelude.{◌≡◌, ℕ, ◌+◌, if◌then◌else◌, List, [], ◌∷◌, ◌++◌, length, map, filter, flat_map, Option, Some, None, bytes_eq}
 use Rattle.journal_model.specs.Notification.{Text}
 use Rattle.journal_model.specs.Request.{Request}

@@ -29,9 +29,9 @@ use Rattle.store_model.specs.Writes.{state_writes, writes_of}
 use Rattle.store_model.specs.Steps.{after_command, answers_at_once, grown, noted_into, payload_or}
 use Rattle.store_model.proofs.Following.{follows}
 use Rattle.store_model.proofs.States.{itself}
-use Rattle.due_model.specs.Noted.{Noted}
+use Rattle.due_laws.specs.Noted.{Noted}
 use Rattle.due_laws.proofs.Noting.{noted_follows}
-use Rattle.store_lookups.proofs.Answering.{asked_below, arrivals_in-append}
+use Rattle.store_model.proofs.Answering.{asked_below, arrivals_in-append}
 use Rattle.store_invocations.specs.Rows.{Decides, payload_tests}
 use Rattle.store_refusals.specs.declared.refusal.Refusal.{Refusal}
 use Rattle.store_refusals.specs.Refused.{refusal_by, IsRefused}

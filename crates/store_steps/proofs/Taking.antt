@@ -21,8 +21,8 @@ use Rattle.store_tables.specs.declared.row.Progress.{Progress}
 use Rattle.store_model.specs.Progress.{progress_of}
 use Rattle.store_model.specs.Kept.{invocation_row}
 use Rattle.store_model.proofs.Versions.{begun_number}
-use Rattle.store_lookups.proofs.Only.{only_found, only_one}
-use Rattle.store_lookups.proofs.Finding.{all_found}
+use Rattle.store_model.proofs.Only.{only_found, only_one}
+use Rattle.store_model.proofs.Finding.{all_found}
 use Rattle.store_invocations.specs.Rows.{IsRowOf}
 use Rattle.store_refusals.specs.declared.refusal.Refusal.{Refusal}
 use Rattle.store_refusals.specs.declared.refusal.Refusal.TheVariants.{OutOfMemory}

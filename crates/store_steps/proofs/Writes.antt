@@ -8,7 +8,7 @@ use Rattle.journal_model.specs.Spelling.{request_type, request_payload}
 use Rattle.journal_model.specs.Event.{Behavior, Frame, Event}
 use Rattle.journal_model.specs.Journal.{Entry, Recorded, Arrived, invocation_begun, version_of, object_of, closes, sleep_in, starting_state, requests_in, entries_of}
 use Rattle.journal_model.specs.Cause.{greatest, causes_of, IsAccepted}
-use Rattle.due_model.specs.Noted.{Noted, noted_of}
+use Rattle.due_laws.specs.Noted.{Noted, noted_of}
 use Rattle.due_laws.specs.Awake.{after_frame as noted_after}
 use Rattle.due_laws.proofs.Noting.{noted_follows}
 use Rattle.store_frames.specs.declared.frame.RecordedCommand.{RecordedCommand}

@@ -4,7 +4,7 @@ use Rattle.std.specs.Option.{ForSome}
 use Rattle.journal_model.specs.Run.{Handler}
 use Rattle.journal_model.specs.declared.call.Call.{Call}
 use Rattle.journal_model.specs.declared.handler.Input.{Input}
-use Rattle.request_laws.specs.Calls.{IsTypedCall}
+use Rattle.vm_request_laws.specs.Calls.{IsTypedCall}
 use Rattle.vm_core.specs.declared.core_vm.CoreVM.{CoreVM}
 use Rattle.vm_core.specs.Outcomes.outcomes
 use Rattle.vm_core.specs.Outcomes.{CarriesOut, CallOutcome}

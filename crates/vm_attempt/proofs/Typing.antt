@@ -2,12 +2,12 @@
 use Rattle.std.proofs.Common.{◌≡◌, subst}
 use Rattle.std.specs.Duration.{as_nanos}
 use Rattle.journal_model.specs.declared.value.NonEmptyValue.{NonEmptyValue}
-use Rattle.request_laws.specs.Calls.{IsTypedValue}
+use Rattle.vm_request_laws.specs.Calls.{IsTypedValue}
 use Rattle.protocol_errors.specs.declared.error.Error.{Error}
 use Rattle.vm_refusals.specs.declared.retries.RetryPolicy.{RetryPolicy}
 use Rattle.vm_refusals.specs.declared.runs.RunExitResult.{RunExitResult}
-use Rattle.vm_retries.specs.Ending.{Ending, Outcome, ending, ending_by}
-use Rattle.vm_retries.specs.Retrying.{Tried, one_more, AfterFailure, TriedAgain, FailsAsTerminal, Pauses, after_failure}
+use Rattle.vm_refusals.specs.Ending.{Ending, Outcome, ending, ending_by}
+use Rattle.vm_refusals.specs.Retrying.{Tried, one_more, AfterFailure, TriedAgain, FailsAsTerminal, Pauses, after_failure}
 use Rattle.vm_attempt.specs.Typed.{IsTypedError, IsTypedExit}
 
 abbrev IsTypedEnding : Ending → Type 0

@@ -5,7 +5,7 @@ use Rattle.journal_model.specs.declared.call.Answer.{Answer}
 use Rattle.journal_model.specs.declared.call.Call.{Call}
 use Rattle.journal_model.specs.declared.handler.Input.{Input}
 use Rattle.protocol_errors.specs.declared.error.Error.{Error}
-use Rattle.request_laws.specs.Calls.{IsTypedCall}
+use Rattle.vm_request_laws.specs.Calls.{IsTypedCall}
 use Rattle.vm_feeding.specs.Reading.{IsRead}
 use Rattle.vm_start.specs.Failing.{out_of_memory}
 use Rattle.vm_feeding.specs.Asking.{IsReady}

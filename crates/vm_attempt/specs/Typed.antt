@@ -2,7 +2,7 @@
 use Rattle.std.specs.Prelude.{◌<◌, ◌^◌, IsUtf8, IfSome}
 use Rattle.protocol_errors.specs.declared.error.Error.{Error}
 use Rattle.protocol_errors.specs.declared.metadata.CommandMetadata.{CommandMetadata}
-use Rattle.request_laws.specs.Calls.{IsTypedFailure}
+use Rattle.vm_request_laws.specs.Calls.{IsTypedFailure}
 use Rattle.vm_refusals.specs.declared.runs.RunExitResult.{RunExitResult}
 use Rattle.vm_attempt.specs.declared.run_outcome.RunOutcome.{RunOutcome}
 

@@ -1,7 +1,7 @@
 // What a call, and the end of a run's body, is by its types: functions that look at each text and number in it, and change nothing.
 ghost use Rattle.std.specs.Prelude.{◌<◌, ◌^◌, IsUtf8, IfSome};
 ghost use Rattle.std.specs.List.{AllByRecursion};
-ghost use Rattle.request_laws.specs.Calls.{IsTypedPair, IsTypedFailure, IsTypedValue, IsTypedHeader, IsTypedTarget, IsTypedAttach, IsTypedCall};
+ghost use Rattle.vm_request_laws.specs.Calls.{IsTypedPair, IsTypedFailure, IsTypedValue, IsTypedHeader, IsTypedTarget, IsTypedAttach, IsTypedCall};
 ghost use Rattle.vm_attempt.specs.Typed.{IsTypedCommand, IsTypedError, IsTypedExit, IsTypedOutcome};
 
 use crate::run_outcome::RunOutcome;

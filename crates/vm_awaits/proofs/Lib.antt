@@ -1,3 +1,5 @@
+pub mod Kept
+pub mod Taking
 pub mod Seen
 pub mod Lining
 pub mod Futures

@@ -7,7 +7,7 @@ use Rattle.journal_model.specs.Notification.{Arrival}
 use Rattle.journal_model.specs.AwaitTree.{AwaitTree, Single, Unknown, FirstCompleted, AllCompleted, FirstSucceededOrAllFailed, AllSucceededOrFirstFailed}
 use Rattle.journal_model.specs.Future.{node}
 use Rattle.attempt_model.specs.Results.{Slots, Resolution, Awake, Asleep, resolution_of}
-use Rattle.vm_results.specs.Views.{none_ready}
+use Rattle.vm_awaits.specs.ReadyViews.{none_ready}
 
 abbrev slots : Slots
 slots = Some (CompletionId 1) ∷ Some (CompletionId 2) ∷ Some (CompletionId 3) ∷ Some (CompletionId 4) ∷ []

@@ -8,8 +8,8 @@ use Rattle.journal_model.specs.declared.options.SignalDelivery.{SignalDelivery}
 use Rattle.journal_model.specs.Journal.{completes}
 use Rattle.journal_model.specs.Notification.{Arrival}
 use Rattle.attempt_model.specs.Results.{Ready, first_of, ready_after}
-use Rattle.vm_results.specs.Views.{none_ready}
-use Rattle.vm_results.specs.Calls.{ready_left, slots_left}
+use Rattle.vm_awaits.specs.ReadyViews.{none_ready}
+use Rattle.vm_awaits.specs.Taken.{ready_left, slots_left}
 use Rattle.vm_awaits.specs.Views.{AsyncResults}
 
 -- nothing has come, and no handle was made

@@ -1,3 +1,6 @@
+pub mod ReadyViews
+pub mod Taken
+pub mod Children
 pub mod Views
 pub mod Lines
 pub mod Calls

@@ -3,7 +3,7 @@ use Rattle.std.specs.Prelude.{List}
 use Rattle.journal_model.specs.declared.options.SignalDelivery.{SignalDelivery}
 use Rattle.journal_model.specs.Notification.{Arrival}
 use Rattle.attempt_model.specs.Results.{Ready, Slots}
-use Rattle.vm_results.specs.Views.{ready_in}
+use Rattle.vm_awaits.specs.ReadyViews.{ready_in}
 use Rattle.vm_awaits.specs.declared.state.AsyncResultsState.{AsyncResultsState}
 
 pub record AsyncResults : Type 0 where

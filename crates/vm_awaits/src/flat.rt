@@ -7,7 +7,7 @@ ghost use Rattle.journal_model.specs.Future.{tree_of};
 ghost use Rattle.attempt_model.specs.Results.{handle_state};
 ghost use Rattle.vm_flat_trees.specs.Awaited.{has_woken, awaited_over, delivered, ways_for, still_waits};
 ghost use Rattle.vm_flat_trees.specs.Counts.{state_meant};
-ghost use Rattle.vm_results.specs.Views.{ready_in};
+ghost use Rattle.vm_awaits.specs.ReadyViews.{ready_in};
 ghost use Rattle.vm_awaits.specs.Ids.{FindsLeaves, leaves_in, with_node};
 
 use crate::growing::nodes_of;
@@ -21,7 +21,7 @@ use vm_flat_trees::awake::is_awake_now;
 use vm_flat_trees::climbing::is_completed;
 use vm_flat_trees::left::left;
 use vm_flat_trees::node::{FlatNode, Kind};
-use vm_results::{ReadyNotifications, id_for};
+use crate::{ReadyNotifications, id_for};
 
 // From so many nodes on a map is made of where the leaves of each id stand.
 const MANY: usize = 16;

@@ -7,13 +7,13 @@ ghost use Rattle.std.specs.BTreeMap.{IsOrdered};
 ghost use Rattle.journal_model.specs.Journal.{completes};
 ghost use Rattle.vm_awaits.specs.Calls.{first_in, LooksAtOne};
 ghost use Rattle.vm_awaits.specs.Lines.{completion_of, count_in, OneMore, OneFewer};
-ghost use Rattle.vm_results.specs.Views.{ready_in};
+ghost use Rattle.vm_awaits.specs.ReadyViews.{ready_in};
 
 use journal_model::{Notification, NotificationId, SignalDelivery};
 use std::alloc::{AllocError, Global};
 use std::collections::{BTreeMap, VecDeque};
 use std::marker::Model;
-use vm_results::ReadyNotifications;
+use crate::ReadyNotifications;
 
 /// The notifications that no await has looked at, in their order.
 ///

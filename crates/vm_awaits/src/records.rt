@@ -14,7 +14,7 @@ use protocol_records::{CombinatorType, Future};
 use protocol_trees::NotificationIdRef;
 use sequence::Sequence;
 use std::alloc::{AllocError, Global};
-use vm_results::id_for;
+use crate::id_for;
 
 // What stands in a node: the ids of its leaves, by their kinds, and the records of the nodes in it.
 #[derive(Drop)]

@@ -6,7 +6,7 @@ ghost use Rattle.journal_model.specs.Future.{tree_of};
 ghost use Rattle.attempt_model.specs.Results.{resolution_of};
 ghost use Rattle.vm_flat_trees.specs.Counts.{state_meant};
 ghost use Rattle.vm_awaits.specs.Resolving.{resolution_as, line_left, StopsMidway};
-ghost use Rattle.vm_results.specs.Views.{ready_in};
+ghost use Rattle.vm_awaits.specs.ReadyViews.{ready_in};
 
 use crate::flat::FlatTree;
 use crate::line::Line;
@@ -17,7 +17,7 @@ use protocol_trees::AwaitState;
 use std::alloc::{AllocError, Global};
 use vm_flat_trees::climbing::is_completed;
 use vm_flat_trees::opening::{Opened, open};
-use vm_results::{ReadyNotifications, state_for};
+use crate::{ReadyNotifications, state_for};
 
 /// What looking for an awaited future came to.
 #[derive(Debug, Drop)]

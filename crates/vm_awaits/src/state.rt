@@ -6,7 +6,7 @@ ghost use Rattle.protocol_stream.specs.Records.{future_record};
 ghost use Rattle.journal_model.specs.declared.notification.NotificationId.TheVariants.{CompletionId};
 ghost use Rattle.std.specs.Option.{option_copied};
 ghost use Rattle.attempt_model.specs.Results.{first_of, waiting_for, slot_of, resolution_of};
-ghost use Rattle.vm_results.specs.Children.{completion_in};
+ghost use Rattle.vm_awaits.specs.Children.{completion_in};
 ghost use Rattle.vm_awaits.specs.Views.{results_of, delivery_of, queue_of, ready_of, slots_of};
 ghost use Rattle.vm_awaits.specs.Calls.{no_results, with_queued, with_ready, with_handle, has_come, has_next, after_look, after_take};
 ghost use Rattle.vm_awaits.specs.Resolving.{resolution_as, line_left, StopsMidway};
@@ -22,7 +22,7 @@ use journal_model::{
 use protocol_records::Future;
 use protocol_trees::NotificationIdRef;
 use std::alloc::{AllocError, AllocFailed, Global};
-use vm_results::{ReadyNotifications, Slots, first_for, id_for, next_handle, take_for};
+use crate::{ReadyNotifications, Slots, first_for, id_for, next_handle, take_for};
 
 /// What has come of an invocation's notifications, and what its handles stand for.
 ///

@@ -16,7 +16,7 @@ use protocol_trees::{AwaitState, NotificationIdRef};
 use vm_flat_trees::climbing::Climbed;
 use vm_flat_trees::delivering::{deliver_to, tell};
 use vm_flat_trees::node::{FlatNode, Kind};
-use vm_results::id_for;
+use crate::id_for;
 
 fn is_same(id: &NotificationId, other: NotificationIdRef<'_>) -> bool
     ensures { result ≡ same_id id.now (id_meant other.entry) }

@@ -14,9 +14,9 @@ use Rattle.protocol_calls.specs.declared.send_signal_command.SendSignalCommandSi
 use Rattle.protocol_calls.specs.declared.complete_awakeable_command.CompleteAwakeableCommandResult.{CompleteAwakeableCommandResult}
 use Rattle.protocol_stream.specs.Records.{result_record}
 use Rattle.vm_commands.specs.Passed.{signal_record, awakeable_record}
-use Rattle.protocol_spellings.specs.Records.{signal_result, awakeable_result}
-use Rattle.protocol_spellings.specs.Requests.{request_of_output, request_of_send_signal, request_of_complete_awakeable}
-use Rattle.protocol_spellings.proofs.Told.{requests_told}
+use Rattle.protocol_laws.specs.Records.{signal_result, awakeable_result}
+use Rattle.protocol_laws.specs.Requests.{request_of_output, request_of_send_signal, request_of_complete_awakeable}
+use Rattle.protocol_laws.proofs.Told.{requests_told}
 use Rattle.vm_calls.specs.Doing.{DoesOne}
 use Rattle.vm_calls.proofs.Calls.{brings_none}
 

@@ -19,7 +19,7 @@ use Rattle.protocol_types.specs.declared.message_type.MessageType.{MessageType}
 use Rattle.protocol_stream.specs.declared.encoder.EncodingError.TheVariants as unsent
 use Rattle.vm_awaits.specs.Views.{AsyncResults, results_of}
 use Rattle.vm_awaits.specs.Calls.{with_handle}
-use Rattle.vm_results.specs.Children.{AreMade}
+use Rattle.vm_awaits.specs.Children.{AreMade}
 use Rattle.vm_context.specs.Eager.{KnownState}
 use Rattle.vm_context.specs.Journal.{after_command, after_completions}
 use Rattle.vm_context.specs.Following.{KnowsState, changes_state}

@@ -9,10 +9,10 @@ use Rattle.journal_model.specs.Request.{Request}
 use Rattle.journal_model.specs.Run.{Invocation}
 use Rattle.attempt_model.specs.Machine.{Machine}
 use Rattle.protocol_commands.specs.declared.complete_promise_command.CompletePromiseCommandCompletion.{CompletePromiseCommandCompletion}
-use Rattle.protocol_spellings.specs.Records.{promise_completion}
-use Rattle.protocol_spellings.specs.Requests.{request_of_complete_promise}
+use Rattle.protocol_laws.specs.Records.{promise_completion}
+use Rattle.protocol_laws.specs.Requests.{request_of_complete_promise}
 use Rattle.vm_commands.specs.Passed.{completion_record}
-use Rattle.protocol_spellings.proofs.Told.{requests_told}
+use Rattle.protocol_laws.proofs.Told.{requests_told}
 use Rattle.vm_calls.proofs.Calls.{brings_none}
 use Rattle.vm_calls.specs.Making.{CompletesOne}
 

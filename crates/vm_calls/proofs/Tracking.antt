@@ -1,7 +1,7 @@
 -- The children that are kept while a call is made.
 use Rattle.std.proofs.Common.{◌≡◌, ◌+◌, ◌++◌, ◌∷◌, ℕ, suc, List, [], append-nil, map, sym, ap, ◌∙◌, subst, arith}
 use Rattle.attempt_model.specs.Children.{Child, new_child}
-use Rattle.vm_results.specs.Children.{AreMade}
+use Rattle.vm_awaits.specs.Children.{AreMade}
 
 -- a call that brings none leaves them
 pub none_more : (children kept : List Child) (brought : List ℕ) → brought ≡ [] → kept ≡ children → kept ≡ children ++ map new_child brought

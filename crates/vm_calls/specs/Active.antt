@@ -13,7 +13,7 @@ use Rattle.protocol_stream.specs.declared.decoder.RawMessage.{RawMessage}
 use Rattle.protocol_stream.specs.declared.encoder.EncodingError.TheVariants as unsent
 use Rattle.vm_awaits.specs.Views.{results_of, slots_of}
 use Rattle.vm_awaits.specs.Calls.{with_handle}
-use Rattle.vm_results.specs.Children.{AreMade}
+use Rattle.vm_awaits.specs.Children.{AreMade}
 use Rattle.vm_context.specs.Journal.{JournalCounts, after_command, after_completions}
 use Rattle.vm_context.specs.Following.{KnowsState}
 use Rattle.vm_context.specs.Output.{Written}

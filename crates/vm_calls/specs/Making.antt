@@ -19,7 +19,7 @@ use Rattle.attempt_model.specs.Machine.{Machine, Answered, FailedBy, Mismatch, w
 use Rattle.protocol_types.specs.declared.message_type.MessageType.{MessageType}
 use Rattle.protocol_stream.specs.declared.encoder.EncodingError.TheVariants as unsent
 use Rattle.vm_awaits.specs.Views.{results_of}
-use Rattle.vm_results.specs.Children.{AreMade}
+use Rattle.vm_awaits.specs.Children.{AreMade}
 use Rattle.vm_context.specs.Following.{KnowsState, changes_state}
 use Rattle.vm_commands.specs.HeaderEquality.{same_header}
 use Rattle.vm_commands.specs.Popping.{IsNextUnread}

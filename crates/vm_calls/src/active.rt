@@ -22,7 +22,7 @@ use std::collections::VecDeque;
 use vm_awaits::{AsyncResultsState, CreateHandleError};
 use vm_commands::Command;
 use vm_context::{EagerState, Journal, Output};
-use vm_results::Children;
+use vm_awaits::Children;
 
 /// What an attempt keeps while calls are made of it, from the last of the entries that its start has announced on.
 #[derive(Debug, Drop)]

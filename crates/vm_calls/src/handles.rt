@@ -9,7 +9,7 @@ use crate::{Active, NumberError, handle_for};
 use bytes::{ByteStr, Bytes};
 use journal_model::{NotificationHandle, NotificationId};
 use std::alloc::Global;
-use vm_awakeables::awakeable_id;
+use vm_types::awakeable_id;
 use vm_types::AwakeableHandle;
 
 impl Active {

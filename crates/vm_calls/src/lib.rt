@@ -24,4 +24,4 @@ pub use put_error::PutError;
 pub use putting::put;
 pub use telling::cancel_command;
 pub use vm_commands::{Command, ReplayError};
-pub use vm_results::Children;
+pub use vm_awaits::Children;

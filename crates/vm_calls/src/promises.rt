@@ -6,7 +6,7 @@ ghost use Rattle.vm_calls.specs.Finding.{FindsAs};
 ghost use Rattle.vm_calls.specs.Words.{Call, Answer, Request, Invocation, Machine};
 ghost use Rattle.journal_model.specs.Refusal.{refusal_of};
 ghost use Rattle.protocol_types.specs.declared.message_type.MessageType.TheVariants.{GetPromiseCommand, PeekPromiseCommand, CompletePromiseCommand};
-ghost use Rattle.protocol_spellings.specs.Requests.{request_of_complete_promise};
+ghost use Rattle.protocol_laws.specs.Requests.{request_of_complete_promise};
 ghost use Rattle.vm_calls.specs.Active.{Sees, IsAtCommand};
 
 use crate::{Active, CallError, ignores};

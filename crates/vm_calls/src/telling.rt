@@ -1,7 +1,7 @@
 // The calls that tell something to the outside or to another invocation, and are answered at once.
 ghost use Rattle.std.specs.Prelude.{◌≡◌, [], Some, None};
 ghost use Rattle.journal_model.specs.Request.{Request, SignalKey, SignalValue};
-ghost use Rattle.protocol_spellings.specs.Requests.{request_of_send_signal};
+ghost use Rattle.protocol_laws.specs.Requests.{request_of_send_signal};
 ghost use Rattle.vm_calls.specs.Words.{Call, Answer, Invocation, Machine};
 ghost use Rattle.journal_model.specs.Refusal.{refusal_of};
 ghost use Rattle.protocol_types.specs.declared.message_type.MessageType.TheVariants.{OutputCommand, SendSignalCommand, CompleteAwakeableCommand};

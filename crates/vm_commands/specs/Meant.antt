@@ -13,10 +13,10 @@ use Rattle.protocol_stream.specs.Header.{message_type}
 use Rattle.protocol_messages.specs.RecordMessage.{type_of_record}
 use Rattle.protocol_messages.specs.Decoded.{HasItsType}
 use Rattle.protocol_differences.specs.Passed.{AreHeaderEqual, Tells}
-use Rattle.protocol_spellings.specs.Commands.{CommandRecord, command_record, command_parts}
-use Rattle.protocol_spellings.specs.Requests.{request_told}
-use Rattle.protocol_spellings.proofs.Back.{records_told}
-use Rattle.protocol_spellings.proofs.Requests.{requests_spelled}
+use Rattle.protocol_laws.specs.Commands.{CommandRecord, command_record, command_parts}
+use Rattle.protocol_laws.specs.Requests.{request_told}
+use Rattle.protocol_laws.proofs.Back.{records_told}
+use Rattle.protocol_laws.proofs.Requests.{requests_spelled}
 use Rattle.vm_commands.specs.HeaderEquality.{same_record, type_of_command, is_recorded}
 use Rattle.vm_commands.specs.Recorded.{request_read, command_by, command_of}
 

@@ -12,9 +12,9 @@ use Rattle.vm_context.specs.Eager.{tells_value}
 use Rattle.vm_context.specs.Output.{Written, with_frame}
 use Rattle.vm_context.specs.declared.eager_state.EagerGetState.{EagerGetState}
 use Rattle.vm_context.specs.declared.eager_state.EagerGetState.TheVariants as told
-use Rattle.vm_ephemeral.specs.Reads.{EphemeralReads, known, asked}
-use Rattle.vm_ephemeral.specs.declared.commands.RegisterError.{RegisterError}
-use Rattle.vm_ephemeral.specs.declared.commands.RegisterError.TheVariants as unregistered
+use Rattle.vm_types.specs.Reads.{EphemeralReads, known, asked}
+use Rattle.vm_types.specs.declared.commands.RegisterError.{RegisterError}
+use Rattle.vm_types.specs.declared.commands.RegisterError.TheVariants as unregistered
 use Rattle.vm_machine.specs.Failing.{MachineFails}
 use Rattle.vm_machine.specs.declared.machine_state.MachineState.{MachineState}
 use Rattle.vm_types.specs.declared.handles.EphemeralCompletionId.{EphemeralCompletionId}

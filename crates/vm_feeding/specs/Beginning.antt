@@ -8,7 +8,7 @@ use Rattle.protocol_errors.specs.declared.error.Error.{Error}
 use Rattle.protocol_errors.specs.declared.fixed.FixedError.TheVariants as fixed
 use Rattle.protocol_types.specs.Version.{version_content_type}
 use Rattle.protocol_types.specs.declared.version.Version.{Version}
-use Rattle.vm_ephemeral.specs.Reads.{no_reads}
+use Rattle.vm_types.specs.Reads.{no_reads}
 use Rattle.vm_start.specs.Failing.{or_out_of_memory, out_of_memory}
 use Rattle.vm_start.specs.declared.phase.Phase.TheVariants.{WaitingStart}
 use Rattle.vm_machine.specs.PassedMachine.{Tells, Unless, IsFresh}

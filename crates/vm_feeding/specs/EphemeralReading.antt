@@ -23,9 +23,9 @@ use Rattle.vm_context.specs.Journal.{no_id_text}
 use Rattle.vm_context.specs.Output.{Written, with_frame}
 use Rattle.vm_context.specs.declared.eager_state.EagerGetState.{EagerGetState}
 use Rattle.vm_context.specs.declared.eager_state.EagerGetState.TheVariants as told
-use Rattle.vm_ephemeral.specs.Reads.{known, asked, answer_of, after_take}
-use Rattle.vm_ephemeral.specs.declared.commands.RegisterError.{RegisterError}
-use Rattle.vm_ephemeral.specs.declared.commands.RegisterError.TheVariants as unregistered
+use Rattle.vm_types.specs.Reads.{known, asked, answer_of, after_take}
+use Rattle.vm_types.specs.declared.commands.RegisterError.{RegisterError}
+use Rattle.vm_types.specs.declared.commands.RegisterError.TheVariants as unregistered
 use Rattle.vm_machine.specs.Failing.{MachineFails}
 use Rattle.vm_machine.specs.PassedMachine.{Tells, Unless}
 use Rattle.vm_machine.specs.Steps.{Steps, FailsBy, IsUnexpected, IsMissed}

@@ -1,3 +1,4 @@
+pub mod Input
 pub mod Reading
 pub mod Beginning
 pub mod Calling

@@ -8,7 +8,7 @@ use Rattle.protocol_types.specs.Version.{version_number}
 use Rattle.protocol_types.specs.declared.message_type.MessageType.TheVariants.{InputCommand}
 use Rattle.protocol_types.specs.declared.version.Version.{Version}
 use Rattle.vm_calls.specs.declared.active.Active.{Active}
-use Rattle.vm_input.specs.Input.{input_given}
+use Rattle.vm_feeding.specs.Input.{input_given}
 use Rattle.vm_types.specs.declared.options.VMOptions.{VMOptions}
 use Rattle.vm_machine.specs.Admitting.{IsElsewhere}
 use Rattle.vm_machine.specs.Failing.{MachineFails}

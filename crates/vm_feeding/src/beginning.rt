@@ -9,7 +9,7 @@ use protocol_stream::{Decoder, HeaderMap};
 use protocol_types::Version;
 use std::alloc::{AllocError, Global};
 use std::fmt;
-use vm_ephemeral::EphemeralCommands;
+use vm_types::EphemeralCommands;
 use vm_machine::{MachineState, about_nothing, fresh_active};
 use vm_runs::RunState;
 use vm_start::{

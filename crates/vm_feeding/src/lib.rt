@@ -1,3 +1,5 @@
+//! What a handler is given before its first call, from the start of its attempt and from its input.
+//!
 //! How a machine begins, what is told it and asked of it, and its calls that put no command, each in any phase.
 //!
 //! A machine is made of a request and answers how the response begins. It is told bytes, the end of the input and errors of its
@@ -14,6 +16,7 @@ mod ephemeral_taking;
 mod failing;
 mod feeding;
 mod getting;
+mod input;
 mod laws;
 mod looking;
 mod reading;
@@ -23,6 +26,7 @@ mod signals;
 mod taking;
 mod telling;
 
+pub use input::input_of;
 pub use asking::{is_ready_to_execute, last_command_index, state, take_output};
 pub use awakeables::sys_awakeable;
 pub use beginning::{begin, get_response_head};
@@ -36,3 +40,4 @@ pub use reading::{Reading, sys_input};
 pub use signals::create_signal_handle;
 pub use taking::take_notification;
 pub use telling::notify_error;
+

@@ -9,7 +9,7 @@ use protocol_records::{InputCommandMessage, StartMessage};
 use protocol_types::{MessageType, Version};
 use std::alloc::{AllocError, Global};
 use vm_calls::Active;
-use vm_input::input_of;
+use crate::input_of;
 use vm_machine::{Admission, InputError, MachineState, input_cause, read_input};
 use vm_types::VMOptions;
 

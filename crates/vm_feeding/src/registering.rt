@@ -13,7 +13,7 @@ use protocol_errors::Error;
 use protocol_stream::EncodingError;
 use std::alloc::{AllocError, Global};
 use vm_context::{IdsExhausted, Output};
-use vm_ephemeral::RegisterError;
+use vm_types::RegisterError;
 use vm_machine::{MachineState, about_nothing};
 use vm_types::EphemeralCompletionId;
 

@@ -11,7 +11,7 @@ use Rattle.protocol_messages.specs.Decoded.{DecodesTo}
 use Rattle.protocol_stream.specs.declared.decoder.DecodingError.TheVariants as unread
 use Rattle.protocol_stream.specs.declared.decoder.RawMessage.{RawMessage}
 use Rattle.protocol_table.specs.declared.table.RecordType.TheVariants as records
-use Rattle.vm_ephemeral.specs.Reads.{EphemeralReads, after_answer}
+use Rattle.vm_types.specs.Reads.{EphemeralReads, after_answer}
 use Rattle.vm_types.specs.declared.handles.EphemeralCompletionId.{EphemeralCompletionId}
 use Rattle.vm_machine.specs.declared.entry_error.EntryError.{EntryError}
 use Rattle.vm_machine.specs.declared.entry_error.EntryError.TheVariants.{Fixed, Unexpected, Decoding, OutOfMemory}

@@ -20,7 +20,7 @@ use protocol_stream::RawMessage;
 use std::alloc::Global;
 use vm_awaits::AsyncResultsState;
 use vm_calls::Active;
-use vm_ephemeral::EphemeralCommands;
+use vm_types::EphemeralCommands;
 use vm_runs::RunState;
 use vm_start::Phase;
 use vm_types::EphemeralCompletionId;

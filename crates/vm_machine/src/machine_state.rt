@@ -4,7 +4,7 @@ use protocol_records::StartMessage;
 use protocol_stream::Decoder;
 use protocol_types::Version;
 use std::alloc::Global;
-use vm_ephemeral::EphemeralCommands;
+use vm_types::EphemeralCommands;
 use vm_runs::RunState;
 use vm_types::VMOptions;
 

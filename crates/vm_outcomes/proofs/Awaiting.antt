@@ -30,7 +30,7 @@ use Rattle.vm_commands.specs.HeaderEquality.{same_header}
 use Rattle.vm_commands.specs.declared.replay_error.ReplayError.TheVariants as unmatched
 use Rattle.vm_context.specs.Journal.{JournalCounts, after_command}
 use Rattle.vm_context.specs.Output.{Written}
-use Rattle.vm_ephemeral.specs.Reads.{EphemeralReads, no_reads}
+use Rattle.vm_types.specs.Reads.{EphemeralReads, no_reads}
 use Rattle.vm_start.specs.declared.phase.Phase.{Phase}
 use Rattle.vm_start.specs.declared.phase.Phase.TheVariants as phases
 use Rattle.vm_machine.specs.PassedMachine.{child_not_id_error}

@@ -5,7 +5,7 @@ use Rattle.journal_model.specs.declared.call.Call.{Call}
 use Rattle.attempt_model.specs.Machine.{Machine, Reply, reply_to}
 use Rattle.vm_calls.specs.Active.{Sees, are_any}
 use Rattle.vm_commands.specs.HeaderEquality.{same_header}
-use Rattle.vm_ephemeral.specs.Reads.{no_reads}
+use Rattle.vm_types.specs.Reads.{no_reads}
 use Rattle.vm_start.specs.declared.phase.Phase.TheVariants as phases
 use Rattle.vm_feeding.specs.Handles.{id_of}
 use Rattle.vm_feeding.specs.Passed.{checks_off, IsOf, MachineState}

@@ -6,7 +6,7 @@ use Rattle.protocol_calls.specs.declared.send_signal_command.SendSignalCommandMe
 use Rattle.protocol_differences.specs.Invocations.{send_signal_command_difference}
 use Rattle.vm_calls.specs.declared.call_error.CallError.TheVariants as calls
 use Rattle.vm_calls.specs.declared.put_error.PutError.{PutError}
-use Rattle.vm_ephemeral.specs.Reads.{EphemeralReads, least_of}
+use Rattle.vm_types.specs.Reads.{EphemeralReads, least_of}
 use Rattle.vm_start.specs.declared.phase.Phase.{Phase}
 use Rattle.vm_start.specs.declared.phase.Phase.TheVariants.{Active}
 use Rattle.vm_machine.specs.Steps.{IsUnexpected, Steps}

@@ -12,7 +12,7 @@ use protocol_messages::to_suspension_v6;
 use protocol_records::{StartMessage, SuspensionMessage, SuspensionMessageV6};
 use std::alloc::{AllocError, Global};
 use vm_awaits::AsyncResultsState;
-use vm_awakeables::awakeable_id;
+use vm_types::awakeable_id;
 use vm_waiting::WaitsFor;
 
 // The signal of the cancellation, and the last of those that have a meaning of their own.

@@ -26,9 +26,9 @@ use Rattle.vm_machine.specs.PassedMachine.{Tells}
 use Rattle.vm_machine.specs.declared.machine_state.MachineState.{MachineState}
 use Rattle.vm_refusals.specs.declared.retries.RetryPolicy.{RetryPolicy}
 use Rattle.vm_refusals.specs.declared.runs.RunExitResult.{RunExitResult}
-use Rattle.vm_retries.specs.Ending.{as_ending, ending, feature_lacked, makes_failure}
-use Rattle.vm_retries.specs.Retrying.{Tried, inherits}
-use Rattle.vm_retries.specs.declared.ending.BodyEnd.{BodyEnd}
+use Rattle.vm_refusals.specs.Ending.{as_ending, ending, feature_lacked, makes_failure}
+use Rattle.vm_refusals.specs.Retrying.{Tried, inherits}
+use Rattle.vm_refusals.specs.declared.ending.BodyEnd.{BodyEnd}
 use Rattle.vm_runs.specs.Keeping.{copy_of, Proposes}
 use Rattle.vm_runs.specs.Runs.{after_proposal, run_at}
 use Rattle.vm_runs.specs.declared.run.Run.{Run}

@@ -1,6 +1,6 @@
 // What an attempt at the body of a run has ended with is proposed.
 ghost use Rattle.std.specs.Prelude.{◌≡◌, IfOk, OnOk, OnErr};
-ghost use Rattle.vm_retries.specs.Retrying.{tried};
+ghost use Rattle.vm_refusals.specs.Retrying.{tried};
 ghost use Rattle.vm_runs.specs.Keeping.{copy_of, Proposes};
 ghost use Rattle.vm_runs.specs.Runs.{after_proposal, run_at};
 ghost use Rattle.protocol_types.specs.Version.{version_number};
@@ -19,7 +19,7 @@ use std::time::Duration;
 use vm_context::Output;
 use vm_machine::{MachineState, Phase, about_nothing, again};
 use vm_refusals::{EntryRetryInfo, RetryPolicy, RunExitResult};
-use vm_retries::{BodyEnd, end_of_body, feature_lacked, inherited};
+use vm_refusals::{BodyEnd, end_of_body, feature_lacked, inherited};
 use vm_runs::RunState;
 
 // How often the runs of an attempt were tried before it, as its start has told.

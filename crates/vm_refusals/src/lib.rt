@@ -3,11 +3,17 @@
 //!
 //! Beside these stand plain types of runs: what a host is answered of a run, what it tells of one, and how a run that has failed is
 //! tried again.
+//!
+//! What becomes of a run that has failed: it is tried again after an interval, fails for good, or pauses its invocation; and what the
+//! end of its body comes to.
 #![tactic(auto)]
 
+mod ending;
+mod intervals;
 mod refusal;
 mod refusal_error;
 mod retries;
+mod retrying;
 mod runs;
 mod tests_of_calls;
 
@@ -16,3 +22,6 @@ pub use refusal_error::RefusalError;
 pub use retries::{EntryRetryInfo, Factor, NextRetry, OnMaxAttempts, RetryPolicy};
 pub use runs::{RunExitResult, RunHandle};
 pub use tests_of_calls::{refuse_attach, refuse_moment, refuse_target, refuse_value, to_millis};
+pub use ending::{BodyEnd, end_of_body, feature_lacked};
+pub use retrying::{failed_again, inherited, next_retry, should_pause_on_max_attempts};
+

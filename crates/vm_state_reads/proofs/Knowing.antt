@@ -10,7 +10,7 @@ use Rattle.protocol_commands.specs.declared.get_eager_state_command.GetEagerStat
 use Rattle.protocol_commands.specs.declared.get_eager_state_keys_command.GetEagerStateKeysCommandMessage.{GetEagerStateKeysCommandMessage}
 use Rattle.protocol_commands.specs.declared.get_lazy_state_command.GetLazyStateCommandMessage.{GetLazyStateCommandMessage}
 use Rattle.protocol_commands.specs.declared.get_lazy_state_keys_command.GetLazyStateKeysCommandMessage.{GetLazyStateKeysCommandMessage}
-use Rattle.protocol_spellings.specs.Requests.{state_told, request_of_get_lazy_state, request_of_get_eager_state, request_of_get_lazy_state_keys, request_of_get_eager_state_keys}
+use Rattle.protocol_laws.specs.Requests.{state_told, request_of_get_lazy_state, request_of_get_eager_state, request_of_get_lazy_state_keys, request_of_get_eager_state_keys}
 use Rattle.vm_context.specs.declared.eager_state.EagerGetState.{EagerGetState}
 use Rattle.vm_context.specs.declared.eager_state.EagerGetState.TheVariants as gets
 use Rattle.vm_context.specs.Eager.{told_of}

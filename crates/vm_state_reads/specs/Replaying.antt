@@ -6,7 +6,7 @@ use Rattle.journal_model.specs.Delivery.{value_or_void}
 use Rattle.attempt_model.specs.Requests.{Commands, put_one}
 use Rattle.protocol_records.specs.declared.state_keys.StateKeys.{StateKeys}
 use Rattle.protocol_commands.specs.declared.get_eager_state_command.GetEagerStateCommandResult.{GetEagerStateCommandResult}
-use Rattle.protocol_spellings.specs.Requests.{state_told}
+use Rattle.protocol_laws.specs.Requests.{state_told}
 use Rattle.vm_commands.specs.declared.replay_error.ReplayError.TheVariants as unmatched
 use Rattle.vm_commands.specs.declared.state_read.StateRead.{StateRead}
 use Rattle.vm_commands.specs.declared.state_read.StateRead.TheVariants as reads

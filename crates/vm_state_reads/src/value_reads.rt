@@ -5,7 +5,7 @@ ghost use Rattle.journal_model.specs.Delivery.{value_or_void};
 ghost use Rattle.journal_model.specs.Run.{name_or_empty};
 ghost use Rattle.attempt_model.specs.Requests.{fresh_value};
 ghost use Rattle.protocol_types.specs.declared.message_type.MessageType.TheVariants.{GetEagerStateCommand, GetLazyStateCommand};
-ghost use Rattle.protocol_spellings.specs.Requests.{state_told};
+ghost use Rattle.protocol_laws.specs.Requests.{state_told};
 ghost use Rattle.vm_context.specs.Eager.{is_known};
 ghost use Rattle.vm_commands.specs.Recorded.{as_recorded};
 ghost use Rattle.vm_calls.specs.Active.{IsAtCommand};

@@ -8,10 +8,10 @@ use Rattle.journal_model.specs.Request.{Request}
 use Rattle.journal_model.specs.Run.{Invocation}
 use Rattle.attempt_model.specs.Machine.{Machine}
 use Rattle.protocol_calls.specs.declared.invocation_target.InvocationTarget.{InvocationTarget}
-use Rattle.protocol_spellings.specs.Commands.{CommandRecord}
-use Rattle.protocol_spellings.specs.Records.{target_record}
-use Rattle.protocol_spellings.specs.Requests.{request_told}
-use Rattle.protocol_spellings.proofs.Told.{requests_told}
+use Rattle.protocol_laws.specs.Commands.{CommandRecord}
+use Rattle.protocol_laws.specs.Records.{target_record}
+use Rattle.protocol_laws.specs.Requests.{request_told}
+use Rattle.protocol_laws.proofs.Told.{requests_told}
 use Rattle.vm_calls.specs.Making.{CompletesOne}
 use Rattle.vm_calls.proofs.Calls.{brings_none}
 

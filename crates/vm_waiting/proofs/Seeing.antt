@@ -5,7 +5,7 @@ use Rattle.journal_model.specs.Run.{Invocation}
 use Rattle.attempt_model.specs.Results.{Ready, Slots}
 use Rattle.attempt_model.specs.Children.{Child}
 use Rattle.attempt_model.specs.Machine.{Machine}
-use Rattle.vm_results.specs.Children.{AreMade}
+use Rattle.vm_awaits.specs.Children.{AreMade}
 use Rattle.vm_awaits.specs.Views.{AsyncResults, results_of}
 use Rattle.vm_context.specs.Eager.{KnownState}
 use Rattle.vm_context.specs.Following.{KnowsState}

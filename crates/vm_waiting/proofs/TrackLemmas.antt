@@ -15,8 +15,8 @@ use Rattle.journal_model.specs.Notification.{Bytes, Text}
 use Rattle.journal_model.specs.Run.{Invocation}
 use Rattle.attempt_model.specs.Children.{Child, new_child, child_with_value, is_id, may_take}
 use Rattle.attempt_model.specs.Machine.{Machine}
-use Rattle.vm_results.specs.Children.{AreMade, has_child}
-use Rattle.vm_results.proofs.Kept.{new_comes_last}
+use Rattle.vm_awaits.specs.Children.{AreMade, has_child}
+use Rattle.vm_awaits.proofs.Kept.{new_comes_last}
 use Rattle.vm_calls.specs.declared.active.Active.{Active}
 use Rattle.vm_calls.specs.Spent.{KeepsRest}
 use Rattle.vm_calls.proofs.Tracking.{none_made, one_made}

@@ -20,7 +20,7 @@ use Rattle.vm_context.specs.Following.{changes_state}
 use Rattle.vm_calls.specs.declared.active.Active.{Active}
 use Rattle.vm_calls.specs.Active.{Sees, asking, HasCompletions, TakesCompletion}
 use Rattle.vm_calls.specs.Making.{AsksOne}
-use Rattle.vm_results.specs.Children.{AreMade}
+use Rattle.vm_awaits.specs.Children.{AreMade}
 use Rattle.vm_waiting.specs.Tracking.{children_kept, Tracks}
 
 -- the next two completion ids are taken, and the two handles

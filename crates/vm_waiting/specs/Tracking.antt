@@ -6,7 +6,7 @@ use Rattle.journal_model.specs.declared.options.ImplicitCancellationOption.{Impl
 use Rattle.journal_model.specs.declared.options.ImplicitCancellationOption.TheVariants.{Disabled, Enabled}
 use Rattle.journal_model.specs.declared.value.Value.{Value}
 use Rattle.attempt_model.specs.Children.{Child, child_with_value, is_id}
-use Rattle.vm_results.specs.Children.{has_child, with_child}
+use Rattle.vm_awaits.specs.Children.{has_child, with_child}
 use Rattle.vm_calls.specs.declared.active.Active.{Active}
 
 -- ---- calls

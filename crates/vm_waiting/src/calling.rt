@@ -4,7 +4,7 @@ ghost use Rattle.attempt_model.specs.Machine.{next_slot};
 ghost use Rattle.attempt_model.specs.Requests.{answer_by};
 ghost use Rattle.journal_model.specs.Run.{call_record, name_or_empty};
 ghost use Rattle.journal_model.specs.Refusal.{refusal_of};
-ghost use Rattle.protocol_spellings.specs.Requests.{request_of_call};
+ghost use Rattle.protocol_laws.specs.Requests.{request_of_call};
 ghost use Rattle.vm_commands.specs.HeaderEquality.{is_unstable};
 ghost use Rattle.vm_commands.specs.Passed.{type_of_record};
 ghost use Rattle.vm_calls.specs.Words.{Call, Answer, Request, Invocation, Machine};

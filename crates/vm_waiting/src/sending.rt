@@ -4,7 +4,7 @@ ghost use Rattle.journal_model.specs.declared.call.Moment.{Moment};
 ghost use Rattle.journal_model.specs.Refusal.{refusal_of};
 ghost use Rattle.journal_model.specs.Run.{call_record, invoke_time, name_or_empty};
 ghost use Rattle.protocol_types.specs.declared.message_type.MessageType.TheVariants.{OneWayCallCommand};
-ghost use Rattle.protocol_spellings.specs.Requests.{request_of_one_way_call};
+ghost use Rattle.protocol_laws.specs.Requests.{request_of_one_way_call};
 ghost use Rattle.vm_calls.specs.Words.{Call, Answer, Request, Invocation, Machine};
 ghost use Rattle.vm_calls.specs.Active.{Sees, IsAtCommand};
 ghost use Rattle.vm_calls.specs.Making.{Makes};

@@ -1,6 +1,6 @@
 // Which invocation a call is about, as its command carries it.
 ghost use Rattle.std.specs.Prelude.{◌≡◌};
-ghost use Rattle.protocol_spellings.specs.Records.{target_record};
+ghost use Rattle.protocol_laws.specs.Records.{target_record};
 
 use journal_model::AttachInvocationTarget;
 use protocol_calls::{IdempotentRequestTarget, InvocationTarget, WorkflowTarget};

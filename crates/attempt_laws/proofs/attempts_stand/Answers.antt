@@ -1,5 +1,5 @@
 -- The laws are proved in `Simulating`.
-use Rattle.attempt_calls.proofs.Standing.{begins, reads_on, fits_on}
+use Rattle.attempt_laws.proofs.Standing.{begins, reads_on, fits_on}
 use Rattle.attempt_laws.proofs.attempts_stand.Goals as goal
 
 pub returns-clause-begins : goal.returns-clause-begins

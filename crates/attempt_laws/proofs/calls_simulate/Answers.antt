@@ -1,5 +1,5 @@
--- The laws are proved in `attempt_calls`.
-use Rattle.attempt_calls.proofs.Simulating.{simulates, stops_with_run}
+-- The laws are proved in `attempt_laws`.
+use Rattle.attempt_laws.proofs.Simulating.{simulates, stops_with_run}
 use Rattle.attempt_laws.proofs.calls_simulate.Goals as goal
 
 pub returns-clause-answers : goal.returns-clause-answers

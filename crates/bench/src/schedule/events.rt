@@ -2,7 +2,7 @@
 use crate::fault::Fault;
 use crate::schedule::timed::Timed;
 use bytes::{ByteStr, Bytes};
-use durable_schedule::{Event, Reply, Scheduler};
+use scheduler::{Event, Reply, Scheduler};
 use invocation_vm::RunOutcome;
 use journal_store::{NewInvocation, NotificationResult, StateMode};
 use sequence::Sequence;

@@ -1,5 +1,5 @@
 -- The laws are proved in `Living` and `Going`.
-use Rattle.replay_laws.proofs.Living.{lives_replay}
+use Rattle.replay_laws.proofs.LiveReplay.{lives_replay}
 use Rattle.replay_laws.proofs.Going.{lives_stay}
 use Rattle.replay_laws.proofs.live_attempts_replay.Goals as goal
 

@@ -3,8 +3,8 @@ use Rattle.std.specs.Prelude.{string_bytes}
 use Rattle.built_in_handlers.specs.declared.built_in.BuiltIn.{BuiltIn}
 use Rattle.journal_model.specs.Request.{SignalKey}
 use Rattle.journal_model.specs.declared.notification.NotificationResult.{NotificationResult}
-use Rattle.schedule_runs.specs.Schedules.event
-use Rattle.schedule_runs.specs.Schedules.{Event}
+use Rattle.durable_schedule.specs.Schedules.event
+use Rattle.durable_schedule.specs.Schedules.{Event}
 use Rattle.script_lines.specs.declared.line.Line.TheVariants as line
 use Rattle.durable_script.specs.Line.{DoesEvent, DoesSomeEvent, signal_key}
 use Rattle.durable_script.specs.Printed.{Makes}

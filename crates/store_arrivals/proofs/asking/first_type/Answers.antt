@@ -5,9 +5,9 @@ use Rattle.std.proofs.Common.{option_and_then, option_map}
 use Rattle.journal_model.specs.Journal.{entries_of, request_asking}
 use Rattle.store_tables.specs.declared.row.EntryRow.{EntryRow}
 use Rattle.store_tables.specs.Questions.{asks_for}
-use Rattle.store_lookups.specs.Lookups.{asked_at, first_row}
-use Rattle.store_lookups.proofs.Asking.{asked_found}
-use Rattle.store_lookups.proofs.Only.{only_one}
+use Rattle.store_model.specs.Lookups.{asked_at, first_row}
+use Rattle.store_model.proofs.Asking.{asked_found}
+use Rattle.store_model.proofs.Only.{only_one}
 use Rattle.store_refusals.specs.Refused.{is_circumstance}
 use Rattle.store_refusals.proofs.Causes.{read_cause_by}
 use Rattle.store_invocations.proofs.Reading.{asked_once, found_is, told_err}

@@ -2,7 +2,7 @@ use Rattle.std.proofs.Common.{ap, ◌∙◌}
 use Rattle.protocol_wire.specs.Parts.{payload_of}
 use Rattle.protocol_controls.specs.declared.notification.NotificationMessage.{NotificationMessage}
 use Rattle.protocol_controls.specs.Notification.{notification_parts}
-use Rattle.protocol_spellings.proofs.Notifications.{notifications_spelled}
+use Rattle.protocol_laws.proofs.Notifications.{notifications_spelled}
 use Rattle.store_arrivals.proofs.payload.payload_of.Goals as goal
 
 pub returns : goal.returns

@@ -1,8 +1,8 @@
 use Rattle.std.proofs.Common.{◌≡◌, ◌≤◌, ◌∙◌, sym, subst, arith, length, List, [], ◌∷◌, ◌++◌, take}
 use Rattle.std.proofs.lemmas.List.{take_all}
 use Rattle.journal_model.specs.Notification.{Arrival}
-use Rattle.store_waking.specs.First.{AreFirst, first_state}
-use Rattle.store_waking.proofs.Waking.{heard_more}
+use Rattle.store_frames.specs.First.{AreFirst, first_state}
+use Rattle.store_frames.proofs.Waking.{heard_more}
 use Rattle.store_arrivals.proofs.Hearing.{as_many, is_next}
 use Rattle.store_arrivals.proofs.wake.hear_rows.Goals as goal
 

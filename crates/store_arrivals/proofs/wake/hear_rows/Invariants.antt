@@ -1,7 +1,7 @@
 -- The arrivals of the rows so far are heard.
 use Rattle.std.proofs.Common.{List, take}
 use Rattle.journal_model.specs.Notification.{Arrival}
-use Rattle.store_waking.specs.First.{AreFirst}
+use Rattle.store_frames.specs.First.{AreFirst}
 use Rattle.store_arrivals.specs.Woken.{AreRowsOf}
 use Rattle.store_arrivals.proofs.wake.hear_rows.Given as goal
 

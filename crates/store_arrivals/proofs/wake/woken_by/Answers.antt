@@ -1,6 +1,6 @@
 use Rattle.std.proofs.Common.{◌∙◌, subst}
 use Rattle.store_refusals.specs.Prepared.{Tells}
-use Rattle.store_waking.specs.First.{AreFirst}
+use Rattle.store_frames.specs.First.{AreFirst}
 use Rattle.store_arrivals.proofs.wake.woken_by.Goals as goal
 
 pub returns-in-Ok-clause-told : goal.returns-in-Ok-clause-told

@@ -1,4 +1,4 @@
-use Rattle.request_laws.specs.Calls.{IsTypedPair}
+use Rattle.vm_request_laws.specs.Calls.{IsTypedPair}
 use Rattle.vm_attempt.proofs.Lists.{all_next}
 use Rattle.vm_attempt.proofs.typed.pairs_are_typed.Goals as goal
 

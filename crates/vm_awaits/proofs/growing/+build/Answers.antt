@@ -5,7 +5,7 @@ use Rattle.vm_flat_trees.specs.Counts.{state_meant}
 use Rattle.vm_flat_trees.specs.Flat.{flat_at}
 use Rattle.vm_flat_trees.specs.Opening.{combinator_of}
 use Rattle.attempt_model.specs.Results.{handle_state}
-use Rattle.vm_results.specs.Views.{ready_in}
+use Rattle.vm_awaits.specs.ReadyViews.{ready_in}
 use Rattle.vm_flat_trees.proofs.Growing.{Grown, root_of, grown-more, grown-few, grown-all, grown-state, child-smaller, next-child, all-children, few-children}
 use Rattle.vm_awaits.proofs.growing.+build.Goals as goal
 

@@ -1,7 +1,7 @@
 use Rattle.std.proofs.Common.{map, take}
 use Rattle.journal_model.specs.Future.{tree_of}
 use Rattle.attempt_model.specs.Results.{handle_state}
-use Rattle.vm_results.specs.Views.{ready_in}
+use Rattle.vm_awaits.specs.ReadyViews.{ready_in}
 use Rattle.vm_flat_trees.specs.Flat.{size_of}
 use Rattle.vm_flat_trees.proofs.Growing.{Grown}
 use Rattle.vm_awaits.proofs.growing.+build.Given as goal

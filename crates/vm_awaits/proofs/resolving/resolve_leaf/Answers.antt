@@ -4,7 +4,7 @@ use Rattle.journal_model.specs.AwaitTree.{is_completed}
 use Rattle.journal_model.specs.Future.{tree_of}
 use Rattle.journal_model.specs.declared.future.UnresolvedFuture.TheVariants.{Single}
 use Rattle.journal_model.proofs.TreeLemmas.{tree_of-Single}
-use Rattle.vm_results.specs.Views.{ready_in}
+use Rattle.vm_awaits.specs.ReadyViews.{ready_in}
 use Rattle.vm_awaits.proofs.Alone.{alone-starts, alone-wakes, alone-ends, alone-goes-on, alone-stops}
 use Rattle.vm_awaits.proofs.Going.{on_err}
 use Rattle.vm_awaits.proofs.Lining.{none_stood, one_stood, shorter}

@@ -1,5 +1,5 @@
 use Rattle.std.proofs.Common.{length}
-use Rattle.vm_results.specs.Views.{ready_in}
+use Rattle.vm_awaits.specs.ReadyViews.{ready_in}
 use Rattle.vm_awaits.proofs.Alone.{Alone}
 use Rattle.vm_awaits.proofs.resolving.resolve_leaf.Given as goal
 

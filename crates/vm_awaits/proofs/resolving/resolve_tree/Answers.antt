@@ -1,7 +1,7 @@
 use Rattle.std.proofs.Common.{refl, sym, ◌∙◌}
 use Rattle.journal_model.specs.Future.{tree_of}
 use Rattle.vm_flat_trees.specs.Counts.{state_meant}
-use Rattle.vm_results.specs.Views.{ready_in}
+use Rattle.vm_awaits.specs.ReadyViews.{ready_in}
 use Rattle.vm_awaits.proofs.Going.{starts, wakes, ends, goes_on, stops, stops-first, on_err}
 use Rattle.vm_awaits.proofs.Lining.{none_first, first_stood, shorter}
 use Rattle.vm_awaits.proofs.resolving.resolve_tree.Goals as goal

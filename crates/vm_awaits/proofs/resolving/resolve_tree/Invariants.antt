@@ -1,6 +1,6 @@
 use Rattle.std.proofs.Common.{length}
 use Rattle.journal_model.specs.Future.{tree_of}
-use Rattle.vm_results.specs.Views.{ready_in}
+use Rattle.vm_awaits.specs.ReadyViews.{ready_in}
 use Rattle.vm_awaits.proofs.Going.{Going}
 use Rattle.vm_awaits.proofs.resolving.resolve_tree.Given as goal
 

@@ -1,5 +1,5 @@
 use Rattle.std.proofs.Common.{inr, ap}
-use Rattle.vm_ephemeral.specs.Reads.{EphemeralReads}
+use Rattle.vm_types.specs.Reads.{EphemeralReads}
 use Rattle.vm_feeding.proofs.ReadSteps.{asks, unregistered_for}
 use Rattle.vm_feeding.proofs.registering.ask.Goals as goal
 

@@ -1,5 +1,5 @@
 use Rattle.std.proofs.Common.{ap}
-use Rattle.vm_ephemeral.specs.Reads.{EphemeralReads}
+use Rattle.vm_types.specs.Reads.{EphemeralReads}
 use Rattle.vm_feeding.proofs.ReadSteps.{registered, unregistered_for}
 use Rattle.vm_feeding.proofs.registering.register.Goals as goal
 

@@ -1,7 +1,7 @@
 use Rattle.std.proofs.Common.{sym}
 use Rattle.std.specs.Option.{option_copied}
 use Rattle.vm_awaits.specs.Views.{ready_of}
-use Rattle.vm_results.specs.Children.{child_told}
+use Rattle.vm_awaits.specs.Children.{child_told}
 use Rattle.vm_waiting.proofs.KnownChildren.{id_at, ids_past}
 use Rattle.vm_waiting.proofs.children.ids_of.Goals.{in-Some+in_ok-push_id, in_default}
 use Rattle.vm_waiting.proofs.children.ids_of.Goals as goal

@@ -2,7 +2,7 @@ use Rattle.std.proofs.Common.{ℕ, List, [], ◌∙◌, sym, ap, rules, arith, t
 use Rattle.std.specs.List.{flat_map}
 use Rattle.std.proofs.Output.{has_written_append, has_written_of_eq}
 use Rattle.std.proofs.lemmas.List.{take_more, flat_map_more}
-use Rattle.protocol_shown.specs.Texts.{hex_byte}
+use Rattle.protocol_types.specs.Texts.{hex_byte}
 use Rattle.script_lines.proofs.text.HexDisplay.fmt.Goals as goal
 
 pub loop-byte-preserved : goal.loop-byte-preserved

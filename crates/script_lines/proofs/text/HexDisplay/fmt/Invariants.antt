@@ -1,7 +1,7 @@
 use Rattle.std.proofs.Common.{take}
 use Rattle.std.specs.List.{flat_map}
 use Rattle.std.specs.Fmt.{HasWritten, IsPlainFormatter}
-use Rattle.protocol_shown.specs.Texts.{hex_byte}
+use Rattle.protocol_types.specs.Texts.{hex_byte}
 use Rattle.script_lines.proofs.text.HexDisplay.fmt.Given as goal
 
 abbrev pub invariant-loop-byte : goal.invariant-loop-byte

@@ -1,7 +1,7 @@
 use Rattle.std.proofs.Common.{ap, ◌∙◌, None}
 use Rattle.journal_model.specs.Future.{tree_of}
 use Rattle.attempt_model.specs.Results.{handle_state}
-use Rattle.vm_results.specs.Views.{ready_in}
+use Rattle.vm_awaits.specs.ReadyViews.{ready_in}
 use Rattle.vm_flat_trees.specs.Flat.{is_awake_flat}
 use Rattle.vm_flat_trees.proofs.Reckoning.{tree-awake}
 use Rattle.vm_flat_trees.proofs.Awaiting.{over-flat}

@@ -1,6 +1,6 @@
 use Rattle.std.proofs.Common.{◌∷◌, sym, ap, ◌∙◌}
 use Rattle.journal_model.specs.Notification.{Arrival}
-use Rattle.vm_results.specs.Views.{ready_in}
+use Rattle.vm_awaits.specs.ReadyViews.{ready_in}
 use Rattle.vm_awaits.proofs.Lining.{looks}
 use Rattle.vm_awaits.proofs.line.Line.look_at_one.Goals as goal
 

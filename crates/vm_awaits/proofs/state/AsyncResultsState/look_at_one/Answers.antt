@@ -1,4 +1,4 @@
-use Rattle.vm_results.specs.Views.{ready_in}
+use Rattle.vm_awaits.specs.ReadyViews.{ready_in}
 use Rattle.vm_awaits.proofs.Lining.{looked_over, stays_over}
 use Rattle.vm_awaits.proofs.state.AsyncResultsState.look_at_one.Goals as goal
 

@@ -1,5 +1,0 @@
-pub mod Tables
-pub mod Making
-pub mod Taking
-pub mod Waking
-pub mod Children

@@ -1,6 +1,0 @@
--- Proved in `Reading`.
-use Rattle.beginning_laws.proofs.Reading.{arrivals_are_read}
-use Rattle.beginning_laws.proofs.arrivals_are_read.Goals as goal
-
-pub returns : goal.returns
-returns c = arrivals_are_read c.messages_are_kept.ensures

@@ -1,6 +1,0 @@
--- Proved in `Beginning`.
-use Rattle.beginning_laws.proofs.Beginning.{attempts_begin}
-use Rattle.beginning_laws.proofs.attempts_begin.Goals as goal
-
-pub returns : goal.returns
-returns c = attempts_begin c.starts_are_read.ensures c.inputs_are_answered.ensures

@@ -1,6 +1,0 @@
--- Proved in `Input`.
-use Rattle.beginning_laws.proofs.Input.{inputs_are_answered}
-use Rattle.beginning_laws.proofs.inputs_are_answered.Goals as goal
-
-pub returns : goal.returns
-returns c = inputs_are_answered c.inputs_are_read.ensures

@@ -1,6 +1,0 @@
--- Proved in `Reading`.
-use Rattle.beginning_laws.proofs.Reading.{journals_are_read}
-use Rattle.beginning_laws.proofs.journals_are_read.Goals as goal
-
-pub returns : goal.returns
-returns c = journals_are_read c.messages_are_kept.ensures

@@ -1,6 +1,0 @@
--- Proved in `Starting`.
-use Rattle.beginning_laws.proofs.Starting.{starts_are_read}
-use Rattle.beginning_laws.proofs.starts_are_read.Goals as goal
-
-pub returns : goal.returns
-returns c = starts_are_read c.starts_are_kept.ensures c.messages_are_kept.ensures

@@ -1,4 +1,0 @@
-pub mod Inputs
-pub mod Standing
-pub mod Laws
-pub mod Reading

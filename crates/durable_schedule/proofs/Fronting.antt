@@ -1,0 +1,145 @@
+-- A schedule over a new store: what stands of each invocation, of all accepted events, and of what a crash leaves.
+use Rattle.std.proofs.Common.{◌≡◌, refl, sym, ap, subst, ◌∙◌, inl, inr, Bool, true, false, ◌||◌, if◌then◌else◌, List, [], ◌∷◌, option_map, filter_map}
+use Rattle.sqlite_trees.specs.declared.store.Store.{Ghosts}
+use Rattle.sqlite.specs.Held.{state}
+use Rattle.sqlite.specs.State.{HasCleanDisk, Survives}
+use Rattle.sqlite.proofs.StateLemmas.{survives_weaker}
+use Rattle.journal_model.specs.Notification.{Text}
+use Rattle.journal_model.specs.Event.{Event, Frame}
+use Rattle.journal_model.specs.Journal.{Entry, begins, is_of, is_tick, starting_state, view_of}
+use Rattle.journal_model.specs.Run.{Handler}
+use Rattle.journal_laws.proofs.Isolation.{frames_of-view}
+use Rattle.vm_types.specs.declared.options.VMOptions.{VMOptions}
+use Rattle.store_calls.specs.Standing.{Standing}
+use Rattle.store_model.specs.Progress.{last_error_of, error_in, first_of}
+use Rattle.store_invocations.specs.Told.{told_from}
+use Rattle.store_invocations.specs.Answered.{value_taken}
+use Rattle.journal_store.specs.Stored.{Stored}
+use Rattle.journal_store.specs.Stands.{Endures, IsStanding, Keeps, Outlasts}
+use Rattle.journal_store.proofs.Leading.{stood}
+use Rattle.schedule_laws.specs.Isolation.{AllStandAlone}
+use Rattle.schedule_laws.specs.Following.{HoldsOf}
+use Rattle.schedule_laws.specs.Schedules.event
+use Rattle.schedule_laws.specs.Schedules.reply
+use Rattle.schedule_laws.specs.Schedules.refusal
+use Rattle.schedule_laws.specs.Schedules.{Event as Asked, Reply, Scheduled, AppliesAll}
+use Rattle.scheduler.specs.declared.scheduler.Scheduler.{Scheduler}
+use Rattle.scheduler.specs.Scheduled.{IsScheduled}
+use Rattle.durable_schedule.specs.Runs.{LastsBehind, LastsBy, LastsNext, Leaves, LeavesFirst, at_first}
+use Rattle.durable_schedule.specs.Front.{AreAcceptedOf, IsFaithful, IsToldAlike, KeepsFirst, RecordsFaithfully, StandsFor, without_others}
+use Rattle.durable_schedule.proofs.Adding.{all_accepted}
+
+-- ---- what came of others
+
+module _ (id : Text) where
+  same_view : (events : List Event) → view_of id (without_others id events) ≡ view_of id events
+  same_view [] = refl
+  same_view (event ∷ earlier) = by_cases (begins id event) (is_of id event || is_tick event) refl (same_view earlier)
+    where
+      by_cases : (a b : Bool) → (is_of id event || is_tick event) ≡ b → view_of id (without_others id earlier) ≡ view_of id earlier
+          → view_of id (if a then event ∷ earlier else (if b then event ∷ without_others id earlier else without_others id earlier)) ≡ view_of id (event ∷ earlier)
+      by_cases true b e same = refl
+      by_cases false true e same = rw e (ap (λ (view : List Event). event ∷ view) same)
+      by_cases false false e same = rw e same
+
+  same_start : (events : List Event) → starting_state (without_others id events) id ≡ starting_state events id
+  same_start [] = refl
+  same_start (event ∷ earlier) = by_cases (begins id event) refl (is_of id event || is_tick event) (same_start earlier)
+    where
+      by_cases : (a : Bool) → begins id event ≡ a → (b : Bool) → starting_state (without_others id earlier) id ≡ starting_state earlier id
+          → starting_state (if a then event ∷ earlier else (if b then event ∷ without_others id earlier else without_others id earlier)) id ≡ starting_state (event ∷ earlier) id
+      by_cases true e b same = refl
+      by_cases false e true same = rw e same
+      by_cases false e false same = rw e same
+
+  error-view : (events : List Event) → last_error_of (view_of id events) id ≡ last_error_of events id
+  error-view events = ap (λ (frames : List Frame). first_of (filter_map error_in frames)) (frames_of-view id events)
+
+  pub told_alike : AllStandAlone → (events : List Event) → IsToldAlike id events (without_others id events)
+  told_alike stand events =
+      let others = without_others id events in
+      let views = sym (same_view events) in
+      let it = stand events id others views (sym (same_start events)) in
+      record {
+        entries = ap (λ (entries : List Entry). told_from entries 1 entries) it.entries;
+        answer = ap (option_map value_taken) it.answer;
+        failure = sym (error-view events) ∙ ap (λ (view : List Event). last_error_of view id) views ∙ error-view others;
+        is_open = it.openness;
+        is_due = it.dueness;
+      }
+
+-- ---- what lasts
+
+by_more : (P Q : Type 0) → (P → Q) → (answer : Reply) → LastsBy P answer → LastsBy Q answer
+by_more P Q f (reply.Refused (refusal.Store why)) it = (it.0, f it.1)
+by_more P Q f (reply.Refused refusal.AttemptNotHeld) it = f it
+by_more P Q f (reply.Moved bytes frames why) it = (it.0, elim it.1 [ inl some ↦ inl some | inr before ↦ inr (f before) ])
+by_more P Q f _ it = tt
+
+module _ {H : Type 0} where
+  next_more : (P Q : Type 0) → (P → Q) → (one : Asked H) (answer : Reply) → LastsNext P one answer → LastsNext Q one answer
+  next_more P Q f (event.Feed id attempt count) answer it = f it
+  next_more P Q f (event.Close id attempt) answer it = f it
+  next_more P Q f (event.Turn id attempt outcome) answer it = f it
+  next_more P Q f (event.Stop id attempt) answer it = f it
+  next_more P Q f _ answer it = by_more P Q f answer it
+
+  -- what lasts whatever did before lasts
+  behind_more : (P Q : Type 0) → (P → Q) → (asked : List (Asked H)) (replies : List Reply) → LastsBehind P asked replies → LastsBehind Q asked replies
+  behind_more P Q f (one ∷ asked) (answer ∷ replies) it =
+      behind_more (LastsNext P one answer) (LastsNext Q one answer) (next_more P Q f one answer) asked replies it
+  behind_more P Q f [] replies it = f it
+  behind_more P Q f (one ∷ asked) [] it = f it
+
+-- ---- a schedule
+
+module _ {H : Type 0} (function : H → Handler) (options : VMOptions) (stand : AllStandAlone) where
+  -- where nothing was accepted yet, no invocation was begun
+  none_begun : (next : Handler) (id : Text) → HoldsOf next options id []
+  none_begun next id new e = cc
+
+  faithful : (asked : List (Asked H)) (replies : List Reply) (s : Standing) (new : Scheduled H) → s.events ≡ [] → AppliesAll function options asked replies (at_first s) new
+      → Leaves function options asked replies (at_first s) new → IsFaithful function options asked replies new.standing.events
+  faithful asked replies s new none applies leaves = record {
+    accepted = new.standing.accepted;
+    told = subst (λ (events : List Event). AreAcceptedOf asked replies events new.standing.events) none (all_accepted function options asked replies (at_first s) new applies);
+    in_run = λ next id in_line brings.
+        let it = leaves.in_run next id in_line brings (subst (λ (events : List Event). HoldsOf next options id events) (sym none) (none_begun next id)) in
+        record { headline = it.headline; listed = it.listed; never_late = it.never_late; wakes_exactly = it.wakes_exactly };
+    isolated = λ id. told_alike id stand new.standing.events;
+  }
+
+  module _ {S : Type 0} (g : Ghosts S) (asked : List (Asked H)) (store : Stored S) (is_new : StandsFor g [] store) where
+    -- what is told of a schedule over any store, said of a new one
+    pub records : (replies : List Reply) (scheduler : Scheduler H S) → (HasCleanDisk (state g scheduler.store.connection) → (s : Standing) → IsStanding g s store
+        → (new : Scheduled H) × IsScheduled g new scheduler × AppliesAll function options asked replies (at_first s) new × Leaves function options asked replies (at_first s) new
+        × (LastsBehind (Outlasts s.events (state g store.connection)) asked replies → Outlasts new.standing.events (state g scheduler.store.connection)))
+        → HasCleanDisk (state g scheduler.store.connection) → RecordsFaithfully g function options asked replies scheduler
+    records replies scheduler applies clean =
+        let first = stood g [] store is_new in
+        let it = applies clean first.0 first.1.standing in
+        record {
+          events = it.0.standing.events;
+          readers = record { store = it.1.standing.stands; scheduled = it.0; is = it.1; same = refl };
+          faithful = faithful asked replies first.0 it.0 first.1.same it.2 it.3;
+          lasts = λ written. it.4 (behind_more ⊥ (Outlasts first.0.events (state g store.connection)) (λ never. absurd never) asked replies written);
+        }
+
+    -- and of what a crash leaves of it
+    pub keeps : (new : Stored S) → Endures g (LeavesFirst function options asked) store new → Survives (state g store.connection) (state g new.connection) (KeepsFirst function options asked)
+    keeps new lives =
+        let first = stood g [] store is_new in
+        survives_weaker (state g store.connection) (state g new.connection) (Keeps g (LeavesFirst function options asked) store) (KeepsFirst function options asked)
+        (λ clean trees it.
+        let kept = it first.0 first.1.standing in
+        let applied = kept.1.applied in
+        record {
+          first = applied.first;
+          rest = applied.rest;
+          first_are = applied.beginning;
+          replies = applied.answers;
+          events = kept.0.events;
+          faithful = faithful applied.first applied.answers first.0 (record { standing = kept.0; held = applied.held }) first.1.same applied.applies kept.1.leaves;
+          keeps = kept.2;
+        })
+        lives

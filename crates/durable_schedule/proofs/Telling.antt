@@ -1,0 +1,70 @@
+-- What each reply to a turn tells of the attempt that a begin has begun.
+use Rattle.std.proofs.Common.{◌≡◌, refl, sym, ap, subst, ◌∙◌, ℕ, ◌++◌, List, [], ◌∷◌, Some}
+use Rattle.std.specs.List.{AllByRecursion}
+use Rattle.journal_model.specs.Notification.{Bytes, Text}
+use Rattle.journal_model.specs.Event.{Event}
+use Rattle.journal_model.specs.Run.{Handler}
+use Rattle.journal_model.specs.Spelling.{frame_bytes}
+use Rattle.journal_model.specs.Start.{start_payload}
+use Rattle.protocol_types.specs.declared.message_type.MessageType.{MessageType}
+use Rattle.vm_types.specs.declared.options.VMOptions.{VMOptions}
+use Rattle.schedule_laws.specs.Attending.{Tracked}
+use Rattle.schedule_laws.specs.Following.{FollowsTold, ReplaysInLine, ToldOf}
+use Rattle.schedule_laws.specs.Laws.{DoesFeeding, KeepsTold, ToldByEach}
+use Rattle.schedule_laws.specs.Schedules.scheduled
+use Rattle.schedule_laws.specs.Schedules.event
+use Rattle.schedule_laws.specs.Schedules.reply
+use Rattle.schedule_laws.specs.Schedules.{Brings, FitsEvent, Reply, Scheduled}
+use Rattle.schedule_laws.specs.Turned.{BegunTells, EachBegunTells, TurnsTellEach, start_of, told_start}
+use Rattle.durable_schedule.specs.Handed.{HandsEach, HandsOne}
+
+module _ {H : Type 0} (function : H → Handler) (options : VMOptions) where
+  does_so : (one : scheduled.Event H) (answer : Reply) (bytes : Bytes) (old new : Scheduled H) → HandsOne function options one answer bytes old new
+      → DoesFeeding function options one answer bytes old.standing old.held new.standing new.held
+  does_so (event.Begin id handler now) (reply.Begun number) bytes old new it = (it.0, it.1, it.2, it.3)
+  does_so (event.Feed id number count) (reply.Fed fed why) bytes old new it = it
+  does_so one answer bytes old new it = it.0
+
+  module _ (next : Handler) (id : Text) (each : ToldByEach function) (in_line : ReplaysInLine options) where
+    abbrev Follows : ToldOf → Scheduled H → Type 0
+    Follows told s = FollowsTold function next options id told s.standing s.held
+
+    kept : (one : scheduled.Event H) (answer : Reply) (bytes : Bytes) (old new : Scheduled H) (told : ToldOf) → HandsOne function options one answer bytes old new → FitsEvent one → Brings function id next one
+        → Follows told old → KeepsTold function next options id one answer bytes old.standing new.standing new.held told
+    kept one answer bytes old new told it fits brings f =
+        each next options id one answer bytes old.standing new.standing old.held new.held told in_line fits brings (does_so one answer bytes old new it) f
+
+    -- of an attempt of which this was told
+    tell_each : (events : List (scheduled.Event H)) (replies : List Reply) (added : List (List Event)) (handed : List Bytes) (old new : Scheduled H) (told : ToldOf) (number : ℕ) (t : Tracked)
+        → HandsEach function options events replies added handed old new → AllByRecursion FitsEvent events → AllByRecursion (Brings function id next) events → Follows told old → told number ≡ Some t
+        → TurnsTellEach next t.start id number events replies handed t.told
+    tell_each [] [] [] [] old new told number t it fits brings f is = tt
+    tell_each (one ∷ events) (answer ∷ replies) (some ∷ added) (bytes ∷ handed) old new told number t it fits brings f is =
+        let k = kept one answer bytes old it.0 told it.1 fits.0 brings.0 f in
+        let now = k.tells number t is in
+        (now.0, now.2, tell_each events replies added handed it.0 new k.now number (record { start = t.start; told = now.0 }) it.3 fits.1 brings.1 k.follows now.1)
+    tell_each _ _ _ _ old new told number t it fits brings f is = absurd it
+
+    -- behind one event
+    begun_tells : (one : scheduled.Event H) (answer : Reply) (bytes : Bytes) (events : List (scheduled.Event H)) (replies : List Reply) (added : List (List Event)) (handed : List Bytes) (old between new : Scheduled H)
+        (told : ToldOf) → HandsOne function options one answer bytes old between → KeepsTold function next options id one answer bytes old.standing between.standing between.held told
+        → HandsEach function options events replies added handed between new → AllByRecursion FitsEvent events → AllByRecursion (Brings function id next) events
+        → BegunTells next options id one answer bytes events replies handed old.standing.events
+    begun_tells (event.Begin other handler now) (reply.Begun number) bytes events replies added handed old between new told it k rest fits brings = λ same invocation is. (
+      it.4 ∙ it.2.start ∙ ap (λ (x : Text). frame_bytes MessageType.Start (start_payload old.standing.events x now)) same,
+      tell_each events replies added handed between new k.now number
+          (record { start = start_of options id old.standing.events now invocation; told = told_start (start_of options id old.standing.events now invocation) }) rest fits brings k.follows (k.begins same invocation is),
+    )
+    begun_tells one answer bytes events replies added handed old between new told it k rest fits brings = tt
+
+    -- so it is of each begin
+    pub begins_tell : (events : List (scheduled.Event H)) (replies : List Reply) (added : List (List Event)) (handed : List Bytes) (old new : Scheduled H) (told : ToldOf)
+        → HandsEach function options events replies added handed old new → AllByRecursion FitsEvent events → AllByRecursion (Brings function id next) events → Follows told old
+        → EachBegunTells next options id events replies added handed old.standing.events
+    begins_tell [] [] [] [] old new told it fits brings f = tt
+    begins_tell (one ∷ events) (answer ∷ replies) (some ∷ added) (bytes ∷ handed) old new told it fits brings f =
+        let k = kept one answer bytes old it.0 told it.1 fits.0 brings.0 f in (
+          begun_tells one answer bytes events replies added handed old it.0 new told it.1 k it.3 fits.1 brings.1,
+          subst (λ (earlier : List Event). EachBegunTells next options id events replies added handed earlier) it.2 (begins_tell events replies added handed it.0 new k.now it.3 fits.1 brings.1 k.follows),
+        )
+    begins_tell _ _ _ _ old new told it fits brings f = absurd it

@@ -1,0 +1,146 @@
+-- What a schedule over a new store has recorded, in terms of accepted events: the statement in front of all others.
+use Rattle.std.specs.Prelude.{◌≡◌, ◌≢◌, ◌⊎◌, ℕ, ◌||◌, if◌then◌else◌, List, [], ◌∷◌, ◌++◌, length, map, Option, Some, None, bytes_eq}
+use Rattle.std.specs.List.{AllByRecursion, list_any, sum}
+use Rattle.sqlite_trees.specs.declared.store.Store.{Ghosts}
+use Rattle.sqlite_trees.specs.Tree.{Trees}
+use Rattle.sqlite.specs.Held.{state}
+use Rattle.journal_model.specs.Notification.{Text}
+use Rattle.journal_model.specs.declared.invocation.NewInvocation.{NewInvocation}
+use Rattle.journal_model.specs.Event.{Event, Frame}
+use Rattle.journal_model.specs.Journal.{begins, is_of, is_tick, is_open as is_open_after, invocation_begun}
+use Rattle.journal_model.specs.Attempt.{due, is_due as is_due_after}
+use Rattle.journal_model.specs.Cause.{IsAccepted}
+use Rattle.journal_model.specs.Run.{Handler}
+use Rattle.journal_model.specs.Headline.{Headline, NeverLate, WakesExactly}
+use Rattle.vm_types.specs.Options.{run_options}
+use Rattle.vm_types.specs.declared.options.VMOptions.{VMOptions}
+use Rattle.store_refusals.specs.declared.refusal.Refusal.{Refusal}
+use Rattle.store_refusals.specs.declared.refusal.Refusal.TheVariants.{OutOfMemory}
+use Rattle.store_steps.specs.Taken.{lies_in_frame}
+use Rattle.store_model.specs.Progress.{last_error_of}
+use Rattle.store_invocations.specs.Told.{entries_told}
+use Rattle.store_invocations.specs.Answered.{answer_told}
+use Rattle.journal_store.specs.Stored.{Stored}
+use Rattle.journal_store.specs.Stands.{KeepsAll, Outlasts, Stands}
+use Rattle.schedule_laws.specs.Following.{ReplaysInLine, given_of}
+use Rattle.schedule_laws.specs.Schedules.scheduled
+use Rattle.schedule_laws.specs.Schedules.event
+use Rattle.schedule_laws.specs.Schedules.reply
+use Rattle.schedule_laws.specs.Schedules.refusal
+use Rattle.schedule_laws.specs.Schedules.{Reply, Scheduled, Brings}
+use Rattle.scheduler.specs.Scheduled.{IsScheduled}
+use Rattle.scheduler.specs.declared.scheduler.Scheduler.{Scheduler}
+use Rattle.durable_schedule.specs.Runs.{LastsBehind}
+
+-- ---- what was accepted, by the replies
+
+-- an attempt is stopped where a frame of it was refused for what lies in the frame
+abbrev pub stop_for : Text → (attempt : ℕ) → Option Refusal → List Event
+stop_for id attempt None = []
+stop_for id attempt (Some why) = if lies_in_frame why then Event.Stop id attempt ∷ [] else []
+
+-- What is accepted of one event of a schedule, the last one first, by its reply. A feed is handed out in parts. A begin for whose attempt the
+-- scheduler had no memory may have been accepted; anything else that was refused was not.
+abbrev pub IsAcceptedOf : {H : Type 0} → scheduled.Event H → Reply → List Event → Type 0
+IsAcceptedOf (event.Invoke new) reply.Done accepted = accepted ≡ Event.Invoke new ∷ []
+IsAcceptedOf (event.Result id completion value) (reply.Placed place) accepted = accepted ≡ Event.Complete id completion value ∷ []
+IsAcceptedOf (event.Signal id key value) (reply.Placed place) accepted = accepted ≡ Event.Signal id key value ∷ []
+IsAcceptedOf (event.Cancel id) (reply.Placed place) accepted = accepted ≡ Event.Cancel id ∷ []
+IsAcceptedOf (event.Tick now) (reply.Ticked count) accepted = accepted ≡ Event.Tick now ∷ []
+IsAcceptedOf (event.Begin id handler now) (reply.Begun number) accepted = accepted ≡ Event.Begin id now ∷ []
+IsAcceptedOf (event.Begin id handler now) (reply.Refused why) accepted =
+    (accepted ≡ []) ⊎ ((why ≡ refusal.Store OutOfMemory) × (accepted ≡ Event.Begin id now ∷ []))
+IsAcceptedOf (event.Feed id attempt count) (reply.Fed bytes why) accepted =
+    (parts : List ℕ) × (parts ≢ []) × (sum parts ≡ bytes) × (accepted ≡ map (Event.HandOut id attempt) parts)
+IsAcceptedOf (event.Close id attempt) reply.Done accepted = accepted ≡ Event.CloseInput id attempt ∷ []
+IsAcceptedOf (event.Turn id attempt outcome) (reply.Turned turn) accepted = accepted ≡ []
+IsAcceptedOf (event.Move id attempt count) (reply.Moved bytes frames why) accepted =
+    (taken : List Frame) × (length taken ≡ frames) × (accepted ≡ stop_for id attempt why ++ map (Event.Take id attempt) taken)
+IsAcceptedOf (event.Stop id attempt) reply.Done accepted = accepted ≡ Event.Stop id attempt ∷ []
+IsAcceptedOf one (reply.Refused why) accepted = accepted ≡ []
+IsAcceptedOf one answer accepted = ⊥
+
+-- These are all that is accepted of a schedule, behind what was accepted before.
+abbrev pub AreAcceptedOf : {H : Type 0} → List (scheduled.Event H) → List Reply → (before events : List Event) → Type 0
+AreAcceptedOf [] [] before events = events ≡ before
+AreAcceptedOf (one ∷ asked) (answer ∷ replies) before events = (accepted : List Event) × IsAcceptedOf one answer accepted × AreAcceptedOf asked replies (accepted ++ before) events
+AreAcceptedOf _ _ before events = ⊥
+
+-- ---- what stands of one invocation
+
+-- It is in the one uninterrupted run of this function.
+pub record FollowsItsRun (next : Handler) (options : VMOptions) (id : Text) (events : List Event) : Type 0 where
+  -- Its recorded requests are a beginning of those that the run makes over its recorded arrivals, and where an attempt was suspended or ended,
+  -- all of the run's over the arrivals that it was handed; its answer is the run's; and its object's state follows.
+  pub headline : Headline next (run_options options) options.fallback_random_seed events id
+  -- the call `due` lists it where it is due
+  pub listed : list_any (bytes_eq id) (due events) ≡ is_due_after events id
+  -- where the run over all arrivals goes on, an invocation that is suspended is due
+  pub never_late : (new : NewInvocation) → invocation_begun events id ≡ Some new → NeverLate next (given_of options id events new) events id
+  -- and from version 7 on it is due there alone
+  pub wakes_exactly : (new : NewInvocation) → invocation_begun events id ≡ Some new → WakesExactly next (given_of options id events new) events id
+
+-- the accepted events without those of other invocations that came since this one was made
+abbrev pub without_others : Text → List Event → List Event
+without_others id [] = []
+without_others id (event ∷ earlier) =
+    if begins id event then event ∷ earlier else (if is_of id event || is_tick event then event ∷ without_others id earlier else without_others id earlier)
+
+-- The readers tell the same of it by these events as by those, and it is due by both or by neither.
+pub record IsToldAlike (id : Text) (events others : List Event) : Type 0 where
+  pub entries : entries_told events id ≡ entries_told others id
+  pub answer : answer_told events id ≡ answer_told others id
+  pub failure : last_error_of events id ≡ last_error_of others id
+  pub is_open : is_open_after events id ≡ is_open_after others id
+  pub is_due : is_due_after events id ≡ is_due_after others id
+
+-- ---- what stands of all
+
+module _ {H : Type 0} (function : H → Handler) (options : VMOptions) where
+  -- these accepted events, the last one first, are a faithful record of what was asked
+  pub record IsFaithful (asked : List (scheduled.Event H)) (replies : List Reply) (events : List Event) : Type 0 where
+    -- each was accepted after those before it, for no cause of a refusal held then
+    pub accepted : IsAccepted events
+    -- they are those that the replies tell
+    pub told : AreAcceptedOf asked replies [] events
+    -- each invocation whose begins all bring one function is in the run of that function
+    pub in_run : (next : Handler) (id : Text) → ReplaysInLine options → AllByRecursion (Brings function id next) asked → FollowsItsRun next options id events
+    -- what came of others since an invocation was made changes nothing of it, whatever its begins bring
+    pub isolated : (id : Text) → IsToldAlike id events (without_others id events)
+
+  -- what tables keep that a crash leaves: a faithful record of the first of these events, whatever the last of them was answered
+  pub record KeepsFirst (asked : List (scheduled.Event H)) (trees : Trees) : Type 0 where
+    pub first : List (scheduled.Event H)
+    pub rest : List (scheduled.Event H)
+    pub first_are : asked ≡ first ++ rest
+    pub replies : List Reply
+    pub events : List Event
+    pub faithful : IsFaithful first replies events
+    pub keeps : KeepsAll events trees
+
+-- Something was written, and no event behind it was refused for want of memory or by the database, of those that may write more.
+abbrev pub IsWrittenLast : {H : Type 0} → List (scheduled.Event H) → List Reply → Type 0
+IsWrittenLast asked replies = LastsBehind ⊥ asked replies
+
+-- ---- of a store
+
+module _ {S : Type 0} (g : Ghosts S) where
+  -- a store stands for these accepted events: its readers tell of them (`told` of `Store::entries`, `answer`, `failure`, `is_open`, `due`, `next_moment`)
+  abbrev pub StandsFor : List Event → Stored S → Type 0
+  StandsFor events store = Stands events (state g store.connection) store.live.attempts
+
+  module _ {H : Type 0} where
+    -- and so do those of the scheduler, whose clauses `told` begin with all that it stands for
+    pub record ReadersTell (events : List Event) (scheduler : Scheduler H S) : Type 0 where
+      pub store : StandsFor events scheduler.store
+      pub scheduled : Scheduled H
+      pub is : IsScheduled g scheduled scheduler
+      pub same : scheduled.standing.events ≡ events
+
+    -- There is one list of accepted events of which the readers tell; it is a faithful record of what was asked; and all of it lasts.
+    pub record RecordsFaithfully (function : H → Handler) (options : VMOptions) (asked : List (scheduled.Event H)) (replies : List Reply) (scheduler : Scheduler H S) : Type 0 where
+      pub events : List Event
+      pub readers : ReadersTell events scheduler
+      pub faithful : IsFaithful function options asked replies events
+      -- whatever a crash leaves from then on, the tables keep all of it
+      pub lasts : IsWrittenLast asked replies → Outlasts events (state g scheduler.store.connection)

@@ -1,6 +1,0 @@
--- The law is proved in `Outcomes`.
-use Rattle.executor_laws.proofs.Outcomes.{outcomes_are_taken}
-use Rattle.executor_laws.proofs.outcomes_are_taken.Goals as goal
-
-pub returns : goal.returns
-returns c = outcomes_are_taken

@@ -1,6 +1,0 @@
--- Proved in `Arrivals`.
-use Rattle.feeding_laws.proofs.Arrivals.{arrivals_read_back}
-use Rattle.feeding_laws.proofs.arrivals_read_back.Goals as goal
-
-pub returns : goal.returns
-returns c = arrivals_read_back

@@ -1,6 +1,0 @@
--- Proved in `Inputs`.
-use Rattle.feeding_laws.proofs.Inputs.{inputs_are_kept}
-use Rattle.feeding_laws.proofs.inputs_are_kept.Goals as goal
-
-pub returns : goal.returns
-returns c = inputs_are_kept c.messages_are_kept.ensures

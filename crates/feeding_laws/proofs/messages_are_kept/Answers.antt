@@ -1,6 +1,0 @@
--- Proved in `Messages`.
-use Rattle.feeding_laws.proofs.Messages.{messages_are_kept}
-use Rattle.feeding_laws.proofs.messages_are_kept.Goals as goal
-
-pub returns : goal.returns
-returns c = messages_are_kept c.entries_are_gathered.ensures.commands c.entries_are_gathered.ensures.notifications

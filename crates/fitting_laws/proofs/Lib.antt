@@ -1,4 +1,0 @@
-pub mod Fits
-pub mod Beginnings
-pub mod Handing
-pub mod Outcomes

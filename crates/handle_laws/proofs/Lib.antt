@@ -1,4 +1,0 @@
-pub mod Fitting
-pub mod Handles
-pub mod Children
-pub mod Machines

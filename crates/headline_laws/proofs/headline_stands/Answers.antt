@@ -1,6 +1,0 @@
--- The law is proved in `Holding`.
-use Rattle.headline_laws.proofs.Holding.{headline}
-use Rattle.headline_laws.proofs.headline_stands.Goals as goal
-
-pub returns : goal.returns
-returns c = headline

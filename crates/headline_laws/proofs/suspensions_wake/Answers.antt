@@ -1,6 +1,0 @@
--- The law is proved in `Holding`.
-use Rattle.headline_laws.proofs.Holding.{holds_wakes}
-use Rattle.headline_laws.proofs.suspensions_wake.Goals as goal
-
-pub returns : goal.returns
-returns c = λ next given events id h. holds_wakes next given id events h

@@ -1,6 +1,0 @@
--- Proved in `Hosting`.
-use Rattle.host_laws.proofs.Hosting.{calls_speak}
-use Rattle.host_laws.proofs.calls_speak.Goals as goal
-
-pub returns : goal.returns
-returns c = calls_speak

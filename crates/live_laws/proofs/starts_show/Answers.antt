@@ -1,0 +1,6 @@
+-- It is proved in `Beginning`.
+use Rattle.live_laws.proofs.Beginning.{start_shows}
+use Rattle.live_laws.proofs.starts_show.Goals as goal
+
+pub returns : goal.returns
+returns c = start_shows

@@ -1,0 +1,13 @@
+pub mod Sending
+pub mod TurnWrites
+pub mod Live
+pub mod Begun
+pub mod TurnLaws
+pub mod Reading
+pub mod Replies
+pub mod MachineTurn
+pub mod Beginning
+pub mod PositionLaws
+pub mod Asking
+pub mod Living
+pub mod MachineLaws

@@ -1,6 +1,0 @@
--- It is proved in `Asking`.
-use Rattle.machine_laws.proofs.Asking.{come_as_asked}
-use Rattle.machine_laws.proofs.arrivals_come_as_asked.Goals as goal
-
-pub returns : goal.returns
-returns c = come_as_asked

@@ -1,4 +1,0 @@
-pub mod Replies
-pub mod Behind
-pub mod Frames
-pub mod Pieces

@@ -1,4 +1,0 @@
-pub mod Reading
-pub mod Turning
-pub mod Beginning
-mod PositionRows

@@ -1,6 +1,0 @@
--- It is proved in `Reading`.
-use Rattle.position_laws.proofs.Reading.{machine_position}
-use Rattle.position_laws.proofs.machines_have_positions.Goals as goal
-
-pub returns : goal.returns
-returns c = machine_position

@@ -1,0 +1,6 @@
+use Rattle.protocol_equality.proofs.Told.{told}
+use Rattle.protocol_equality.specs.Commands.{set_state_command_tells}
+use Rattle.protocol_equality.proofs.commands.SetStateCommandMessageCommandMessageHeaderEq.header_eq.Goals as goal
+
+pub returns : goal.returns
+returns c = told (set_state_command_tells c.args.ignore_payload_equality) c.args.self.now c.args.other.now _ c.is_same_set_state.ensures

@@ -1,6 +1,0 @@
-use Rattle.protocol_headers.proofs.Told.{told}
-use Rattle.protocol_headers.specs.Commands.{run_command_tells}
-use Rattle.protocol_headers.proofs.commands.RunCommandMessageCommandMessageHeaderEq.header_eq.Goals as goal
-
-pub returns : goal.returns
-returns c = told (run_command_tells c.args.ignore_payload_equality) c.args.self.now c.args.other.now _ c.is_same_run.ensures

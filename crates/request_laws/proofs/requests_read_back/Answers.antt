@@ -1,6 +1,0 @@
--- Proved in `Requests`.
-use Rattle.request_laws.proofs.Requests.{requests_read_back}
-use Rattle.request_laws.proofs.requests_read_back.Goals as goal
-
-pub returns : goal.returns
-returns c = requests_read_back

@@ -1,4 +1,0 @@
-pub mod Fitting
-pub mod Requests
-pub mod Calls
-pub mod Making

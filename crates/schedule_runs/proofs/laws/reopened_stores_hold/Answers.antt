@@ -1,6 +1,0 @@
--- The law is proved in `Reopening`.
-use Rattle.schedule_runs.proofs.Reopening.{reopened_hold}
-use Rattle.schedule_runs.proofs.laws.reopened_stores_hold.Goals as goal
-
-pub returns : goal.returns
-returns c = reopened_hold c.records_hold.ensures.on

@@ -1,3 +1,0 @@
--- An attempt, its turns and its output, passed on, so that crates above name this one alone.
-pub use Rattle.durable_schedule.specs.Attempts.turn
-pub use Rattle.durable_schedule.specs.Attempts.{Answered, RunOutcome, Turn}

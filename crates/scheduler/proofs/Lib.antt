@@ -1,0 +1,6 @@
+pub mod Scheduling
+pub mod Moving
+pub mod Holding
+pub mod Parts
+pub mod Lasting
+pub mod Replying

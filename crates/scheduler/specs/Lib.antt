@@ -1,0 +1,3 @@
+pub mod Scheduled
+pub mod Attempts
+pub mod Schedules

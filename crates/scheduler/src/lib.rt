@@ -1,0 +1,26 @@
+//! Invocations and their attempts, from one event to what is recorded.
+#![tactic(auto)]
+
+mod feeding;
+mod held;
+mod replies;
+mod scheduler;
+
+pub use schedule_model::{
+    Attempt, Event, HeldAttempt, HeldAttempts, OutsideSignal, Refusal, Reply, RetryPolicy,
+    RunExitResult, RunOutcome, Turn, attempts_are_held, schedules_grow,
+};
+pub use scheduler::Scheduler;
+
+// What a scheduler tells of an invocation, and of an object.
+pub use store_invocations::{EntryKind, RecordedEntry};
+pub use store_tables::{LastError, StateRow};
+
+// What a handler is, what it calls and is answered, and what a schedule is told besides.
+pub use journal_model::{
+    Answer, AttachInvocationTarget, AwaitedFuture, Call, Failure, Handler, Header, Input, Moment,
+    NewInvocation, NonEmptyValue, NotificationHandle, NotificationResult, PayloadOptions,
+    StateMode, Target, TerminalFailure, UnresolvedFuture, Value,
+};
+pub use sequence::Sequence;
+pub use vm_types::VMOptions;

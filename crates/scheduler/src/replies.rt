@@ -1,0 +1,35 @@
+//! What a scheduler answers where its store did what was asked for, or refused it.
+ghost use Rattle.std.specs.Prelude.{◌≡◌};
+ghost use Rattle.scheduler.specs.Scheduled.{reply_to};
+
+use schedule_model::{Refusal, Reply};
+
+/// It was done.
+pub(crate) fn done(told: Result<(), store_refusals::Refusal>) -> Reply
+    ensures { result ≡ reply_to (λ _. Reply.Done) told }
+{
+    match told {
+        Ok(()) => Reply::Done,
+        Err(refusal) => Reply::Refused(Refusal::Store(refusal)),
+    }
+}
+
+/// It has this place in the journal.
+pub(crate) fn placed(told: Result<u32, store_refusals::Refusal>) -> Reply
+    ensures { result ≡ reply_to (λ place. Reply.Placed place) told }
+{
+    match told {
+        Ok(place) => Reply::Placed(place),
+        Err(refusal) => Reply::Refused(Refusal::Store(refusal)),
+    }
+}
+
+/// So many sleeps are over.
+pub(crate) fn ticked(told: Result<u64, store_refusals::Refusal>) -> Reply
+    ensures { result ≡ reply_to (λ sleeps. Reply.Ticked sleeps) told }
+{
+    match told {
+        Ok(sleeps) => Reply::Ticked(sleeps),
+        Err(refusal) => Reply::Refused(Refusal::Store(refusal)),
+    }
+}

@@ -1,6 +1,0 @@
--- Proved in `Reading`.
-use Rattle.sending_laws.proofs.Reading.{errors_are_meant}
-use Rattle.sending_laws.proofs.errors_are_meant.Goals as goal
-
-pub returns : goal.returns
-returns c = errors_are_meant

@@ -1,6 +1,0 @@
--- Proved in `Reading`.
-use Rattle.sending_laws.proofs.Reading.{frames_are_read}
-use Rattle.sending_laws.proofs.frames_are_read.Goals as goal
-
-pub returns : goal.returns
-returns c = frames_are_read

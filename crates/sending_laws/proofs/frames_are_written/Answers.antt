@@ -1,6 +1,0 @@
--- Proved in `Writing`.
-use Rattle.sending_laws.proofs.Writing.{frames_are_written}
-use Rattle.sending_laws.proofs.frames_are_written.Goals as goal
-
-pub returns : goal.returns
-returns c = frames_are_written

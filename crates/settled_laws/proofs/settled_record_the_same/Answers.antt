@@ -1,6 +1,0 @@
--- The law is proved in `Settled`.
-use Rattle.settled_laws.proofs.Settled.{settled_same}
-use Rattle.settled_laws.proofs.settled_record_the_same.Goals as goal
-
-pub returns : goal.returns
-returns c = settled_same

@@ -1,6 +1,0 @@
--- The law is proved in `Framing`.
-use Rattle.store_lookups.proofs.Framing.{frames_found}
-use Rattle.store_lookups.proofs.frames_found.Goals as goal
-
-pub returns : goal.returns
-returns c = frames_found

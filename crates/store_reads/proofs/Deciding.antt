@@ -1,0 +1,41 @@
+-- What is read where records are kept.
+use Rattle.std.proofs.Common.{◌≡◌, refl, sym, ap, ◌∙◌, List, map, filter, Option, option_map, IsTrue}
+use Rattle.sqlite.specs.State.{State}
+use Rattle.journal_model.specs.Notification.{Text}
+use Rattle.journal_model.specs.Event.{Event}
+use Rattle.journal_model.specs.Attempt.{due, is_none, live_attempt}
+use Rattle.due_laws.specs.NextMoment.{IsNextMoment}
+use Rattle.sql_tables.specs.declared.read.ReadError.{ReadError}
+use Rattle.sql_tables.specs.declared.read.ReadError.TheVariants.{Refused, Foreign, OutOfMemory}
+use Rattle.sqlite_trees.specs.Tree.{Trees}
+use Rattle.store_tables.specs.Records.{Records, Holds}
+use Rattle.store_tables.specs.Orders.{IsFirstSleep, IsUnarranged}
+use Rattle.store_tables.specs.Questions.{AreFound, is_awake}
+use Rattle.store_tables.specs.declared.row.InvocationRow.{InvocationRow}
+use Rattle.store_tables.specs.declared.row.SleepRow.{SleepRow}
+use Rattle.store_live_laws.proofs.Awake.{awake_are_arranged, due_from_records}
+use Rattle.store_live_laws.proofs.NextSleep.{next_from_records}
+use Rattle.store_refusals.specs.Refused.{is_circumstance, reading_refusal}
+use Rattle.store_refusals.specs.Prepared.{Keeps}
+use Rattle.store_invocations.proofs.Deciding.{circumstance_unless}
+
+module _ (events : List Event) (s : State) where
+  pub awake_are : (rows : List InvocationRow) (ids : List Text) → Keeps events s → AreFound (λ r. r.invocations) is_awake (λ i. i.id) s.now.trees rows
+      → ids ≡ map (λ (row : InvocationRow). row.id) rows → due events ≡ filter (λ id. is_none (live_attempt events id)) ids
+  awake_are rows ids k found are =
+      due_from_records events k.records rows k.accepted k.kept found.0 (found.1 k.records k.held)
+      ∙ ap (filter (λ id. is_none (live_attempt events id))) (sym are)
+
+  pub awake_known : (e : ReadError) → (IsTrue s.is_open → Keeps events s) → (e ≡ Foreign → IsTrue s.is_open)
+      → (e ≡ Foreign → IsUnarranged (λ r. r.invocations) is_awake (λ i. i.id) s.now.trees) → IsTrue (is_circumstance (reading_refusal e))
+  awake_known e keeps is_open foreign = circumstance_unless e (λ is.
+      let k = keeps (is_open is) in
+      let (rows, rises, same) = awake_are_arranged events k.records k.accepted k.kept in
+      foreign is k.records k.held rows same rises)
+
+  pub next_is : (found : Option SleepRow) → Keeps events s → IsFirstSleep 0 s.now.trees found → IsNextMoment events (option_map (λ (sleep : SleepRow). sleep.moment) found)
+  next_is found k first = next_from_records events k.records found k.accepted k.kept (first k.records k.held)
+
+  pub next_known : (e : ReadError) → (IsTrue s.is_open → Keeps events s) → (e ≡ Foreign → IsTrue s.is_open)
+      → (e ≡ Foreign → (r : Records) → Holds s.now.trees r → ⊥) → IsTrue (is_circumstance (reading_refusal e))
+  next_known e keeps is_open foreign = circumstance_unless e (λ is. let k = keeps (is_open is) in foreign is k.records k.held)

@@ -1,9 +1,0 @@
--- Both are proved in `Places`.
-use Rattle.store_row_laws.proofs.Places.{frames_are_read, known_at_begin}
-use Rattle.store_row_laws.proofs.frames_are_read.Goals as goal
-
-pub returns-clause-frames : goal.returns-clause-frames
-returns-clause-frames c = frames_are_read
-
-pub returns-clause-known : goal.returns-clause-known
-returns-clause-known c = known_at_begin

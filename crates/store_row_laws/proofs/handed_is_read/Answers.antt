@@ -1,6 +1,0 @@
--- Proved in `Places`.
-use Rattle.store_row_laws.proofs.Places.{handed_is_read}
-use Rattle.store_row_laws.proofs.handed_is_read.Goals as goal
-
-pub returns : goal.returns
-returns c = handed_is_read

@@ -1,6 +1,0 @@
--- The law is proved in `Sizes`.
-use Rattle.store_rules.proofs.Sizes.{none_is_too_big}
-use Rattle.store_rules.proofs.none_is_too_big.Goals as goal
-
-pub returns : goal.returns
-returns c = none_is_too_big

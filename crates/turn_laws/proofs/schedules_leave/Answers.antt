@@ -1,6 +1,0 @@
--- The law is proved in `Schedules`.
-use Rattle.turn_laws.proofs.Schedules.{schedule_leaves}
-use Rattle.turn_laws.proofs.schedules_leave.Goals as goal
-
-pub returns : goal.returns
-returns c = schedule_leaves

@@ -1,5 +1,0 @@
-pub mod Sending
-pub mod Turning
-pub mod Live
-pub mod Begun
-pub mod Laws

@@ -1,6 +1,0 @@
--- Proved in `Over`.
-use Rattle.turning_laws.proofs.Over.{overs_stay}
-use Rattle.turning_laws.proofs.overs_stay.Goals as goal
-
-pub returns : goal.returns
-returns g c = overs_stay g.H.Handler.next_call

@@ -1,6 +1,0 @@
--- Proved in `Turns`.
-use Rattle.turning_laws.proofs.Turns.{turn_keeps}
-use Rattle.turning_laws.proofs.turns_keep.Goals as goal
-
-pub returns : goal.returns
-returns g c = λ next version options. turn_keeps g.H.Handler.next_call next version options c.attempts_replay.ensures.stands c.attempts_replay.ensures.turns c.inputs_are_answered.ensures

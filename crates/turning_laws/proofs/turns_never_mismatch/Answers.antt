@@ -1,6 +1,0 @@
--- Proved in `Matching`.
-use Rattle.turning_laws.proofs.Matching.{turns_match}
-use Rattle.turning_laws.proofs.turns_never_mismatch.Goals as goal
-
-pub returns : goal.returns
-returns g c = λ next version options. turns_match g.H.Handler.next_call next version options (c.turns_keep.ensures next version options)

@@ -1,6 +1,0 @@
--- Proved in `Progress`.
-use Rattle.turning_laws.proofs.Progress.{turns_answer}
-use Rattle.turning_laws.proofs.turns_progress.Goals as goal
-
-pub returns : goal.returns
-returns g c = λ next version options. turns_answer g.H.Handler.next_call next version options (c.turns_keep.ensures next version options)

@@ -1,6 +1,0 @@
--- Proved in `Telling`.
-use Rattle.turning_laws.proofs.Telling.{turns_tell}
-use Rattle.turning_laws.proofs.turns_tell.Goals as goal
-
-pub returns : goal.returns
-returns g c = λ next version options. turns_tell g.H.Handler.next_call next version options (c.turns_keep.ensures next version options)

@@ -1,0 +1,6 @@
+-- Proved in `Hosting`.
+use Rattle.vm_core_laws.proofs.Hosting.{calls_speak}
+use Rattle.vm_core_laws.proofs.calls_speak.Goals as goal
+
+pub returns : goal.returns
+returns c = calls_speak

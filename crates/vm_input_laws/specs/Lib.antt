@@ -1,0 +1,11 @@
+pub mod Arrivals
+pub mod Beginning
+pub mod Memory
+pub mod Messages
+pub mod Starting
+pub mod InputsKept
+pub mod Feeding
+pub mod InputsAnswered
+pub mod Standing
+pub mod Laws
+pub mod Reading

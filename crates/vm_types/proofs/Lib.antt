@@ -1,0 +1,3 @@
+mod Symbols
+pub mod Ready
+pub mod Rows

@@ -1,2 +1,0 @@
-pub mod Suspended
-pub mod Laws
