@@ -3,7 +3,7 @@ use Rattle.std.proofs.Common.{◌≡◌, refl, ap, ℕ, true, false, ◌||◌, L
 use Rattle.journal_model.specs.declared.notification.NotificationId.{NotificationId}
 use Rattle.journal_model.specs.declared.notification.NotificationResult.{NotificationResult}
 use Rattle.journal_model.specs.Notification.{Arrival, cancel_id}
-use Rattle.journal_model.specs.AwaitTree.{AwaitState, AwaitTree, Single, Combined, no_trees, and_trees, Unknown, FirstCompleted, AllCompleted, FirstSucceededOrAllFailed, AllSucceededOrFirstFailed, is_completed, await_state, is_awake, map_leaves}
+use Rattle.journal_model.specs.AwaitTree.{AwaitState, AwaitTree, Single, Combined, no_trees, and_trees, Unknown, FirstCompleted, AllCompleted, FirstSucceededOrAllFailed, AllSucceededOrFirstFailed, AtLeast, is_completed, await_state, is_awake, map_leaves}
 use Rattle.journal_model.specs.declared.call.Call.{Call}
 use Rattle.journal_model.specs.declared.value.Value.{Value}
 use Rattle.journal_model.specs.declared.options.RunOptions.{RunOptions}
@@ -89,6 +89,7 @@ awake-cancelled steps (Enabled calls sends) ends tree leaves done = by_tree tree
     by_tree (Combined AllCompleted ts) = beside (map_leaves (stands_for steps) (Combined AllCompleted ts))
     by_tree (Combined FirstSucceededOrAllFailed ts) = beside (map_leaves (stands_for steps) (Combined FirstSucceededOrAllFailed ts))
     by_tree (Combined AllSucceededOrFirstFailed ts) = beside (map_leaves (stands_for steps) (Combined AllSucceededOrFirstFailed ts))
+    by_tree (Combined (AtLeast required) ts) = beside (map_leaves (stands_for steps) (Combined (AtLeast required) ts))
     by_tree (Single handle) = beside (map_leaves (stands_for steps) (Single handle))
 
 pub completed-some : (o : Option NotificationResult) → is_some o ≡ true → is_completed (state_of_result o) ≡ true

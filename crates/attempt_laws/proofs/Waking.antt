@@ -6,14 +6,14 @@ use Rattle.journal_model.specs.declared.notification.NotificationId.{Notificatio
 use Rattle.journal_model.specs.declared.notification.NotificationId.TheVariants.{CompletionId, SignalId, SignalName}
 use Rattle.journal_model.specs.declared.notification.NotificationResult.{NotificationResult}
 use Rattle.journal_model.specs.Notification.{Arrival}
-use Rattle.journal_model.specs.AwaitTree.{AwaitState, AwaitTree, Single, Combined, AwaitTrees, no_trees, and_trees, is_completed, combined_state, await_state, child_states, ends_at_once, has_ended_node, some_has_ended_node, is_awake, map_leaves, map_leaves_of_trees}
+use Rattle.journal_model.specs.AwaitTree.{AwaitState, AwaitTree, Single, Combined, AwaitTrees, no_trees, and_trees, is_completed, combined_state, await_state, child_states, has_ended, has_ended_node, some_has_ended_node, is_awake, map_leaves, map_leaves_of_trees}
 use Rattle.journal_model.specs.declared.options.RunOptions.{RunOptions}
 use Rattle.journal_model.specs.declared.options.SignalDelivery.TheVariants.{Queued}
 use Rattle.journal_model.specs.Options.{replaces}
 use Rattle.journal_model.specs.History.{Step, ids_created, stands_for}
 use Rattle.journal_model.specs.Delivery.{results_for, known_results, deliveries, takes_of, passed_at_take, last_of, front, or_else, first_found, leaf_state, state_of_result}
 use Rattle.journal_model.specs.Await.{least_from}
-use Rattle.journal_model.specs.Waiting.{pruned, pruned_children, earlier_or_later}
+use Rattle.journal_model.specs.Waiting.{lowered, pruned, pruned_children, earlier_or_later}
 use Rattle.journal_laws.proofs.Pruning.{pruned-awake, pruned-again}
 use Rattle.journal_laws.proofs.Leaving.{or-false}
 use Rattle.attempt_model.specs.Results.{Ready, Slots, ready_after, handle_state, Resolution, Awake, Asleep, resolution_of}
@@ -34,7 +34,7 @@ mutual
   ended-map : {A B : Type 0} (f : A → B) (leaves : B → AwaitState) (t : AwaitTree A) → has_ended_node (map_leaves f t) leaves ≡ has_ended_node t (λ a. leaves (f a))
   ended-map f leaves (Single leaf) = refl
   ended-map f leaves (Combined combinator children) =
-      ap₂ (λ (xs : List AwaitState) (b : Bool). list_any (ends_at_once combinator) xs || b) (states-map f leaves children) (some-map f leaves children)
+      ap₂ (λ (xs : List AwaitState) (b : Bool). has_ended combinator xs || b) (states-map f leaves children) (some-map f leaves children)
 
   some-map : {A B : Type 0} (f : A → B) (leaves : B → AwaitState) (ts : AwaitTrees A) → some_has_ended_node (map_leaves_of_trees f ts) leaves ≡ some_has_ended_node ts (λ a. leaves (f a))
   some-map f leaves no_trees = refl
@@ -54,7 +54,8 @@ at_child f leaves t ts false here later = ap₂ and_trees here later
 mutual
   pub pruned-map : {A B : Type 0} (f : A → B) (leaves : B → AwaitState) (t : AwaitTree A) → pruned (map_leaves f t) leaves ≡ map_leaves f (pruned t (λ a. leaves (f a)))
   pruned-map f leaves (Single leaf) = refl
-  pruned-map f leaves (Combined combinator children) = ap (Combined combinator) (pruned_children-map f leaves children)
+  pruned-map f leaves (Combined combinator children) =
+      ap₂ Combined (ap (lowered combinator) (states-map f leaves children)) (pruned_children-map f leaves children)
 
   pruned_children-map : {A B : Type 0} (f : A → B) (leaves : B → AwaitState) (ts : AwaitTrees A)
       → pruned_children (map_leaves_of_trees f ts) leaves ≡ map_leaves_of_trees f (pruned_children ts (λ a. leaves (f a)))

@@ -1,10 +1,6 @@
-//! What has come and what handles stand for in the machine of an attempt is what the definitions of the run say: one arrival on, one step
-//! on, in an await that looks at one notification a step, and where a cancellation looks for its children. Lemmas alone, in `proofs/`.
-//!
-//! Each call of a handler is answered by the machine of an attempt as the run answers it. Lemmas alone, in `proofs/`, by the kind of the call.
-//!
-//! An attempt that replays answers as the one run of its handler: laws over a machine without bytes. Each function does nothing, and
-//! its contract is the law. Worked rows are computed in `proofs/MachineRows.antt`.
+//! An attempt that replays answers as the one run of its handler: laws over a machine without bytes. What has come, what handles stand for
+//! and the answer of each call are what the definitions of the run say. Each function does nothing, and its contract is the law. Worked rows
+//! are computed in `proofs/MachineRows.antt`.
 //!
 //! What an attempt is fed has to fit: the recorded requests are a prefix of the run's, signals wait in line, and each completion comes once.
 //! At each call what has come is of its kind, by the calls that were made so far: an invocation id for a child that a cancellation is passed

@@ -8,12 +8,12 @@ mod timed;
 mod waiting;
 
 use crate::fault::Fault;
-use scheduler::Scheduler;
 use events::Place;
 use growth::tell_growth;
 use handlers::{Numbers, Told, tell_both};
 use journal_store::{NotOpened, Store};
 use runs::tell_runs;
+use scheduler::Scheduler;
 use sqlite::{Alter, Unknown};
 use states::tell_states;
 use std::rt::HostRuntime;

@@ -2,7 +2,7 @@
 use Rattle.std.specs.Prelude.{ℕ, List, [], ◌∷◌, Option, Some, None, codes, bytes_eq, if◌then◌else◌}
 use Rattle.std.specs.declared.alloc.Global.{Global}
 use Rattle.journal_model.specs.Run.{Handler}
-use Rattle.built_in_handlers.specs.Handlers.{nap_until, race, both, ask, pair, twice, keys, read, effect, go, hook}
+use Rattle.built_in_handlers.specs.Handlers.{nap_until, race, both, ask, pair, twice, keys, read, effect, go, hook, quorum}
 use Rattle.built_in_handlers.specs.declared.built_in.BuiltIn.{BuiltIn}
 use Rattle.built_in_handlers.specs.declared.built_in.BuiltIn.TheVariants as handler
 
@@ -19,6 +19,7 @@ function_of (handler.Read h) = read
 function_of (handler.Effect h) = effect
 function_of (handler.Go h) = go
 function_of (handler.Hook h) = hook
+function_of (handler.Quorum h) = quorum
 
 -- the names, each with its handler
 abbrev pub names : Global → List (List ℕ × BuiltIn)
@@ -35,6 +36,7 @@ names alloc =
     ∷ (codes "effect", handler.Effect (record { alloc = alloc }))
     ∷ (codes "go", handler.Go (record { alloc = alloc }))
     ∷ (codes "hook", handler.Hook (record { alloc = alloc }))
+    ∷ (codes "quorum", handler.Quorum (record { alloc = alloc }))
     ∷ []
 
 -- the handler beside a name; a name that is not there has none

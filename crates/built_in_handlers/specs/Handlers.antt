@@ -4,7 +4,7 @@ use Rattle.std.specs.List.{list_any, join_with_byte}
 use Rattle.journal_model.specs.declared.value.NonEmptyValue.{NonEmptyValue}
 use Rattle.journal_model.specs.Notification.{Bytes}
 use Rattle.journal_model.specs.declared.value.Value.{Value}
-use Rattle.journal_model.specs.AwaitTree.{AwaitTree, Single, Combined, AwaitTrees, no_trees, and_trees, FirstCompleted, AllCompleted}
+use Rattle.journal_model.specs.AwaitTree.{AwaitTree, Single, Combined, AwaitTrees, no_trees, and_trees, FirstCompleted, AllCompleted, AtLeast}
 use Rattle.journal_model.specs.declared.call.Call.{Call}
 use Rattle.journal_model.specs.declared.call.Answer.{Answer}
 use Rattle.journal_model.specs.declared.call.PayloadOptions.{PayloadOptions}
@@ -167,3 +167,11 @@ go input answers = scripted ((λ before. Call.Signal (codes "go")) ∷ await_one
 
 abbrev pub hook : Handler
 hook input answers = scripted ((λ before. Call.Awakeable) ∷ await_one 0 ∷ take_one 0 ∷ output_at 2 ∷ []) answers
+
+-- waits for two of three sleeps
+abbrev pub await_two_of_three : List Answer → Call
+await_two_of_three answers =
+    Call.Await (Combined (AtLeast 2) (and_trees (Single (handle_at answers 0)) (and_trees (Single (handle_at answers 1)) (and_trees (Single (handle_at answers 2)) no_trees))))
+
+abbrev pub quorum : Handler
+quorum input answers = scripted (sleep_until 10 ∷ sleep_until 20 ∷ sleep_until 30 ∷ await_two_of_three ∷ output_ok ∷ []) answers

@@ -1,7 +1,7 @@
 //! The built-in handlers under the names that scripts give them.
 ghost use Rattle.std.specs.Prelude.{◌≡◌};
 
-use crate::handlers::{Ask, Both, Effect, Go, Hook, Keys, Nap, Pair, Race, Read, Twice};
+use crate::handlers::{Ask, Both, Effect, Go, Hook, Keys, Nap, Pair, Quorum, Race, Read, Twice};
 use journal_model::call::{Answer, Call};
 use journal_model::handler::{Handler, Input};
 use std::alloc::{AllocError, Global};
@@ -21,6 +21,7 @@ pub enum BuiltIn {
     Effect(Effect),
     Go(Go),
     Hook(Hook),
+    Quorum(Quorum),
 }
 
 impl BuiltIn {
@@ -61,6 +62,8 @@ impl BuiltIn {
             Some(BuiltIn::Go(Go { alloc }))
         } else if name == b"hook".as_slice() {
             Some(BuiltIn::Hook(Hook { alloc }))
+        } else if name == b"quorum".as_slice() {
+            Some(BuiltIn::Quorum(Quorum { alloc }))
         } else {
             None
         }
@@ -85,6 +88,7 @@ impl Handler for BuiltIn {
             BuiltIn::Effect(handler) => handler.next(input, answers),
             BuiltIn::Go(handler) => handler.next(input, answers),
             BuiltIn::Hook(handler) => handler.next(input, answers),
+            BuiltIn::Quorum(handler) => handler.next(input, answers),
         }
     }
 }

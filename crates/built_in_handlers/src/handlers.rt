@@ -1,8 +1,8 @@
 //! Built-in handlers, each a script of calls. `nap` of a script sleeps until 10 ms, `nap99` until 99.
 use crate::script::{
-    Place, ask_service, await_all_of_two, await_first_of_two, await_one, cancelled_output,
-    choice_at, completed_at, default_options, output_at, output_ok, place_after, set_x,
-    sleep_until, take_one,
+    Place, ask_service, await_all_of_two, await_first_of_two, await_one, await_two_of_three,
+    cancelled_output, choice_at, completed_at, default_options, output_at, output_ok, place_after,
+    set_x, sleep_until, take_one,
 };
 use bytes::{ByteStr, Bytes};
 use journal_model::call::{Answer, Call};
@@ -294,6 +294,32 @@ impl Handler for Hook {
             Place::At(1) => Ok(await_one(answers, 0)),
             Place::At(2) => Ok(take_one(answers, 0)),
             Place::At(3) => output_at(self.alloc, answers, 2),
+            Place::At(_) => Ok(Call::End),
+        }
+    }
+}
+
+/// Sleeps until 10, until 20 and until 30 ms, awaits that two of the three are over, puts out `ok`, ends.
+#[derive(Debug, Drop)]
+pub struct Quorum {
+    pub alloc: Global,
+}
+
+#[tactic(auto, using(crate::proofs::Scripts::past_script))]
+impl Handler for Quorum {
+    ghost use Rattle.built_in_handlers.specs.Handlers.{quorum};
+
+    ghost next_call = { λ handler. quorum };
+
+    fn next(&self, input: &Input, answers: &[Answer]) -> Result<Call, AllocError> {
+        match place_after(answers) {
+            Place::Cancelled => Ok(cancelled_output(self.alloc)),
+            Place::Over => Ok(Call::End),
+            Place::At(0) => Ok(sleep_until(10, answers)),
+            Place::At(1) => Ok(sleep_until(20, answers)),
+            Place::At(2) => Ok(sleep_until(30, answers)),
+            Place::At(3) => await_two_of_three(self.alloc, answers),
+            Place::At(4) => Ok(output_ok(answers)),
             Place::At(_) => Ok(Call::End),
         }
     }

@@ -161,6 +161,15 @@ pub(crate) fn await_all_of_two(alloc: Global, answers: &[Answer]) -> Result<Call
     Ok(Call::Await(AwaitedFuture::new(UnresolvedFuture::AllCompleted(children))))
 }
 
+#[tactic(auto, using(journal_model::proofs::TreeLemmas::future_trees))]
+pub(crate) fn await_two_of_three(alloc: Global, answers: &[Answer]) -> Result<Call, AllocError>
+    ensures { IfOk result (λ call. call ≡ scripts.await_two_of_three answers.now) }
+{
+    let mut children = UnresolvedFuture::two(alloc, handle_at(answers, 0), handle_at(answers, 1))?;
+    children.push(UnresolvedFuture::Single(handle_at(answers, 2)))?;
+    Ok(Call::Await(AwaitedFuture::new(UnresolvedFuture::AtLeast(2, children))))
+}
+
 fn output_choice(answer: &Answer) -> Call
     ensures { result ≡ scripts.output_choice answer.now }
 {

@@ -4,7 +4,7 @@ use Rattle.std.specs.List.{list_any, find}
 use Rattle.std.proofs.lemmas.List.Folds.{list_any-append}
 use Rattle.journal_model.specs.Notification.{Arrival, same_id}
 use Rattle.journal_model.specs.declared.notification.NotificationId.{NotificationId}
-use Rattle.journal_model.specs.AwaitTree.{AwaitState, is_completed, AwaitTree, Single, Combined, AwaitTrees, no_trees, and_trees, combined_state, child_states, await_state, ends_at_once, has_ended_node, some_has_ended_node, is_awake}
+use Rattle.journal_model.specs.AwaitTree.{AwaitState, is_completed, AwaitTree, Single, Combined, AwaitTrees, no_trees, and_trees, combined_state, child_states, await_state, has_ended, has_ended_node, some_has_ended_node, is_awake}
 use Rattle.journal_model.specs.Delivery.{state_of_result}
 use Rattle.journal_model.specs.Event.{ForTree, ForAny}
 use Rattle.journal_model.specs.Attempt.{result_of, first_result}
@@ -29,7 +29,7 @@ module _ {Leaf : Type 0} (test : Leaf → Bool) (before after : Leaf → AwaitSt
     ended_same : (tree : AwaitTree Leaf) → has_leaf test tree ≡ false → has_ended_node tree after ≡ has_ended_node tree before
     ended_same (Single leaf) e = refl
     ended_same (Combined combinator children) e =
-        ap₂ (λ (states : List AwaitState) (inner : Bool). list_any (ends_at_once combinator) states || inner) (states_same children e) (some_ended_same children e)
+        ap₂ (λ (states : List AwaitState) (inner : Bool). has_ended combinator states || inner) (states_same children e) (some_ended_same children e)
 
     some_ended_same : (trees : AwaitTrees Leaf) → some_has_leaf test trees ≡ false → some_has_ended_node trees after ≡ some_has_ended_node trees before
     some_ended_same no_trees e = refl

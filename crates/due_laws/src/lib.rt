@@ -1,10 +1,8 @@
 //! An invocation is due where a new attempt of it could go on. What is noted of it, so that this is known without reading its journal: how
-//! many of its arrivals its last attempt was handed, how many there are, and a flag. These are definitions over the accepted events; the
-//! crate `due_laws` has the laws.
+//! many of its arrivals its last attempt was handed, how many there are, and a flag, which is changed by its events.
 //!
-//! Two questions that a store answers without reading a journal. Which invocations are due? Those with a flag, which is kept with each and
-//! changed by its events, and without a live attempt. And what is handed out of an attempt's input? Its frames one by one, each from the row
-//! of one entry, in parts of any size. These are laws over the accepted events; the functions do nothing, and their contracts are the laws.
+//! Which invocations are due, and what is handed out of an attempt's input, each frame from the row of one entry and in parts of any size:
+//! these are definitions and laws over the accepted events. The functions do nothing, and their contracts are the laws.
 #![tactic(auto)]
 
 ghost use Rattle.due_laws.specs.Awake.{AwakeGrows, AwakeIsDue, HeardIsWithin, LiveIsAwake, NotedElsewhere, NotedFollows, NotedInvoked, NotedOpened, NotedRefused, NotedStill, NotedTicks, NotedUnticked};

@@ -6,9 +6,9 @@ ghost use Rattle.durable_schedule.specs.Causes.{TellsCauses};
 ghost use Rattle.durable_schedule.specs.Front.{KeepsFirst, RecordsFaithfully, StandsFor};
 
 use crate::{NoRoom, run_schedule};
-use scheduler::{Event, Handler, Reply, Scheduler, VMOptions};
 use journal_store::Store;
 use schedule_laws::invocations_stand_alone;
+use scheduler::{Event, Handler, Reply, Scheduler, VMOptions};
 use sqlite::Alter;
 use std::alloc::Global;
 

@@ -15,19 +15,19 @@ ghost use Rattle.durable_schedule.specs.Runs.{LastsBehind, Leaves, LeavesFirst, 
 mod front;
 mod laws;
 
-pub use scheduler::{
-    Answer, AttachInvocationTarget, AwaitedFuture, Call, EntryKind, Event, Failure, Handler,
-    Header, HeldAttempt, Input, LastError, Moment, NewInvocation, NonEmptyValue,
-    NotificationHandle, NotificationResult, OutsideSignal, PayloadOptions, RecordedEntry, Refusal,
-    Reply, RetryPolicy, RunExitResult, RunOutcome, Scheduler, Sequence, StateMode, StateRow,
-    Target, TerminalFailure, Turn, UnresolvedFuture, VMOptions, Value,
-};
 pub use front::run_new_schedule;
 pub use journal_store::Store;
 pub use laws::reopened_stores_hold;
 pub use schedule_laws::{
     frames_are_taken, inputs_are_handed_out, invocations_stand_alone, records_of_runs,
     schedules_keep, schedules_leave,
+};
+pub use scheduler::{
+    Answer, AttachInvocationTarget, AwaitedFuture, Call, EntryKind, Event, Failure, Handler,
+    Header, HeldAttempt, Input, LastError, Moment, NewInvocation, NonEmptyValue,
+    NotificationHandle, NotificationResult, OutsideSignal, PayloadOptions, RecordedEntry, Refusal,
+    Reply, RetryPolicy, RunExitResult, RunOutcome, Scheduler, Sequence, StateMode, StateRow,
+    Target, TerminalFailure, Turn, UnresolvedFuture, VMOptions, Value,
 };
 use sqlite::Alter;
 use std::alloc::Global;

@@ -5,7 +5,7 @@ use Rattle.std.specs.declared.alloc.Global.{Global}
 use Rattle.built_in_handlers.specs.declared.built_in.BuiltIn.{BuiltIn}
 use Rattle.built_in_handlers.specs.BuiltIn.{built_in, function_of}
 use Rattle.script_lines.specs.declared.word.HandlerName.{HandlerName}
-use Rattle.script_lines.specs.declared.word.HandlerName.TheVariants.{Nap, Nap99, Race, Both, Ask, Pair, Twice, Keys, Read, Effect, Go, Hook}
+use Rattle.script_lines.specs.declared.word.HandlerName.TheVariants.{Nap, Nap99, Race, Both, Ask, Pair, Twice, Keys, Read, Effect, Go, Hook, Quorum}
 use Rattle.script_lines.specs.Word.{handler_word}
 use Rattle.durable_script.specs.Run.{named_function}
 
@@ -23,6 +23,7 @@ named alloc Read = (_, refl, refl)
 named alloc Effect = (_, refl, refl)
 named alloc Go = (_, refl, refl)
 named alloc Hook = (_, refl, refl)
+named alloc Quorum = (_, refl, refl)
 
 pub is_there : (alloc : Global) (name : HandlerName) → IsSome (built_in alloc (handler_word name))
 is_there alloc name = subst IsSome (sym (named alloc name).1) refl

@@ -16,7 +16,7 @@ use Rattle.durable_schedule.specs.Passed.{HoldsOf}
 use Rattle.durable_schedule.specs.Runs.{Leaves, at_first}
 use Rattle.durable_schedule.specs.Schedules.{AppliesAll, Brings, Event, HeldAttempt, Reply, Scheduled}
 use Rattle.built_in_handlers.specs.BuiltIn.{function_of}
-use Rattle.built_in_handlers.specs.Handlers.{nap, nap99, race, both, ask, pair, twice, keys, read, effect, go, hook}
+use Rattle.built_in_handlers.specs.Handlers.{nap, nap99, race, both, ask, pair, twice, keys, read, effect, go, hook, quorum}
 use Rattle.script_lines.specs.declared.word.HandlerName.{HandlerName}
 use Rattle.script_lines.specs.declared.word.HandlerName.TheVariants as name
 use Rattle.script_lines.specs.declared.line.Line.{Line}
@@ -203,6 +203,7 @@ named_function name.Read = read
 named_function name.Effect = effect
 named_function name.Go = go
 named_function name.Hook = hook
+named_function name.Quorum = quorum
 
 -- Each name stands for its function.
 abbrev pub HandlersAreNamed : Type 0

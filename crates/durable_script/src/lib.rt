@@ -11,7 +11,7 @@ mod runner;
 mod show;
 mod state;
 
+pub use durable_schedule::{Event, Reply, Scheduler, run_schedule};
 pub use entry::{ShownEntry, read_entries};
 pub use run::{ScriptEnd, run_script};
-pub use durable_schedule::{Event, Reply, Scheduler, run_schedule};
 pub use script_lines::fault::ScriptFault;

@@ -3,8 +3,8 @@ ghost use Rattle.std.specs.Prelude.{◌≡◌, IfErr, IfOk, IsSome};
 ghost use Rattle.durable_script.specs.Outcome.{given_outcome};
 
 use bytes::Bytes;
-use protocol_errors::{Error, InvocationErrorCode};
 use durable_schedule::{RunOutcome, TerminalFailure};
+use protocol_errors::{Error, InvocationErrorCode};
 use script_lines::outcome::LineOutcome;
 use sequence::Sequence;
 use std::alloc::{AllocError, Global};

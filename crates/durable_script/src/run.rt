@@ -6,10 +6,10 @@ ghost use Rattle.durable_script.specs.Run.{DoesAll, DoesFirst, DoesLines, RunsSc
 
 use crate::runner::Runner;
 use built_in_handlers::BuiltIn;
-use journal_store::Store;
 use durable_schedule::{
     frames_are_taken, invocations_stand_alone, records_of_runs, schedules_keep, schedules_leave,
 };
+use journal_store::Store;
 use script_lines::fault::ScriptFault;
 use script_lines::output::{finish, write_text};
 use script_lines::reading::read_script;

@@ -7,10 +7,10 @@ mod work;
 
 use anyhow::{Result, bail};
 use bytes::{ByteStr, Bytes};
-use rounds::Rounds;
 use durable_schedule::{
     Event, NewInvocation, Reply, Scheduler, Sequence, StateMode, Store, VMOptions,
 };
+use rounds::Rounds;
 use sqlite::{Alter, File, FileStore, Unknown};
 use sqlite_disk::Disk;
 use std::alloc::{AllocError, Global};

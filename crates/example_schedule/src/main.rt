@@ -14,13 +14,13 @@ use anyhow::{Result, bail};
 use attempt::go_on;
 use bytes::{ByteStr, Bytes};
 use calls::{make_calls, print_types};
-use orders::take_orders;
-use payment::pay;
-use reminder::Reminder;
 use durable_schedule::{
     Event, NewInvocation, NoRoom, Reply, RunOutcome, Scheduler, Sequence, StateMode, Store,
     VMOptions, run_new_schedule,
 };
+use orders::take_orders;
+use payment::pay;
+use reminder::Reminder;
 use sqlite::Alter;
 use std::alloc::{AllocError, Global};
 use std::io;

@@ -1,7 +1,5 @@
-//! What was an attempt told? Laws of its input, of what it was handed and of what it has read. The functions do nothing: their
-//! contracts are the laws.
-//!
-//! How often does a completion come? The function does nothing: its contract is the law.
+//! What was an attempt told, and how often does a completion come? Laws of an attempt's input, of what it was handed and of what it has
+//! read. The functions do nothing: their contracts are the laws.
 #![tactic(auto)]
 
 ghost use Rattle.input_laws.specs.Laws.{HandedIsRead, InputsAreMessages, ReadIsHanded};

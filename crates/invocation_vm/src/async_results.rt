@@ -1,6 +1,6 @@
 //! What has come of an invocation's notifications, what handles stand for, and whether what is awaited has come.
 pub use journal_model::{Notification, NotificationId, NotificationResult};
 pub use vm_awaits::{
-    AsyncResultsState, AwaitState, CreateHandleError, FlatTree, ResolveFutureResult,
+    AsyncResultsState, AwaitState, CreateHandleError, FlatTree, ReadyNotifications,
+    ResolveFutureResult, Slots,
 };
-pub use vm_awaits::{ReadyNotifications, Slots};

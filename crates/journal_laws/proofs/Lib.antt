@@ -3,6 +3,7 @@ pub mod TreeRows
 pub mod RecordRows
 pub mod SpellingRows
 pub mod WakingRows
+pub mod AtLeast
 pub mod Leaving
 pub mod Pruning
 pub mod Isolation

@@ -6,7 +6,8 @@ use Rattle.journal_model.specs.declared.value.NonEmptyValue.{NonEmptyValue}
 use Rattle.journal_model.specs.Notification.{Bytes, Text, Arrival}
 use Rattle.journal_model.specs.AwaitTree.{Single, Combined, no_trees, and_trees, Unknown, FirstCompleted, AllCompleted, FirstSucceededOrAllFailed, AllSucceededOrFirstFailed}
 use Rattle.journal_model.specs.Request.{Request, SignalKey, SignalValue}
-use Rattle.journal_model.specs.Run.{Handler, run}
+use Rattle.journal_model.specs.Refusal.{UnsupportedAtLeast}
+use Rattle.journal_model.specs.Run.{Handler, Invocation, RefusedCall, run}
 use Rattle.journal_model.specs.Waiting.{pruned, suspended_tree}
 use Rattle.journal_model.specs.Spelling.{request_payload, suspension_payload, awaiting_on_payload, request_frame, header_bytes, notification_payload, input_frame}
 use Rattle.built_in_handlers.specs.Handlers
@@ -92,6 +93,23 @@ both_waits = refl
 
 go_waits : suspension Handlers.go [] ≡ Some (10 ∷ 9 ∷ 18 ∷ 1 ∷ 1 ∷ 26 ∷ 2 ∷ 103 ∷ 111 ∷ 40 ∷ 1 ∷ [])
 go_waits = refl
+
+-- a quorum of three sleeps, of which none, and one, is over
+abbrev spoken : Invocation
+spoken = record (whole []) { version = 9 }
+
+abbrev quorum_suspension : List Arrival → Option Bytes
+quorum_suspension arrivals = option_map suspension_payload (suspended_tree spoken arrivals (run Handlers.quorum spoken arrivals 9) (run Handlers.quorum spoken arrivals 9).ending)
+
+quorum_waits : quorum_suspension [] ≡ Some (10 ∷ 16 ∷ 18 ∷ 1 ∷ 1 ∷ 34 ∷ 9 ∷ 10 ∷ 3 ∷ 1 ∷ 2 ∷ 3 ∷ 40 ∷ 5 ∷ 48 ∷ 2 ∷ 40 ∷ 1 ∷ [])
+quorum_waits = refl
+
+quorum_pruned : quorum_suspension (completed 2 NotificationResult.Void ∷ []) ≡ Some (10 ∷ 15 ∷ 18 ∷ 1 ∷ 1 ∷ 34 ∷ 8 ∷ 10 ∷ 2 ∷ 1 ∷ 3 ∷ 40 ∷ 5 ∷ 48 ∷ 1 ∷ 40 ∷ 1 ∷ [])
+quorum_pruned = refl
+
+-- before version 9 it is refused
+quorum_refused : (run Handlers.quorum (whole []) [] 9).ending ≡ RefusedCall UnsupportedAtLeast
+quorum_refused = refl
 
 taken_waits : suspension taken_again (completed 1 NotificationResult.Void ∷ []) ≡ Some (10 ∷ 9 ∷ 18 ∷ 1 ∷ 1 ∷ 34 ∷ 2 ∷ 40 ∷ 2 ∷ 40 ∷ 1 ∷ [])
 unfolding taken_again await_all

@@ -36,7 +36,9 @@ pub use protocol_messages::{
 pub use protocol_differences::{
     CommandMessageHeaderDiff, CommandMismatchError, CommandRelationship,
 };
-pub use protocol_equality::{CommandMessageHeaderEq, NamedCommandMessage, Same, SameBesidesPayload};
+pub use protocol_equality::{
+    CommandMessageHeaderEq, NamedCommandMessage, Same, SameBesidesPayload,
+};
 
 // Errors.
 pub use protocol_errors::{
@@ -59,6 +61,6 @@ pub use protocol_trees::{
 };
 
 // What records are made of: fields, the table of all of them, and how they are printed.
-pub use protocol_types as shown;
 pub use protocol_table::table;
+pub use protocol_types as shown;
 pub use protocol_wire as wire;

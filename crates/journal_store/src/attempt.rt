@@ -17,9 +17,9 @@ ghost use Rattle.journal_store.specs.Causes.{TellsWhy};
 use crate::store::Store;
 use bytes::{ByteStr, Bytes};
 use sqlite::Alter;
-use store_reads::next_frame;
 use store_invocations::open_row;
 use store_live::{FrameRead, LiveAttempts};
+use store_reads::next_frame;
 use store_refusals::Refusal;
 use store_tables::StoreTables;
 

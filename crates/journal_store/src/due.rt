@@ -9,8 +9,8 @@ ghost use Rattle.journal_store.specs.Causes.{TellsWhy};
 use crate::store::Store;
 use bytes::ByteStr;
 use sqlite::Alter;
-use store_reads::{awake_ids, next_moment};
 use store_live::LiveAttempts;
+use store_reads::{awake_ids, next_moment};
 use store_refusals::Refusal;
 
 /// The ids without those of invocations with a live attempt.

@@ -1,11 +1,6 @@
-//! What may the live attempt send, and what does a schedule of such attempts leave? Laws over its input, its position in the run, and
-//! its frames on their way to the store. The functions do nothing: their contracts are the laws.
-//!
-//! Where does the machine of an attempt stand among the messages of its input, and what may it send? Laws that join the machine to the
-//! input, the start and the turns of the live attempt. The functions do nothing: their contracts are the laws.
-//!
-//! What is a live attempt with its machine, from its begin on, and was what it has been handed asked for? Laws that join the machine to
-//! the store. The functions do nothing: their contracts are the laws.
+//! The live attempt of an invocation: what it may send, where its machine stands among the messages of its input, and what a schedule of
+//! such attempts leaves. Laws over its input, its position in the run, and its frames on their way to the store. The functions do nothing:
+//! their contracts are the laws.
 #![tactic(auto)]
 
 ghost use Rattle.live_laws.specs.TurnLaws.{AttemptsAreLive, AttemptsBeginWithJournals, BeginsFollow, EventsKeep, InputsHaveJournals, PositionsAreAtCalls, SchedulesFollow, SchedulesLeave, TurnsKeep, TurnsSend};

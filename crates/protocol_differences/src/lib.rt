@@ -13,9 +13,9 @@ mod relationship;
 
 pub use laws::differences_are_shown;
 pub use mismatch::CommandMismatchError;
-pub use protocol_errors::{CommandMetadata, InvocationErrorCode, WithInvocationErrorCode, codes};
 use protocol_equality::CommandMessageHeaderEq;
 pub use protocol_equality::NamedCommandMessage;
+pub use protocol_errors::{CommandMetadata, InvocationErrorCode, WithInvocationErrorCode, codes};
 pub use relationship::CommandRelationship;
 use std::fmt;
 

@@ -10,7 +10,7 @@ use Rattle.protocol_table.specs.declared.table.RecordType.TheVariants as types
 use Rattle.protocol_table.specs.declared.table.future.TheConstants as table
 use Rattle.protocol_wire.proofs.SoundAt.{level_left, records_sound}
 use Rattle.protocol_wire.proofs.Joins.{IsFine}
-use Rattle.protocol_records.specs.declared.future.CombinatorType.TheVariants.{Unknown, FirstCompleted, AllCompleted, FirstSucceededOrAllFailed, AllSucceededOrFirstFailed, Other}
+use Rattle.protocol_records.specs.declared.future.CombinatorType.TheVariants.{Unknown, FirstCompleted, AllCompleted, FirstSucceededOrAllFailed, AllSucceededOrFirstFailed, AtLeastSucceeded, Other}
 use Rattle.protocol_records.specs.Future.{combinator_of, CombinatorFits, future_of, FutureFits}
 use Rattle.protocol_records.proofs.Futures.{future_fits as layer_fits}
 use Rattle.protocol_laws.specs.ReadFits.{numbers_fit, records_fit, texts_fit, u32_fits}
@@ -18,23 +18,27 @@ use Rattle.protocol_laws.specs.ReadFits.{numbers_fit, records_fit, texts_fit, u3
 combinator_fits : (n : ℕ) → n < 2 ^ 32 → CombinatorFits (combinator_of n)
 combinator_fits n lt = zeroth (eqb n 0) refl
   where
-    fourth : (t : Bool) → eqb n 4 ≡ t → eqb n 0 ≡ false → eqb n 1 ≡ false → eqb n 2 ≡ false → eqb n 3 ≡ false → CombinatorFits (cond t AllSucceededOrFirstFailed (Other n))
-    fourth true e a b c d = tt
-    fourth false e a b c d = (omega (arith, eqb-false n 0 a, eqb-false n 1 b, eqb-false n 2 c, eqb-false n 3 d, eqb-false n 4 e), lt)
+    fifth : (t : Bool) → eqb n 5 ≡ t → eqb n 0 ≡ false → eqb n 1 ≡ false → eqb n 2 ≡ false → eqb n 3 ≡ false → eqb n 4 ≡ false → CombinatorFits (cond t AtLeastSucceeded (Other n))
+    fifth true e a b c d f = tt
+    fifth false e a b c d f = (omega (arith, eqb-false n 0 a, eqb-false n 1 b, eqb-false n 2 c, eqb-false n 3 d, eqb-false n 4 f, eqb-false n 5 e), lt)
 
-    third : (t : Bool) → eqb n 3 ≡ t → eqb n 0 ≡ false → eqb n 1 ≡ false → eqb n 2 ≡ false → CombinatorFits (cond t FirstSucceededOrAllFailed (cond (eqb n 4) AllSucceededOrFirstFailed (Other n)))
+    fourth : (t : Bool) → eqb n 4 ≡ t → eqb n 0 ≡ false → eqb n 1 ≡ false → eqb n 2 ≡ false → eqb n 3 ≡ false → CombinatorFits (cond t AllSucceededOrFirstFailed (cond (eqb n 5) AtLeastSucceeded (Other n)))
+    fourth true e a b c d = tt
+    fourth false e a b c d = fifth (eqb n 5) refl a b c d e
+
+    third : (t : Bool) → eqb n 3 ≡ t → eqb n 0 ≡ false → eqb n 1 ≡ false → eqb n 2 ≡ false → CombinatorFits (cond t FirstSucceededOrAllFailed (cond (eqb n 4) AllSucceededOrFirstFailed (cond (eqb n 5) AtLeastSucceeded (Other n))))
     third true e a b c = tt
     third false e a b c = fourth (eqb n 4) refl a b c e
 
-    second : (t : Bool) → eqb n 2 ≡ t → eqb n 0 ≡ false → eqb n 1 ≡ false → CombinatorFits (cond t AllCompleted (cond (eqb n 3) FirstSucceededOrAllFailed (cond (eqb n 4) AllSucceededOrFirstFailed (Other n))))
+    second : (t : Bool) → eqb n 2 ≡ t → eqb n 0 ≡ false → eqb n 1 ≡ false → CombinatorFits (cond t AllCompleted (cond (eqb n 3) FirstSucceededOrAllFailed (cond (eqb n 4) AllSucceededOrFirstFailed (cond (eqb n 5) AtLeastSucceeded (Other n)))))
     second true e a b = tt
     second false e a b = third (eqb n 3) refl a b e
 
-    first : (t : Bool) → eqb n 1 ≡ t → eqb n 0 ≡ false → CombinatorFits (cond t FirstCompleted (cond (eqb n 2) AllCompleted (cond (eqb n 3) FirstSucceededOrAllFailed (cond (eqb n 4) AllSucceededOrFirstFailed (Other n)))))
+    first : (t : Bool) → eqb n 1 ≡ t → eqb n 0 ≡ false → CombinatorFits (cond t FirstCompleted (cond (eqb n 2) AllCompleted (cond (eqb n 3) FirstSucceededOrAllFailed (cond (eqb n 4) AllSucceededOrFirstFailed (cond (eqb n 5) AtLeastSucceeded (Other n))))))
     first true e a = tt
     first false e a = second (eqb n 2) refl a e
 
-    zeroth : (t : Bool) → eqb n 0 ≡ t → CombinatorFits (cond t Unknown (cond (eqb n 1) FirstCompleted (cond (eqb n 2) AllCompleted (cond (eqb n 3) FirstSucceededOrAllFailed (cond (eqb n 4) AllSucceededOrFirstFailed (Other n))))))
+    zeroth : (t : Bool) → eqb n 0 ≡ t → CombinatorFits (cond t Unknown (cond (eqb n 1) FirstCompleted (cond (eqb n 2) AllCompleted (cond (eqb n 3) FirstSucceededOrAllFailed (cond (eqb n 4) AllSucceededOrFirstFailed (cond (eqb n 5) AtLeastSucceeded (Other n)))))))
     zeroth true e = tt
     zeroth false e = first (eqb n 1) refl e
 
@@ -50,10 +54,12 @@ future_fits (suc levels) a fine =
       waiting_named_signals = texts table.WAITING_NAMED_SIGNALS.number (fields a);
       nested_futures = records (future_of levels) table.NESTED_FUTURES.number (fields a);
       combinator_type = combinator_of (u32 table.COMBINATOR_TYPE.number (fields a));
+      required = u32 table.REQUIRED.number (fields a);
     }) (
       numbers_fit table.WAITING_COMPLETIONS.number (fields a),
       numbers_fit table.WAITING_SIGNALS.number (fields a),
       texts_fit (suc levels) types.Future table.WAITING_NAMED_SIGNALS.number a fine refl,
       records_fit levels types.Future (future_of levels) (FutureFits levels) (future_fits levels) table.NESTED_FUTURES.number (fields a) sound,
       combinator_fits (u32 table.COMBINATOR_TYPE.number (fields a)) (u32_fits table.COMBINATOR_TYPE.number (fields a)),
+      u32_fits table.REQUIRED.number (fields a),
     )

@@ -20,6 +20,7 @@ layer levels fs = record {
   waiting_named_signals = texts future.WAITING_NAMED_SIGNALS.number fs;
   nested_futures = records (future_of levels) future.NESTED_FUTURES.number fs;
   combinator_type = combinator_of (u32 future.COMBINATOR_TYPE.number fs);
+  required = u32 future.REQUIRED.number fs;
 }
 
 layers_join : (levels : ℕ) (x y z : List Field) → layer levels x ≡ layer levels y → layer levels (x ++ z) ≡ layer levels (y ++ z)
@@ -29,6 +30,7 @@ layers_join levels x y z h = λ i. record {
   waiting_named_signals = texts_join future.WAITING_NAMED_SIGNALS.number x y z (ap (λ (r : Future-F Future). r.waiting_named_signals) h) i;
   nested_futures = records_join (future_of levels) future.NESTED_FUTURES.number x y z (ap (λ (r : Future-F Future). r.nested_futures) h) i;
   combinator_type = number_joins future.COMBINATOR_TYPE.number x y z (λ o. combinator_of (low (unwrap_or o 0))) (ap (λ (r : Future-F Future). r.combinator_type) h) i;
+  required = number_joins future.REQUIRED.number x y z (λ o. low (unwrap_or o 0)) (ap (λ (r : Future-F Future). r.required) h) i;
 }
 
 pub future_joins : Join types.Future future_of

@@ -1,8 +1,5 @@
-//! Laws of every record, and of every value that was read: it fits, so they hold of it. Each function does nothing: its
-//! contract is the law.
-//!
-//! That records are spelled as the definitions of durable execution spell what they stand for. Each function does nothing: its
-//! contract is the law.
+//! Laws of every record, and of every value that was read: it fits, so they hold of it; and records are spelled as the definitions of
+//! durable execution spell what they stand for. Each function does nothing: its contract is the law.
 #![tactic(auto)]
 
 ghost use Rattle.std.specs.Prelude.{List, None, length, ℕ, ◌++◌, ◌<◌, ◌^◌, ◌≡◌};

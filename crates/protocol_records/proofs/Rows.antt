@@ -39,11 +39,11 @@ wire_type_three = refl
 
 -- completion 1 or the cancellation
 abbrev leaf : Future-F Future
-leaf = record { waiting_completions = 1 ∷ []; waiting_signals = 1 ∷ []; waiting_named_signals = []; nested_futures = []; combinator_type = FirstCompleted }
+leaf = record { waiting_completions = 1 ∷ []; waiting_signals = 1 ∷ []; waiting_named_signals = []; nested_futures = []; combinator_type = FirstCompleted; required = 0 }
 
 pub awaiting_on_spelled : payload_of (awaiting_on_parts (record { awaiting_on = Some (roll-Future leaf); executing_side_effects = false })) ≡ 10 ∷ 8 ∷ 10 ∷ 1 ∷ 1 ∷ 18 ∷ 1 ∷ 1 ∷ 40 ∷ 1 ∷ []
 unfolding varint_spelling_within varint_spelling tagged
 awaiting_on_spelled = ap (λ (ps : List Part). payload_of (optional_bytes AWAITING_ON.number (Some (payload_of ps)) ∷ [])) (future_parts_of leaf)
 
 pub leaf_fits : FutureFits 100 (roll-Future leaf)
-leaf_fits = future_fits 99 leaf ((omega arith, tt), (omega arith, tt), tt, tt, tt)
+leaf_fits = future_fits 99 leaf ((omega arith, tt), (omega arith, tt), tt, tt, tt, omega arith)

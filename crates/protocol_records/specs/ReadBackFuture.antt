@@ -8,11 +8,11 @@ use Rattle.protocol_table.specs.Table.{descriptors_of}
 use Rattle.protocol_wire.specs.Parts.{payload_of}
 use Rattle.protocol_wire.specs.Decodes.{IsRead}
 use Rattle.protocol_table.specs.declared.table.RecordType.TheVariants as types
-use Rattle.protocol_table.specs.declared.table.future.TheConstants.{WAITING_COMPLETIONS, WAITING_SIGNALS, WAITING_NAMED_SIGNALS, NESTED_FUTURES, COMBINATOR_TYPE}
-use Rattle.protocol_wire.proofs.Holds.{enum_holds, numbers_hold, texts_hold, records_hold, lengths_fit, payload_holds_above, each_sound, each_reads_back}
-use Rattle.protocol_wire.proofs.Back.{enum_back, numbers_back, texts_back, records_back}
+use Rattle.protocol_table.specs.declared.table.future.TheConstants.{WAITING_COMPLETIONS, WAITING_SIGNALS, WAITING_NAMED_SIGNALS, NESTED_FUTURES, COMBINATOR_TYPE, REQUIRED}
+use Rattle.protocol_wire.proofs.Holds.{enum_holds, u32_holds, numbers_hold, texts_hold, records_hold, lengths_fit, payload_holds_above, each_sound, each_reads_back}
+use Rattle.protocol_wire.proofs.Back.{enum_back, u32_back, numbers_back, texts_back, records_back}
 use Rattle.protocol_records.specs.declared.future.CombinatorType.{CombinatorType}
-use Rattle.protocol_records.specs.declared.future.CombinatorType.TheVariants.{Unknown, FirstCompleted, AllCompleted, FirstSucceededOrAllFailed, AllSucceededOrFirstFailed, Other}
+use Rattle.protocol_records.specs.declared.future.CombinatorType.TheVariants.{Unknown, FirstCompleted, AllCompleted, FirstSucceededOrAllFailed, AllSucceededOrFirstFailed, AtLeastSucceeded, Other}
 use Rattle.protocol_records.specs.declared.future.Future.{Future, out-Future, roll-Future, fold_out-Future}
 use Rattle.protocol_records.specs.declared.future.Future.TheViews.{roll-out-Future}
 use Rattle.protocol_records.specs.Future.{combinator_of, combinator_bits, CombinatorFits, future_of, parts_by, future_payload, future_parts, FutureFits}
@@ -27,6 +27,7 @@ combinator_small FirstCompleted h = ltb-true 1 (2 ^ 32) refl
 combinator_small AllCompleted h = ltb-true 2 (2 ^ 32) refl
 combinator_small FirstSucceededOrAllFailed h = ltb-true 3 (2 ^ 32) refl
 combinator_small AllSucceededOrFirstFailed h = ltb-true 4 (2 ^ 32) refl
+combinator_small AtLeastSucceeded h = ltb-true 5 (2 ^ 32) refl
 combinator_small (Other n) h = h.1
 
 other_number : (m n : ℕ) → (m ≡ n → ⊥) → eqb m n ≡ false
@@ -42,13 +43,15 @@ combinator_back FirstCompleted h = refl
 combinator_back AllCompleted h = refl
 combinator_back FirstSucceededOrAllFailed h = refl
 combinator_back AllSucceededOrFirstFailed h = refl
+combinator_back AtLeastSucceeded h = refl
 combinator_back (Other n) h =
     let e0 = other_number n 0 (λ e. omega (arith, h.0, e)) in
     let e1 = other_number n 1 (λ e. omega (arith, h.0, e)) in
     let e2 = other_number n 2 (λ e. omega (arith, h.0, e)) in
     let e3 = other_number n 3 (λ e. omega (arith, h.0, e)) in
     let e4 = other_number n 4 (λ e. omega (arith, h.0, e)) in
-    rw (e0, e1, e2, e3, e4) refl
+    let e5 = other_number n 5 (λ e. omega (arith, h.0, e)) in
+    rw (e0, e1, e2, e3, e4, e5) refl
 
 future_payload_reads : (levels : ℕ) (f : Future) → FutureFits levels f → length (future_payload f) < 2 ^ 64 → IsRead levels types.Future future_of (future_payload f) f
 unfolding future_of future_parts FutureFits
@@ -70,7 +73,10 @@ future_payload_reads (suc k) f h small =
             records_hold below table NESTED_FUTURES.number types.Future (map future_payload o.nested_futures) (refl, refl) (each_sound k types.Future future_of future_payload (FutureFits k) (λ g. future_payload_reads k g) o.nested_futures h.3 lengths.1.1.1.0),
             (
               enum_holds below table COMBINATOR_TYPE.number (combinator_bits o.combinator_type) (refl, refl) (combinator_small o.combinator_type h.4),
-              tt,
+              (
+                u32_holds below table REQUIRED.number o.required (refl, refl) h.5,
+                tt,
+              ),
             ),
           ),
         ),
@@ -84,6 +90,7 @@ future_payload_reads (suc k) f h small =
         waiting_named_signals = texts_back WAITING_NAMED_SIGNALS.number o.waiting_named_signals ps refl i;
         nested_futures = records_back (future_of k) future_payload NESTED_FUTURES.number o.nested_futures ps refl (each_reads_back k types.Future future_of future_payload (FutureFits k) (λ g. future_payload_reads k g) o.nested_futures h.3 lengths.1.1.1.0) i;
         combinator_type = (ap combinator_of (enum_back COMBINATOR_TYPE.number (combinator_bits o.combinator_type) ps refl (combinator_small o.combinator_type h.4)) ∙ combinator_back o.combinator_type h.4) i;
+        required = u32_back REQUIRED.number o.required ps refl h.5 i;
       }) ∙ roll-out-Future f);
     }
 

@@ -14,7 +14,7 @@ use Rattle.journal_model.specs.State.{StateMap}
 use Rattle.journal_model.specs.declared.invocation.NewInvocation.{NewInvocation}
 use Rattle.journal_model.specs.declared.invocation.StateMode.{StateMode}
 use Rattle.journal_model.specs.Start.{state_entry, state_fields}
-use Rattle.journal_model.specs.AwaitTree.{AwaitTree, Single, Combined, AwaitTrees, no_trees, and_trees, Combinator, Unknown, FirstCompleted, AllCompleted, FirstSucceededOrAllFailed, AllSucceededOrFirstFailed}
+use Rattle.journal_model.specs.AwaitTree.{AwaitTree, Single, Combined, AwaitTrees, no_trees, and_trees, Combinator, Unknown, FirstCompleted, AllCompleted, FirstSucceededOrAllFailed, AllSucceededOrFirstFailed, AtLeast}
 use Rattle.journal_model.specs.Spelling as model
 use Rattle.protocol_records.specs.declared.future.Future.{Future}
 use Rattle.protocol_records.specs.declared.future.CombinatorType.{CombinatorType}
@@ -131,27 +131,30 @@ combinator-is FirstCompleted = refl
 combinator-is AllCompleted = refl
 combinator-is FirstSucceededOrAllFailed = refl
 combinator-is AllSucceededOrFirstFailed = refl
+combinator-is (AtLeast required) = refl
 
 -- a node whose nested futures are spelled so
-node_spelled : (completions signals : List ℕ) (names : List (List ℕ)) (nested : List Future) (combinator : CombinatorType) (number : ℕ) (inner : List ℕ)
+node_spelled : (completions signals : List ℕ) (names : List (List ℕ)) (nested : List Future) (combinator : CombinatorType) (required number : ℕ) (inner : List ℕ)
     → part_spelling (parts.repeated_bytes 4 (map future_payload nested)) ≡ inner → combinator_number combinator ≡ number
-    → future_payload (future_node completions signals names nested combinator) ≡ model.packed_numbers 1 completions ++ (model.packed_numbers 2 signals ++ (model.repeated_bytes 3 names ++ (inner ++ model.plain_number 5 number)))
-node_spelled completions signals names nested combinator number inner e c =
-    future_payload_is (future_node completions signals names nested combinator)
-    ∙ ap payload_of (future_parts_of (record { waiting_completions = completions; waiting_signals = signals; waiting_named_signals = names; nested_futures = nested; combinator_type = combinator }))
-    ∙ payload_is (layer_parts (record { waiting_completions = completions; waiting_signals = signals; waiting_named_signals = names; nested_futures = nested; combinator_type = combinator })) _
+    → future_payload (future_node completions signals names nested combinator required)
+    ≡ model.packed_numbers 1 completions ++ (model.packed_numbers 2 signals ++ (model.repeated_bytes 3 names ++ (inner ++ (model.plain_number 5 number ++ model.plain_number 6 required))))
+node_spelled completions signals names nested combinator required number inner e c =
+    future_payload_is (future_node completions signals names nested combinator required)
+    ∙ ap payload_of (future_parts_of (record { waiting_completions = completions; waiting_signals = signals; waiting_named_signals = names; nested_futures = nested; combinator_type = combinator; required = required }))
+    ∙ payload_is (layer_parts (record { waiting_completions = completions; waiting_signals = signals; waiting_named_signals = names; nested_futures = nested; combinator_type = combinator; required = required })) _
     (spelled-cons _ _ _ _ (packed-is 1 completions)
     (spelled-cons _ _ _ _ (packed-is 2 signals)
     (spelled-cons _ _ _ _ (repeated_bytes-is 3 names)
     (spelled-cons _ _ _ _ e
-    (spelled-last _ _ _ refl (plain_number-is 5 (combinator_number combinator) ∙ ap (model.plain_number 5) c))))))
+    (spelled-cons _ _ _ _ (plain_number-is 5 (combinator_number combinator) ∙ ap (model.plain_number 5) c)
+    (spelled-last _ _ _ refl (plain_number-is 6 required)))))))
 
 mutual
   future_spelled : (tree : AwaitTree NotificationId) → future_payload (future_record tree) ≡ model.future_payload tree
-  future_spelled (Single (CompletionId n)) = node_spelled (n ∷ []) [] [] [] _ 1 [] refl refl
-  future_spelled (Single (SignalId n)) = node_spelled [] (n ∷ []) [] [] _ 1 [] refl refl
-  future_spelled (Single (SignalName name)) = node_spelled [] [] (name ∷ []) [] _ 1 [] refl refl
-  future_spelled (Combined combinator children) = node_spelled _ _ _ (nested_records children) _ _ _ (nested_spelled children) (combinator-is combinator)
+  future_spelled (Single (CompletionId n)) = node_spelled (n ∷ []) [] [] [] _ 0 1 [] refl refl
+  future_spelled (Single (SignalId n)) = node_spelled [] (n ∷ []) [] [] _ 0 1 [] refl refl
+  future_spelled (Single (SignalName name)) = node_spelled [] [] (name ∷ []) [] _ 0 1 [] refl refl
+  future_spelled (Combined combinator children) = node_spelled _ _ _ (nested_records children) _ _ _ _ (nested_spelled children) (combinator-is combinator)
 
   nested_spelled : (trees : AwaitTrees NotificationId) → part_spelling (parts.repeated_bytes 4 (map future_payload (nested_records trees))) ≡ model.nested_payload trees
   nested_spelled no_trees = refl

@@ -11,8 +11,8 @@ use Rattle.journal_model.specs.declared.call.Header.{Header}
 use Rattle.journal_model.specs.State.{StateMap}
 use Rattle.journal_model.specs.declared.invocation.NewInvocation.{NewInvocation}
 use Rattle.journal_model.specs.declared.invocation.StateMode.{StateMode}
-use Rattle.journal_model.specs.AwaitTree.{AwaitTree, Single, Combined, AwaitTrees, no_trees, and_trees, Combinator, Unknown, FirstCompleted, AllCompleted, FirstSucceededOrAllFailed, AllSucceededOrFirstFailed}
-use Rattle.journal_model.specs.Spelling.{completions_in, signals_in, names_in}
+use Rattle.journal_model.specs.AwaitTree.{AwaitTree, Single, Combined, AwaitTrees, no_trees, and_trees, Combinator, Unknown, FirstCompleted, AllCompleted, FirstSucceededOrAllFailed, AllSucceededOrFirstFailed, AtLeast}
+use Rattle.journal_model.specs.Spelling.{completions_in, signals_in, names_in, required_by}
 use Rattle.protocol_records.specs.declared.header.Header.{Header as HeaderRecord}
 use Rattle.protocol_records.specs.declared.value.Value.{Value as ValueRecord}
 use Rattle.protocol_records.specs.declared.failure.Failure.{Failure as FailureRecord}
@@ -111,18 +111,19 @@ combinator_record FirstCompleted = combinators.FirstCompleted
 combinator_record AllCompleted = combinators.AllCompleted
 combinator_record FirstSucceededOrAllFailed = combinators.FirstSucceededOrAllFailed
 combinator_record AllSucceededOrFirstFailed = combinators.AllSucceededOrFirstFailed
+combinator_record (AtLeast required) = combinators.AtLeastSucceeded
 
-abbrev pub future_node : List ℕ → List ℕ → List Text → List Future → CombinatorType → Future
-future_node completions signals names nested combinator =
-    roll-Future (record { waiting_completions = completions; waiting_signals = signals; waiting_named_signals = names; nested_futures = nested; combinator_type = combinator })
+abbrev pub future_node : List ℕ → List ℕ → List Text → List Future → CombinatorType → ℕ → Future
+future_node completions signals names nested combinator required =
+    roll-Future (record { waiting_completions = completions; waiting_signals = signals; waiting_named_signals = names; nested_futures = nested; combinator_type = combinator; required = required })
 
 -- a single leaf is a first-completed node of it
 abbrev mutual
   pub future_record : AwaitTree NotificationId → Future
-  future_record (Single (CompletionId n)) = future_node (n ∷ []) [] [] [] combinators.FirstCompleted
-  future_record (Single (SignalId n)) = future_node [] (n ∷ []) [] [] combinators.FirstCompleted
-  future_record (Single (SignalName name)) = future_node [] [] (name ∷ []) [] combinators.FirstCompleted
-  future_record (Combined combinator children) = future_node (completions_in children) (signals_in children) (names_in children) (nested_records children) (combinator_record combinator)
+  future_record (Single (CompletionId n)) = future_node (n ∷ []) [] [] [] combinators.FirstCompleted 0
+  future_record (Single (SignalId n)) = future_node [] (n ∷ []) [] [] combinators.FirstCompleted 0
+  future_record (Single (SignalName name)) = future_node [] [] (name ∷ []) [] combinators.FirstCompleted 0
+  future_record (Combined combinator children) = future_node (completions_in children) (signals_in children) (names_in children) (nested_records children) (combinator_record combinator) (required_by combinator)
 
   pub nested_records : AwaitTrees NotificationId → List Future
   nested_records no_trees = []

@@ -5,14 +5,14 @@ use Rattle.std.proofs.lemmas.List.{map-append}
 use Rattle.std.proofs.lemmas.List.Folds.{list_any-append}
 use Rattle.journal_model.specs.AwaitTree as Trees
 use Rattle.protocol_trees.specs.Shape.{state_meant, combinator_of, forest, node, IsLeaf, IsShaped}
-use Rattle.protocol_trees.specs.Tally.{looked_in, added, Tallies}
+use Rattle.protocol_trees.specs.Tally.{looked_in, has_ended_in, added, Tallies}
 use Rattle.protocol_trees.specs.Look.{IsLooked}
 use Rattle.protocol_trees.specs.declared.tree.AwaitTreeShape.{AwaitTreeShape}
 use Rattle.protocol_trees.specs.declared.tree.AwaitTreeShape.TheVariants as shapes
 use Rattle.protocol_trees.specs.declared.tally.Tally.{Tally}
 use Rattle.protocol_trees.specs.declared.tally.Looked.{Looked}
 use Rattle.protocol_trees.specs.declared.tree.AwaitState.{AwaitState}
-use Rattle.protocol_trees.proofs.Tallying.{state_of_node, tallied, one_more, or_nothing}
+use Rattle.protocol_trees.proofs.Tallying.{state_of_node, at_least_ended, tallied, one_more, or_nothing}
 
 -- how many nodes a tree has
 abbrev mutual
@@ -50,6 +50,7 @@ module _ {Meant : Type 0} where
   child_smaller shapes.FirstSucceededOrAllFailed leaves children tree i child is e = in_node Trees.FirstSucceededOrAllFailed leaves children tree i child is e
   child_smaller shapes.AllSucceededOrFirstFailed leaves children tree i child is e = in_node Trees.AllSucceededOrFirstFailed leaves children tree i child is e
   child_smaller shapes.Unknown leaves children tree i child is e = in_node Trees.Unknown leaves children tree i child is e
+  child_smaller (shapes.AtLeast required) leaves children tree i child is e = in_node (Trees.AtLeast required) leaves children tree i child is e
 
   module _ (states : Meant → Trees.AwaitState) where
     pub leaf_states : List Meant → List Trees.AwaitState
@@ -73,12 +74,13 @@ module _ {Meant : Type 0} where
 
     looked_node : (shape : AwaitTreeShape) (leaves : List Meant) (children : List (Trees.AwaitTree Meant)) (tally : Tally)
         → Tallies shape tally (map states leaves ++ map (λ tree. Trees.await_state tree states) children) (list_any (λ tree. Trees.has_ended_node tree states) children)
+        → has_ended_in shape tally ≡ (Trees.has_ended (combinator_of shape) (map states leaves ++ map (λ tree. Trees.await_state tree states) children) || list_any (λ tree. Trees.has_ended_node tree states) children)
         → (state_meant (looked_in shape tally).state ≡ Trees.await_state (node (combinator_of shape) leaves children) states)
-        × (tally.has_ended ≡ Trees.has_ended_node (node (combinator_of shape) leaves children) states)
-    looked_node shape leaves children tally h = (
+        × (has_ended_in shape tally ≡ Trees.has_ended_node (node (combinator_of shape) leaves children) states)
+    looked_node shape leaves children tally h ended = (
       state_of_node shape tally _ _ h ∙ ap (λ found. Trees.combined_state (combinator_of shape) found) (sym (all_states leaves children)),
-      h.ended ∙ ap (λ found. list_any (Trees.ends_at_once (combinator_of shape)) found || list_any (λ tree. Trees.has_ended_node tree states) children) (sym (all_states leaves children))
-          ∙ ap (λ b. list_any (Trees.ends_at_once (combinator_of shape)) (Trees.child_states (forest (map (λ leaf. Trees.Single leaf) leaves ++ children)) states) || b) (sym (all_ended leaves children)),
+      ended ∙ ap (λ found. Trees.has_ended (combinator_of shape) found || list_any (λ tree. Trees.has_ended_node tree states) children) (sym (all_states leaves children))
+          ∙ ap (λ b. Trees.has_ended (combinator_of shape) (Trees.child_states (forest (map (λ leaf. Trees.Single leaf) leaves ++ children)) states) || b) (sym (all_ended leaves children)),
     )
 
     first_alone : (state : Trees.AwaitState) → Trees.first_completed (state ∷ []) ≡ state
@@ -102,20 +104,22 @@ module _ {Meant : Type 0} where
     as_node : (shape : AwaitTreeShape) (tree : Trees.AwaitTree Meant) (leaves : List Meant) (children : List (Trees.AwaitTree Meant)) (tally : Tally)
         → tree ≡ node (combinator_of shape) leaves children
         → Tallies shape tally (map states leaves ++ map (λ tree. Trees.await_state tree states) children) (list_any (λ tree. Trees.has_ended_node tree states) children)
-        → (state_meant (looked_in shape tally).state ≡ Trees.await_state tree states) × (tally.has_ended ≡ Trees.has_ended_node tree states)
-    as_node shape tree leaves children tally is h = let both = looked_node shape leaves children tally h in (
-      both.0 ∙ ap (λ (t : Trees.AwaitTree Meant). Trees.await_state t states) (sym is),
-      both.1 ∙ ap (λ (t : Trees.AwaitTree Meant). Trees.has_ended_node t states) (sym is),
-    )
+        → has_ended_in shape tally ≡ (Trees.has_ended (combinator_of shape) (map states leaves ++ map (λ tree. Trees.await_state tree states) children) || list_any (λ tree. Trees.has_ended_node tree states) children)
+        → IsLooked tree states (looked_in shape tally)
+    as_node shape tree leaves children tally is h ended = let both = looked_node shape leaves children tally h ended in record {
+      state = both.0 ∙ ap (λ (t : Trees.AwaitTree Meant). Trees.await_state t states) (sym is);
+      ended = both.1 ∙ ap (λ (t : Trees.AwaitTree Meant). Trees.has_ended_node t states) (sym is);
+    }
 
     pub looked_whole : (shape : AwaitTreeShape) (leaves : List Meant) (children : List (Trees.AwaitTree Meant)) (tree : Trees.AwaitTree Meant) (tally : Tally) → IsShaped shape leaves children tree
         → Tallies shape tally (map states leaves ++ map (λ tree. Trees.await_state tree states) children) (list_any (λ tree. Trees.has_ended_node tree states) children) → IsLooked tree states (looked_in shape tally)
     looked_whole shapes.Single leaves children tree tally is h = looked_leaf leaves children tree tally _ is h
-    looked_whole shapes.FirstCompleted leaves children tree tally is h = let both = as_node shapes.FirstCompleted tree leaves children tally is h in record { state = both.0; ended = both.1 }
-    looked_whole shapes.AllCompleted leaves children tree tally is h = let both = as_node shapes.AllCompleted tree leaves children tally is h in record { state = both.0; ended = both.1 }
-    looked_whole shapes.FirstSucceededOrAllFailed leaves children tree tally is h = let both = as_node shapes.FirstSucceededOrAllFailed tree leaves children tally is h in record { state = both.0; ended = both.1 }
-    looked_whole shapes.AllSucceededOrFirstFailed leaves children tree tally is h = let both = as_node shapes.AllSucceededOrFirstFailed tree leaves children tally is h in record { state = both.0; ended = both.1 }
-    looked_whole shapes.Unknown leaves children tree tally is h = let both = as_node shapes.Unknown tree leaves children tally is h in record { state = both.0; ended = both.1 }
+    looked_whole shapes.FirstCompleted leaves children tree tally is h = as_node shapes.FirstCompleted tree leaves children tally is h h.ended
+    looked_whole shapes.AllCompleted leaves children tree tally is h = as_node shapes.AllCompleted tree leaves children tally is h h.ended
+    looked_whole shapes.FirstSucceededOrAllFailed leaves children tree tally is h = as_node shapes.FirstSucceededOrAllFailed tree leaves children tally is h h.ended
+    looked_whole shapes.AllSucceededOrFirstFailed leaves children tree tally is h = as_node shapes.AllSucceededOrFirstFailed tree leaves children tally is h h.ended
+    looked_whole shapes.Unknown leaves children tree tally is h = as_node shapes.Unknown tree leaves children tally is h h.ended
+    looked_whole (shapes.AtLeast required) leaves children tree tally is h = as_node (shapes.AtLeast required) tree leaves children tally is h (at_least_ended required tally _ _ h)
 
     -- one leaf more
     pub leaf_tallied : (shape : AwaitTreeShape) (tally result : Tally) (leaves : List Meant) (i : ℕ) (leaf : Meant) (state : AwaitState) → slice_get leaves i ≡ Some leaf → state_meant state ≡ states leaf

@@ -1,13 +1,15 @@
 -- A tally with one child more, and what it says of the node.
-use Rattle.std.proofs.Common.{◌≡◌, ℕ, ◌+◌, Bool, true, false, ◌||◌, ◌&&◌, List, [], ◌∷◌, ◌++◌, take, Some, refl, sym, ap, ◌∙◌}
-use Rattle.std.specs.Prelude.{if◌then◌else◌}
+use Rattle.std.proofs.Common.{◌≡◌, ◌==◌, ℕ, ◌+◌, ◌-◌, Bool, true, false, not, ◌||◌, ◌&&◌, List, [], ◌∷◌, ◌++◌, take, Some, refl, sym, ap, ap₂, ◌∙◌, arith}
+use Rattle.std.specs.Prelude.{nat_le, nat_lt, if◌then◌else◌}
+use Rattle.std.proofs.lemmas.Bool.{eqb-true, eqb-false}
+use Rattle.std.proofs.lemmas.Bool.Decides.{nat_tests}
 use Rattle.std.specs.List.{list_any, list_all, slice_get}
 use Rattle.std.proofs.lemmas.List.Folds.{list_any-append, list_all-append}
 use Rattle.std.proofs.lemmas.List.{take_more}
 use Rattle.std.proofs.lemmas.Option.{slice_get_within, get_or_from_slice_get}
 use Rattle.journal_model.specs.AwaitTree as Trees
 use Rattle.protocol_trees.specs.Shape.{state_meant, combinator_of}
-use Rattle.protocol_trees.specs.Tally.{first_of, added, state_in, Tallies}
+use Rattle.protocol_trees.specs.Tally.{first_of, less, required_of, added, state_in, has_ended_in, Tallies}
 use Rattle.protocol_trees.specs.declared.tree.AwaitState.{AwaitState}
 use Rattle.protocol_trees.specs.declared.tree.AwaitState.TheVariants as states
 use Rattle.protocol_trees.specs.declared.tree.AwaitTreeShape.{AwaitTreeShape}
@@ -55,6 +57,27 @@ swapped false true true d = refl
 swapped false true false d = refl
 swapped false false c d = refl
 
+many_last : (test : Trees.AwaitState → Bool) (xs : List Trees.AwaitState) (x : Trees.AwaitState) → Trees.many test (xs ++ x ∷ []) ≡ (if test x then Trees.many test xs + 1 else Trees.many test xs)
+many_last test [] x = refl
+many_last test (y ∷ xs) x = by_tests (test y) (test x) (many_last test xs x)
+  where
+    by_tests : (a b : Bool) → Trees.many test (xs ++ x ∷ []) ≡ (if b then Trees.many test xs + 1 else Trees.many test xs)
+        → (if a then Trees.many test (xs ++ x ∷ []) + 1 else Trees.many test (xs ++ x ∷ []))
+        ≡ (if b then (if a then Trees.many test xs + 1 else Trees.many test xs) + 1 else (if a then Trees.many test xs + 1 else Trees.many test xs))
+    by_tests true true e = ap (λ (m : ℕ). m + 1) e
+    by_tests true false e = ap (λ (m : ℕ). m + 1) e
+    by_tests false true e = e
+    by_tests false false e = e
+
+-- one that passes the test is missing no more
+less_one : (k m : ℕ) (b : Bool) → less (k - m) b ≡ k - (if b then m + 1 else m)
+less_one k m true = omega arith
+less_one k m false = refl
+
+many_more : (test : Trees.AwaitState → Bool) (xs : List Trees.AwaitState) (x : Trees.AwaitState) (k n : ℕ) → n ≡ k - Trees.many test xs → less n (test x) ≡ k - Trees.many test (xs ++ x ∷ [])
+many_more test xs x k n e =
+    ap (λ (m : ℕ). less m (test x)) e ∙ less_one k (Trees.many test xs) (test x) ∙ ap (λ (m : ℕ). k - m) (sym (many_last test xs x))
+
 pub tallied : (shape : AwaitTreeShape) (tally : Tally) (found : List Trees.AwaitState) (below : Bool) (one : Looked) → Tallies shape tally found below → Tallies shape (added shape tally one) (found ++ state_meant one.state ∷ []) (below || one.has_ended)
 tallied shape tally found below one h = record {
   first = first_more found tally.first_completed one.state h.first;
@@ -63,6 +86,8 @@ tallied shape tally found below one h = record {
   all_completed = all_more Trees.is_completed found (state_meant one.state) tally.are_all_completed h.all_completed;
   all_succeeded = all_more Trees.is_succeeded found (state_meant one.state) tally.are_all_succeeded h.all_succeeded;
   all_failed = all_more Trees.is_failed found (state_meant one.state) tally.are_all_failed h.all_failed;
+  missing = many_more Trees.is_succeeded found (state_meant one.state) (required_of shape) tally.missing h.missing;
+  lacking = many_more (λ state. not (Trees.is_failed state)) found (state_meant one.state) (required_of shape) tally.lacking h.lacking;
   ended =
       ap (λ b. b || (Trees.ends_at_once (combinator_of shape) (state_meant one.state) || one.has_ended)) h.ended
       ∙ swapped (list_any (Trees.ends_at_once (combinator_of shape)) found) below (Trees.ends_at_once (combinator_of shape) (state_meant one.state)) one.has_ended
@@ -99,3 +124,30 @@ state_of_node shapes.AllSucceededOrFirstFailed tally found below h =
     failed_or_succeeded tally.is_one_failed tally.are_all_succeeded
     ∙ ap (λ a. if a then Trees.Failed else (if tally.are_all_succeeded then Trees.Succeeded else Trees.Pending)) h.one_failed
     ∙ ap (λ b. if list_any Trees.is_failed found then Trees.Failed else (if b then Trees.Succeeded else Trees.Pending)) h.all_succeeded
+state_of_node (shapes.AtLeast required) tally found below h =
+    by_tests (tally.missing == 0) refl (tally.lacking == 0) refl
+  where
+    by_tests : (a : Bool) → (tally.missing == 0) ≡ a → (b : Bool) → (tally.lacking == 0) ≡ b
+        → state_meant (if a then states.Succeeded else (if b then states.Pending else states.Failed)) ≡ Trees.at_least_state required found
+    by_tests true e b f =
+        let enough : nat_le required (Trees.many Trees.is_succeeded found) ≡ true = let none = eqb-true tally.missing 0 e in let is = h.missing in grind (arith, nat_tests) in
+        rw enough refl
+    by_tests false e true f =
+        let few : nat_le required (Trees.many Trees.is_succeeded found) ≡ false = let some = eqb-false tally.missing 0 e in let is = h.missing in grind (arith, nat_tests) in
+        let hope : nat_lt (Trees.many (λ state. not (Trees.is_failed state)) found) required ≡ false = let none = eqb-true tally.lacking 0 f in let is = h.lacking in grind (arith, nat_tests) in
+        rw (few, hope) refl
+    by_tests false e false f =
+        let few : nat_le required (Trees.many Trees.is_succeeded found) ≡ false = let some = eqb-false tally.missing 0 e in let is = h.missing in grind (arith, nat_tests) in
+        let lost : nat_lt (Trees.many (λ state. not (Trees.is_failed state)) found) required ≡ true = let some = eqb-false tally.lacking 0 f in let is = h.lacking in grind (arith, nat_tests) in
+        rw (few, lost) refl
+
+never_ends : (required : ℕ) (found : List Trees.AwaitState) → list_any (Trees.ends_at_once (Trees.AtLeast required)) found ≡ false
+never_ends required [] = refl
+never_ends required (x ∷ found) = never_ends required found
+
+-- a node that asks for a number has ended as soon as it is not pending
+pub at_least_ended : (required : ℕ) (tally : Tally) (found : List Trees.AwaitState) (below : Bool) → Tallies (shapes.AtLeast required) tally found below
+    → has_ended_in (shapes.AtLeast required) tally ≡ (Trees.has_ended (Trees.AtLeast required) found || below)
+at_least_ended required tally found below h =
+    ap₂ (λ (a b : Bool). a || b) (ap Trees.is_completed (state_of_node (shapes.AtLeast required) tally found below h))
+    (h.ended ∙ ap (λ (a : Bool). a || below) (never_ends required found))

@@ -13,19 +13,20 @@ use Rattle.protocol_trees.specs.declared.tree.AwaitTreeShape.{AwaitTreeShape}
 use Rattle.protocol_trees.specs.declared.tree.AwaitTreeShape.TheVariants as shapes
 
 -- a number without a name means unknown
-abbrev pub shape_in : CombinatorType → AwaitTreeShape
-shape_in combinators.FirstCompleted = shapes.FirstCompleted
-shape_in combinators.AllCompleted = shapes.AllCompleted
-shape_in combinators.FirstSucceededOrAllFailed = shapes.FirstSucceededOrAllFailed
-shape_in combinators.AllSucceededOrFirstFailed = shapes.AllSucceededOrFirstFailed
-shape_in _ = shapes.Unknown
+abbrev pub shape_in : CombinatorType → (required : ℕ) → AwaitTreeShape
+shape_in combinators.FirstCompleted required = shapes.FirstCompleted
+shape_in combinators.AllCompleted required = shapes.AllCompleted
+shape_in combinators.FirstSucceededOrAllFailed required = shapes.FirstSucceededOrAllFailed
+shape_in combinators.AllSucceededOrFirstFailed required = shapes.AllSucceededOrFirstFailed
+shape_in combinators.AtLeastSucceeded required = shapes.AtLeast required
+shape_in _ required = shapes.Unknown
 
 -- completions first, then signals by number, then by name
 abbrev pub ids_in : List ℕ → List ℕ → List (List ℕ) → List NotificationId
 ids_in completions signals names = map ids.CompletionId completions ++ (map ids.SignalId signals ++ map ids.SignalName names)
 
 unfoldable pub future_tree : Future → Trees.AwaitTree NotificationId
-future_tree = fold-Future (Trees.AwaitTree NotificationId) (λ f. node (combinator_of (shape_in f.combinator_type)) (ids_in f.waiting_completions f.waiting_signals f.waiting_named_signals) f.nested_futures)
+future_tree = fold-Future (Trees.AwaitTree NotificationId) (λ f. node (combinator_of (shape_in f.combinator_type f.required)) (ids_in f.waiting_completions f.waiting_signals f.waiting_named_signals) f.nested_futures)
 
 abbrev pub leaves_in : Future → List NotificationId
 leaves_in f = ids_in (out-Future f).waiting_completions (out-Future f).waiting_signals (out-Future f).waiting_named_signals

@@ -1,5 +1,5 @@
 -- A future's tree is a node over its leaves and the trees of the futures in it.
-use Rattle.std.specs.Prelude.{◌≡◌, List}
+use Rattle.std.specs.Prelude.{◌≡◌, ℕ, List}
 use Rattle.journal_model.specs.AwaitTree as Trees
 use Rattle.journal_model.specs.declared.notification.NotificationId.{NotificationId}
 use Rattle.protocol_records.specs.declared.future.Future.{Future, out-Future, fold_out-Future}
@@ -8,17 +8,18 @@ use Rattle.protocol_records.specs.declared.future.CombinatorType.TheVariants as 
 use Rattle.protocol_trees.specs.Shape.{combinator_of, node, IsShaped}
 use Rattle.protocol_trees.specs.Future.{shape_in, ids_in, leaves_in, children_in, future_tree}
 
-pub future_tree_is : (f : Future) → future_tree f ≡ node (combinator_of (shape_in (out-Future f).combinator_type)) (leaves_in f) (children_in f)
+pub future_tree_is : (f : Future) → future_tree f ≡ node (combinator_of (shape_in (out-Future f).combinator_type (out-Future f).required)) (leaves_in f) (children_in f)
 unfolding future_tree
-future_tree_is f = fold_out-Future (Trees.AwaitTree NotificationId) (λ f. node (combinator_of (shape_in f.combinator_type)) (ids_in f.waiting_completions f.waiting_signals f.waiting_named_signals) f.nested_futures) f
+future_tree_is f = fold_out-Future (Trees.AwaitTree NotificationId) (λ f. node (combinator_of (shape_in f.combinator_type f.required)) (ids_in f.waiting_completions f.waiting_signals f.waiting_named_signals) f.nested_futures) f
 
-shaped : (combinator : CombinatorType) (leaves : List NotificationId) (children : List (Trees.AwaitTree NotificationId)) (tree : Trees.AwaitTree NotificationId) → tree ≡ node (combinator_of (shape_in combinator)) leaves children → IsShaped (shape_in combinator) leaves children tree
-shaped combinators.Unknown leaves children tree e = e
-shaped combinators.FirstCompleted leaves children tree e = e
-shaped combinators.AllCompleted leaves children tree e = e
-shaped combinators.FirstSucceededOrAllFailed leaves children tree e = e
-shaped combinators.AllSucceededOrFirstFailed leaves children tree e = e
-shaped (combinators.Other number) leaves children tree e = e
+shaped : (combinator : CombinatorType) (required : ℕ) (leaves : List NotificationId) (children : List (Trees.AwaitTree NotificationId)) (tree : Trees.AwaitTree NotificationId) → tree ≡ node (combinator_of (shape_in combinator required)) leaves children → IsShaped (shape_in combinator required) leaves children tree
+shaped combinators.Unknown required leaves children tree e = e
+shaped combinators.FirstCompleted required leaves children tree e = e
+shaped combinators.AllCompleted required leaves children tree e = e
+shaped combinators.FirstSucceededOrAllFailed required leaves children tree e = e
+shaped combinators.AllSucceededOrFirstFailed required leaves children tree e = e
+shaped combinators.AtLeastSucceeded required leaves children tree e = e
+shaped (combinators.Other number) required leaves children tree e = e
 
-pub future_shaped : (f : Future) → IsShaped (shape_in (out-Future f).combinator_type) (leaves_in f) (children_in f) (future_tree f)
-future_shaped f = shaped (out-Future f).combinator_type (leaves_in f) (children_in f) (future_tree f) (future_tree_is f)
+pub future_shaped : (f : Future) → IsShaped (shape_in (out-Future f).combinator_type (out-Future f).required) (leaves_in f) (children_in f) (future_tree f)
+future_shaped f = shaped (out-Future f).combinator_type (out-Future f).required (leaves_in f) (children_in f) (future_tree f) (future_tree_is f)

@@ -19,6 +19,7 @@ combinator_of shapes.AllCompleted = Trees.AllCompleted
 combinator_of shapes.FirstSucceededOrAllFailed = Trees.FirstSucceededOrAllFailed
 combinator_of shapes.AllSucceededOrFirstFailed = Trees.AllSucceededOrFirstFailed
 combinator_of shapes.Unknown = Trees.Unknown
+combinator_of (shapes.AtLeast required) = Trees.AtLeast required
 
 abbrev pub forest : {Meant : Type 0} → List (Trees.AwaitTree Meant) → Trees.AwaitTrees Meant
 forest [] = Trees.no_trees
@@ -42,3 +43,4 @@ IsShaped shapes.AllCompleted leaves children tree = tree ≡ node Trees.AllCompl
 IsShaped shapes.FirstSucceededOrAllFailed leaves children tree = tree ≡ node Trees.FirstSucceededOrAllFailed leaves children
 IsShaped shapes.AllSucceededOrFirstFailed leaves children tree = tree ≡ node Trees.AllSucceededOrFirstFailed leaves children
 IsShaped shapes.Unknown leaves children tree = tree ≡ node Trees.Unknown leaves children
+IsShaped (shapes.AtLeast required) leaves children tree = tree ≡ node (Trees.AtLeast required) leaves children

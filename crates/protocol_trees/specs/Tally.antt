@@ -1,5 +1,5 @@
 -- What the children of a node have come to, one after another.
-use Rattle.std.specs.Prelude.{◌≡◌, Bool, true, false, ◌||◌, ◌&&◌, if◌then◌else◌, List}
+use Rattle.std.specs.Prelude.{◌≡◌, ℕ, ◌-◌, ◌==◌, Bool, true, false, not, ◌||◌, ◌&&◌, if◌then◌else◌, List}
 use Rattle.std.specs.List.{list_any, list_all}
 use Rattle.journal_model.specs.AwaitTree as Trees
 use Rattle.protocol_trees.specs.Shape.{state_meant, combinator_of}
@@ -15,14 +15,25 @@ first_of states.Pending next = next
 first_of states.Succeeded next = states.Succeeded
 first_of states.Failed next = states.Failed
 
-abbrev pub no_tally : Tally
-no_tally = record {
+-- how many successes a node of this shape asks for
+abbrev pub required_of : AwaitTreeShape → ℕ
+required_of (shapes.AtLeast required) = required
+required_of _ = 0
+
+-- one less, where this holds
+abbrev pub less : ℕ → Bool → ℕ
+less number holds = if holds then number - 1 else number
+
+abbrev pub no_tally : AwaitTreeShape → Tally
+no_tally shape = record {
   first_completed = states.Pending;
   is_one_succeeded = false;
   is_one_failed = false;
   are_all_completed = true;
   are_all_succeeded = true;
   are_all_failed = true;
+  missing = required_of shape;
+  lacking = required_of shape;
   has_ended = false;
 }
 
@@ -35,6 +46,8 @@ added shape tally one = record {
   are_all_completed = tally.are_all_completed && Trees.is_completed (state_meant one.state);
   are_all_succeeded = tally.are_all_succeeded && Trees.is_succeeded (state_meant one.state);
   are_all_failed = tally.are_all_failed && Trees.is_failed (state_meant one.state);
+  missing = less tally.missing (Trees.is_succeeded (state_meant one.state));
+  lacking = less tally.lacking (not (Trees.is_failed (state_meant one.state)));
   has_ended = tally.has_ended || (Trees.ends_at_once (combinator_of shape) (state_meant one.state) || one.has_ended);
 }
 
@@ -44,10 +57,13 @@ state_in shapes.FirstSucceededOrAllFailed tally =
     if tally.is_one_succeeded then states.Succeeded else (if tally.are_all_failed then states.Failed else states.Pending)
 state_in shapes.AllSucceededOrFirstFailed tally =
     if tally.is_one_failed then states.Failed else (if tally.are_all_succeeded then states.Succeeded else states.Pending)
+state_in (shapes.AtLeast required) tally =
+    if tally.missing == 0 then states.Succeeded else (if tally.lacking == 0 then states.Pending else states.Failed)
 state_in _ tally = tally.first_completed
 
 abbrev pub has_ended_in : AwaitTreeShape → Tally → Bool
 has_ended_in shapes.Single tally = false
+has_ended_in (shapes.AtLeast required) tally = Trees.is_completed (state_meant (state_in (shapes.AtLeast required) tally)) || tally.has_ended
 has_ended_in _ tally = tally.has_ended
 
 abbrev pub looked_in : AwaitTreeShape → Tally → Looked
@@ -61,4 +77,6 @@ pub record Tallies (shape : AwaitTreeShape) (tally : Tally) (found : List Trees.
   pub all_completed : tally.are_all_completed ≡ list_all Trees.is_completed found
   pub all_succeeded : tally.are_all_succeeded ≡ list_all Trees.is_succeeded found
   pub all_failed : tally.are_all_failed ≡ list_all Trees.is_failed found
+  pub missing : tally.missing ≡ required_of shape - Trees.many Trees.is_succeeded found
+  pub lacking : tally.lacking ≡ required_of shape - Trees.many (λ state. not (Trees.is_failed state)) found
   pub ended : tally.has_ended ≡ (list_any (Trees.ends_at_once (combinator_of shape)) found || has_ended_below)

@@ -15,14 +15,15 @@ pub enum NotificationIdRef<'a> {
     SignalName(&'a ByteStr),
 }
 
-fn shape_of(combinator: CombinatorType) -> AwaitTreeShape
-    ensures { result ≡ shape_in combinator }
+fn shape_of(combinator: CombinatorType, required: u32) -> AwaitTreeShape
+    ensures { result ≡ shape_in combinator required }
 {
     match combinator {
         CombinatorType::FirstCompleted => AwaitTreeShape::FirstCompleted,
         CombinatorType::AllCompleted => AwaitTreeShape::AllCompleted,
         CombinatorType::FirstSucceededOrAllFailed => AwaitTreeShape::FirstSucceededOrAllFailed,
         CombinatorType::AllSucceededOrFirstFailed => AwaitTreeShape::AllSucceededOrFirstFailed,
+        CombinatorType::AtLeastSucceeded => AwaitTreeShape::AtLeast(required),
         CombinatorType::Unknown | CombinatorType::Other(_) => AwaitTreeShape::Unknown,
     }
 }
@@ -75,7 +76,7 @@ impl<'a> AwaitTree for &'a Future {
 
     ghost tree = { λ f. future_tree f.now };
 
-    ghost shape_of = { λ f. shape_in (out-Future f.now).combinator_type };
+    ghost shape_of = { λ f. shape_in (out-Future f.now).combinator_type (out-Future f.now).required };
 
     ghost leaves_of = { λ f. leaves_in f.now };
 
@@ -84,7 +85,7 @@ impl<'a> AwaitTree for &'a Future {
     ghost is_shaped = { λ f. future_shaped f.now };
 
     fn shape(self) -> AwaitTreeShape {
-        shape_of(self.combinator_type)
+        shape_of(self.combinator_type, self.required)
     }
 
     fn leaf_count(self) -> u128 {

@@ -13,7 +13,7 @@ fn look<T: AwaitTree, F: Fn(T::Leaf) -> AwaitState>(tree: T, leaves: &F) -> Look
     ensures { (states : T.Meant → States) → AreStates (F.post leaves.now) T.meant states → IsLooked (T.tree tree) states result }
 {
     let shape = tree.shape();
-    let mut tally = Tally::new();
+    let mut tally = Tally::new(shape);
     for index in 0..tree.leaf_count() {
         let state = leaves(tree.leaf(index));
         let has_ended = false;

@@ -2,7 +2,7 @@
 ghost use Rattle.std.specs.Prelude.{◌≡◌};
 ghost use Rattle.journal_model.specs.AwaitTree.{is_completed, is_succeeded, is_failed, ends_at_once};
 ghost use Rattle.protocol_trees.specs.Shape.{state_meant, combinator_of};
-ghost use Rattle.protocol_trees.specs.Tally.{first_of, no_tally, added, looked_in, state_in, has_ended_in};
+ghost use Rattle.protocol_trees.specs.Tally.{first_of, less, required_of, no_tally, added, looked_in, state_in, has_ended_in};
 
 use crate::tree::{AwaitState, AwaitTreeShape};
 
@@ -22,6 +22,9 @@ pub(crate) struct Tally {
     pub are_all_completed: bool,
     pub are_all_succeeded: bool,
     pub are_all_failed: bool,
+    /// How many successes are missing of those that are required, and how many children that have not failed.
+    pub missing: u32,
+    pub lacking: u32,
     pub has_ended: bool,
 }
 
@@ -59,6 +62,7 @@ fn ends_at_once(shape: AwaitTreeShape, state: AwaitState) -> bool
 {
     match shape {
         AwaitTreeShape::AllCompleted => false,
+        AwaitTreeShape::AtLeast(_) => false,
         AwaitTreeShape::FirstSucceededOrAllFailed => is_succeeded(state),
         AwaitTreeShape::AllSucceededOrFirstFailed => is_failed(state),
         AwaitTreeShape::Single | AwaitTreeShape::FirstCompleted | AwaitTreeShape::Unknown =>
@@ -66,10 +70,31 @@ fn ends_at_once(shape: AwaitTreeShape, state: AwaitState) -> bool
     }
 }
 
+// How many successes a node of this shape asks for.
+fn required_of(shape: AwaitTreeShape) -> u32
+    ensures { result ≡ required_of shape }
+{
+    match shape {
+        AwaitTreeShape::AtLeast(required) => required,
+        _ => 0,
+    }
+}
+
+// One less, where this holds.
+fn less(number: u32, holds: bool) -> u32
+    ensures { result ≡ less number holds }
+{
+    if holds {
+        number.saturating_sub(1)
+    } else {
+        number
+    }
+}
+
 impl Tally {
     /// No child yet.
-    pub(crate) fn new() -> Tally
-        ensures { result ≡ no_tally }
+    pub(crate) fn new(shape: AwaitTreeShape) -> Tally
+        ensures { result ≡ no_tally shape }
     {
         Tally {
             first_completed: AwaitState::Pending,
@@ -78,6 +103,8 @@ impl Tally {
             are_all_completed: true,
             are_all_succeeded: true,
             are_all_failed: true,
+            missing: required_of(shape),
+            lacking: required_of(shape),
             has_ended: false,
         }
     }
@@ -95,6 +122,8 @@ impl Tally {
             are_all_completed: self.are_all_completed & is_completed(one.state),
             are_all_succeeded: self.are_all_succeeded & succeeded,
             are_all_failed: self.are_all_failed & failed,
+            missing: less(self.missing, succeeded),
+            lacking: less(self.lacking, !failed),
             has_ended: self.has_ended | (ends_at_once(shape, one.state) | one.has_ended),
         }
     }
@@ -114,6 +143,9 @@ impl Tally {
             AwaitTreeShape::AllSucceededOrFirstFailed if self.are_all_succeeded =>
                 AwaitState::Succeeded,
             AwaitTreeShape::AllSucceededOrFirstFailed => AwaitState::Pending,
+            AwaitTreeShape::AtLeast(_) if self.missing == 0 => AwaitState::Succeeded,
+            AwaitTreeShape::AtLeast(_) if self.lacking == 0 => AwaitState::Pending,
+            AwaitTreeShape::AtLeast(_) => AwaitState::Failed,
             AwaitTreeShape::Single | AwaitTreeShape::FirstCompleted | AwaitTreeShape::Unknown =>
                 self.first_completed,
         }
@@ -124,6 +156,7 @@ impl Tally {
     {
         match shape {
             AwaitTreeShape::Single => false,
+            AwaitTreeShape::AtLeast(_) => is_completed(self.state(shape)) | self.has_ended,
             _ => self.has_ended,
         }
     }

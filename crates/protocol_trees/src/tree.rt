@@ -23,6 +23,8 @@ pub enum AwaitTreeShape {
     FirstSucceededOrAllFailed,
     AllSucceededOrFirstFailed,
     Unknown,
+    /// So many children have to succeed.
+    AtLeast(u32),
 }
 
 /// A tree of futures, looked at in place: a finite tree, each child a smaller one.

@@ -4,7 +4,7 @@ use Rattle.std.specs.Prelude.{◌||◌, find}
 use Rattle.std.proofs.lemmas.Bool.{cases_Bool, eqb-true, eqb-false, ltb-false}
 use Rattle.protocol_types.specs.declared.version.Version.{Version}
 use Rattle.protocol_types.specs.Version.{versions, version_number, version_at, version_with, has_content_type, is_unsupported, version_spoken}
-use Rattle.protocol_types.specs.declared.version.Version.TheVariants.{V1, V2, V3, V4, V5, V6, V7, V8}
+use Rattle.protocol_types.specs.declared.version.Version.TheVariants.{V1, V2, V3, V4, V5, V6, V7, V8, V9}
 use Rattle.protocol_types.specs.Laws.{ContentTypesReadBack, VersionsReadBack, SpokenVersionsHaveNumbers}
 
 pub content_types_read_back : ContentTypesReadBack
@@ -17,6 +17,7 @@ content_types_read_back V5 = refl
 content_types_read_back V6 = refl
 content_types_read_back V7 = refl
 content_types_read_back V8 = refl
+content_types_read_back V9 = refl
 
 pub versions_read_back : VersionsReadBack
 versions_read_back V1 = refl
@@ -27,6 +28,7 @@ versions_read_back V5 = refl
 versions_read_back V6 = refl
 versions_read_back V7 = refl
 versions_read_back V8 = refl
+versions_read_back V9 = refl
 
 -- ---- the version of a number has that number
 
@@ -51,15 +53,18 @@ of_version number version e = (version, ap version_at e ∙ versions_read_back v
 
 pub spoken_versions_have_numbers : SpokenVersionsHaveNumbers
 spoken_versions_have_numbers number spoken =
-    let low : nat_lt number 5 ≡ false = left_of (nat_lt number 5) (nat_lt 8 number) spoken in
-    let high : nat_lt 8 number ≡ false = right_of (nat_lt number 5) (nat_lt 8 number) spoken in
+    let low : nat_lt number 5 ≡ false = left_of (nat_lt number 5) (nat_lt 9 number) spoken in
+    let high : nat_lt 9 number ≡ false = right_of (nat_lt number 5) (nat_lt 9 number) spoken in
     elim (cases_Bool (number == 5)) [
       | inl e ↦ of_version number V5 (eqb-true number 5 e)
       | inr not_5 ↦ elim (cases_Bool (number == 6)) [
         | inl e ↦ of_version number V6 (eqb-true number 6 e)
         | inr not_6 ↦ elim (cases_Bool (number == 7)) [
           | inl e ↦ of_version number V7 (eqb-true number 7 e)
-          | inr not_7 ↦ of_version number V8 (last number (ltb-false number 5 low) (ltb-false 8 number high) (eqb-false number 5 not_5) (eqb-false number 6 not_6) (eqb-false number 7 not_7))
+          | inr not_7 ↦ elim (cases_Bool (number == 8)) [
+            | inl e ↦ of_version number V8 (eqb-true number 8 e)
+            | inr not_8 ↦ of_version number V9 (last number (ltb-false number 5 low) (ltb-false 9 number high) (eqb-false number 5 not_5) (eqb-false number 6 not_6) (eqb-false number 7 not_7) (eqb-false number 8 not_8))
+          ]
         ]
       ]
     ]
@@ -72,8 +77,8 @@ spoken_versions_have_numbers number spoken =
     right_of true b e = absurd cc
     right_of false b e = e
 
-    last : (n : ℕ) → 5 ≤ n → n ≤ 8 → n ≢ 5 → n ≢ 6 → n ≢ 7 → n ≡ 8
-    last n low high a b c = omega (arith, low, high, a, b, c)
+    last : (n : ℕ) → 5 ≤ n → n ≤ 9 → n ≢ 5 → n ≢ 6 → n ≢ 7 → n ≢ 8 → n ≡ 9
+    last n low high a b c d = omega (arith, low, high, a, b, c, d)
 
 pub spoken_some : (number : ℕ) (version : Version) → version_spoken number ≡ Some version → (is_unsupported number ≡ false) × (version_number version ≡ number)
 spoken_some number version e = by_test (is_unsupported number) refl e

@@ -1,7 +1,7 @@
 -- Versions of the protocol, and the content types that name them.
 use Rattle.std.specs.Prelude.{ℕ, ◌==◌, nat_lt, ◌||◌, if◌then◌else◌, Bool, List, [], ◌∷◌, codes, find, bytes_eq, length, take, Option, Some, None, Result, Ok, Err}
 use Rattle.protocol_types.specs.declared.version.Version.{Version}
-use Rattle.protocol_types.specs.declared.version.Version.TheVariants.{V1, V2, V3, V4, V5, V6, V7, V8}
+use Rattle.protocol_types.specs.declared.version.Version.TheVariants.{V1, V2, V3, V4, V5, V6, V7, V8, V9}
 use Rattle.protocol_types.specs.declared.version.ContentTypeError.{ContentTypeError}
 use Rattle.protocol_types.specs.declared.version.ContentTypeError.TheVariants.{RestateContentType, OtherContentType}
 
@@ -14,6 +14,7 @@ version_number V5 = 5
 version_number V6 = 6
 version_number V7 = 7
 version_number V8 = 8
+version_number V9 = 9
 
 abbrev pub version_name : Version → List ℕ
 version_name V1 = codes "V1"
@@ -24,6 +25,7 @@ version_name V5 = codes "V5"
 version_name V6 = codes "V6"
 version_name V7 = codes "V7"
 version_name V8 = codes "V8"
+version_name V9 = codes "V9"
 
 abbrev pub version_content_type : Version → List ℕ
 version_content_type V1 = codes "application/vnd.restate.invocation.v1"
@@ -34,9 +36,10 @@ version_content_type V5 = codes "application/vnd.restate.invocation.v5"
 version_content_type V6 = codes "application/vnd.restate.invocation.v6"
 version_content_type V7 = codes "application/vnd.restate.invocation.v7"
 version_content_type V8 = codes "application/vnd.restate.invocation.v8"
+version_content_type V9 = codes "application/vnd.restate.invocation.v9"
 
 abbrev pub versions : List Version
-versions = V1 ∷ V2 ∷ V3 ∷ V4 ∷ V5 ∷ V6 ∷ V7 ∷ V8 ∷ []
+versions = V1 ∷ V2 ∷ V3 ∷ V4 ∷ V5 ∷ V6 ∷ V7 ∷ V8 ∷ V9 ∷ []
 
 -- the version with this number
 abbrev pub version_at : ℕ → Option Version
@@ -47,7 +50,7 @@ abbrev pub oldest_version : Version
 oldest_version = V5
 
 abbrev pub newest_version : Version
-newest_version = V8
+newest_version = V9
 
 abbrev pub is_unsupported : ℕ → Bool
 is_unsupported number = nat_lt number (version_number oldest_version) || nat_lt (version_number newest_version) number

@@ -21,6 +21,8 @@ pub enum Feature {
     Scope,
     /// What a handler reads of its object's state without a command in its journal.
     EphemeralState,
+    /// An await asks for a number of successes.
+    AtLeast,
 }
 
 impl Feature {
@@ -36,6 +38,7 @@ impl Feature {
             Feature::Acknowledgement => Version::V7,
             Feature::Scope => Version::V7,
             Feature::EphemeralState => Version::V8,
+            Feature::AtLeast => Version::V9,
         }
     }
 

@@ -1,6 +1,5 @@
-//! The words that all of the protocol speaks in: types of messages, versions, and what each version brought.
-//!
-//! How the fields of records are printed: numbers, texts, bytes, and what may be absent or come more than once.
+//! The words that all of the protocol speaks in: types of messages, versions, what each version brought, and how the fields of records
+//! are printed.
 #![tactic(auto)]
 
 mod feature;
@@ -12,9 +11,8 @@ mod shown;
 mod version;
 
 pub use feature::Feature;
-pub use message_type::{MessageType, UnknownMessageType};
-pub use version::{ContentTypeError, Version};
 pub use hex::HexByte;
+pub use message_type::{MessageType, UnknownMessageType};
 pub use parts::show_labelled;
 pub use shown::Shown;
-
+pub use version::{ContentTypeError, Version};

@@ -20,6 +20,7 @@ pub enum Version {
     V6,
     V7,
     V8,
+    V9,
 }
 
 /// The text of a content type that names no version.
@@ -47,6 +48,7 @@ impl Version {
             Version::V6 => "application/vnd.restate.invocation.v6",
             Version::V7 => "application/vnd.restate.invocation.v7",
             Version::V8 => "application/vnd.restate.invocation.v8",
+            Version::V9 => "application/vnd.restate.invocation.v9",
         }
     }
 
@@ -71,6 +73,7 @@ impl Version {
             Version::V6 => "V6",
             Version::V7 => "V7",
             Version::V8 => "V8",
+            Version::V9 => "V9",
         }
     }
 
@@ -87,10 +90,11 @@ impl Version {
             Version::V6 => 6,
             Version::V7 => 7,
             Version::V8 => 8,
+            Version::V9 => 9,
         }
     }
 
-    /// The version with this number, from 1 to 8.
+    /// The version with this number, from 1 to 9.
     pub fn with_number(number: u32) -> Option<Version>
         ensures { result ≡ version_at number }
     {
@@ -103,6 +107,7 @@ impl Version {
             6 => Some(Version::V6),
             7 => Some(Version::V7),
             8 => Some(Version::V8),
+            9 => Some(Version::V9),
             _ => None,
         }
     }
@@ -144,7 +149,7 @@ impl Version {
     pub fn maximum_supported_version() -> Version
         ensures { result ≡ newest_version }
     {
-        Version::V8
+        Version::V9
     }
 }
 
@@ -178,6 +183,8 @@ fn version_in(text: &str) -> Option<Version>
         Some(Version::V7)
     } else if Version::V8.has_content_type(text) {
         Some(Version::V8)
+    } else if Version::V9.has_content_type(text) {
+        Some(Version::V9)
     } else {
         None
     }

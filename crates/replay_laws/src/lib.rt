@@ -1,12 +1,10 @@
-//! An executor is the machine of an attempt with the bodies of its runs (`body_laws`); here it is that of an invocation's live attempt, and
-//! its outcomes go to a store. These laws say that for a run nothing is recorded but what its attempt has proposed, that no outcome on its
-//! way is refused since its run is not open, and that the attempt stays what it is from its begin on, whatever events bring to it. The
-//! functions do nothing: their contracts are the laws.
-//!
 //! An attempt that replays a journal, whoever feeds it: a host, a bench that replays recorded handlers, or a store. What is known of it
 //! between turns speaks of the journal, of what has come behind it, and of what the attempt has asked for, and of no store: so these laws
 //! hold of any bytes of such a journal, in any cut, and any turns between them. The live attempt of a store is an instance, and stays one
-//! where it is stopped or overtaken. The functions do nothing: their contracts are the laws.
+//! where it is stopped or overtaken.
+//!
+//! With the bodies of its runs (`body_laws`) the live attempt's outcomes go to a store: nothing is recorded of a run but what its attempt has
+//! proposed, and no outcome on its way is refused since its run is not open. The functions do nothing: their contracts are the laws.
 #![tactic(auto)]
 
 ghost use Rattle.replay_laws.specs.Flying.{OthersFollow, OutcomesAreNew, OutcomesAreOpen, OutcomesBegin, OutcomesStay};

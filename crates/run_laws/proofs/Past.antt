@@ -8,7 +8,7 @@ use Rattle.std.specs.List.{find, list_any}
 use Rattle.journal_model.specs.declared.notification.NotificationId.{NotificationId}
 use Rattle.journal_model.specs.Notification.{Arrival, same_id, cancel_id}
 use Rattle.journal_model.specs.Request.{Request}
-use Rattle.journal_model.specs.AwaitTree.{AwaitTree, Single, Combined, AwaitTrees, no_trees, and_trees, AwaitState, Pending, is_completed, is_awake, await_state, child_states, some_has_ended_node, combined_state, ends_at_once}
+use Rattle.journal_model.specs.AwaitTree.{AwaitTree, Single, Combined, AwaitTrees, no_trees, and_trees, AwaitState, Pending, is_completed, is_awake, await_state, child_states, some_has_ended_node, combined_state, has_ended}
 use Rattle.journal_model.specs.Delivery.{state_of_result}
 use Rattle.journal_model.specs.Waiting.{pruned, pruned_children, only_leaves, only_children, state_of_some}
 use Rattle.journal_model.specs.Run.{Handler, Invocation, Progress, Ending, GoesOn, Waits, RefusedCall, Ended, run, is_going}
@@ -48,14 +48,14 @@ module _ (states : NotificationId → AwaitState) where
   stand_ended (and_trees (Combined combinator children) trees) e =
       let (own, others) = and-true (all_children_stand children) (all_children_stand trees) e in
       ap₂ (λ (a b : Bool). a || b)
-      (ap₂ (λ (a b : Bool). a || b) (ap (list_any (ends_at_once combinator)) (stand_states children own)) (stand_ended children own)) (stand_ended trees others)
+      (ap₂ (λ (a b : Bool). a || b) (ap (has_ended combinator) (stand_states children own)) (stand_ended children own)) (stand_ended trees others)
 
   stand_awake : (tree : AwaitTree (Option NotificationId)) → all_stand tree ≡ true → is_awake (only_leaves (λ leaf. leaf) tree) states ≡ is_awake tree (state_of_some states)
   stand_awake (Single None) e = absurd (true≢false (sym e))
   stand_awake (Single (Some id)) e = refl
   stand_awake (Combined combinator children) e =
       ap₂ (λ (a b : Bool). a || b) (ap (λ (state : AwaitState). is_completed state) (stand_state (Combined combinator children) e))
-      (ap₂ (λ (a b : Bool). a || b) (ap (list_any (ends_at_once combinator)) (stand_states children e)) (stand_ended children e))
+      (ap₂ (λ (a b : Bool). a || b) (ap (has_ended combinator) (stand_states children e)) (stand_ended children e))
 
 pub both_true : (a b : Bool) → a ≡ true → b ≡ true → (a && b) ≡ true
 both_true true b e f = f

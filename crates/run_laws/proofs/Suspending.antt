@@ -5,7 +5,7 @@ use Rattle.std.specs.List.{list_any}
 use Rattle.protocol_types.specs.Feature.{lacks_feature}
 use Rattle.protocol_types.specs.declared.feature.Feature.TheVariants as features
 use Rattle.journal_model.specs.declared.notification.NotificationId.{NotificationId}
-use Rattle.journal_model.specs.AwaitTree.{AwaitState, Pending, Succeeded, Failed, is_completed, AwaitTree, Single, Combined, AwaitTrees, no_trees, and_trees, FirstCompleted, combined_state, await_state, child_states, ends_at_once, has_ended_node, some_has_ended_node, is_awake}
+use Rattle.journal_model.specs.AwaitTree.{AwaitState, Pending, Succeeded, Failed, is_completed, AwaitTree, Single, Combined, AwaitTrees, no_trees, and_trees, FirstCompleted, combined_state, await_state, child_states, has_ended, has_ended_node, some_has_ended_node, is_awake}
 use Rattle.journal_model.specs.Waiting.{SameTree, pruned, earlier_or_later, only_leaves, state_of_some}
 use Rattle.journal_model.specs.Event.{ForTree, ForAny}
 use Rattle.journal_laws.proofs.Leaving.{or-false}
@@ -51,7 +51,7 @@ module _ (states : NotificationId → AwaitState) where
     ended_pending : (tree : AwaitTree (Option NotificationId)) → list_any (λ id. is_completed (states id)) (leaf_ids tree) ≡ false → has_ended_node tree (state_of_some states) ≡ has_ended_node tree pending
     ended_pending (Single leaf) e = refl
     ended_pending (Combined combinator children) e =
-        ap₂ (λ (a b : Bool). a || b) (ap (list_any (ends_at_once combinator)) (states_pending children e)) (some_pending children e)
+        ap₂ (λ (a b : Bool). a || b) (ap (has_ended combinator) (states_pending children e)) (some_pending children e)
 
     some_pending : (trees : AwaitTrees (Option NotificationId)) → list_any (λ id. is_completed (states id)) (leaf_ids_of_trees trees) ≡ false → some_has_ended_node trees (state_of_some states) ≡ some_has_ended_node trees pending
     some_pending no_trees e = refl

@@ -1,13 +1,6 @@
-//! When does a run go on? Laws over more arrivals and over one more call. The functions do nothing: their contracts are the laws.
-//!
-//! What does a waiting run wait for, and when is it awake? The functions do nothing: their contracts are the laws.
-//!
-//! Which keys has an object's state? The functions do nothing: their contracts are the laws.
-//!
-//! What holds of an invocation in every run? The headline and the waking clauses, from what is known of each frame that the store took.
-//! The functions do nothing: their contracts are the laws.
-//!
-//! What is recorded of an invocation that is settled depends on its arrivals alone. The functions do nothing: their contracts are the laws.
+//! Laws of the one uninterrupted run: when it goes on over more arrivals or one more call, what it waits for and when that is awake, which keys
+//! its object's state has; and the headline and the waking clauses, from what is known of each frame that the store took. The functions do
+//! nothing: their contracts are the laws.
 #![tactic(auto)]
 
 ghost use Rattle.run_laws.specs.RunLaws.{CallsReplay, CompletionsAscend, RunsStay};

@@ -1,11 +1,10 @@
 //! Which accepted events can calls bring, and can what is recorded of them be told to an attempt? Laws over lists of events of which each
-//! fits: their numbers are within their types, their texts are UTF-8, and what an attempt asks for is recorded. The functions do nothing:
-//! their contracts are the laws.
+//! fits: their numbers are within their types, their texts are UTF-8, and what an attempt asks for is recorded.
 //!
-//! What schedules keep of each invocation, and what they leave: its records are those of the one uninterrupted run of its handler. Laws
-//! over the events of a schedule, the attempts that are held and what is on its way between them. An invocation in its run is what is
-//! recorded of it, what is on its way from its live attempt, and where that attempt stands; what each kind of event keeps of that
-//! follows from what an attempt keeps that serves a live attempt. The functions do nothing: their contracts are the laws.
+//! What schedules keep of each invocation, and what they leave: its records are those of the one uninterrupted run of its handler. An
+//! invocation in its run is what is recorded of it, what is on its way from its live attempt, and where that attempt stands; what each kind
+//! of event keeps of that follows from what an attempt keeps that serves a live attempt. The functions do nothing: their contracts are the
+//! laws.
 #![tactic(auto)]
 
 ghost use Rattle.schedule_laws.specs.Handing.{HandsOutInput};
@@ -13,10 +12,13 @@ ghost use Rattle.schedule_laws.specs.FittingLaws.{AttemptsAreFedWell, AttemptsCa
 ghost use Rattle.schedule_laws.specs.Isolation.{AllAnswerAlone, AllKeepState, AllReplyAlike, AllStandAlone};
 ghost use Rattle.schedule_laws.specs.Laws.{FollowsHolds, FramesAreTaken, HoldsFollows, HoldsHeadline, HoldsNeverLate, HoldsTold, HoldsWakesExactly, KeptByEach, LeavesHolds, NoneRefused, ToldByEach};
 
-use replay_laws::{executors_live, live_attempts_replay};
 use journal_laws::invocations_isolated;
 use journal_model::Handler;
-use vm_attempt_laws::{attempts_begin, closes_keep, events_keep, feeds_keep, overs_stay, takes_keep, turns_keep, turns_tell};
+use replay_laws::{executors_live, live_attempts_replay};
+use vm_attempt_laws::{
+    attempts_begin, closes_keep, events_keep, feeds_keep, overs_stay, takes_keep, turns_keep,
+    turns_tell,
+};
 
 /// What an event brings to the live attempt can be told to it.
 pub fn messages_come_well()

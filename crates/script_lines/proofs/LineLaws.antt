@@ -12,7 +12,7 @@ use Rattle.std.proofs.lemmas.List.Splits.{slice_split_at, slice_split_none, join
 use Rattle.script_lines.specs.declared.word.StateMode.{StateMode}
 use Rattle.script_lines.specs.declared.word.StateMode.TheVariants.{Whole, Hidden}
 use Rattle.script_lines.specs.declared.word.HandlerName.{HandlerName}
-use Rattle.script_lines.specs.declared.word.HandlerName.TheVariants.{Nap, Nap99, Race, Both, Ask, Pair, Twice, Keys, Read, Effect, Go, Hook}
+use Rattle.script_lines.specs.declared.word.HandlerName.TheVariants.{Nap, Nap99, Race, Both, Ask, Pair, Twice, Keys, Read, Effect, Go, Hook, Quorum}
 use Rattle.script_lines.specs.declared.word.Command.{Command}
 use Rattle.script_lines.specs.declared.word.Command.TheVariants.{Invoke as InvokeCommand, Result as ResultCommand, Signal as SignalCommand, Cancel as CancelCommand, Tick as TickCommand, Begin as BeginCommand, Feed as FeedCommand, Close as CloseCommand, Turn as TurnCommand, Move as MoveCommand, Stop as StopCommand, Due as DueCommand, Show as ShowCommand, State as StateCommand}
 use Rattle.script_lines.specs.declared.target.LineTarget.{LineTarget}
@@ -356,6 +356,7 @@ handler-no_space Read = letters (codes "read") refl
 handler-no_space Effect = letters (codes "effect") refl
 handler-no_space Go = letters (codes "go") refl
 handler-no_space Hook = letters (codes "hook") refl
+handler-no_space Quorum = letters (codes "quorum") refl
 
 joined-no_space : (front back : List ℕ) → NoSpace front → NoSpace back → NoSpace (front ++ back)
 joined-no_space [] back f b = b

@@ -14,7 +14,7 @@ use Rattle.std.proofs.lemmas.List.Elements.{All-from_recursion, recursion_from_A
 use Rattle.script_lines.specs.declared.word.StateMode.{StateMode}
 use Rattle.script_lines.specs.declared.word.StateMode.TheVariants.{Whole, Hidden}
 use Rattle.script_lines.specs.declared.word.HandlerName.{HandlerName}
-use Rattle.script_lines.specs.declared.word.HandlerName.TheVariants.{Nap, Nap99, Race, Both, Ask, Pair, Twice, Keys, Read, Effect, Go, Hook}
+use Rattle.script_lines.specs.declared.word.HandlerName.TheVariants.{Nap, Nap99, Race, Both, Ask, Pair, Twice, Keys, Read, Effect, Go, Hook, Quorum}
 use Rattle.script_lines.specs.Word.{text_word, IsWordByte, IsText, mode_word, handler_word}
 use Rattle.script_lines.specs.Reading.{then_read, is_word_byte, number_below, printable_of, text_of, mode_of, handler_of}
 
@@ -248,7 +248,7 @@ handler_takes word handler e =
     let test = tested handler_word word in (
       tt,
       test Nap _ handler (test Nap99 _ handler (test Race _ handler (test Both _ handler (test Ask _ handler (test Pair _ handler
-          (test Twice _ handler (test Keys _ handler (test Read _ handler (test Effect _ handler (test Go _ handler (test Hook _ handler (λ none. absurd (none-some handler none))))))))))))) e,
+          (test Twice _ handler (test Keys _ handler (test Read _ handler (test Effect _ handler (test Go _ handler (test Hook _ handler (test Quorum _ handler (λ none. absurd (none-some handler none)))))))))))))) e,
     )
 
 handler_again : (handler : HandlerName) → Unit {0} → handler_of (handler_word handler) ≡ Some handler
@@ -265,6 +265,7 @@ handler_again Read h = refl
 handler_again Effect h = refl
 handler_again Go h = refl
 handler_again Hook h = refl
+handler_again Quorum h = refl
 
 pub handler_reading : IsReading handler_of handler_word (λ _. Unit {0})
 handler_reading = record { takes = handler_takes; again = handler_again }

@@ -6,7 +6,7 @@ use Rattle.std.specs.Str.Parse.{digits_value}
 use Rattle.script_lines.specs.declared.word.StateMode.{StateMode}
 use Rattle.script_lines.specs.declared.word.StateMode.TheVariants.{Whole, Hidden}
 use Rattle.script_lines.specs.declared.word.HandlerName.{HandlerName}
-use Rattle.script_lines.specs.declared.word.HandlerName.TheVariants.{Nap, Nap99, Race, Both, Ask, Pair, Twice, Keys, Read, Effect, Go, Hook}
+use Rattle.script_lines.specs.declared.word.HandlerName.TheVariants.{Nap, Nap99, Race, Both, Ask, Pair, Twice, Keys, Read, Effect, Go, Hook, Quorum}
 use Rattle.script_lines.specs.Word.{handler_word}
 use Rattle.script_lines.specs.declared.word.LineError.{LineError}
 use Rattle.script_lines.specs.declared.word.LineError.TheVariants.{NotUnderstood, Memory}
@@ -67,7 +67,8 @@ handler_of word =
     (if bytes_eq word (handler_word Read) then Some Read else
     (if bytes_eq word (handler_word Effect) then Some Effect else
     (if bytes_eq word (handler_word Go) then Some Go else
-    (if bytes_eq word (handler_word Hook) then Some Hook else None)))))))))))
+    (if bytes_eq word (handler_word Hook) then Some Hook else
+    (if bytes_eq word (handler_word Quorum) then Some Quorum else None))))))))))))
 
 -- what stands before the first colon, and behind it
 unfoldable pub at_colon : List ℕ → Option (List ℕ × List ℕ)

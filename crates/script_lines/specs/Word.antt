@@ -3,7 +3,7 @@ use Rattle.std.specs.Prelude.{◌≡◌, ◌≢◌, ℕ, ◌^◌, ◌<◌, ◌�
 use Rattle.script_lines.specs.declared.word.StateMode.{StateMode}
 use Rattle.script_lines.specs.declared.word.StateMode.TheVariants.{Whole, Hidden}
 use Rattle.script_lines.specs.declared.word.HandlerName.{HandlerName}
-use Rattle.script_lines.specs.declared.word.HandlerName.TheVariants.{Nap, Nap99, Race, Both, Ask, Pair, Twice, Keys, Read, Effect, Go, Hook}
+use Rattle.script_lines.specs.declared.word.HandlerName.TheVariants.{Nap, Nap99, Race, Both, Ask, Pair, Twice, Keys, Read, Effect, Go, Hook, Quorum}
 use Rattle.script_lines.specs.declared.target.LineTarget.{LineTarget}
 use Rattle.script_lines.specs.declared.target.LineTarget.TheVariants.{Number, Name}
 use Rattle.script_lines.specs.declared.value.LineValue.{LineValue}
@@ -47,6 +47,7 @@ handler_word Read = codes "read"
 handler_word Effect = codes "effect"
 handler_word Go = codes "go"
 handler_word Hook = codes "hook"
+handler_word Quorum = codes "quorum"
 
 -- a code, and a text behind a colon (58)
 abbrev pub coded_word : ℕ → List ℕ → List ℕ

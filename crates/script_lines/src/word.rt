@@ -83,6 +83,8 @@ pub enum HandlerName {
     Go,
     /// Makes an awakeable, which is signal 17, waits for it, and answers what it brings.
     Hook,
+    /// Sleeps until 10, until 20 and until 30, waits for two of them, and answers `ok`.
+    Quorum,
 }
 
 impl HandlerName {
@@ -103,6 +105,7 @@ impl HandlerName {
             HandlerName::Effect => b"effect".as_slice(),
             HandlerName::Go => b"go".as_slice(),
             HandlerName::Hook => b"hook".as_slice(),
+            HandlerName::Quorum => b"quorum".as_slice(),
         }
     }
 }
@@ -204,6 +207,8 @@ pub fn parse_handler(word: &[u8]) -> Option<HandlerName>
         Some(HandlerName::Go)
     } else if word == HandlerName::Hook.word() {
         Some(HandlerName::Hook)
+    } else if word == HandlerName::Quorum.word() {
+        Some(HandlerName::Quorum)
     } else {
         None
     }

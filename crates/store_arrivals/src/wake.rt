@@ -25,9 +25,9 @@ use protocol_records::Future;
 use protocol_types::Version;
 use sqlite::Alter;
 use std::alloc::Global;
+use store_frames::{FirstArrivals, KeptFault, awaited};
 use store_refusals::Refusal;
 use store_tables::{EntryRow, StoreTables, arrivals_after};
-use store_frames::{FirstArrivals, KeptFault, awaited};
 
 /// What is kept and not read is a row that no store writes.
 fn refusal_of(fault: KeptFault) -> Refusal

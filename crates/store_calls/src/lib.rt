@@ -1,6 +1,5 @@
-//! What each call of a store answers and leaves, said of the accepted events and of the bytes that wait. Definitions alone.
-//!
-//! Bytes that an attempt has written may come in any cut. The functions do nothing: their contracts are the laws.
+//! What each call of a store answers and leaves, said of the accepted events and of the bytes that wait, which may come in any cut. The
+//! functions do nothing: their contracts are the laws.
 #![tactic(auto)]
 
 ghost use Rattle.store_calls.specs.Pieces.{PiecesJoin};

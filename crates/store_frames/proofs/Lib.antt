@@ -1,6 +1,7 @@
 pub mod Commanding
 pub mod TextLemmas
 pub mod Meanings
+pub mod Numbered
 pub mod Payloads
 pub mod Trees
 pub mod Types

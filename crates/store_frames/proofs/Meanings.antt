@@ -1,5 +1,5 @@
 -- What is kept of a message says which frame it is.
-use Rattle.std.proofs.Common.{◌≡◌, ℕ, ◌==◌, Bool, true, false, List, Option, Some, None, Result, Ok, Err, refl, sym, subst, ◌∙◌}
+use Rattle.std.proofs.Common.{◌≡◌, ℕ, ◌==◌, Bool, true, false, ◌&&◌, List, Option, Some, None, Result, Ok, Err, refl, sym, subst, ◌∙◌}
 use Rattle.std.specs.Prelude.{if◌then◌else◌, IfOk}
 use Rattle.protocol_table.specs.declared.table.RecordType.{RecordType}
 use Rattle.protocol_table.specs.declared.table.RecordType.TheVariants as records
@@ -11,9 +11,13 @@ use Rattle.protocol_wire.specs.declared.check.Fault.TheVariants.{BadPayload, Too
 use Rattle.protocol_wire.specs.declared.record.TheConstants.{LEVELS}
 use Rattle.journal_model.specs.declared.value.NonEmptyValue.{NonEmptyValue}
 use Rattle.journal_model.specs.Request.{Request}
-use Rattle.journal_model.specs.Event.{Frame, Retry, Pause, Fail}
+use Rattle.journal_model.specs.AwaitTree.{has_number}
+use Rattle.journal_model.specs.Event.{Frame, ForTree, Retry, Pause, Fail}
+use Rattle.journal_model.specs.Spelling.{suspension_payload}
+use Rattle.protocol_trees.specs.Future.{future_tree}
 use Rattle.protocol_records.specs.declared.suspension_v6.SuspensionMessageV6.{SuspensionMessageV6}
 use Rattle.protocol_records.specs.declared.future.Future.{Future}
+use Rattle.protocol_records.specs.AwaitingOn.{awaiting_on_of}
 use Rattle.protocol_records.specs.Suspension.{suspension_of}
 use Rattle.protocol_records.specs.SuspensionV6.{suspension_v6_of}
 use Rattle.protocol_controls.specs.Error.{error_of}
@@ -32,8 +36,8 @@ use Rattle.store_frames.specs.declared.frame.AttemptFrame.TheVariants as answers
 use Rattle.store_frames.specs.Kind.{kind_of, record_of}
 use Rattle.store_frames.specs.Requests.{suspension_of_tree, suspension_of_lists, behavior_numbered, proposal_told}
 use Rattle.store_frames.specs.Commands.{request_in}
-use Rattle.store_frames.specs.Meaning.{unless_faulty, read_as, read_if_record, command_or_broken, error_frame, outcome_or_broken, suspension_frame, frame_by, asks_ack, frame_of}
-use Rattle.store_frames.specs.Told.{told_unless_faulty, told_as, told_if_record, told_request, told_tree, told_lists, told_number, told_error, told_suspension, told_outcome, told_proposal, told_by}
+use Rattle.store_frames.specs.Meaning.{unless_faulty, read_as, read_if_record, command_or_broken, error_frame, outcome_or_broken, unless_numbered, suspension_frame, frame_by, asks_ack, frame_of}
+use Rattle.store_frames.specs.Told.{told_unless_faulty, told_as, told_if_record, told_request, told_waiting, told_tree, told_staying, told_awaiting, told_lists, told_number, told_error, told_suspension, told_outcome, told_proposal, told_by}
 use Rattle.store_frames.specs.Answer.{IsFrame, behavior_meant}
 use Rattle.store_frames.proofs.Payloads.{lists_payload}
 
@@ -43,9 +47,23 @@ request_is : (request : Option Request) → IsFrame (command_or_broken request) 
 request_is None = tt
 request_is (Some request) = record { kind = refl; payload = refl; completion = refl; second_completion = refl; moment = refl; state = refl; text = refl }
 
-tree_is : (awaited : Option Future) → IsFrame (Frame.Suspend (suspension_of_tree (record { awaiting_on = awaited }))) (told_tree (record { awaiting_on = awaited }))
-tree_is None = tt
-tree_is (Some future) = refl
+tree_is : (lacks : Bool) (awaited : Option Future)
+    → IsFrame (unless_numbered lacks awaited (Frame.Suspend (suspension_of_tree (record { awaiting_on = awaited })))) (told_waiting lacks awaited)
+tree_is lacks None = tt
+tree_is lacks (Some future) = by_test (lacks && has_number (future_tree future))
+  where
+    by_test : (b : Bool)
+        → IsFrame (if b then Frame.Broken else Frame.Suspend (Some (ForTree (future_tree future)))) (if b then answers.Broken else answers.Suspension (suspension_payload (future_tree future)))
+    by_test true = tt
+    by_test false = refl
+
+staying_is : (lacks : Bool) (awaited : Option Future) → IsFrame (unless_numbered lacks awaited Frame.AwaitingOn) (told_staying lacks awaited)
+staying_is lacks None = tt
+staying_is lacks (Some future) = by_test (lacks && has_number (future_tree future))
+  where
+    by_test : (b : Bool) → IsFrame (if b then Frame.Broken else Frame.AwaitingOn) (if b then answers.Broken else answers.AwaitingOn)
+    by_test true = tt
+    by_test false = tt
 
 lists_are : (one : SuspensionMessageV6) → IsFrame (Frame.Suspend (Some (suspension_of_lists one))) (told_lists one)
 lists_are one = record { lists = one; lists_are = refl; payload_is = lists_payload one }
@@ -77,11 +95,13 @@ read_is : (t : RecordType) (payload : List ℕ) (frame : List Field → Frame) (
     → ((fs : List Field) → IsFrame (frame fs) (answer fs)) → IsFrame (read_as t frame payload) (told_as t answer payload)
 read_is t payload frame answer h = unless_is (payload_fault LEVELS t payload) (frame (fields payload)) (answer (fields payload)) (h (fields payload))
 
-suspension_is : (is_before : Bool) (payload : List ℕ) → IsFrame (suspension_frame is_before payload) (told_suspension is_before payload)
-suspension_is true payload =
+suspension_is : (is_before : Bool) (version : ℕ) (payload : List ℕ) → IsFrame (suspension_frame is_before (lacks_feature version features.AtLeast) payload) (told_suspension is_before version payload)
+suspension_is true version payload =
     read_is records.SuspensionV6 payload (λ fs. Frame.Suspend (Some (suspension_of_lists (suspension_v6_of LEVELS fs)))) (λ fs. told_lists (suspension_v6_of LEVELS fs)) (λ fs. lists_are (suspension_v6_of LEVELS fs))
-suspension_is false payload =
-    read_is records.Suspension payload (λ fs. Frame.Suspend (suspension_of_tree (suspension_of LEVELS fs))) (λ fs. told_tree (suspension_of LEVELS fs)) (λ fs. tree_is (suspension_of LEVELS fs).awaiting_on)
+suspension_is false version payload =
+    let lacks = lacks_feature version features.AtLeast in
+    read_is records.Suspension payload (λ fs. unless_numbered lacks (suspension_of LEVELS fs).awaiting_on (Frame.Suspend (suspension_of_tree (suspension_of LEVELS fs)))) (λ fs. told_tree version (suspension_of LEVELS fs))
+    (λ fs. tree_is lacks (suspension_of LEVELS fs).awaiting_on)
 
 if_record_is : (found : Option RecordType) (payload : List ℕ) (frame : List Field → Frame) (answer : List Field → AttemptFrame)
     → ((fs : List Field) → IsFrame (frame fs) (answer fs)) → IsFrame (read_if_record found frame payload) (told_if_record found answer payload)
@@ -91,8 +111,10 @@ if_record_is (Some t) payload frame answer h = read_is t payload frame answer h
 told_is : (version : ℕ) (kind : FrameKind) (ty : MessageType) (asks : Bool) (payload : List ℕ) → IsFrame (frame_by version kind ty asks payload) (told_by version kind ty asks payload)
 told_is version kinds.Command ty asks payload =
     if_record_is (record_of ty) payload (λ fs. command_or_broken (request_in ty fs)) (λ fs. told_request (request_in ty fs)) (λ fs. request_is (request_in ty fs))
-told_is version kinds.AwaitingOn ty asks payload = read_is records.AwaitingOn payload (λ fs. Frame.AwaitingOn) (λ fs. answers.AwaitingOn) (λ fs. tt)
-told_is version kinds.Suspension ty asks payload = suspension_is (lacks_feature version features.AwaitTree) payload
+told_is version kinds.AwaitingOn ty asks payload =
+    let lacks = lacks_feature version features.AtLeast in
+    read_is records.AwaitingOn payload (λ fs. unless_numbered lacks (awaiting_on_of LEVELS fs).awaiting_on Frame.AwaitingOn) (λ fs. told_awaiting version (awaiting_on_of LEVELS fs)) (λ fs. staying_is lacks (awaiting_on_of LEVELS fs).awaiting_on)
+told_is version kinds.Suspension ty asks payload = suspension_is (lacks_feature version features.AwaitTree) version payload
 told_is version kinds.Error ty asks payload =
     read_is records.Error payload (λ fs. error_frame version (error_of LEVELS fs)) (λ fs. told_error version (error_of LEVELS fs)) (λ fs. error_is version (error_of LEVELS fs))
 told_is version kinds.End ty asks payload = read_is records.End payload (λ fs. Frame.End) (λ fs. answers.End) (λ fs. tt)

@@ -1,5 +1,5 @@
 -- What is kept of a suspension that a message told is read back.
-use Rattle.std.proofs.Common.{◌≡◌, ◌-◌, ◌<◌, ◌^◌, ℕ, Bool, true, false, List, [], ◌∷◌, ◌++◌, map, length, Option, Some, None, option_map, refl, sym, ap, subst, ◌∙◌, arith}
+use Rattle.std.proofs.Common.{◌≡◌, ◌-◌, ◌<◌, ◌^◌, ◌⊎◌, inl, inr, ℕ, Bool, true, false, List, [], ◌∷◌, ◌++◌, map, length, Option, Some, None, option_map, refl, sym, ap, subst, ◌∙◌, arith}
 use Rattle.std.specs.Prelude.{IfSome, IsUtf8}
 use Rattle.std.specs.List.{AllByRecursion}
 use Rattle.journal_model.specs.Notification.{Bytes, Text}
@@ -12,7 +12,8 @@ use Rattle.journal_model.specs.Spelling.{suspension_payload}
 use Rattle.protocol_table.specs.declared.table.RecordType.{RecordType}
 use Rattle.protocol_table.specs.declared.table.RecordType.TheVariants as records
 use Rattle.protocol_types.specs.declared.message_type.MessageType.{MessageType}
-use Rattle.protocol_types.specs.declared.feature.Feature.TheVariants.{AwaitTree}
+use Rattle.protocol_types.specs.declared.feature.Feature.TheVariants.{AwaitTree, AtLeast}
+use Rattle.protocol_records.specs.AwaitingOn.{awaiting_on_of}
 use Rattle.protocol_types.specs.Feature.{lacks_feature}
 use Rattle.protocol_wire.specs.declared.record.TheConstants.{LEVELS}
 use Rattle.protocol_wire.specs.declared.check.Fault.{Fault}
@@ -39,10 +40,11 @@ use Rattle.store_frames.specs.declared.kind.FrameKind.{FrameKind}
 use Rattle.store_frames.specs.declared.kind.FrameKind.TheVariants as kinds
 use Rattle.store_frames.specs.Kind.{kind_of, record_of}
 use Rattle.store_frames.specs.Commands.{request_in}
-use Rattle.store_frames.specs.Meaning.{asks_ack, command_or_broken, error_frame, frame_by, outcome_or_broken, read_if_record, suspension_frame, unless_faulty}
+use Rattle.store_frames.specs.Meaning.{asks_ack, command_or_broken, error_frame, frame_by, outcome_or_broken, read_if_record, suspension_frame, unless_faulty, unless_numbered}
 use Rattle.store_frames.specs.Requests.{proposal_told, suspension_of_lists, suspension_of_tree}
 use Rattle.store_frames.specs.Answer.{KeepsLists, KeepsSuspension}
 use Rattle.store_frames.specs.Read.{IsFrameRead}
+use Rattle.store_frames.proofs.Numbered.{numbered_or_not}
 use Rattle.store_frames.proofs.Payloads.{lists_payload}
 use Rattle.store_frames.specs.Awaited.{TellsLists, TellsTree}
 use Rattle.store_frames.proofs.KeptTrees.{tree_back}
@@ -128,21 +130,35 @@ module _ (suspension : Suspension) where
   no_record None payload frame other e = cc
   no_record (Some t) payload frame other e = never t payload frame other e
 
-  by_tree : (o : Option Future) → IfSome o (FutureFits (LEVELS - 1)) → option_map (λ (f : Future). ForTree (future_tree f)) o ≡ Some suspension → IsTree suspension
-  by_tree None fits e = cc
-  by_tree (Some f) fits e = let waits : suspension ≡ ForTree (future_tree f) = cc in record { future = f; fits = fits; waits = waits }
+  by_tree : (lacks : Bool) (o : Option Future) → IfSome o (FutureFits (LEVELS - 1)) → IsIt (unless_numbered lacks o (Frame.Suspend (option_map (λ (f : Future). ForTree (future_tree f)) o))) → IsTree suspension
+  by_tree lacks o fits e = by_cases (numbered_or_not lacks o (Frame.Suspend (option_map (λ (f : Future). ForTree (future_tree f)) o)))
+    where
+      of_tree : (p : Option Future) → IfSome p (FutureFits (LEVELS - 1)) → IsIt (Frame.Suspend (option_map (λ (f : Future). ForTree (future_tree f)) p)) → IsTree suspension
+      of_tree None fits e = cc
+      of_tree (Some f) fits e = let waits : suspension ≡ ForTree (future_tree f) = cc in record { future = f; fits = fits; waits = waits }
 
-  by_form : (has_lists : Bool) (payload : Bytes) → IsIt (suspension_frame has_lists payload) → IsTold has_lists suspension
-  by_form true payload e =
+      by_cases : (unless_numbered lacks o (Frame.Suspend (option_map (λ (f : Future). ForTree (future_tree f)) o)) ≡ Frame.Suspend (option_map (λ (f : Future). ForTree (future_tree f)) o))
+          ⊎ (unless_numbered lacks o (Frame.Suspend (option_map (λ (f : Future). ForTree (future_tree f)) o)) ≡ Frame.Broken) → IsTree suspension
+      by_cases (inl is) = of_tree o fits (sym is ∙ e)
+      by_cases (inr is) = let broken : IsIt Frame.Broken = sym is ∙ e in cc
+
+  no_staying : (lacks : Bool) (o : Option Future) → IsIt (unless_numbered lacks o Frame.AwaitingOn) → ⊥
+  no_staying lacks o e = by_cases (numbered_or_not lacks o Frame.AwaitingOn)
+    where
+      by_cases : (unless_numbered lacks o Frame.AwaitingOn ≡ Frame.AwaitingOn) ⊎ (unless_numbered lacks o Frame.AwaitingOn ≡ Frame.Broken) → ⊥
+      by_cases (inl is) = let stays : IsIt Frame.AwaitingOn = sym is ∙ e in cc
+      by_cases (inr is) = let broken : IsIt Frame.Broken = sym is ∙ e in cc
+
+  by_form : (has_lists lacks : Bool) (payload : Bytes) → IsIt (suspension_frame has_lists lacks payload) → IsTold has_lists suspension
+  by_form true lacks payload e =
       let one = suspension_v6_of LEVELS (fields payload) in
       let it = no_fault (payload_fault LEVELS records.SuspensionV6 payload) (Frame.Suspend (Some (suspension_of_lists one))) e in
       let waits : suspension ≡ suspension_of_lists one = cc (it.1) in
       record { lists = one; fits = suspension_v6_fits LEVELS payload it.0; waits = waits }
-  by_form false payload e =
+  by_form false lacks payload e =
       let one = suspension_of LEVELS (fields payload) in
-      let it = no_fault (payload_fault LEVELS records.Suspension payload) (Frame.Suspend (suspension_of_tree one)) e in
-      let told : suspension_of_tree one ≡ Some suspension = cc (it.1) in
-      by_tree one.awaiting_on (suspension_fits LEVELS payload it.0).awaiting_on told
+      let it = no_fault (payload_fault LEVELS records.Suspension payload) (unless_numbered lacks one.awaiting_on (Frame.Suspend (suspension_of_tree one))) e in
+      by_tree lacks one.awaiting_on (suspension_fits LEVELS payload it.0).awaiting_on it.1
 
   no_outcome : (asks : Bool) (o : Option (ℕ × NonEmptyValue)) → IsIt (outcome_or_broken asks o) → ⊥
   no_outcome asks None e = cc
@@ -154,8 +170,10 @@ module _ (suspension : Suspension) where
       of_record : (o : Option RecordType) → IsIt (read_if_record o (λ fs. command_or_broken (request_in ty fs)) payload) → ⊥
       of_record None e = cc
       of_record (Some t) e = never t payload (command_or_broken (request_in ty (fields payload))) (no_command (request_in ty (fields payload))) e
-  by_kind version kinds.AwaitingOn ty asks payload e = absurd (never records.AwaitingOn payload Frame.AwaitingOn (λ is. cc) e)
-  by_kind version kinds.Suspension ty asks payload e = by_form (lacks_feature version AwaitTree) payload e
+  by_kind version kinds.AwaitingOn ty asks payload e =
+      let awaited = (awaiting_on_of LEVELS (fields payload)).awaiting_on in
+      absurd (never records.AwaitingOn payload (unless_numbered (lacks_feature version AtLeast) awaited Frame.AwaitingOn) (no_staying (lacks_feature version AtLeast) awaited) e)
+  by_kind version kinds.Suspension ty asks payload e = by_form (lacks_feature version AwaitTree) (lacks_feature version AtLeast) payload e
   by_kind version kinds.Error ty asks payload e = absurd (never records.Error payload (error_frame version (error_of LEVELS (fields payload))) (λ is. cc) e)
   by_kind version kinds.End ty asks payload e = absurd (never records.End payload Frame.End (λ is. cc) e)
   by_kind version kinds.RunOutcome ty asks payload e =

@@ -1,9 +1,10 @@
 -- The payload of a future's tree, one level at a time.
-use Rattle.std.proofs.Common.{◌≡◌, ℕ, List, [], ◌∷◌, ◌++◌, map, refl, sym, ap, ◌∙◌, append-nil}
+use Rattle.std.proofs.Common.{◌≡◌, ℕ, Bool, ◌||◌, List, [], ◌∷◌, ◌++◌, map, refl, sym, ap, ◌∙◌, append-nil}
+use Rattle.std.specs.List.{list_any}
 use Rattle.protocol_wire.specs.Parts as parts
 use Rattle.protocol_wire.specs.Parts.{Part, payload_of}
 use Rattle.journal_model.specs.Spelling as model
-use Rattle.journal_model.specs.AwaitTree.{AwaitTree, Single, Combined, AwaitTrees, no_trees, and_trees, Combinator}
+use Rattle.journal_model.specs.AwaitTree.{AwaitTree, Single, Combined, AwaitTrees, no_trees, and_trees, Combinator, asks_number, has_number, some_has_number}
 use Rattle.journal_model.specs.declared.notification.NotificationId.{NotificationId}
 use Rattle.journal_model.specs.declared.notification.NotificationId.TheVariants as ids
 use Rattle.protocol_records.specs.declared.future.Future.{Future, out-Future}
@@ -105,18 +106,19 @@ nested_of_all completions signals names nested =
 level : (combinator : Combinator) (completions signals : List ℕ) (names : List (List ℕ)) (nested : List Future)
     → model.future_payload (node combinator (ids_in completions signals names) (map future_tree nested))
     ≡ model.packed_numbers 1 completions ++ (model.packed_numbers 2 signals ++ (model.repeated_bytes 3 names
-    ++ (model.repeated_bytes 4 (map tree_spelling nested) ++ model.plain_number 5 (model.combinator_number combinator))))
+    ++ (model.repeated_bytes 4 (map tree_spelling nested) ++ (model.plain_number 5 (model.combinator_number combinator) ++ model.plain_number 6 (model.required_by combinator)))))
 level combinator completions signals names nested = λ i.
     model.packed_numbers 1 (completions_of_all completions signals names nested i) ++ (model.packed_numbers 2 (signals_of_all completions signals names nested i)
     ++ (model.repeated_bytes 3 (names_of_all completions signals names nested i)
-    ++ (nested_of_all completions signals names nested i ++ model.plain_number 5 (model.combinator_number combinator))))
+    ++ (nested_of_all completions signals names nested i ++ (model.plain_number 5 (model.combinator_number combinator) ++ model.plain_number 6 (model.required_by combinator)))))
 
 -- the parts of a future as its tree has them
 abbrev pub tree_parts : Future → List Part
 tree_parts f =
     parts.packed 1 (out-Future f).waiting_completions ∷ parts.packed 2 (out-Future f).waiting_signals ∷ parts.repeated_bytes 3 (out-Future f).waiting_named_signals
     ∷ parts.repeated_bytes 4 (map tree_spelling (out-Future f).nested_futures)
-    ∷ parts.plain_number 5 (model.combinator_number (combinator_of (shape_in (out-Future f).combinator_type))) ∷ []
+    ∷ parts.plain_number 5 (model.combinator_number (combinator_of (shape_in (out-Future f).combinator_type (out-Future f).required)))
+    ∷ parts.plain_number 6 (model.required_by (combinator_of (shape_in (out-Future f).combinator_type (out-Future f).required))) ∷ []
 
 pub tree_parts_are : (f : Future) → payload_of (tree_parts f) ≡ model.future_payload (future_tree f)
 tree_parts_are f =
@@ -126,5 +128,25 @@ tree_parts_are f =
     (spelled-cons _ _ _ _ (packed-is 2 o.waiting_signals)
     (spelled-cons _ _ _ _ (repeated_bytes-is 3 o.waiting_named_signals)
     (spelled-cons _ _ _ _ (repeated_bytes-is 4 (map tree_spelling o.nested_futures))
-    (spelled-last _ _ _ refl (plain_number-is 5 (model.combinator_number (combinator_of (shape_in o.combinator_type)))))))))
-    ∙ sym (ap model.future_payload (future_tree_is f) ∙ level (combinator_of (shape_in o.combinator_type)) o.waiting_completions o.waiting_signals o.waiting_named_signals o.nested_futures)
+    (spelled-cons _ _ _ _ (plain_number-is 5 (model.combinator_number (combinator_of (shape_in o.combinator_type o.required))))
+    (spelled-last _ _ _ refl (plain_number-is 6 (model.required_by (combinator_of (shape_in o.combinator_type o.required))))))))))
+    ∙ sym (ap model.future_payload (future_tree_is f) ∙ level (combinator_of (shape_in o.combinator_type o.required)) o.waiting_completions o.waiting_signals o.waiting_named_signals o.nested_futures)
+
+-- ---- a number of successes that is asked for
+
+none_asked : (leaves : List NotificationId) (trees : List Tree) → some_has_number (under leaves trees) ≡ some_has_number (forest trees)
+none_asked [] trees = refl
+none_asked (leaf ∷ leaves) trees = none_asked leaves trees
+
+some_asked : (nested : List Future) → some_has_number (forest (map future_tree nested)) ≡ list_any (λ f. has_number (future_tree f)) nested
+some_asked [] = refl
+some_asked (f ∷ nested) = ap (λ (b : Bool). has_number (future_tree f) || b) (some_asked nested)
+
+-- by the combinator of a future, or by one of those in it
+pub number_asked : (f : Future) → has_number (future_tree f)
+    ≡ (asks_number (combinator_of (shape_in (out-Future f).combinator_type (out-Future f).required)) || list_any (λ g. has_number (future_tree g)) (out-Future f).nested_futures)
+number_asked f =
+    let o = out-Future f in
+    ap (λ (tree : Tree). has_number tree) (future_tree_is f)
+    ∙ ap (λ (b : Bool). asks_number (combinator_of (shape_in o.combinator_type o.required)) || b)
+    (none_asked (ids_in o.waiting_completions o.waiting_signals o.waiting_named_signals) (map future_tree o.nested_futures) ∙ some_asked o.nested_futures)

@@ -22,7 +22,7 @@ IsAwaited suspension future = (arrivals : List Arrival) → is_awake (future_tre
 
 -- any of the ids in three lists
 abbrev pub any_of : SuspensionMessageV6 → Future
-any_of one = future_node one.waiting_completions one.waiting_signals one.waiting_named_signals [] combinators.FirstCompleted
+any_of one = future_node one.waiting_completions one.waiting_signals one.waiting_named_signals [] combinators.FirstCompleted 0
 
 -- the payload is that of a suspension that waits for the tree of a future which a message can hold
 pub record TellsTree (suspension : Suspension) (payload : Bytes) : Type 0 where

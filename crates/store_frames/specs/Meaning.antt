@@ -1,5 +1,5 @@
 -- Which frame of an attempt a message is.
-use Rattle.std.specs.Prelude.{ℕ, Bool, true, false, List, Option, Some, None, unwrap_or}
+use Rattle.std.specs.Prelude.{ℕ, Bool, true, false, ◌&&◌, if◌then◌else◌, List, Option, Some, None, unwrap_or}
 use Rattle.protocol_table.specs.declared.table.RecordType.{RecordType}
 use Rattle.protocol_table.specs.declared.table.RecordType.TheVariants as records
 use Rattle.protocol_wire.specs.Wire.{Field}
@@ -11,6 +11,10 @@ use Rattle.protocol_wire.specs.declared.record.TheConstants.{LEVELS}
 use Rattle.journal_model.specs.Request.{Request}
 use Rattle.journal_model.specs.declared.value.NonEmptyValue.{NonEmptyValue}
 use Rattle.journal_model.specs.Event.{Frame}
+use Rattle.journal_model.specs.AwaitTree.{has_number}
+use Rattle.protocol_trees.specs.Future.{future_tree}
+use Rattle.protocol_records.specs.declared.future.Future.{Future}
+use Rattle.protocol_records.specs.AwaitingOn.{awaiting_on_of}
 use Rattle.protocol_records.specs.Suspension.{suspension_of}
 use Rattle.protocol_records.specs.SuspensionV6.{suspension_v6_of}
 use Rattle.protocol_controls.specs.Error.{error_of}
@@ -20,7 +24,7 @@ use Rattle.protocol_types.specs.declared.message_type.MessageType.{MessageType}
 use Rattle.protocol_stream.specs.declared.decoder.RawMessage.{RawMessage}
 use Rattle.protocol_stream.specs.declared.header.MessageHeader.{MessageHeader}
 use Rattle.protocol_stream.specs.Header.{message_type, requested_ack}
-use Rattle.protocol_types.specs.declared.feature.Feature.TheVariants.{AwaitTree}
+use Rattle.protocol_types.specs.declared.feature.Feature.TheVariants.{AwaitTree, AtLeast}
 use Rattle.protocol_types.specs.Feature.{lacks_feature}
 use Rattle.store_frames.specs.declared.kind.FrameKind.{FrameKind}
 use Rattle.store_frames.specs.declared.kind.FrameKind.TheVariants as kinds
@@ -46,10 +50,19 @@ command_or_broken (Some request) = Frame.Command request
 abbrev pub error_frame : ℕ → ErrorMessage → Frame
 error_frame version one = Frame.Error one.code one.message (behavior_in version one.behavior) one.next_retry_delay
 
+-- a tree that asks for a number of successes is broken in a version in which none does
+abbrev pub unless_numbered : (lacks_numbers : Bool) → Option Future → Frame → Frame
+unless_numbered lacks None frame = frame
+unless_numbered lacks (Some future) frame = if lacks && has_number (future_tree future) then Frame.Broken else frame
+
 -- three lists, or a tree
-abbrev pub suspension_frame : Bool → List ℕ → Frame
-suspension_frame true = read_as records.SuspensionV6 (λ fs. Frame.Suspend (Some (suspension_of_lists (suspension_v6_of LEVELS fs))))
-suspension_frame false = read_as records.Suspension (λ fs. Frame.Suspend (suspension_of_tree (suspension_of LEVELS fs)))
+abbrev pub suspension_frame : (has_lists lacks_numbers : Bool) → List ℕ → Frame
+suspension_frame true lacks = read_as records.SuspensionV6 (λ fs. Frame.Suspend (Some (suspension_of_lists (suspension_v6_of LEVELS fs))))
+suspension_frame false lacks =
+    read_as records.Suspension (λ fs. unless_numbered lacks (suspension_of LEVELS fs).awaiting_on (Frame.Suspend (suspension_of_tree (suspension_of LEVELS fs))))
+
+abbrev pub awaiting_frame : (lacks_numbers : Bool) → List ℕ → Frame
+awaiting_frame lacks = read_as records.AwaitingOn (λ fs. unless_numbered lacks (awaiting_on_of LEVELS fs).awaiting_on Frame.AwaitingOn)
 
 -- a proposal without an outcome is broken
 abbrev pub outcome_or_broken : Bool → Option (ℕ × NonEmptyValue) → Frame
@@ -64,8 +77,8 @@ read_if_record (Some t) frame payload = read_as t frame payload
 -- Of a type that is not accepted too the payload is looked at, if it is one of a record: that it is broken comes first.
 abbrev pub frame_by : ℕ → FrameKind → MessageType → Bool → List ℕ → Frame
 frame_by version kinds.Command ty is_acknowledged payload = read_if_record (record_of ty) (λ fs. command_or_broken (request_in ty fs)) payload
-frame_by version kinds.AwaitingOn ty is_acknowledged payload = read_as records.AwaitingOn (λ fs. Frame.AwaitingOn) payload
-frame_by version kinds.Suspension ty is_acknowledged payload = suspension_frame (lacks_feature version AwaitTree) payload
+frame_by version kinds.AwaitingOn ty is_acknowledged payload = awaiting_frame (lacks_feature version AtLeast) payload
+frame_by version kinds.Suspension ty is_acknowledged payload = suspension_frame (lacks_feature version AwaitTree) (lacks_feature version AtLeast) payload
 frame_by version kinds.Error ty is_acknowledged payload = read_as records.Error (λ fs. error_frame version (error_of LEVELS fs)) payload
 frame_by version kinds.End ty is_acknowledged payload = read_as records.End (λ fs. Frame.End) payload
 frame_by version kinds.RunOutcome ty is_acknowledged payload =

@@ -1,5 +1,5 @@
 -- What is kept of each record, and of a payload.
-use Rattle.std.specs.Prelude.{ℕ, ◌==◌, Bool, true, false, if◌then◌else◌, List, Option, Some, None}
+use Rattle.std.specs.Prelude.{ℕ, ◌==◌, ◌&&◌, Bool, true, false, if◌then◌else◌, List, Option, Some, None}
 use Rattle.protocol_table.specs.declared.table.RecordType.{RecordType}
 use Rattle.protocol_table.specs.declared.table.RecordType.TheVariants as records
 use Rattle.protocol_wire.specs.Wire.{Field}
@@ -17,6 +17,9 @@ use Rattle.protocol_trees.specs.Future.{future_tree}
 use Rattle.protocol_records.specs.declared.future.Future.{Future}
 use Rattle.protocol_records.specs.declared.suspension.SuspensionMessage.{SuspensionMessage}
 use Rattle.protocol_records.specs.declared.suspension_v6.SuspensionMessageV6.{SuspensionMessageV6}
+use Rattle.journal_model.specs.AwaitTree.{has_number}
+use Rattle.protocol_records.specs.declared.awaiting_on.AwaitingOnMessage.{AwaitingOnMessage}
+use Rattle.protocol_records.specs.AwaitingOn.{awaiting_on_of}
 use Rattle.protocol_records.specs.Suspension.{suspension_of}
 use Rattle.protocol_records.specs.SuspensionV6.{suspension_v6_of, suspension_v6_parts}
 use Rattle.protocol_controls.specs.Error.{error_of}
@@ -64,12 +67,23 @@ abbrev pub told_request : Option Request → AttemptFrame
 told_request None = answers.Broken
 told_request (Some request) = told_command (request_payload request) (asked_for request)
 
-abbrev pub told_waiting : Option Future → AttemptFrame
-told_waiting None = answers.Broken
-told_waiting (Some future) = answers.Suspension (suspension_payload (future_tree future))
+-- in a version in which no tree asks for a number of successes, one that does is broken
+abbrev pub told_unless_numbered : (lacks_numbers : Bool) → Future → AttemptFrame → AttemptFrame
+told_unless_numbered lacks future answer = if lacks && has_number (future_tree future) then answers.Broken else answer
 
-abbrev pub told_tree : SuspensionMessage → AttemptFrame
-told_tree one = told_waiting one.awaiting_on
+abbrev pub told_waiting : (lacks_numbers : Bool) → Option Future → AttemptFrame
+told_waiting lacks None = answers.Broken
+told_waiting lacks (Some future) = told_unless_numbered lacks future (answers.Suspension (suspension_payload (future_tree future)))
+
+abbrev pub told_tree : ℕ → SuspensionMessage → AttemptFrame
+told_tree version one = told_waiting (lacks_feature version features.AtLeast) one.awaiting_on
+
+abbrev pub told_staying : (lacks_numbers : Bool) → Option Future → AttemptFrame
+told_staying lacks None = answers.AwaitingOn
+told_staying lacks (Some future) = told_unless_numbered lacks future answers.AwaitingOn
+
+abbrev pub told_awaiting : ℕ → AwaitingOnMessage → AttemptFrame
+told_awaiting version one = told_staying (lacks_feature version features.AtLeast) one.awaiting_on
 
 abbrev pub told_lists : SuspensionMessageV6 → AttemptFrame
 told_lists one = answers.Suspension (payload_of (suspension_v6_parts one))
@@ -83,9 +97,9 @@ told_behavior version number = if lacks_feature version features.ErrorBehavior t
 abbrev pub told_error : ℕ → ErrorMessage → AttemptFrame
 told_error version one = answers.Error one.code one.message (told_behavior version one.behavior) one.next_retry_delay
 
-abbrev pub told_suspension : Bool → List ℕ → AttemptFrame
-told_suspension true = told_as records.SuspensionV6 (λ fs. told_lists (suspension_v6_of LEVELS fs))
-told_suspension false = told_as records.Suspension (λ fs. told_tree (suspension_of LEVELS fs))
+abbrev pub told_suspension : Bool → ℕ → List ℕ → AttemptFrame
+told_suspension true version = told_as records.SuspensionV6 (λ fs. told_lists (suspension_v6_of LEVELS fs))
+told_suspension false version = told_as records.Suspension (λ fs. told_tree version (suspension_of LEVELS fs))
 
 abbrev pub told_outcome : Bool → Option (ℕ × NonEmptyValue) → AttemptFrame
 told_outcome is_acknowledged None = answers.Broken
@@ -104,8 +118,8 @@ told_by_type ty = told_if_record (record_of ty) (λ fs. told_request (request_in
 
 abbrev pub told_by : ℕ → FrameKind → MessageType → Bool → List ℕ → AttemptFrame
 told_by version kinds.Command ty is_acknowledged = told_by_type ty
-told_by version kinds.AwaitingOn ty is_acknowledged = told_as records.AwaitingOn (λ fs. answers.AwaitingOn)
-told_by version kinds.Suspension ty is_acknowledged = told_suspension (lacks_feature version features.AwaitTree)
+told_by version kinds.AwaitingOn ty is_acknowledged = told_as records.AwaitingOn (λ fs. told_awaiting version (awaiting_on_of LEVELS fs))
+told_by version kinds.Suspension ty is_acknowledged = told_suspension (lacks_feature version features.AwaitTree) version
 told_by version kinds.Error ty is_acknowledged = told_as records.Error (λ fs. told_error version (error_of LEVELS fs))
 told_by version kinds.End ty is_acknowledged = told_as records.End (λ fs. answers.End)
 told_by version kinds.RunOutcome ty is_acknowledged = told_as records.ProposeRunCompletion (λ fs. told_proposal is_acknowledged (propose_run_completion_of LEVELS fs))

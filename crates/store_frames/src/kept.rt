@@ -10,8 +10,8 @@ ghost use Rattle.protocol_wire.specs.Seen.{field};
 ghost use Rattle.store_frames.specs.First.{IsPut, first_state, state_of};
 ghost use Rattle.store_frames.specs.Kept.{AreBoth, Names, Reads, SignalFits, completion_in, state_by as the_state_by};
 
-use crate::kept_fault::KeptFault;
 use crate::first::FirstArrivals;
+use crate::kept_fault::KeptFault;
 use bytes::Bytes;
 use protocol_table::table::notification::FAILURE;
 use protocol_trees::AwaitState;

@@ -16,7 +16,7 @@ use crate::kind::{FrameKind, kind_of};
 use crate::proposal::read_proposal;
 use crate::record::FrameRecord;
 use protocol_controls::ErrorMessage;
-use protocol_records::{SuspensionMessage, SuspensionMessageV6};
+use protocol_records::{AwaitingOnMessage, SuspensionMessage, SuspensionMessageV6};
 use protocol_stream::{Feature, MessageHeader, MessageType, RawMessage, Version};
 use protocol_wire::{DecodeError, RecordType, decode};
 use std::alloc::{AllocError, Global};
@@ -45,7 +45,7 @@ fn read_suspension(
     version: Version,
     payload: &[u8],
 ) -> Result<AttemptFrame, AllocError>
-    ensures { IfOk result (λ frame. frame ≡ told_suspension (lacks_feature (version_number version) AwaitTree) payload.now) }
+    ensures { IfOk result (λ frame. frame ≡ told_suspension (lacks_feature (version_number version) AwaitTree) (version_number version) payload.now) }
 {
     if Feature::AwaitTree.is_later_than(version.number()) {
         read_as::<SuspensionMessageV6>(alloc, version, payload)
@@ -65,11 +65,7 @@ fn read_payload(
 {
     match kind_of(ty) {
         FrameKind::Command => read_by_type(alloc, ty, payload),
-        FrameKind::AwaitingOn => Ok(unless_faulty(
-            RecordType::AwaitingOn,
-            payload,
-            AttemptFrame::AwaitingOn,
-        )),
+        FrameKind::AwaitingOn => read_as::<AwaitingOnMessage>(alloc, version, payload),
         FrameKind::Suspension => read_suspension(alloc, version, payload),
         FrameKind::Error => read_as::<ErrorMessage>(alloc, version, payload),
         FrameKind::End => Ok(unless_faulty(RecordType::End, payload, AttemptFrame::End)),

@@ -1,15 +1,19 @@
 // What is kept of each record that an attempt writes, other than commands.
-ghost use Rattle.std.specs.Prelude.{◌≡◌, ℕ, IfOk};
+ghost use Rattle.std.specs.Prelude.{◌≡◌, ℕ, ◌&&◌, IfOk};
+ghost use Rattle.journal_model.specs.AwaitTree.{has_number};
+ghost use Rattle.protocol_trees.specs.Future.{future_tree};
+ghost use Rattle.protocol_types.specs.Feature.{lacks_feature};
+ghost use Rattle.protocol_types.specs.declared.feature.Feature.TheVariants.{AtLeast};
 ghost use Rattle.protocol_wire.specs.Parts.{payload_of};
 ghost use Rattle.store_frames.specs.declared.frame.AttemptFrame.{AttemptFrame as Frames};
 ghost use Rattle.protocol_types.specs.Version.{version_number};
 ghost use Rattle.store_frames.specs.Told.{told_behavior, told_number};
 
 use crate::frame::{AttemptFrame, ErrorBehavior};
-use crate::tree::tree_payload;
+use crate::tree::{has_number, tree_payload};
 use bytes::Bytes;
 use protocol_controls::ErrorMessage;
-use protocol_records::{SuspensionMessage, SuspensionMessageV6};
+use protocol_records::{AwaitingOnMessage, Future, SuspensionMessage, SuspensionMessageV6};
 use protocol_stream::{Feature, Version};
 use protocol_wire::{Record, encode};
 use std::alloc::{AllocError, Global};
@@ -23,6 +27,13 @@ pub(crate) trait FrameRecord: Record {
         ensures { IfOk result (λ frame. frame ≡ told (version_number version) self.now) };
 }
 
+// Whether a tree asks for a number of successes, in a version in which none does.
+fn asks_too_early(version: Version, awaited: &Future) -> bool
+    ensures { result ≡ (lacks_feature (version_number version) AtLeast && has_number (future_tree awaited.now)) }
+{
+    Feature::AtLeast.is_later_than(version.number()) && has_number(awaited)
+}
+
 /// The canonical payload.
 pub(crate) fn canonical<R: Record>(alloc: Global, one: &R) -> Result<Bytes, AllocError>
     ensures { IfOk result (λ payload. payload ≡ payload_of (R.parts one.now)) }
@@ -33,14 +44,28 @@ pub(crate) fn canonical<R: Record>(alloc: Global, one: &R) -> Result<Bytes, Allo
 impl FrameRecord for SuspensionMessage {
     ghost use Rattle.store_frames.specs.Told.{told_tree};
 
-    ghost told = { λ version one. told_tree one };
+    ghost told = { told_tree };
 
-    fn to_frame(&self, alloc: Global, _version: Version) -> Result<AttemptFrame, AllocError> {
+    fn to_frame(&self, alloc: Global, version: Version) -> Result<AttemptFrame, AllocError> {
         match &self.awaiting_on {
             None => Ok(AttemptFrame::Broken),
+            Some(awaited) if asks_too_early(version, awaited) => Ok(AttemptFrame::Broken),
             Some(awaited) => Ok(AttemptFrame::Suspension {
                 payload: tree_payload(alloc, awaited)?,
             }),
+        }
+    }
+}
+
+impl FrameRecord for AwaitingOnMessage {
+    ghost use Rattle.store_frames.specs.Told.{told_awaiting};
+
+    ghost told = { told_awaiting };
+
+    fn to_frame(&self, _alloc: Global, version: Version) -> Result<AttemptFrame, AllocError> {
+        match &self.awaiting_on {
+            Some(awaited) if asks_too_early(version, awaited) => Ok(AttemptFrame::Broken),
+            _ => Ok(AttemptFrame::AwaitingOn),
         }
     }
 }

@@ -12,8 +12,8 @@ ghost use Rattle.store_frames.specs.First.{AreFirst, arrived_state};
 ghost use Rattle.store_frames.specs.Kept.{Reads};
 ghost use Rattle.store_frames.specs.Awaited.{IsAwaited, any_of as the_any_of, TellsLists, TellsTree};
 
-use crate::kept_fault::KeptFault;
 use crate::first::FirstArrivals;
+use crate::kept_fault::KeptFault;
 use protocol_records::{CombinatorType, Future, SuspensionMessage, SuspensionMessageV6};
 use protocol_trees::is_awake;
 use protocol_types::{Feature, Version};
@@ -53,6 +53,7 @@ fn any_of(alloc: Global, one: SuspensionMessageV6) -> Future
         waiting_named_signals,
         nested_futures: Sequence::new(alloc),
         combinator_type: CombinatorType::FirstCompleted,
+        required: 0,
     }
 }
 

@@ -1,5 +1,5 @@
 -- An output that was read of a message is one that a message can hold.
-use Rattle.std.proofs.Common.{◌≡◌, refl, sym, ap, subst, ◌∙◌, ℕ, Bool, true, false, List, Option, Some, None, option_map}
+use Rattle.std.proofs.Common.{◌≡◌, refl, sym, ap, subst, ◌∙◌, ◌⊎◌, inl, inr, ℕ, Bool, true, false, List, Option, Some, None, option_map}
 use Rattle.journal_model.specs.Notification.{Text}
 use Rattle.journal_model.specs.declared.value.NonEmptyValue.{NonEmptyValue}
 use Rattle.journal_model.specs.Request.{Request}
@@ -14,6 +14,8 @@ use Rattle.protocol_wire.specs.Fields.{fields}
 use Rattle.protocol_records.specs.declared.output_command.OutputCommandMessage.{OutputCommandMessage}
 use Rattle.protocol_records.specs.declared.output_command.OutputCommandResult.{OutputCommandResult}
 use Rattle.protocol_records.specs.OutputCommand.{OutputCommandFits, output_command_of}
+use Rattle.protocol_records.specs.declared.future.Future.{Future}
+use Rattle.protocol_records.specs.AwaitingOn.{awaiting_on_of}
 use Rattle.protocol_records.specs.Suspension.{suspension_of}
 use Rattle.protocol_records.specs.SuspensionV6.{suspension_v6_of}
 use Rattle.protocol_controls.specs.Error.{error_of}
@@ -27,7 +29,8 @@ use Rattle.protocol_types.specs.Feature.{lacks_feature}
 use Rattle.store_frames.specs.declared.kind.FrameKind.{FrameKind}
 use Rattle.store_frames.specs.declared.kind.FrameKind.TheVariants as kinds
 use Rattle.store_frames.specs.Kind.{kind_of, record_of}
-use Rattle.store_frames.specs.Meaning.{asks_ack, command_or_broken, error_frame, frame_by, outcome_or_broken, read_as, read_if_record, suspension_frame, unless_faulty}
+use Rattle.store_frames.proofs.Numbered.{numbered_or_not}
+use Rattle.store_frames.specs.Meaning.{asks_ack, command_or_broken, error_frame, frame_by, outcome_or_broken, read_as, read_if_record, suspension_frame, unless_faulty, unless_numbered}
 use Rattle.store_frames.specs.Commands.{request_in}
 use Rattle.store_frames.proofs.Types.{request_typed}
 use Rattle.protocol_laws.specs.Requests.{request_of_output, value_put_out}
@@ -68,9 +71,19 @@ module _ (value : NonEmptyValue) (name : Text) where
   never : (t : RecordType) (payload : List ℕ) (frame : Frame) → (IsOutput frame → ⊥) → IsOutput (unless_faulty (payload_fault LEVELS t payload) frame) → ⊥
   never t payload frame other e = other (no_fault (payload_fault LEVELS t payload) frame e).1
 
-  no_suspension : (b : Bool) (payload : List ℕ) → IsOutput (suspension_frame b payload) → ⊥
-  no_suspension true payload e = never records.SuspensionV6 payload (Frame.Suspend (Some (suspension_of_lists (suspension_v6_of LEVELS (fields payload))))) (λ is. cc) e
-  no_suspension false payload e = never records.Suspension payload (Frame.Suspend (suspension_of_tree (suspension_of LEVELS (fields payload)))) (λ is. cc) e
+  no_number : (lacks : Bool) (o : Option Future) (frame : Frame) → (IsOutput frame → ⊥) → IsOutput (unless_numbered lacks o frame) → ⊥
+  no_number lacks o frame other e = by_cases (numbered_or_not lacks o frame)
+    where
+      by_cases : (unless_numbered lacks o frame ≡ frame) ⊎ (unless_numbered lacks o frame ≡ Frame.Broken) → ⊥
+      by_cases (inl is) = other (sym is ∙ e)
+      by_cases (inr is) = let broken : IsOutput Frame.Broken = sym is ∙ e in cc
+
+  no_suspension : (b lacks : Bool) (payload : List ℕ) → IsOutput (suspension_frame b lacks payload) → ⊥
+  no_suspension true lacks payload e = never records.SuspensionV6 payload (Frame.Suspend (Some (suspension_of_lists (suspension_v6_of LEVELS (fields payload))))) (λ is. cc) e
+  no_suspension false lacks payload e =
+      let one = suspension_of LEVELS (fields payload) in
+      let frame = Frame.Suspend (suspension_of_tree one) in
+      never records.Suspension payload (unless_numbered lacks one.awaiting_on frame) (no_number lacks one.awaiting_on frame (λ is. cc)) e
 
   no_record : (o : Option RecordType) (payload : List ℕ) → IsOutput (read_if_record o (λ fs. Frame.NotAccepted) payload) → ⊥
   no_record None payload e = cc
@@ -104,8 +117,11 @@ module _ (value : NonEmptyValue) (name : Text) where
 
   held_by : (version : ℕ) (kind : FrameKind) (ty : MessageType) (asks : Bool) (payload : List ℕ) → IsOutput (frame_by version kind ty asks payload) → OutputCommandFits LEVELS (output_record value name)
   held_by version kinds.Command ty asks payload e = command_in ty payload e
-  held_by version kinds.AwaitingOn ty asks payload e = absurd (never records.AwaitingOn payload Frame.AwaitingOn (λ is. cc) e)
-  held_by version kinds.Suspension ty asks payload e = absurd (no_suspension (lacks_feature version features.AwaitTree) payload e)
+  held_by version kinds.AwaitingOn ty asks payload e =
+      let awaited = (awaiting_on_of LEVELS (fields payload)).awaiting_on in
+      let lacks = lacks_feature version features.AtLeast in
+      absurd (never records.AwaitingOn payload (unless_numbered lacks awaited Frame.AwaitingOn) (no_number lacks awaited Frame.AwaitingOn (λ is. cc)) e)
+  held_by version kinds.Suspension ty asks payload e = absurd (no_suspension (lacks_feature version features.AwaitTree) (lacks_feature version features.AtLeast) payload e)
   held_by version kinds.Error ty asks payload e = absurd (never records.Error payload (error_frame version (error_of LEVELS (fields payload))) (λ is. cc) e)
   held_by version kinds.End ty asks payload e = absurd (never records.End payload Frame.End (λ is. cc) e)
   held_by version kinds.RunOutcome ty asks payload e =

@@ -1,9 +1,6 @@
 //! A store that keeps no frames in memory reads an attempt's input from the rows of its entries, one at a time. From which row is each frame
-//! read, what do the rows tell of which invocations are due, and does the little that is kept in memory of an input agree with the accepted
-//! events? Laws over the rows that `store_model` says are kept; the functions do nothing, and their contracts are the laws.
-//!
-//! What is kept of the live attempts in memory is what the accepted events say, step by step, and tells which of their
-//! events is refused. Each function does nothing: its contract is the law.
+//! read, what do the rows tell of which invocations are due, and is the little that is kept of the live attempts in memory what the accepted
+//! events say, step by step? Laws over the rows that `store_model` says are kept; the functions do nothing, and their contracts are the laws.
 #![tactic(auto)]
 
 ghost use Rattle.store_live_laws.specs.Kept.{AwakeAreArranged, ChangedCovers, DueFromRecords, DueFromRows, NextFromRecords, RowsAreNotHeard};

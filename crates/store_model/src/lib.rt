@@ -1,8 +1,6 @@
-//! Which records a store keeps of the events that it accepted. The function does nothing: its contract is the law that the writes
-//! of each accepted event lead from the records kept before it to those kept after it.
-//!
-//! What is found among the records that a store keeps of accepted events: each question of a key has one answer, which the
-//! events decide. Each function does nothing: its contract is the law.
+//! Which records a store keeps of the events that it accepted, and what is found among them: the writes of each accepted event lead from the
+//! records kept before it to those kept after it, and each question of a key has one answer, which the events decide. Each function does
+//! nothing: its contract is the law.
 #![tactic(auto)]
 
 ghost use Rattle.store_model.specs.Writes.{KeptAfter, KeptAtFirst, KeptInAnyOrder};

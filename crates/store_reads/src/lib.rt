@@ -1,6 +1,5 @@
-//! The next frame of a live attempt's input, read from the row in which it is kept. One row at most is read, and no journal.
-//!
-//! Which invocations an attempt may go on of, and when the next sleep ends, as the rows of a store tell it. Neither asks for a journal.
+//! What the rows of a store tell without a journal: the next frame of a live attempt's input, of which one row at most is read; which
+//! invocations an attempt may go on of; and when the next sleep ends.
 #![tactic(auto)]
 
 mod awake;
@@ -8,7 +7,6 @@ mod frame;
 mod next;
 mod next_input;
 
-pub use next_input::next_frame;
 pub use awake::awake_ids;
 pub use next::next_moment;
-
+pub use next_input::next_frame;

@@ -7,7 +7,7 @@ use std::test::Fail;
 use std::time::Duration;
 
 /// Handlers by their names, with answers, and the kinds of the calls before the first of these, behind it, and so on.
-const CALLS: [(&str, &str, &str); 12] = [
+const CALLS: [(&str, &str, &str); 13] = [
     ("nap", "17 woken void done", "sleep await take output end "),
     ("nap", "17 cancelled done", "sleep await output end "),
     (
@@ -34,6 +34,11 @@ const CALLS: [(&str, &str, &str); 12] = [
         "awakeable await take output end ",
     ),
     ("twice", "done done done", "set set output end "),
+    (
+        "quorum",
+        "17 18 19 woken done",
+        "sleep sleep sleep await output end ",
+    ),
     ("read", "17 woken void done", "read await take output end "),
     (
         "keys",

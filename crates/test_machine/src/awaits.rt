@@ -1,6 +1,6 @@
 //! Awaits: `await WORD ..` with the tree's nodes behind their children: a number is a handle, and `F2`, `A2`, `S2`, `R2` and `U2`
 //! are nodes over the two trees before them, the first completed, all completed, the first succeeded or all failed, all succeeded
-//! or the first failed, and unknown. `completed HANDLE`, `take HANDLE`, `input`.
+//! or the first failed, and unknown; `K2/3` is one over three that asks for two successes. `completed HANDLE`, `take HANDLE`, `input`.
 use crate::answers::{debug, failed, taken};
 use invocation_vm::{Input, NotificationHandle, Sequence, UnresolvedFuture, VM};
 use std::alloc::Global;
@@ -31,6 +31,18 @@ fn node(kind: &str, children: Sequence<UnresolvedFuture>) -> Option<UnresolvedFu
     }
 }
 
+// A node that asks for so many successes, over so many trees before it.
+fn at_least(
+    alloc: Global,
+    trees: &mut Vec<UnresolvedFuture>,
+    numbers: &str,
+) -> Option<UnresolvedFuture> {
+    let (required, count) = numbers.split_once('/')?;
+    let required = number(required)?;
+    let count = number(count)?;
+    Some(UnresolvedFuture::AtLeast(required, last(alloc, trees, count)?))
+}
+
 // The node over the trees before it that a word spells.
 fn over_last(
     alloc: Global,
@@ -38,6 +50,9 @@ fn over_last(
     word: &str,
 ) -> Option<UnresolvedFuture> {
     let (kind, count) = word.split_at_checked(1)?;
+    if kind == "K" {
+        return at_least(alloc, trees, count);
+    }
     let count = number(count)?;
     node(kind, last(alloc, trees, count)?)
 }

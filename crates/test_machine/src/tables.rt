@@ -69,7 +69,7 @@ fn resolve<V: VM>(alloc: Global, vm: &mut V, deliveries: &str, words: &[&str]) -
 }
 
 fn begun<V: VM + Drop>(alloc: Global, deliveries: &str, words: &[&str]) -> Option<String> {
-    match begin::<V>(alloc, &["7", "queued", "replay", "stays"])? {
+    match begin::<V>(alloc, &["9", "queued", "replay", "stays"])? {
         Ok(mut vm) => {
             let resolved = resolve(alloc, &mut vm, deliveries, words);
             drop(vm);

@@ -1,13 +1,17 @@
 // What a call, and the end of a run's body, is by its types: functions that look at each text and number in it, and change nothing.
 ghost use Rattle.std.specs.Prelude.{◌<◌, ◌^◌, IsUtf8, IfSome};
 ghost use Rattle.std.specs.List.{AllByRecursion};
-ghost use Rattle.vm_request_laws.specs.Calls.{IsTypedPair, IsTypedFailure, IsTypedValue, IsTypedHeader, IsTypedTarget, IsTypedAttach, IsTypedCall};
+ghost use Rattle.vm_request_laws.specs.Calls.{IsTypedPair, IsTypedFailure, IsTypedValue, IsTypedHeader, IsTypedTarget, IsTypedAttach, NumbersFit, IsTypedCall};
+ghost use Rattle.journal_model.specs.Future.{tree_of};
 ghost use Rattle.vm_attempt.specs.Typed.{IsTypedCommand, IsTypedError, IsTypedExit, IsTypedOutcome};
 
 use crate::run_outcome::RunOutcome;
 use bytes::ByteStr;
-use journal_model::{AttachInvocationTarget, Call, Header, NonEmptyValue, Target, TerminalFailure};
+use journal_model::{
+    AttachInvocationTarget, Call, Header, NonEmptyValue, Target, TerminalFailure, UnresolvedFuture,
+};
 use protocol_errors::{CommandMetadata, Error};
+use sequence::Sequence;
 use vm_refusals::RunExitResult;
 
 fn text_is_typed(text: &ByteStr)
@@ -139,6 +143,34 @@ fn keyed_value_is_typed(key: &ByteStr, value: &NonEmptyValue)
     value_is_typed(value);
 }
 
+#[cycle(futures_typed)]
+#[tactic(auto, using(journal_model::proofs::TreeLemmas::future_trees))]
+fn future_is_typed(future: &UnresolvedFuture)
+    ensures { NumbersFit (tree_of future.now) }
+{
+    match future {
+        UnresolvedFuture::Single(_) => (),
+        UnresolvedFuture::FirstCompleted(children) => futures_are_typed(children),
+        UnresolvedFuture::AllCompleted(children) => futures_are_typed(children),
+        UnresolvedFuture::FirstSucceededOrAllFailed(children) => futures_are_typed(children),
+        UnresolvedFuture::AllSucceededOrFirstFailed(children) => futures_are_typed(children),
+        UnresolvedFuture::Unknown(children) => futures_are_typed(children),
+        UnresolvedFuture::AtLeast(required, children) => {
+            number_is_typed(*required);
+            futures_are_typed(children);
+        }
+    }
+}
+
+#[cycle(futures_typed)]
+fn futures_are_typed(children: &Sequence<UnresolvedFuture>)
+    ensures { AllByRecursion (λ child. NumbersFit (tree_of child)) children.now }
+{
+    for child in children.as_slice() {
+        future_is_typed(child);
+    }
+}
+
 /// A call is of its type: a type says so of each text and number in it, and here it is said of all of them together.
 pub(crate) fn call_is_typed(call: &Call)
     ensures { IsTypedCall call.now }
@@ -167,7 +199,8 @@ pub(crate) fn call_is_typed(call: &Call)
         Call::Cancel { target_id } => text_is_typed(target_id),
         Call::Attach(target) | Call::GetOutput(target) => attach_is_typed(target),
         Call::Output { value, .. } => value_is_typed(value),
-        Call::Awakeable | Call::IsCompleted(_) | Call::Take(_) | Call::Await(_) | Call::End => (),
+        Call::Await(awaited) => future_is_typed(awaited.future()),
+        Call::Awakeable | Call::IsCompleted(_) | Call::Take(_) | Call::End => (),
     }
 }
 

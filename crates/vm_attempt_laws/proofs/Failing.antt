@@ -57,6 +57,7 @@ refused_code CallRefusal.EmptyLimitKey = inl refl
 refused_code CallRefusal.UnsupportedScope = inr refl
 refused_code CallRefusal.UnsupportedLimitKey = inr refl
 refused_code CallRefusal.UnsupportedFailureMetadata = inr refl
+refused_code CallRefusal.UnsupportedAtLeast = inr refl
 refused_code CallRefusal.OutOfBoundsDuration = inl refl
 
 pub either_code : (new : MachineState) (text : Option Bytes) (told : Error) → TellsEither new.active.journal internal text told → told.code.0 ≡ internal

@@ -2,10 +2,11 @@
 use Rattle.std.proofs.Common.{◌≡◌, ◌⊎◌, inl, inr, ◌∙◌, Bool, true, false, List, [], ◌∷◌, ◌++◌, append-nil, Option, Some, None, refl, sym, ap, subst}
 use Rattle.std.proofs.lemmas.List.{append_cancel_left}
 use Rattle.std.specs.List.{AllByRecursion}
+use Rattle.journal_model.specs.Refusal.{Refusal, refusal_of}
 use Rattle.attempt_model.specs.Children.{ChildrenOutcome, AllKnown, FirstUnknown, OneIsNoId, children_outcome, cancel_requests_for}
-use Rattle.attempt_model.specs.Machine.{Mismatch, Work, ToAwait, work_of, is_cancelled, reply_where_cancelled, reply_to_children, reply_where_awake, reply_to_await}
+use Rattle.attempt_model.specs.Machine.{Mismatch, Work, ToAwait, work_of, is_cancelled, reply_where_cancelled, reply_to_children, reply_where_awake, reply_to_await, reply_unless_refused}
 use Rattle.attempt_model.specs.Results.{Ready, Resolution, Awake, Asleep, resolution_of}
-use Rattle.vm_outcomes.specs.Stopping.{children_requests, awake_requests, await_requests, requests_at}
+use Rattle.vm_outcomes.specs.Stopping.{children_requests, awake_requests, await_requests, unless_refused, requests_at}
 use Rattle.vm_attempt_laws.proofs.Ids.{AreText, AreReadyText, ResolvesText, resolved_text, FindsText, found_text}
 use Rattle.vm_attempt_laws.proofs.Now.{compares}
 use Rattle.vm_attempt_laws.proofs.Replies.{the_put}
@@ -30,10 +31,15 @@ module _ (P : Request → Type 0) (given : Invocation) (m : Machine) (line : Are
   await_such (Awake queue ready) text = awake_such queue ready (is_cancelled given (record m { queue = queue; ready = ready })) text
   await_such (Asleep tree ready) text = tt
 
+  unless_such : (o : Option Refusal) (requests : List Request) → AllByRecursion P requests → AllByRecursion P (unless_refused o requests)
+  unless_such None requests all = all
+  unless_such (Some refusal) requests all = tt
+
   work_such : (work : Work) → AllByRecursion P (requests_at given m work)
   work_such (ToAwait tree) =
-      await_such (resolution_of given.options.signal_delivery m.slots (awaited_tree given.options.implicit_cancellation tree) m.queue m.ready)
-      (resolved_text given.options.signal_delivery m.slots (awaited_tree given.options.implicit_cancellation tree) m.queue m.ready line all)
+      unless_such (refusal_of given.version (Call.Await tree)) (await_requests given m (resolution_of given.options.signal_delivery m.slots (awaited_tree given.options.implicit_cancellation tree) m.queue m.ready))
+      (await_such (resolution_of given.options.signal_delivery m.slots (awaited_tree given.options.implicit_cancellation tree) m.queue m.ready)
+      (resolved_text given.options.signal_delivery m.slots (awaited_tree given.options.implicit_cancellation tree) m.queue m.ready line all))
   work_such _ = tt
 
   pub passed_such : (call : Call) → AllByRecursion P (requests_passed_on given m call)
@@ -66,8 +72,14 @@ module _ (same : Request → Request → Bool) (given : Invocation) where
   await_passes m (Asleep tree ready) = inl refl
 
 pub passes_on : (same_header : Call → Request → Request → Bool) (given : Invocation) (m : Machine) (call : Call) → PassesOn (reply_to same_header given m call) (requests_passed_on given m call)
-passes_on same_header given m (Call.Await tree) =
-    await_passes (same_header (Call.Await tree)) given m (resolution_of given.options.signal_delivery m.slots (awaited_tree given.options.implicit_cancellation tree) m.queue m.ready)
+passes_on same_header given m (Call.Await tree) = by_refusal (refusal_of given.version (Call.Await tree))
+  where
+    resolution : Resolution
+    resolution = resolution_of given.options.signal_delivery m.slots (awaited_tree given.options.implicit_cancellation tree) m.queue m.ready
+
+    by_refusal : (o : Option Refusal) → PassesOn (reply_unless_refused (same_header (Call.Await tree)) given m (Call.Await tree) o) (unless_refused o (await_requests given m resolution))
+    by_refusal None = await_passes (same_header (Call.Await tree)) given m resolution
+    by_refusal (Some refusal) = inl refl
 passes_on same_header given m _ = inl refl
 
 -- ---- how far it has come

@@ -15,7 +15,7 @@ use Rattle.attempt_model.specs.Results.{Ready}
 use Rattle.vm_request_laws.specs.Fitting.{RequestFits}
 use Rattle.vm_request_laws.proofs.Making.{calls_make_fit}
 use Rattle.vm_request_laws.specs.Machines.{Leaves}
-use Rattle.vm_request_laws.specs.Trees.{LeavesFit}
+use Rattle.vm_request_laws.specs.Trees.{IsSpoken, LeavesFit}
 use Rattle.vm_request_laws.proofs.Children.{awaited_trees_fit}
 use Rattle.vm_request_laws.proofs.Machines.{machines_fit}
 use Rattle.vm_awaits.specs.Views.{AsyncResults, slots_of}
@@ -31,7 +31,7 @@ use Rattle.vm_attempt_laws.specs.Machine.{MachineState, Fits, Active, Written, w
 use Rattle.vm_attempt_laws.specs.Reading.{Kind, MessageFits}
 use Rattle.vm_attempt_laws.specs.Sending.{Sent, Asks, sent_stream, AllFit, is_recorded, frame_meant, IsOfStore, TurnSends}
 use Rattle.vm_attempt_laws.specs.Serving.{HasNumbers}
-use Rattle.vm_attempt_laws.specs.Words.{version_number, Version, Answer, Call, AwaitTree, NotificationId, keys_of, completions_of, signals_of, Request, Handler, Invocation, Machine, Reply, Answered, Finished, reply_to, LiveAttempt, VMOptions, SlotsFit, refusal_of, Slots, slot_of, requests_by, SendsReply, AnswersNext, RepliesAsRun, requests_carried, arrivals_carried, are_by_text}
+use Rattle.vm_attempt_laws.specs.Words.{version_number, Version, IsTypedCall, Answer, Call, AwaitTree, NotificationId, keys_of, completions_of, signals_of, Request, Handler, Invocation, Machine, Reply, Answered, Finished, reply_to, LiveAttempt, VMOptions, SlotsFit, refusal_of, Slots, slot_of, requests_by, SendsReply, AnswersNext, RepliesAsRun, requests_carried, arrivals_carried, are_by_text}
 use Rattle.vm_attempt_laws.proofs.Now.{Now, compares, call_of, reply_at}
 use Rattle.vm_attempt_laws.proofs.Texts.{reply_text}
 use Rattle.vm_attempt_laws.proofs.Ids.{AreText, AreReadyText, AreTaken, messages_text, line_text, ready_text, values_text}
@@ -227,9 +227,11 @@ module _ (next : Handler) (version : Version) (options : VMOptions) (is_closed :
 
   -- ---- it waits
 
-  -- the ids of what is waited for can be told, it is not awake by itself, and stands for what it stood for
+  -- the ids of what is waited for can be told, it asks for no number in a version in which none does, it is not awake by itself, and stands
+  -- for what it stood for
   pub record IsTold (waits : WaitsFor) (after : Machine) : Type 0 where
     pub fits : (active : Active) → slots_of active.results ≡ after.slots → LeavesFit (awaited_ids active waits)
+    pub spoken : (active : Active) → slots_of active.results ≡ after.slots → IsSpoken given.version (awaited_ids active waits)
     pub asleep : is_awake (leaves_over after.slots waits) (λ leaf. Pending) ≡ false
     pub numbers : HasNumbers after
     pub left : after.left ≡ []
@@ -265,8 +267,10 @@ module _ (next : Handler) (version : Version) (options : VMOptions) (is_closed :
   pub is_told : (waits : WaitsFor) (after : Machine) → reply_at next live vm n.at ≡ waits_as waits after → IsTold waits after
   is_told (Future left) after e =
       let is_left = awaited_trees_fit.awaits (compares vm) given live.machine after (asked (Future left) after e).0 (tree_of left) (replies (Future left) after e) in
-      let fit = awaited_trees_fit.handles live.machine.slots (tree_of left) n.numbers.slots in
+      let typed = subst IsTypedCall (asked (Future left) after e).1 n.typed in
+      let fit = awaited_trees_fit.handles live.machine.slots (tree_of left) n.numbers.slots (is_left.numbers typed) in
       record {
+        spoken = λ active same. subst (λ (slots : Slots). IsSpoken given.version (only_leaves (slot_of slots) (tree_of left))) (sym same) is_left.spoken;
         fits = λ active same. subst (λ (slots : Slots). LeavesFit (only_leaves (slot_of slots) (tree_of left))) (sym (same ∙ is_left.slots)) fit;
         asleep = is_left.asleep;
         numbers = numbers (Future left) after e is_left.slots;
@@ -274,7 +278,10 @@ module _ (next : Handler) (version : Version) (options : VMOptions) (is_closed :
       }
   is_told (Child child) after e =
       let is_left = awaited_trees_fit.children (compares vm) given live.machine after (asked (Child child) after e).0 child n.driven.sees.made (replies (Child child) after e) in
-      record { fits = λ active same. is_left.fits n.numbers.completions; asleep = refl; numbers = numbers (Child child) after e is_left.slots; left = (stayed (Child child) after e).left }
+      record { fits = λ active same. is_left.fits n.numbers.completions; spoken = λ active same. refl; asleep = refl; numbers = numbers (Child child) after e is_left.slots; left = (stayed (Child child) after e).left }
+
+  spoken_as : (ids : AwaitTree NotificationId) (v : Version) → v ≡ version → IsSpoken given.version ids → IsSpoken (version_number v) ids
+  spoken_as ids v same spoken = subst (λ (number : ℕ). IsSpoken number ids) (n.of_version ∙ ap version_number (sym same)) spoken
 
   pub waits_send : (new : MachineState) → (w : Waits given live.machine (call_of next live n.at) vm new) → vm.is_input_closed ≡ false → SendsFor is_closed (reply_at next live vm n.at) new.active.output
   waits_send new w is_open =
@@ -286,7 +293,8 @@ module _ (next : Handler) (version : Version) (options : VMOptions) (is_closed :
       (subst (λ (some : Reply). SendsFor false some new.active.output) (sym w.replies)
       (sends_for false (waits_as w.waits w.machine) w.resolved.output new.active.output (ap (λ (o : Written). o.version) w.unwritten ∙ of_output) (ap (λ (o : Written). o.bytes) w.unwritten)
       (turns_send.stays told tt live.machine w.machine w.waits w.resolved new.active (ap (λ (o : Written). o.is_closed) w.unwritten ∙ opened)
-      ((is_told w.waits w.machine w.replies).fits w.resolved slots) w.tells)))
+      ((is_told w.waits w.machine w.replies).fits w.resolved slots)
+      (spoken_as (awaited_ids w.resolved w.waits) w.resolved.output.version (ap (λ (o : Written). o.version) w.unwritten ∙ of_output) ((is_told w.waits w.machine w.replies).spoken w.resolved slots)) w.tells)))
 
   -- ---- it is suspended
 
@@ -298,7 +306,8 @@ module _ (next : Handler) (version : Version) (options : VMOptions) (is_closed :
       subst (λ (b : Bool). SendsFor b (reply_at next live vm n.at) new.active.output) (sym closed)
       (subst (λ (some : Reply). SendsFor true some new.active.output) (sym p.replies)
       (sends_for true (waits_as p.waits p.machine) p.resolved.output new.active.output (ap (λ (o : Written). o.version) p.unwritten ∙ of_output) (ap (λ (o : Written). o.bytes) p.unwritten)
-      (turns_send.suspensions live.machine p.machine p.waits p.resolved new.active (ap (λ (o : Written). o.is_closed) p.unwritten ∙ opened) slots (is.fits p.resolved slots) is.asleep
+      (turns_send.suspensions live.machine p.machine p.waits p.resolved new.active (ap (λ (o : Written). o.is_closed) p.unwritten ∙ opened) slots (is.fits p.resolved slots)
+      (spoken_as (awaited_ids p.resolved p.waits) p.resolved.output.version (ap (λ (o : Written). o.version) p.unwritten ∙ of_output) (is.spoken p.resolved slots)) is.asleep
       (subst (λ (v : Version). is_suspension_too_deep v (awaited_ids p.resolved p.waits) ≡ false) (sym (ap (λ (o : Written). o.version) p.unwritten ∙ n.driven.written)) p.shallow) p.suspended)))
 
   -- ---- it ends

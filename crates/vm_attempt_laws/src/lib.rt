@@ -14,9 +14,9 @@ ghost use Rattle.vm_attempt_laws.specs.Laws.{OfEach};
 ghost use Rattle.vm_attempt_laws.specs.Telling.{TurnsTell};
 ghost use Rattle.vm_attempt_laws.specs.Turning.{TurnServes, TurnsAnswer, TurnsMatch};
 
-use vm_input_laws::{inputs_are_answered, inputs_are_kept, journals_are_read, starts_are_read};
 use journal_model::Handler;
 use replay_laws::attempts_replay;
+use vm_input_laws::{inputs_are_answered, inputs_are_kept, journals_are_read, starts_are_read};
 
 /// A new attempt that is fed its start frame serves the live attempt that is begun so, or it has failed for want of memory.
 pub fn attempts_begin<H: Handler>()

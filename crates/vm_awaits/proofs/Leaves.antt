@@ -48,6 +48,7 @@ with-node slots kinds.FirstCompleted place places id = sym (append-nil (places i
 with-node slots kinds.AllCompleted place places id = sym (append-nil (places id))
 with-node slots kinds.FirstSucceededOrAllFailed place places id = sym (append-nil (places id))
 with-node slots kinds.AllSucceededOrFirstFailed place places id = sym (append-nil (places id))
+with-node slots (kinds.AtLeast required) place places id = sym (append-nil (places id))
 
 pub node-next : (slots : Slots) (id : NotificationId) (nodes : List FlatNode) (i : ℕ) (node other : FlatNode) (old : Places) (new : List ℕ) → i < length nodes → node ≡ get_or nodes i other
     → old id ≡ places_where (waits_for slots id) 0 (take i nodes) → new ≡ with_node slots node.kind i old id → new ≡ places_where (waits_for slots id) 0 (take (i + 1) nodes)

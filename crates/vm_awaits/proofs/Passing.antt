@@ -45,6 +45,7 @@ before-none test place kinds.FirstCompleted = refl
 before-none test place kinds.AllCompleted = refl
 before-none test place kinds.FirstSucceededOrAllFailed = refl
 before-none test place kinds.AllSucceededOrFirstFailed = refl
+before-none test place (kinds.AtLeast required) = refl
 
 get-middle : (xs rest : List ℕ) (y : ℕ) → slice_get ((xs ++ y ∷ []) ++ rest) (length xs) ≡ Some y
 get-middle [] rest y = refl
@@ -61,6 +62,7 @@ few-before test place kinds.FirstCompleted places = omega arith
 few-before test place kinds.AllCompleted places = omega arith
 few-before test place kinds.FirstSucceededOrAllFailed places = omega arith
 few-before test place kinds.AllSucceededOrFirstFailed places = omega arith
+few-before test place (kinds.AtLeast required) places = omega arith
 
 few-places : (test : ℕ → Bool) (place : ℕ) (nodes : List FlatNode) → length (places_where test place nodes) ≤ length nodes
 few-places test place [] = omega arith

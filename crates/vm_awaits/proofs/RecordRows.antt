@@ -36,11 +36,11 @@ record Row : Type 0 where
   told : Future
 
 abbrev tells : AwaitTree ℕ → CombinatorType → List ℕ → List ℕ → List (List ℕ) → List Future → Row
-tells tree combinator completions signals names nested = record { tree = tree; told = future_node completions signals names nested combinator }
+tells tree combinator completions signals names nested = record { tree = tree; told = future_node completions signals names nested combinator 0 }
 
 -- a record of completions alone, with these in it
 abbrev over : CombinatorType → List ℕ → List Future → Future
-over combinator completions nested = future_node completions [] [] nested combinator
+over combinator completions nested = future_node completions [] [] nested combinator 0
 
 abbrev table : List Row
 table =
@@ -57,10 +57,10 @@ table =
     tells (node Trees.FirstCompleted (node Trees.Unknown (c 1 ∷ c 2 ∷ []) ∷ c 3 ∷ [])) FirstCompleted (3 ∷ []) [] [] (over Unknown (1 ∷ 2 ∷ []) [] ∷ []) ∷
     tells (node Trees.FirstCompleted (node Trees.Unknown (node Trees.AllCompleted (c 1 ∷ c 2 ∷ []) ∷ []) ∷ c 3 ∷ [])) FirstCompleted (3 ∷ []) [] [] (over Unknown [] (over AllCompleted (1 ∷ 2 ∷ []) [] ∷ []) ∷ []) ∷
     tells (node Trees.Unknown (node Trees.FirstSucceededOrAllFailed (c 1 ∷ c 2 ∷ []) ∷ s5 ∷ [])) Unknown [] (5 ∷ []) [] (over FirstSucceededOrAllFailed (1 ∷ 2 ∷ []) [] ∷ []) ∷
-    tells (node Trees.AllCompleted (c 1 ∷ node Trees.Unknown (s17 ∷ []) ∷ [])) AllCompleted (1 ∷ []) [] [] (future_node [] (17 ∷ []) [] [] Unknown ∷ []) ∷
+    tells (node Trees.AllCompleted (c 1 ∷ node Trees.Unknown (s17 ∷ []) ∷ [])) AllCompleted (1 ∷ []) [] [] (future_node [] (17 ∷ []) [] [] Unknown 0 ∷ []) ∷
     -- a handle that stands for nothing is left out; the handle of cancellations stands for signal 1
     tells taken FirstCompleted [] [] [] [] ∷
-    tells (node Trees.FirstCompleted (node Trees.AllCompleted (taken ∷ foo ∷ []) ∷ Single 1 ∷ [])) FirstCompleted [] (1 ∷ []) [] (future_node [] [] (codes "foo" ∷ []) [] AllCompleted ∷ []) ∷
+    tells (node Trees.FirstCompleted (node Trees.AllCompleted (taken ∷ foo ∷ []) ∷ Single 1 ∷ [])) FirstCompleted [] (1 ∷ []) [] (future_node [] [] (codes "foo" ∷ []) [] AllCompleted 0 ∷ []) ∷
     []
 
 rows_stand : map (λ row. future_record (only_leaves (slot_of slots) row.tree)) table ≡ map (λ row. row.told) table

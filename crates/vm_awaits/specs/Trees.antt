@@ -14,6 +14,7 @@ combinator_meant combinators.AllCompleted = Trees.AllCompleted
 -- these two ask how a child has ended, and not only whether it has
 combinator_meant combinators.FirstSucceededOrAllFailed = Trees.FirstSucceededOrAllFailed
 combinator_meant combinators.AllSucceededOrFirstFailed = Trees.AllSucceededOrFirstFailed
+combinator_meant (combinators.AtLeast required) = Trees.AtLeast required
 
 -- the tree of a future that was opened
 abbrev pub opened_tree : Opened → Trees.AwaitTree ℕ

@@ -13,6 +13,7 @@ ghost use Rattle.vm_awaits.specs.Ids.{FindsLeaves, leaves_in, with_node};
 use crate::growing::nodes_of;
 use crate::ids::IdLeaves;
 use crate::telling::tell_leaves;
+use crate::{ReadyNotifications, id_for};
 use journal_model::{NotificationHandle, NotificationId, UnresolvedFuture};
 use protocol_trees::AwaitState;
 use std::alloc::{AllocError, Global};
@@ -21,7 +22,6 @@ use vm_flat_trees::awake::is_awake_now;
 use vm_flat_trees::climbing::is_completed;
 use vm_flat_trees::left::left;
 use vm_flat_trees::node::{FlatNode, Kind};
-use crate::{ReadyNotifications, id_for};
 
 // From so many nodes on a map is made of where the leaves of each id stand.
 const MANY: usize = 16;

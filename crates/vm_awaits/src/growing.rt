@@ -6,13 +6,13 @@ ghost use Rattle.vm_flat_trees.specs.Flat.{flat_at, flat_of, reckoned};
 ghost use Rattle.attempt_model.specs.Results.{handle_state};
 ghost use Rattle.vm_awaits.specs.ReadyViews.{ready_in};
 
+use crate::{ReadyNotifications, state_for};
 use journal_model::{NotificationId, UnresolvedFuture};
 use protocol_trees::AwaitState;
 use std::alloc::{AllocError, Global};
 use vm_flat_trees::climbing::leaf_counts;
 use vm_flat_trees::node::{FlatNode, Kind, counted, no_counts, state_by};
 use vm_flat_trees::opening::{Opened, open};
-use crate::{ReadyNotifications, state_for};
 
 // Puts the nodes of a future behind others, and answers what it has come to.
 fn build(

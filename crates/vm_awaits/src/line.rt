@@ -9,11 +9,11 @@ ghost use Rattle.vm_awaits.specs.Calls.{first_in, LooksAtOne};
 ghost use Rattle.vm_awaits.specs.Lines.{completion_of, count_in, OneMore, OneFewer};
 ghost use Rattle.vm_awaits.specs.ReadyViews.{ready_in};
 
+use crate::ReadyNotifications;
 use journal_model::{Notification, NotificationId, SignalDelivery};
 use std::alloc::{AllocError, Global};
 use std::collections::{BTreeMap, VecDeque};
 use std::marker::Model;
-use crate::ReadyNotifications;
 
 /// The notifications that no await has looked at, in their order.
 ///

@@ -7,14 +7,14 @@ ghost use Rattle.protocol_trees.specs.Future.{id_meant};
 ghost use Rattle.attempt_model.specs.Results.{slot_of};
 ghost use Rattle.vm_awaits.specs.Records.{no_node, with_id, with_leaf, with_nested};
 
-use crate::tree::{Opened, open, record_combinator};
+use crate::id_for;
+use crate::tree::{Opened, open, record_combinator, required_by};
 use bytes::ByteStr;
 use journal_model::{NotificationHandle, NotificationId, UnresolvedFuture};
 use protocol_records::{CombinatorType, Future};
 use protocol_trees::NotificationIdRef;
 use sequence::Sequence;
 use std::alloc::{AllocError, Global};
-use crate::id_for;
 
 // What stands in a node: the ids of its leaves, by their kinds, and the records of the nodes in it.
 #[derive(Drop)]
@@ -69,8 +69,8 @@ impl NodeParts {
         self.nested.push(future)
     }
 
-    fn into_future(self, combinator_type: CombinatorType) -> Future
-        ensures { result ≡ future_node self.completions self.signals self.names self.nested combinator_type }
+    fn into_future(self, combinator_type: CombinatorType, required: u32) -> Future
+        ensures { result ≡ future_node self.completions self.signals self.names self.nested combinator_type required }
     {
         let NodeParts {
             completions,
@@ -84,6 +84,7 @@ impl NodeParts {
             waiting_named_signals: names,
             nested_futures: nested,
             combinator_type,
+            required,
         }
     }
 }
@@ -100,7 +101,7 @@ pub(crate) fn record_of(
     match open(future) {
         Opened::Leaf(handle) => {
             parts.push_leaf(slots, handle)?;
-            Ok(parts.into_future(CombinatorType::FirstCompleted))
+            Ok(parts.into_future(CombinatorType::FirstCompleted, 0))
         }
         Opened::Node(combinator, children) => {
             for child in children {
@@ -109,7 +110,7 @@ pub(crate) fn record_of(
                     Opened::Node(_, _) => parts.push_nested(record_of(alloc, slots, child)?)?,
                 }
             }
-            Ok(parts.into_future(record_combinator(combinator)))
+            Ok(parts.into_future(record_combinator(combinator), required_by(combinator)))
         }
     }
 }

@@ -10,6 +10,7 @@ ghost use Rattle.vm_awaits.specs.ReadyViews.{ready_in};
 
 use crate::flat::FlatTree;
 use crate::line::Line;
+use crate::{ReadyNotifications, state_for};
 use journal_model::{
     NotificationHandle, NotificationId, NotificationResult, SignalDelivery, UnresolvedFuture,
 };
@@ -17,7 +18,6 @@ use protocol_trees::AwaitState;
 use std::alloc::{AllocError, Global};
 use vm_flat_trees::climbing::is_completed;
 use vm_flat_trees::opening::{Opened, open};
-use crate::{ReadyNotifications, state_for};
 
 /// What looking for an awaited future came to.
 #[derive(Debug, Drop)]

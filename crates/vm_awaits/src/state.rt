@@ -15,6 +15,7 @@ ghost use Rattle.vm_awaits.specs.declared.state.CreateHandleError.TheVariants.{H
 use crate::line::Line;
 use crate::records::record_of;
 use crate::resolving::{ResolveFutureResult, resolve};
+use crate::{ReadyNotifications, Slots, first_for, id_for, next_handle, take_for};
 use journal_model::{
     Notification, NotificationHandle, NotificationId, NotificationResult, SignalDelivery,
     UnresolvedFuture,
@@ -22,7 +23,6 @@ use journal_model::{
 use protocol_records::Future;
 use protocol_trees::NotificationIdRef;
 use std::alloc::{AllocError, AllocFailed, Global};
-use crate::{ReadyNotifications, Slots, first_for, id_for, next_handle, take_for};
 
 /// What has come of an invocation's notifications, and what its handles stand for.
 ///

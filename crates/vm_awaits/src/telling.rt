@@ -10,13 +10,13 @@ ghost use Rattle.vm_flat_trees.specs.Delivering.{CanHearOf, Delivers};
 ghost use Rattle.vm_flat_trees.specs.Places.{places_where};
 ghost use Rattle.vm_awaits.specs.Ids.{FindsLeaves, passes};
 
+use crate::id_for;
 use crate::ids::IdLeaves;
 use journal_model::{NotificationHandle, NotificationId};
 use protocol_trees::{AwaitState, NotificationIdRef};
 use vm_flat_trees::climbing::Climbed;
 use vm_flat_trees::delivering::{deliver_to, tell};
 use vm_flat_trees::node::{FlatNode, Kind};
-use crate::id_for;
 
 fn is_same(id: &NotificationId, other: NotificationIdRef<'_>) -> bool
     ensures { result ≡ same_id id.now (id_meant other.entry) }

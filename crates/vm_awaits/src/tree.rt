@@ -1,6 +1,7 @@
 // A future by its root.
 ghost use Rattle.std.specs.Prelude.{◌≡◌};
 ghost use Rattle.journal_model.specs.Future.{tree_of};
+ghost use Rattle.journal_model.specs.Spelling.{required_by};
 ghost use Rattle.protocol_stream.specs.Records.{combinator_record};
 ghost use Rattle.vm_awaits.specs.Trees.{combinator_meant, opened_tree};
 
@@ -15,6 +16,7 @@ pub enum Combinator {
     AllCompleted,
     FirstSucceededOrAllFailed,
     AllSucceededOrFirstFailed,
+    AtLeast(u32),
 }
 
 /// A future, opened at its root.
@@ -51,6 +53,10 @@ pub fn open(future: &UnresolvedFuture) -> Opened<'_>
             Combinator::AllSucceededOrFirstFailed,
             children.as_slice(),
         ),
+        UnresolvedFuture::AtLeast(required, children) => Opened::Node(
+            Combinator::AtLeast(*required),
+            children.as_slice(),
+        ),
     }
 }
 
@@ -64,5 +70,16 @@ pub(crate) fn record_combinator(combinator: Combinator) -> CombinatorType
         Combinator::AllCompleted => CombinatorType::AllCompleted,
         Combinator::FirstSucceededOrAllFailed => CombinatorType::FirstSucceededOrAllFailed,
         Combinator::AllSucceededOrFirstFailed => CombinatorType::AllSucceededOrFirstFailed,
+        Combinator::AtLeast(_) => CombinatorType::AtLeastSucceeded,
+    }
+}
+
+/// How many successes a node asks for.
+pub(crate) fn required_by(combinator: Combinator) -> u32
+    ensures { result ≡ required_by (combinator_meant combinator) }
+{
+    match combinator {
+        Combinator::AtLeast(required) => required,
+        _ => 0,
     }
 }

@@ -19,10 +19,9 @@ use protocol_stream::RawMessage;
 use protocol_types::MessageType;
 use std::alloc::{AllocError, Global};
 use std::collections::VecDeque;
-use vm_awaits::{AsyncResultsState, CreateHandleError};
+use vm_awaits::{AsyncResultsState, Children, CreateHandleError};
 use vm_commands::Command;
 use vm_context::{EagerState, Journal, Output};
-use vm_awaits::Children;
 
 /// What an attempt keeps while calls are made of it, from the last of the entries that its start has announced on.
 #[derive(Debug, Drop)]

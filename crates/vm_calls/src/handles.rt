@@ -9,8 +9,7 @@ use crate::{Active, NumberError, handle_for};
 use bytes::{ByteStr, Bytes};
 use journal_model::{NotificationHandle, NotificationId};
 use std::alloc::Global;
-use vm_types::awakeable_id;
-use vm_types::AwakeableHandle;
+use vm_types::{AwakeableHandle, awakeable_id};
 
 impl Active {
     /// Whether no handle is left.

@@ -23,5 +23,5 @@ pub use options::{ignores, or_empty};
 pub use put_error::PutError;
 pub use putting::put;
 pub use telling::cancel_command;
-pub use vm_commands::{Command, ReplayError};
 pub use vm_awaits::Children;
+pub use vm_commands::{Command, ReplayError};

@@ -212,9 +212,9 @@ await_where : (ready : Option EphemeralCompletionId) (tree : AwaitTree ℕ) (old
     → Stands old → Stands new
 await_where (Some id) tree old (Ok response) new is stands = moved old new is.1 stands
 await_where (Some id) tree old (Err told) new is stands = absurd is
-await_where None tree old result new steps stands =
+await_where None tree old result new unread stands =
     steps_stand (IsAwaited tree) (IsUnexpected (codes "await")) old new stands
-    (λ result calls is. come_to tree old calls is.awaited is.between result new is.others is.held is.goes_on stands) (λ told is. failed is.cause old told new is.fails) None result steps
+    (λ result calls is. come_to tree old calls is.awaited is.between result new is.others is.held is.goes_on stands) (λ told is. failed is.cause old told new is.fails) unread.refusal result unread.steps
 
 pub awaits_stand : (tree : AwaitTree ℕ) (old : MachineState) (result : Result AwaitResponse Error) (new : MachineState) → DoesAwait tree old result new → Stands old → Stands new
 awaits_stand tree old result new is stands = await_where (ready_read old.phase old.active.is_replaying old.reads) tree old result new is stands

@@ -9,13 +9,12 @@ use protocol_stream::{Decoder, HeaderMap};
 use protocol_types::Version;
 use std::alloc::{AllocError, Global};
 use std::fmt;
-use vm_types::EphemeralCommands;
 use vm_machine::{MachineState, about_nothing, fresh_active};
 use vm_runs::RunState;
 use vm_start::{
     NegotiationError, Phase, negotiate, or_out_of_memory, out_of_memory, response_head,
 };
-use vm_types::{ResponseHead, VMOptions};
+use vm_types::{EphemeralCommands, ResponseHead, VMOptions};
 
 // Why no machine is made of the request.
 fn refusal_cause<E: fmt::Debug>(

@@ -2,6 +2,7 @@
 ghost use Rattle.std.specs.Prelude.{◌≡◌, None};
 ghost use Rattle.vm_feeding.specs.Reading.{IsRead, Gives, ReadsAs, ReadsInputs};
 
+use crate::input_of;
 use bytes::ByteStr;
 use journal_model::Input;
 use protocol_errors::Error;
@@ -9,7 +10,6 @@ use protocol_records::{InputCommandMessage, StartMessage};
 use protocol_types::{MessageType, Version};
 use std::alloc::{AllocError, Global};
 use vm_calls::Active;
-use crate::input_of;
 use vm_machine::{Admission, InputError, MachineState, input_cause, read_input};
 use vm_types::VMOptions;
 

@@ -13,9 +13,8 @@ use protocol_errors::Error;
 use protocol_stream::EncodingError;
 use std::alloc::{AllocError, Global};
 use vm_context::{IdsExhausted, Output};
-use vm_types::RegisterError;
 use vm_machine::{MachineState, about_nothing};
-use vm_types::EphemeralCompletionId;
+use vm_types::{EphemeralCompletionId, RegisterError};
 
 // What the machine fails with where a read has no number: it is about no command.
 fn register_cause(alloc: Global, error: RegisterError) -> Result<Error, AllocError>

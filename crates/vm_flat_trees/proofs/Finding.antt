@@ -23,6 +23,7 @@ before-append test place kinds.FirstCompleted xs ys = refl
 before-append test place kinds.AllCompleted xs ys = refl
 before-append test place kinds.FirstSucceededOrAllFailed xs ys = refl
 before-append test place kinds.AllSucceededOrFirstFailed xs ys = refl
+before-append test place (kinds.AtLeast required) xs ys = refl
 
 pub where-append : (test : ℕ → Bool) (place : ℕ) (xs ys : List FlatNode) (at : ℕ) → at ≡ place + length xs → places_where test place (xs ++ ys) ≡ places_where test place xs ++ places_where test at ys
 where-append test place [] ys at is = ap (λ (p : ℕ). places_where test p ys) (omega (arith, is))
@@ -36,6 +37,7 @@ inner-before test place Trees.FirstCompleted places = refl
 inner-before test place Trees.AllCompleted places = refl
 inner-before test place Trees.FirstSucceededOrAllFailed places = refl
 inner-before test place Trees.AllSucceededOrFirstFailed places = refl
+inner-before test place (Trees.AtLeast required) places = refl
 
 module _ (test : ℕ → Bool) (leaves : ℕ → AwaitState) where
   mutual

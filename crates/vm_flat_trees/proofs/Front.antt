@@ -6,6 +6,7 @@ use Rattle.journal_model.specs.Future.{tree_of, trees_from}
 use Rattle.journal_model.specs.Waiting.{pruned}
 use Rattle.journal_model.specs.declared.future.UnresolvedFuture.{UnresolvedFuture}
 use Rattle.vm_flat_trees.specs.declared.node.FlatNode.{FlatNode}
+use Rattle.vm_flat_trees.specs.Counts.{lowered_kind}
 use Rattle.vm_flat_trees.specs.Flat.{combined, pending_before, read_pending, read_node, children_in, node_state, flat_of}
 use Rattle.vm_flat_trees.proofs.Reading.{pending-flat}
 
@@ -47,17 +48,17 @@ pub goes-back : (nodes : List FlatNode) (place : ℕ) (node other : FlatNode) �
 goes-back nodes place node other above within is = ap read_pending (one-back nodes place node other above within is)
 
 pub passes-one : (node : FlatNode) (trees : List (AwaitTree ℕ)) → is_completed (node_state node) ≡ true → trees ≡ pending_before node trees
-passes-one node trees completed = sym (ap (λ (b : Bool). if b then trees else read_node node.kind node.counts.pending trees) completed)
+passes-one node trees completed = sym (ap (λ (b : Bool). if b then trees else read_node (lowered_kind node.kind node.counts) node.counts.pending trees) completed)
 
 pub reads-one : (node : FlatNode) (futures taken rest after : List UnresolvedFuture) (made : UnresolvedFuture) (many : ℕ)
-    → is_completed (node_state node) ≡ false → many ≡ children_in node.kind node.counts.pending → taken ≡ take many futures → rest ≡ drop many futures
-    → tree_of made ≡ combined node.kind (trees_from (map tree_of taken)) → after ≡ made ∷ rest → map tree_of after ≡ pending_before node (map tree_of futures)
+    → is_completed (node_state node) ≡ false → many ≡ children_in (lowered_kind node.kind node.counts) node.counts.pending → taken ≡ take many futures → rest ≡ drop many futures
+    → tree_of made ≡ combined (lowered_kind node.kind node.counts) (trees_from (map tree_of taken)) → after ≡ made ∷ rest → map tree_of after ≡ pending_before node (map tree_of futures)
 reads-one node futures taken rest after made many waits is_many is_taken is_rest is_made is_after =
     ap (map tree_of) is_after
     ∙ ap₂ (λ (t : AwaitTree ℕ) (ts : List (AwaitTree ℕ)). t ∷ ts)
-    (is_made ∙ ap (λ (ts : List (AwaitTree ℕ)). combined node.kind (trees_from ts)) (ap (map tree_of) is_taken ∙ map-take futures many ∙ ap (λ (n : ℕ). take n (map tree_of futures)) is_many))
+    (is_made ∙ ap (λ (ts : List (AwaitTree ℕ)). combined (lowered_kind node.kind node.counts) (trees_from ts)) (ap (map tree_of) is_taken ∙ map-take futures many ∙ ap (λ (n : ℕ). take n (map tree_of futures)) is_many))
     (ap (map tree_of) is_rest ∙ map-drop futures many ∙ ap (λ (n : ℕ). drop n (map tree_of futures)) is_many)
-    ∙ sym (ap (λ (b : Bool). if b then map tree_of futures else read_node node.kind node.counts.pending (map tree_of futures)) waits)
+    ∙ sym (ap (λ (b : Bool). if b then map tree_of futures else read_node (lowered_kind node.kind node.counts) node.counts.pending (map tree_of futures)) waits)
 
 pub none-read : (nodes : List FlatNode) (place : ℕ) → length nodes ≤ place → [] ≡ read_pending (drop place nodes)
 none-read nodes place end = ap read_pending (sym (drop_all place nodes end))

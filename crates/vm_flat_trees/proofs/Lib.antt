@@ -12,5 +12,4 @@ pub mod Growing
 pub mod Finding
 pub mod Keeping
 pub mod Lines
-pub mod Requiring
 pub mod Awaiting

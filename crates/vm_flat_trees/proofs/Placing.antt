@@ -201,6 +201,7 @@ no-leaf Trees.FirstCompleted = refl
 no-leaf Trees.AllCompleted = refl
 no-leaf Trees.FirstSucceededOrAllFailed = refl
 no-leaf Trees.AllSucceededOrFirstFailed = refl
+no-leaf (Trees.AtLeast required) = refl
 
 bare-root : (combinator : Combinator) (counts : Counts) → leaf_counts (kind_of combinator) counts ≡ no_counts
 bare-root Trees.Unknown counts = refl
@@ -208,6 +209,7 @@ bare-root Trees.FirstCompleted counts = refl
 bare-root Trees.AllCompleted counts = refl
 bare-root Trees.FirstSucceededOrAllFailed counts = refl
 bare-root Trees.AllSucceededOrFirstFailed counts = refl
+bare-root (Trees.AtLeast required) counts = refl
 
 -- one leaf has come to another state
 module _ (states others : Placed → AwaitState) (state : AwaitState) (i : ℕ) (node : FlatNode) (leaf : is_leaf node.kind ≡ true)

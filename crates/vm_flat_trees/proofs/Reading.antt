@@ -4,16 +4,17 @@ use Rattle.std.proofs.lemmas.List.{take_at, drop_at, append-nil}
 use Rattle.std.specs.List.{list_any, list_all}
 use Rattle.std.specs.Prelude.{take, drop}
 use Rattle.journal_model.specs.AwaitTree as Trees
-use Rattle.journal_model.specs.AwaitTree.{AwaitState, Pending, Succeeded, Failed, is_completed, Combinator, AwaitTree, AwaitTrees, Single, Combined, no_trees, and_trees, combined_state, await_state, child_states, ends_at_once, has_ended_node, some_has_ended_node, is_awake, map_leaves, map_leaves_of_trees}
+use Rattle.journal_model.specs.AwaitTree.{AwaitState, Pending, Succeeded, Failed, is_completed, Combinator, AwaitTree, AwaitTrees, Single, Combined, no_trees, and_trees, combined_state, await_state, child_states, has_ended, has_ended_node, some_has_ended_node, is_awake, map_leaves, map_leaves_of_trees}
 use Rattle.journal_model.specs.Future.{trees_from}
-use Rattle.journal_model.specs.Waiting.{pruned, pruned_children}
+use Rattle.journal_model.specs.Waiting.{lowered, pruned, pruned_children}
 use Rattle.journal_laws.proofs.Leaving.{or-false, and-true}
 use Rattle.journal_laws.proofs.Pruning.{completed-all}
 use Rattle.vm_flat_trees.specs.declared.node.Counts.{Counts}
 use Rattle.vm_flat_trees.specs.declared.node.FlatNode.{FlatNode}
-use Rattle.vm_flat_trees.specs.Counts.{counts_of, kind_of}
+use Rattle.vm_flat_trees.specs.declared.node.Kind.{Kind}
+use Rattle.vm_flat_trees.specs.Counts.{counts_of, kind_of, lowered_kind}
 use Rattle.vm_flat_trees.specs.Flat.{size_of, all_reckoned, flat_at, flats_at, flat_of, all_counted, trees_in, node_over, node_before, read_node, read_back, read_pending}
-use Rattle.vm_flat_trees.proofs.Reckoning.{leaf-state, tree-reckoned, trees-reckoned}
+use Rattle.vm_flat_trees.proofs.Reckoning.{lowered-counts, leaf-state, tree-reckoned, trees-reckoned}
 
 abbrev list_of : {Leaf : Type 0} → AwaitTrees Leaf → List (AwaitTree Leaf)
 list_of no_trees = []
@@ -45,6 +46,7 @@ node-read combinator many trees rest e = at combinator
     at Trees.AllCompleted = ap₂ (λ (ts : AwaitTrees ℕ) (xs : List (AwaitTree ℕ)). Combined Trees.AllCompleted ts ∷ xs) taken left
     at Trees.FirstSucceededOrAllFailed = ap₂ (λ (ts : AwaitTrees ℕ) (xs : List (AwaitTree ℕ)). Combined Trees.FirstSucceededOrAllFailed ts ∷ xs) taken left
     at Trees.AllSucceededOrFirstFailed = ap₂ (λ (ts : AwaitTrees ℕ) (xs : List (AwaitTree ℕ)). Combined Trees.AllSucceededOrFirstFailed ts ∷ xs) taken left
+    at (Trees.AtLeast required) = ap₂ (λ (ts : AwaitTrees ℕ) (xs : List (AwaitTree ℕ)). Combined (Trees.AtLeast required) ts ∷ xs) taken left
 
 mutual
   pub same-leaves : (tree : AwaitTree ℕ) → map_leaves (λ handle. handle) tree ≡ tree
@@ -74,6 +76,7 @@ node-back {Leaf} leaf combinator counts trees rest e = at combinator
     at Trees.AllCompleted = over Trees.AllCompleted
     at Trees.FirstSucceededOrAllFailed = over Trees.FirstSucceededOrAllFailed
     at Trees.AllSucceededOrFirstFailed = over Trees.AllSucceededOrFirstFailed
+    at (Trees.AtLeast required) = over (Trees.AtLeast required)
 
 module _ {Leaf Made : Type 0} (made : ℕ → AwaitState → Made) (handle : Leaf → ℕ) (leaves : Leaf → AwaitState) where
   many-made : (trees : AwaitTrees Leaf) → length (all_reckoned trees leaves) ≡ length (list_of (map_leaves_of_trees (λ leaf. made (handle leaf) (leaves leaf)) trees))
@@ -126,21 +129,24 @@ module _ {Leaf : Type 0} (handle : Leaf → ℕ) (leaves : Leaf → AwaitState) 
     tree-pending place parent (Single leaf) rest own =
         ap (λ (state : AwaitState). if is_completed state then read_pending rest else Single (handle leaf) ∷ read_pending rest) (leaf-state (leaves leaf) (handle leaf))
     tree-pending place parent (Combined combinator trees) rest own =
-        let (ends, quiet) = or-false (list_any (ends_at_once combinator) (child_states trees leaves)) (some_has_ended_node trees leaves) own in
-        ap₂ (λ (state : AwaitState) (xs : List (AwaitTree ℕ)). if is_completed state then xs else read_node (kind_of combinator) (counts_of (all_reckoned trees leaves)).pending xs)
+        let (ends, quiet) = or-false (has_ended combinator (child_states trees leaves)) (some_has_ended_node trees leaves) own in
+        ap₂ (λ (state : AwaitState) (xs : List (AwaitTree ℕ)). if is_completed state then xs else read_node (lowered_kind (kind_of combinator) (counts_of (all_reckoned trees leaves))) (counts_of (all_reckoned trees leaves)).pending xs)
         (tree-reckoned handle leaves (Combined combinator trees) own) (trees-pending (place + 1) place trees rest quiet)
         ∙ by_cases (is_completed (await_state (Combined combinator trees) leaves)) refl ends
+        (ap (λ (xs : List AwaitState). lowered_kind (kind_of combinator) (counts_of xs)) (trees-reckoned handle leaves trees quiet) ∙ lowered-counts combinator (child_states trees leaves))
         (ap (λ (xs : List AwaitState). (counts_of xs).pending) (trees-reckoned handle leaves trees quiet) ∙ pending-many trees)
       where
-        by_cases : (b : Bool) → is_completed (combined_state combinator (child_states trees leaves)) ≡ b → list_any (ends_at_once combinator) (child_states trees leaves) ≡ false
+        by_cases : (b : Bool) → is_completed (combined_state combinator (child_states trees leaves)) ≡ b → has_ended combinator (child_states trees leaves) ≡ false
+            → lowered_kind (kind_of combinator) (counts_of (all_reckoned trees leaves)) ≡ kind_of (lowered combinator (child_states trees leaves))
             → (counts_of (all_reckoned trees leaves)).pending ≡ length (list_of (map_leaves_of_trees handle (pruned_children trees leaves)))
             → (if b then list_of (map_leaves_of_trees handle (pruned_children trees leaves)) ++ read_pending rest
-            else read_node (kind_of combinator) (counts_of (all_reckoned trees leaves)).pending (list_of (map_leaves_of_trees handle (pruned_children trees leaves)) ++ read_pending rest))
+            else read_node (lowered_kind (kind_of combinator) (counts_of (all_reckoned trees leaves))) (counts_of (all_reckoned trees leaves)).pending (list_of (map_leaves_of_trees handle (pruned_children trees leaves)) ++ read_pending rest))
             ≡ (if b then read_pending rest else map_leaves handle (pruned (Combined combinator trees) leaves) ∷ read_pending rest)
-        by_cases true done ends many =
+        by_cases true done ends kind many =
             ap (λ (ts : AwaitTrees Leaf). list_of (map_leaves_of_trees handle ts) ++ read_pending rest) (none-left trees (completed-all combinator (child_states trees leaves) done ends))
-        by_cases false waits ends many =
-            node-read combinator (counts_of (all_reckoned trees leaves)).pending (map_leaves_of_trees handle (pruned_children trees leaves)) (read_pending rest) many
+        by_cases false waits ends kind many =
+            ap (λ (k : Kind). read_node k (counts_of (all_reckoned trees leaves)).pending (list_of (map_leaves_of_trees handle (pruned_children trees leaves)) ++ read_pending rest)) kind
+            ∙ node-read (lowered combinator (child_states trees leaves)) (counts_of (all_reckoned trees leaves)).pending (map_leaves_of_trees handle (pruned_children trees leaves)) (read_pending rest) many
 
     pub trees-pending : (place parent : ℕ) (trees : AwaitTrees Leaf) (rest : List FlatNode) → some_has_ended_node trees leaves ≡ false
         → read_pending (flats_at handle leaves place parent trees ++ rest) ≡ list_of (map_leaves_of_trees handle (pruned_children trees leaves)) ++ read_pending rest

@@ -1,13 +1,14 @@
 -- What counts tell of states.
-use Rattle.std.proofs.Common.{◌≡◌, refl, sym, ap, ap₂, ◌∙◌, ℕ, ◌+◌, ◌==◌, ne_eqb, arith, Bool, true, false, not, ◌||◌, if◌then◌else◌, List, [], ◌∷◌, ◌++◌, Option}
+use Rattle.std.proofs.Common.{◌≡◌, refl, sym, ap, ap₂, ◌∙◌, ℕ, ◌+◌, ◌-◌, ◌==◌, ne_eqb, arith, Bool, true, false, not, ◌||◌, if◌then◌else◌, List, [], ◌∷◌, ◌++◌, Option}
 use Rattle.std.specs.List.{list_any, list_all}
 use Rattle.journal_model.specs.AwaitTree as Trees
-use Rattle.journal_model.specs.AwaitTree.{AwaitState, Pending, Succeeded, Failed, is_completed, is_succeeded, is_failed, Combinator, AwaitTree, AwaitTrees, Single, Combined, no_trees, and_trees, first_completed, combined_state, await_state, child_states, ends_at_once, has_ended_node, some_has_ended_node, is_awake}
+use Rattle.journal_model.specs.AwaitTree.{AwaitState, Pending, Succeeded, Failed, is_completed, is_succeeded, is_failed, Combinator, AwaitTree, AwaitTrees, Single, Combined, no_trees, and_trees, first_completed, many, at_least, at_least_state, combined_state, await_state, child_states, ends_at_once, has_ended, has_ended_node, some_has_ended_node, is_awake}
 use Rattle.journal_laws.proofs.Leaving.{or-false}
 use Rattle.vm_flat_trees.specs.declared.node.FlatNode.{FlatNode}
 use Rattle.vm_flat_trees.specs.declared.node.Kind.TheVariants as kinds
-use Rattle.vm_flat_trees.specs.Counts.{counts_of, first_by, state_by, is_ended, kind_of}
-use Rattle.vm_flat_trees.specs.Flat.{size_of, reckoned, all_reckoned, flat_at, flats_at, has_ended, root_state, is_awake_flat}
+use Rattle.journal_model.specs.Waiting.{lowered}
+use Rattle.vm_flat_trees.specs.Counts.{counts_of, first_by, at_least_by, state_by, is_ended, kind_of, lowered_kind}
+use Rattle.vm_flat_trees.specs.Flat.{size_of, reckoned, all_reckoned, flat_at, flats_at, has_ended as node_ended, root_state, is_awake_flat}
 
 one_more : (n : ℕ) → (n + 1 == 0) ≡ false
 one_more n = ne_eqb (n + 1) 0 (λ e. absurd (omega (arith, e)))
@@ -66,19 +67,48 @@ completed-succeeded (Pending ∷ xs) quiet = refl
 completed-succeeded (Succeeded ∷ xs) quiet = completed-succeeded xs quiet
 completed-succeeded (Failed ∷ xs) quiet = cc
 
+-- ---- a number of successes
+
+many-succeeded : (states : List AwaitState) → (counts_of states).succeeded ≡ many is_succeeded states
+many-succeeded [] = refl
+many-succeeded (Pending ∷ states) = many-succeeded states
+many-succeeded (Succeeded ∷ states) = ap (λ (n : ℕ). n + 1) (many-succeeded states)
+many-succeeded (Failed ∷ states) = many-succeeded states
+
+many-hopeful : (states : List AwaitState) → (counts_of states).pending + (counts_of states).succeeded ≡ many (λ state. not (is_failed state)) states
+many-hopeful [] = refl
+many-hopeful (Pending ∷ states) = omega (arith, many-hopeful states)
+many-hopeful (Succeeded ∷ states) = omega (arith, many-hopeful states)
+many-hopeful (Failed ∷ states) = many-hopeful states
+
+by-counts : (required : ℕ) (states : List AwaitState) → at_least_by required (counts_of states) ≡ at_least_state required states
+by-counts required states = ap₂ (at_least required) (many-succeeded states) (many-hopeful states)
+
+-- how a node combines what is left is told by its counts
+pub lowered-counts : (combinator : Combinator) (xs : List AwaitState) → lowered_kind (kind_of combinator) (counts_of xs) ≡ kind_of (lowered combinator xs)
+lowered-counts Trees.Unknown xs = refl
+lowered-counts Trees.FirstCompleted xs = refl
+lowered-counts Trees.AllCompleted xs = refl
+lowered-counts Trees.FirstSucceededOrAllFailed xs = refl
+lowered-counts Trees.AllSucceededOrFirstFailed xs = refl
+lowered-counts (Trees.AtLeast required) xs = ap (λ (n : ℕ). kinds.AtLeast (required - n)) (many-succeeded xs)
+
+-- ---- what counts tell of a node
+
 either_ended : (xs : List AwaitState) → (not ((counts_of xs).succeeded == 0) || not ((counts_of xs).failed == 0)) ≡ list_any is_completed xs
 either_ended xs =
     ap₂ (λ (a b : Bool). not a || not b) (none-succeeded xs) (none-failed xs)
     ∙ ap₂ (λ (a b : Bool). a || b) (not-not (list_any is_succeeded xs)) (not-not (list_any is_failed xs))
     ∙ some-completed xs
 
--- whether a child has ended the node is told by its counts
-pub ended-counts : (combinator : Combinator) (xs : List AwaitState) → is_ended (kind_of combinator) (counts_of xs) ≡ list_any (ends_at_once combinator) xs
+-- whether a node has ended is told by its counts
+pub ended-counts : (combinator : Combinator) (xs : List AwaitState) → is_ended (kind_of combinator) (counts_of xs) ≡ has_ended combinator xs
 ended-counts Trees.Unknown xs = either_ended xs
 ended-counts Trees.FirstCompleted xs = either_ended xs
 ended-counts Trees.AllCompleted xs = sym (never-ends xs)
 ended-counts Trees.FirstSucceededOrAllFailed xs = ap not (none-succeeded xs) ∙ not-not (list_any is_succeeded xs)
 ended-counts Trees.AllSucceededOrFirstFailed xs = ap not (none-failed xs) ∙ not-not (list_any is_failed xs)
+ended-counts (Trees.AtLeast required) xs = ap is_completed (by-counts required xs)
 
 first-state : (xs : List AwaitState) → list_any is_completed xs ≡ false → first_by ((counts_of xs).succeeded == 0) ((counts_of xs).failed == 0) ≡ first_completed xs
 first-state xs quiet =
@@ -86,7 +116,7 @@ first-state xs quiet =
     ap₂ first_by (none-succeeded xs ∙ ap not a) (none-failed xs ∙ ap not b) ∙ sym (first-pending xs quiet)
 
 -- and so is its state, where none has
-pub state-counts : (combinator : Combinator) (xs : List AwaitState) → list_any (ends_at_once combinator) xs ≡ false
+pub state-counts : (combinator : Combinator) (xs : List AwaitState) → has_ended combinator xs ≡ false
     → state_by (kind_of combinator) (counts_of xs) ≡ combined_state combinator xs
 state-counts Trees.Unknown xs quiet = first-state xs quiet
 state-counts Trees.FirstCompleted xs quiet = first-state xs quiet
@@ -97,6 +127,7 @@ state-counts Trees.FirstSucceededOrAllFailed xs quiet =
 state-counts Trees.AllSucceededOrFirstFailed xs quiet =
     ap₂ (λ (a b : Bool). if a then (if b then Succeeded else Pending) else Failed) (none-failed xs ∙ ap not quiet) (none-pending xs ∙ completed-succeeded xs quiet)
     ∙ sym (ap (λ (a : Bool). if a then Failed else (if list_all is_succeeded xs then Succeeded else Pending)) quiet)
+state-counts (Trees.AtLeast required) xs quiet = by-counts required xs
 
 pub any-append : (test : FlatNode → Bool) (xs ys : List FlatNode) → list_any test (xs ++ ys) ≡ (list_any test xs || list_any test ys)
 any-append test [] ys = refl
@@ -115,29 +146,29 @@ leaf-state Failed handle = refl
 module _ {Leaf : Type 0} (handle : Leaf → ℕ) (leaves : Leaf → AwaitState) where
   node-ended : (combinator : Combinator) (own flats states : List AwaitState) (rest some : Bool)
       → rest ≡ some → (some ≡ false → own ≡ states)
-      → (is_ended (kind_of combinator) (counts_of own) || rest) ≡ (list_any (ends_at_once combinator) states || some)
-  node-ended combinator own flats states rest true e same = rw e (or_true (is_ended (kind_of combinator) (counts_of own)) ∙ sym (or_true (list_any (ends_at_once combinator) states)))
+      → (is_ended (kind_of combinator) (counts_of own) || rest) ≡ (has_ended combinator states || some)
+  node-ended combinator own flats states rest true e same = rw e (or_true (is_ended (kind_of combinator) (counts_of own)) ∙ sym (or_true (has_ended combinator states)))
   node-ended combinator own flats states rest false e same =
-      ap₂ (λ (a b : Bool). a || b) (ended-counts combinator own ∙ ap (λ (xs : List AwaitState). list_any (ends_at_once combinator) xs) (same refl)) e
+      ap₂ (λ (a b : Bool). a || b) (ended-counts combinator own ∙ ap (has_ended combinator) (same refl)) e
 
   mutual
-    pub tree-ended : (place : ℕ) (parent : Option ℕ) (tree : AwaitTree Leaf) → list_any has_ended (flat_at handle leaves place parent tree) ≡ has_ended_node tree leaves
+    pub tree-ended : (place : ℕ) (parent : Option ℕ) (tree : AwaitTree Leaf) → list_any node_ended (flat_at handle leaves place parent tree) ≡ has_ended_node tree leaves
     tree-ended place parent (Single leaf) = refl
     tree-ended place parent (Combined combinator trees) =
         node-ended combinator (all_reckoned trees leaves) [] (child_states trees leaves)
-        (list_any has_ended (flats_at handle leaves (place + 1) place trees)) (some_has_ended_node trees leaves)
+        (list_any node_ended (flats_at handle leaves (place + 1) place trees)) (some_has_ended_node trees leaves)
         (trees-ended (place + 1) place trees) (trees-reckoned trees)
 
-    pub trees-ended : (place parent : ℕ) (trees : AwaitTrees Leaf) → list_any has_ended (flats_at handle leaves place parent trees) ≡ some_has_ended_node trees leaves
+    pub trees-ended : (place parent : ℕ) (trees : AwaitTrees Leaf) → list_any node_ended (flats_at handle leaves place parent trees) ≡ some_has_ended_node trees leaves
     trees-ended place parent no_trees = refl
     trees-ended place parent (and_trees tree trees) =
-        any-append has_ended (flat_at handle leaves place (Option.Some parent) tree) (flats_at handle leaves (place + size_of tree) parent trees)
+        any-append node_ended (flat_at handle leaves place (Option.Some parent) tree) (flats_at handle leaves (place + size_of tree) parent trees)
         ∙ ap₂ (λ (a b : Bool). a || b) (tree-ended place (Option.Some parent) tree) (trees-ended (place + size_of tree) parent trees)
 
     pub tree-reckoned : (tree : AwaitTree Leaf) → has_ended_node tree leaves ≡ false → reckoned tree leaves ≡ await_state tree leaves
     tree-reckoned (Single leaf) quiet = refl
     tree-reckoned (Combined combinator trees) own =
-        let (ends, quiet) = or-false (list_any (ends_at_once combinator) (child_states trees leaves)) (some_has_ended_node trees leaves) own in
+        let (ends, quiet) = or-false (has_ended combinator (child_states trees leaves)) (some_has_ended_node trees leaves) own in
         ap (λ (xs : List AwaitState). state_by (kind_of combinator) (counts_of xs)) (trees-reckoned trees quiet) ∙ state-counts combinator (child_states trees leaves) ends
 
     pub trees-reckoned : (trees : AwaitTrees Leaf) → some_has_ended_node trees leaves ≡ false → all_reckoned trees leaves ≡ child_states trees leaves

@@ -43,6 +43,7 @@ inner-node Trees.FirstCompleted counts = refl
 inner-node Trees.AllCompleted counts = refl
 inner-node Trees.FirstSucceededOrAllFailed counts = refl
 inner-node Trees.AllSucceededOrFirstFailed counts = refl
+inner-node (Trees.AtLeast required) counts = refl
 
 settling-append : (place : ℕ) (xs ys : List FlatNode) → Settling None Pending place xs → Settling None Pending (place + length xs) ys
     → ((p : ℕ) (counts : Counts) → place ≤ p → p < place + length xs → tally p ys counts ≡ counts) → Settling None Pending place (xs ++ ys)
@@ -161,6 +162,7 @@ same-settled place (x ∷ xs) (y ∷ ys) same left right =
     by_kind kinds.AllCompleted a b leaf inner = inner
     by_kind kinds.FirstSucceededOrAllFailed a b leaf inner = inner
     by_kind kinds.AllSucceededOrFirstFailed a b leaf inner = inner
+    by_kind (kinds.AtLeast required) a b leaf inner = inner
 
     node : Kind → Option ℕ → Counts → FlatNode
     node kind parent counts = record { kind = kind; parent = parent; counts = counts }

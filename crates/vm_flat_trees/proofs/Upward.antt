@@ -140,6 +140,7 @@ starts before leaf state after new sleeps waits (node, there, is_new, is_after) 
     leaf_come kinds.AllCompleted e s = cc
     leaf_come kinds.FirstSucceededOrAllFailed e s = cc
     leaf_come kinds.AllSucceededOrFirstFailed e s = cc
+    leaf_come (kinds.AtLeast required) e s = cc
 
     leaf_ended : (kind : Kind) → is_leaf kind ≡ true → (counts : _) → has_ended (let n : FlatNode = record { kind = kind; parent = None; counts = counts } in n) ≡ false
     leaf_ended (kinds.Leaf handle) e counts = refl
@@ -148,6 +149,7 @@ starts before leaf state after new sleeps waits (node, there, is_new, is_after) 
     leaf_ended kinds.AllCompleted e counts = cc
     leaf_ended kinds.FirstSucceededOrAllFailed e counts = cc
     leaf_ended kinds.AllSucceededOrFirstFailed e counts = cc
+    leaf_ended (kinds.AtLeast required) e counts = cc
 
     leaf_inner : (kind : Kind) (counts more after : _) → is_leaf kind ≡ true → inner_counts kind counts ≡ after → inner_counts kind more ≡ after
     leaf_inner (kinds.Leaf handle) counts more after e m = m
@@ -156,6 +158,7 @@ starts before leaf state after new sleeps waits (node, there, is_new, is_after) 
     leaf_inner kinds.AllCompleted counts more after e m = cc
     leaf_inner kinds.FirstSucceededOrAllFailed counts more after e m = cc
     leaf_inner kinds.AllSucceededOrFirstFailed counts more after e m = cc
+    leaf_inner (kinds.AtLeast required) counts more after e m = cc
 
     first_step : (node : FlatNode) → slice_get before leaf ≡ Some node → (many : ℕ) → IsWay before (Some leaf) many → (rest : ℕ) × IsWay before node.parent rest × (1 + rest ≡ many)
     first_step node there zero way = absurd way

@@ -7,7 +7,7 @@ use Rattle.vm_flat_trees.specs.declared.node.Kind.{Kind}
 use Rattle.vm_flat_trees.specs.declared.node.Kind.TheVariants as kinds
 use Rattle.vm_flat_trees.specs.declared.node.Counts.{Counts}
 use Rattle.vm_flat_trees.specs.declared.node.FlatNode.{FlatNode}
-use Rattle.vm_flat_trees.specs.Counts.{no_counts, first_by, state_by, is_ended}
+use Rattle.vm_flat_trees.specs.Counts.{no_counts, first_by, at_least_by, state_by, is_ended}
 use Rattle.vm_flat_trees.specs.Flat.{node_state, has_ended}
 use Rattle.vm_flat_trees.specs.Settling.{inner_counts, leaf_counts, bare, Moves, moved, visited, is_leaf}
 
@@ -41,7 +41,12 @@ not-false : (b : Bool) → not b ≡ false → b ≡ true
 not-false true e = refl
 not-false false e = cc
 
--- a node that none has ended, and one of whose children is pending, is pending
+pending_if : (state : AwaitState) → is_completed state ≡ false → state ≡ Pending
+pending_if Pending waits = refl
+pending_if Succeeded waits = cc
+pending_if Failed waits = cc
+
+-- a node that has not ended, and one of whose children is pending, is pending
 pub still-pending : (kind : Kind) (counts : Counts) → is_leaf kind ≡ false → is_ended kind counts ≡ false → (counts.pending == 0) ≡ false → state_by kind counts ≡ Pending
 still-pending (kinds.Leaf handle) counts inner quiet waits = cc
 still-pending kinds.Unknown counts inner quiet waits =
@@ -53,6 +58,7 @@ still-pending kinds.FirstCompleted counts inner quiet waits =
 still-pending kinds.AllCompleted counts inner quiet waits = rw waits refl
 still-pending kinds.FirstSucceededOrAllFailed counts inner quiet waits = rw (not-false (counts.succeeded == 0) quiet, waits) refl
 still-pending kinds.AllSucceededOrFirstFailed counts inner quiet waits = rw (not-false (counts.failed == 0) quiet, waits) refl
+still-pending (kinds.AtLeast required) counts inner quiet waits = pending_if (at_least_by required counts) quiet
 
 -- what is known of a node that is visited
 pub record Waits (came : AwaitState) (many : ℕ) (node : FlatNode) : Type 0 where
@@ -75,6 +81,7 @@ inner-by came kinds.FirstCompleted counts after done m = (refl, refl)
 inner-by came kinds.AllCompleted counts after done m = (refl, refl)
 inner-by came kinds.FirstSucceededOrAllFailed counts after done m = (refl, refl)
 inner-by came kinds.AllSucceededOrFirstFailed counts after done m = (refl, refl)
+inner-by came (kinds.AtLeast required) counts after done m = (refl, refl)
 
 pub waits-at : (came : AwaitState) (many : ℕ) (node : FlatNode) (after : Counts) → is_completed came ≡ true → has_ended node ≡ false
     → Moves came (inner_counts node.kind node.counts) after → after.succeeded ≤ many → after.failed ≤ many → Waits came many node
@@ -105,6 +112,7 @@ inner-kept kinds.FirstCompleted counts inner = refl
 inner-kept kinds.AllCompleted counts inner = refl
 inner-kept kinds.FirstSucceededOrAllFailed counts inner = refl
 inner-kept kinds.AllSucceededOrFirstFailed counts inner = refl
+inner-kept (kinds.AtLeast required) counts inner = refl
 
 -- a visited node has heard of its child
 pub heard-then : (came : AwaitState) (node : FlatNode) (counts : Counts) → is_leaf node.kind ≡ false → Moves came (inner_counts node.kind node.counts) counts
@@ -120,6 +128,7 @@ leaf-kept kinds.FirstCompleted counts after inner = refl
 leaf-kept kinds.AllCompleted counts after inner = refl
 leaf-kept kinds.FirstSucceededOrAllFailed counts after inner = refl
 leaf-kept kinds.AllSucceededOrFirstFailed counts after inner = refl
+leaf-kept (kinds.AtLeast required) counts after inner = refl
 
 pub bare-visited : (came : AwaitState) (node : FlatNode) → is_leaf node.kind ≡ false → bare (visited came node) ≡ bare node
 bare-visited came node inner = ap (λ (counts : Counts). let n : FlatNode = record { kind = node.kind; parent = node.parent; counts = counts } in n) (leaf-kept node.kind (moved came node.counts) node.counts inner)

@@ -1,7 +1,7 @@
 -- Counts of children, and what a node has come to by them.
-use Rattle.std.specs.Prelude.{◌+◌, ◌==◌, Bool, false, not, ◌||◌, if◌then◌else◌, List, [], ◌∷◌}
+use Rattle.std.specs.Prelude.{ℕ, ◌+◌, ◌-◌, ◌==◌, Bool, false, not, ◌||◌, if◌then◌else◌, List, [], ◌∷◌}
 use Rattle.journal_model.specs.AwaitTree as Trees
-use Rattle.journal_model.specs.AwaitTree.{AwaitState, Pending, Succeeded, Failed}
+use Rattle.journal_model.specs.AwaitTree.{AwaitState, Pending, Succeeded, Failed, is_completed, at_least}
 pub use Rattle.protocol_trees.specs.Shape.{state_meant}
 use Rattle.vm_flat_trees.specs.declared.node.Kind.{Kind}
 use Rattle.vm_flat_trees.specs.declared.node.Kind.TheVariants as kinds
@@ -28,6 +28,10 @@ counts_of states = counted_all states no_counts
 abbrev pub first_by : (is_none_succeeded is_none_failed : Bool) → AwaitState
 first_by succeeded failed = if succeeded then (if failed then Pending else Failed) else Succeeded
 
+-- of a node that asks for a number of successes
+abbrev pub at_least_by : (required : ℕ) → Counts → AwaitState
+at_least_by required counts = at_least required counts.succeeded (counts.pending + counts.succeeded)
+
 -- what a node has come to. Of one that is completed with its first child it is said which of both only where its completed
 -- children have all succeeded, or all failed: else it is taken for a success.
 abbrev pub state_by : Kind → Counts → AwaitState
@@ -37,8 +41,9 @@ state_by kinds.FirstCompleted counts = first_by (counts.succeeded == 0) (counts.
 state_by kinds.AllCompleted counts = if counts.pending == 0 then Succeeded else Pending
 state_by kinds.FirstSucceededOrAllFailed counts = if counts.succeeded == 0 then (if counts.pending == 0 then Failed else Pending) else Succeeded
 state_by kinds.AllSucceededOrFirstFailed counts = if counts.failed == 0 then (if counts.pending == 0 then Succeeded else Pending) else Failed
+state_by (kinds.AtLeast required) counts = at_least_by required counts
 
--- whether a child has ended the node at once
+-- whether the node has ended: by a child at once, or, where it asks for a number of successes, as soon as it is not pending
 abbrev pub is_ended : Kind → Counts → Bool
 is_ended (kinds.Leaf handle) counts = false
 is_ended kinds.Unknown counts = not (counts.succeeded == 0) || not (counts.failed == 0)
@@ -46,6 +51,7 @@ is_ended kinds.FirstCompleted counts = not (counts.succeeded == 0) || not (count
 is_ended kinds.AllCompleted counts = false
 is_ended kinds.FirstSucceededOrAllFailed counts = not (counts.succeeded == 0)
 is_ended kinds.AllSucceededOrFirstFailed counts = not (counts.failed == 0)
+is_ended (kinds.AtLeast required) counts = is_completed (at_least_by required counts)
 
 abbrev pub kind_of : Trees.Combinator → Kind
 kind_of Trees.Unknown = kinds.Unknown
@@ -53,3 +59,9 @@ kind_of Trees.FirstCompleted = kinds.FirstCompleted
 kind_of Trees.AllCompleted = kinds.AllCompleted
 kind_of Trees.FirstSucceededOrAllFailed = kinds.FirstSucceededOrAllFailed
 kind_of Trees.AllSucceededOrFirstFailed = kinds.AllSucceededOrFirstFailed
+kind_of (Trees.AtLeast required) = kinds.AtLeast required
+
+-- how it combines what is left of its children: a number of successes is lowered by those that have succeeded
+abbrev pub lowered_kind : Kind → Counts → Kind
+lowered_kind (kinds.AtLeast required) counts = kinds.AtLeast (required - counts.succeeded)
+lowered_kind kind counts = kind

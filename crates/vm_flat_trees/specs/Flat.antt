@@ -8,7 +8,7 @@ use Rattle.vm_flat_trees.specs.declared.node.Kind.{Kind}
 use Rattle.vm_flat_trees.specs.declared.node.Kind.TheVariants as kinds
 use Rattle.vm_flat_trees.specs.declared.node.Counts.{Counts}
 use Rattle.vm_flat_trees.specs.declared.node.FlatNode.{FlatNode}
-use Rattle.vm_flat_trees.specs.Counts.{counts_of, state_by, is_ended, kind_of}
+use Rattle.vm_flat_trees.specs.Counts.{counts_of, state_by, is_ended, kind_of, lowered_kind}
 
 -- how many nodes a tree has
 abbrev mutual
@@ -73,6 +73,7 @@ combined kinds.FirstCompleted trees = Combined Trees.FirstCompleted trees
 combined kinds.AllCompleted trees = Combined Trees.AllCompleted trees
 combined kinds.FirstSucceededOrAllFailed trees = Combined Trees.FirstSucceededOrAllFailed trees
 combined kinds.AllSucceededOrFirstFailed trees = Combined Trees.AllSucceededOrFirstFailed trees
+combined (kinds.AtLeast required) trees = Combined (Trees.AtLeast required) trees
 
 -- how many trees behind a node are its children, of which it has so many
 abbrev pub children_in : Kind → (many : ℕ) → ℕ
@@ -100,6 +101,7 @@ node_before leaf kinds.FirstCompleted counts trees = node_over Trees.FirstComple
 node_before leaf kinds.AllCompleted counts trees = node_over Trees.AllCompleted (all_counted counts) trees
 node_before leaf kinds.FirstSucceededOrAllFailed counts trees = node_over Trees.FirstSucceededOrAllFailed (all_counted counts) trees
 node_before leaf kinds.AllSucceededOrFirstFailed counts trees = node_over Trees.AllSucceededOrFirstFailed (all_counted counts) trees
+node_before leaf (kinds.AtLeast required) counts trees = node_over (Trees.AtLeast required) (all_counted counts) trees
 
 -- the trees that a list of nodes holds, read from its end
 abbrev pub read_back : {Leaf : Type 0} → (leaf : ℕ → AwaitState → Leaf) → List FlatNode → List (AwaitTree Leaf)
@@ -109,7 +111,7 @@ read_back leaf (node ∷ nodes) = node_before leaf node.kind node.counts (read_b
 -- a node before the trees that were read behind it, but where it is completed: one that waits has as many children there as it has
 -- pending ones
 abbrev pub pending_before : FlatNode → List (AwaitTree ℕ) → List (AwaitTree ℕ)
-pending_before node trees = if is_completed (node_state node) then trees else read_node node.kind node.counts.pending trees
+pending_before node trees = if is_completed (node_state node) then trees else read_node (lowered_kind node.kind node.counts) node.counts.pending trees
 
 -- the trees without completed nodes
 abbrev pub read_pending : List FlatNode → List (AwaitTree ℕ)

@@ -1,4 +1,3 @@
-pub mod AtLeast
 pub mod Awaited
 pub mod AwaitedCode
 pub mod Bringing

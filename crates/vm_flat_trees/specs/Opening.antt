@@ -15,6 +15,7 @@ combinator_of kinds.FirstCompleted = Trees.FirstCompleted
 combinator_of kinds.AllCompleted = Trees.AllCompleted
 combinator_of kinds.FirstSucceededOrAllFailed = Trees.FirstSucceededOrAllFailed
 combinator_of kinds.AllSucceededOrFirstFailed = Trees.AllSucceededOrFirstFailed
+combinator_of (kinds.AtLeast required) = Trees.AtLeast required
 
 -- the tree of a future that was opened
 abbrev pub opened_tree : Opened → Trees.AwaitTree ℕ

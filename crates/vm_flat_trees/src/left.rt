@@ -6,7 +6,7 @@ ghost use Rattle.journal_model.specs.Waiting.{pruned};
 ghost use Rattle.vm_flat_trees.specs.Flat.{combined, pending_before, read_pending, children_in, flat_of};
 
 use crate::climbing::is_completed;
-use crate::node::{FlatNode, Kind, state_by};
+use crate::node::{FlatNode, Kind, lowered_kind, state_by};
 use journal_model::{CANCEL_NOTIFICATION_HANDLE, NotificationHandle, UnresolvedFuture};
 use sequence::Sequence;
 use std::alloc::{AllocError, Global};
@@ -24,6 +24,7 @@ fn combined(kind: Kind, children: Sequence<UnresolvedFuture>) -> UnresolvedFutur
         Kind::AllCompleted => UnresolvedFuture::AllCompleted(children),
         Kind::FirstSucceededOrAllFailed => UnresolvedFuture::FirstSucceededOrAllFailed(children),
         Kind::AllSucceededOrFirstFailed => UnresolvedFuture::AllSucceededOrFirstFailed(children),
+        Kind::AtLeast(required) => UnresolvedFuture::AtLeast(required, children),
     }
 }
 
@@ -62,8 +63,9 @@ fn put_before(futures: &mut VecDeque<UnresolvedFuture>, node: FlatNode) -> Resul
     if is_completed(state_by(node.kind, node.counts)) {
         return Ok(());
     }
-    let children = take_first(futures, children_in(node.kind, node.counts.pending))?;
-    futures.push_front(combined(node.kind, children))?;
+    let kind = lowered_kind(node.kind, node.counts);
+    let children = take_first(futures, children_in(kind, node.counts.pending))?;
+    futures.push_front(combined(kind, children))?;
     Ok(())
 }
 

@@ -4,7 +4,6 @@
 pub mod awake;
 pub mod climbing;
 pub mod delivering;
-pub mod laws;
 pub mod left;
 pub mod node;
 pub mod opening;

@@ -1,6 +1,7 @@
 // A node of a flat tree.
-ghost use Rattle.std.specs.Prelude.{◌≡◌, ◌<◌, ◌^◌};
-ghost use Rattle.vm_flat_trees.specs.Counts.{state_meant, no_counts, counted, state_by, is_ended};
+ghost use Rattle.std.specs.Prelude.{◌≡◌, ◌<◌, ◌-◌, ◌^◌};
+ghost use Rattle.journal_model.specs.AwaitTree.{is_completed};
+ghost use Rattle.vm_flat_trees.specs.Counts.{state_meant, no_counts, counted, at_least_by, state_by, is_ended, lowered_kind};
 
 use protocol_trees::AwaitState;
 
@@ -13,6 +14,8 @@ pub enum Kind {
     AllCompleted,
     FirstSucceededOrAllFailed,
     AllSucceededOrFirstFailed,
+    /// So many have to succeed.
+    AtLeast(u32),
 }
 
 /// How many children of a node have come to what. A leaf counts as one child of itself.
@@ -80,6 +83,21 @@ fn by_first(counts: Counts) -> AwaitState
     }
 }
 
+// Of a node that asks for a number of successes, by how many have succeeded, and how many have not failed.
+fn by_number(required: u32, counts: Counts) -> AwaitState
+    ensures { state_meant result ≡ at_least_by required counts }
+{
+    let required = u128::from(required);
+    let succeeded = counts.succeeded as u128;
+    if required <= succeeded {
+        AwaitState::Succeeded
+    } else if counts.pending as u128 + succeeded < required {
+        AwaitState::Failed
+    } else {
+        AwaitState::Pending
+    }
+}
+
 /// What a node has come to, by its counts.
 pub fn state_by(kind: Kind, counts: Counts) -> AwaitState
     ensures { state_meant result ≡ state_by kind counts }
@@ -113,10 +131,37 @@ pub fn state_by(kind: Kind, counts: Counts) -> AwaitState
                 AwaitState::Pending
             }
         }
+        Kind::AtLeast(required) => by_number(required, counts),
     }
 }
 
-/// Whether a child has ended the node at once, by its counts.
+fn is_completed(state: AwaitState) -> bool
+    ensures { result ≡ is_completed (state_meant state) }
+{
+    !matches!(state, AwaitState::Pending)
+}
+
+// A number, less what is counted, or none where that is more.
+fn lowered(required: u32, counted: usize) -> u32
+    ensures { result ≡ required - counted }
+{
+    match u32::try_from(counted) {
+        Ok(counted) => required.saturating_sub(counted),
+        Err(_) => 0,
+    }
+}
+
+/// How a node combines what is left of its children: a number of successes is lowered by those that have succeeded.
+pub fn lowered_kind(kind: Kind, counts: Counts) -> Kind
+    ensures { result ≡ lowered_kind kind counts }
+{
+    match kind {
+        Kind::AtLeast(required) => Kind::AtLeast(lowered(required, counts.succeeded)),
+        other => other,
+    }
+}
+
+/// Whether the node has ended, by its counts: by a child at once, or, where it asks for a number, as soon as it is not pending.
 pub fn is_ended(kind: Kind, counts: Counts) -> bool
     ensures { result ≡ is_ended kind counts }
 {
@@ -127,5 +172,6 @@ pub fn is_ended(kind: Kind, counts: Counts) -> bool
         Kind::FirstCompleted => counts.succeeded != 0 || counts.failed != 0,
         Kind::FirstSucceededOrAllFailed => counts.succeeded != 0,
         Kind::AllSucceededOrFirstFailed => counts.failed != 0,
+        Kind::AtLeast(required) => is_completed(by_number(required, counts)),
     }
 }

@@ -36,5 +36,9 @@ pub fn open(future: &UnresolvedFuture) -> Opened<'_>
             Kind::AllSucceededOrFirstFailed,
             children.as_slice(),
         ),
+        UnresolvedFuture::AtLeast(required, children) => Opened::Node(
+            Kind::AtLeast(*required),
+            children.as_slice(),
+        ),
     }
 }

@@ -1,9 +1,6 @@
-//! What a machine that is fed the frames of an attempt's input keeps of them. Each function does nothing: its contract is the law.
-//!
-//! An acknowledgement of a run's outcome is fed only where that outcome was kept, and behind the journal; else the machine fails.
-//!
-//! What a new machine that is told its attempt's start and input in any cut of their bytes, and is asked for the input then, is to the
-//! abstract machine. Each function does nothing: its contract is the law.
+//! What a new machine that is told its attempt's start and input, in any cut of their bytes, keeps of them, and what it is to the abstract
+//! machine. An acknowledgement of a run's outcome is fed only where that outcome was kept, and behind the journal; else the machine fails.
+//! Each function does nothing: its contract is the law.
 #![tactic(auto)]
 
 ghost use Rattle.vm_input_laws.specs.Arrivals.{ArrivalsReadBack};

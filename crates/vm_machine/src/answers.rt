@@ -20,10 +20,9 @@ use protocol_stream::RawMessage;
 use std::alloc::Global;
 use vm_awaits::AsyncResultsState;
 use vm_calls::Active;
-use vm_types::EphemeralCommands;
 use vm_runs::RunState;
 use vm_start::Phase;
-use vm_types::EphemeralCompletionId;
+use vm_types::{EphemeralCommands, EphemeralCompletionId};
 
 // What the answer of an ephemeral read hands out.
 fn to_value(brought: GetStateEphemeralNotificationResult) -> Value

@@ -4,9 +4,8 @@ use protocol_records::StartMessage;
 use protocol_stream::Decoder;
 use protocol_types::Version;
 use std::alloc::Global;
-use vm_types::EphemeralCommands;
 use vm_runs::RunState;
-use vm_types::VMOptions;
+use vm_types::{EphemeralCommands, VMOptions};
 
 /// All that a machine keeps.
 #[derive(Drop)]

@@ -1,5 +1,5 @@
 -- An await is carried out.
-use Rattle.std.proofs.Common.{◌≡◌, ◌⊎◌, ◌≤◌, ◌<◌, ◌^◌, ◌==◌, inl, inr, ℕ, Bool, true, false, not, ◌&&◌, List, [], length, codes, Option, Some, None, Result, Ok, Err, IfOk, refl, sym, ap, subst, ◌∙◌, arith}
+use Rattle.std.proofs.Common.{◌≡◌, ◌⊎◌, ◌≤◌, ◌<◌, ◌^◌, ◌==◌, inl, inr, ℕ, Bool, true, false, not, ◌&&◌, List, [], ◌∷◌, ◌++◌, length, codes, Option, Some, None, Result, Ok, Err, IfOk, refl, sym, ap, subst, ◌∙◌, arith}
 use Rattle.std.specs.declared.alloc.AllocError.{AllocError}
 use Rattle.journal_model.specs.AwaitTree.{AwaitTree}
 use Rattle.journal_model.specs.Notification.{Bytes}
@@ -9,7 +9,7 @@ use Rattle.journal_model.specs.declared.call.Answer.{Answer}
 use Rattle.journal_model.specs.declared.call.Call.{Call}
 use Rattle.journal_model.specs.declared.notification.NotificationId.{NotificationId}
 use Rattle.journal_model.specs.declared.options.ImplicitCancellationOption.{ImplicitCancellationOption}
-use Rattle.attempt_model.specs.Machine.{Machine, FailedBy, UncompletedInReplay, ChildNotId}
+use Rattle.attempt_model.specs.Machine.{Machine, FailedBy, UncompletedInReplay, ChildNotId, reply_unless_refused}
 use Rattle.attempt_model.specs.Requests.{put_one}
 use Rattle.attempt_model.specs.Results.{Slots}
 use Rattle.protocol_errors.specs.Code.{internal, suspended}
@@ -34,9 +34,13 @@ use Rattle.vm_types.specs.Reads.{EphemeralReads, no_reads}
 use Rattle.vm_start.specs.declared.phase.Phase.{Phase}
 use Rattle.vm_start.specs.declared.phase.Phase.TheVariants as phases
 use Rattle.vm_machine.specs.PassedMachine.{child_not_id_error}
-use Rattle.vm_feeding.specs.Passed.{checks_off, CallCauses, MachineFails, IsUnexpected, MachineState, Settles, TellsLast, Unless}
+use Rattle.vm_refusals.specs.Refusals.{refusal_code, refusal_text}
+use Rattle.vm_refusals.specs.declared.refusal.CallRefusal.{CallRefusal}
+use Rattle.vm_refusals.specs.declared.refusal_error.RefusalError.{RefusalError}
+use Rattle.journal_model.specs.Refusal.{Refusal, refusal_of}
+use Rattle.vm_feeding.specs.Passed.{IsRefused, checks_off, CallCauses, MachineFails, IsRefusalOf, IsUnexpected, MachineState, Settles, Tells, TellsLast, Unless}
 use Rattle.vm_progress.specs.Asleep.{too_deep_error, LacksMemory, FailsUntold, SettlesStay, ClosesAs, HandsOutRun, SleepIs, SleepsAs, SleepsWhere}
-use Rattle.vm_progress.specs.Awaiting.{ready_read, GoesOnAs, IsAwaited, DoesAwaitWhere, DoesAwait}
+use Rattle.vm_progress.specs.Awaiting.{ready_read, AwaitsUnread, GoesOnAs, IsAwaited, DoesAwaitWhere, DoesAwait}
 use Rattle.vm_progress.specs.Executing.{executes_any, is_executing_for, run_for}
 use Rattle.vm_progress.specs.Uncompleted.{started_id, TellsUncompleted}
 use Rattle.vm_progress.proofs.Naming.{uncompleted_code}
@@ -58,14 +62,16 @@ use Rattle.vm_waiting.specs.declared.awaiting.AwaitError.TheVariants as unawaite
 use Rattle.vm_waiting.specs.declared.suspending.TellError.{TellError}
 use Rattle.vm_waiting.specs.declared.suspending.TellError.TheVariants.{TooDeep, Encoding}
 use Rattle.vm_waiting.specs.declared.waits_for.WaitsFor.{WaitsFor}
+use Rattle.vm_waiting.specs.declared.waits_for.WaitsFor.TheVariants as waitings
 use Rattle.vm_outcomes.specs.Carrying.{tells_waiting, Answers, Waits, Executes, Suspends as IsSuspended, Comes, CarriesOut}
 use Rattle.vm_outcomes.specs.Causes.{ByFault, TooLong, TooDeep as Deep, Unread, Differs, IsAsked, IsLookedAt, IsAsleep, waiting_payload, is_wait_too_deep, HasCause}
 use Rattle.vm_outcomes.specs.Driven.{IsDriven, reply_of}
 use Rattle.vm_outcomes.specs.Outcomes.{awaited_as}
-use Rattle.vm_outcomes.specs.Stopping.{HasPut, IsUnmatchedNext}
+use Rattle.vm_outcomes.specs.Stopping.{unless_refused, HasPut, IsUnmatchedNext}
 use Rattle.vm_outcomes.specs.declared.outcome.CallOutcome.{CallOutcome}
 use Rattle.vm_outcomes.proofs.Answering.{leaves_runs, driven_on, commands_stay, answered, answered_quietly, none_taken, nothing_written}
-use Rattle.vm_outcomes.proofs.Failing.{code_apart, plain_code, told_plain, told_last, looked_at, looked_asked, none_put, memory_lacks, mismatches_at, unless_ok, fails_of, failed_behind}
+use Rattle.vm_outcomes.proofs.Calling.{refusal_none, refusal_some}
+use Rattle.vm_outcomes.proofs.Failing.{code_apart, plain_code, told_plain, told_last, looked_at, looked_asked, none_put, memory_lacks, mismatches_at, unless_ok, fails_of, failed_behind, refused_cause}
 use Rattle.vm_outcomes.proofs.Steps.{steps_of}
 use Rattle.vm_outcomes.proofs.Stopping.{StopsBehind, StopsFor, PutWhy, Keeps, await_keeps}
 use Rattle.vm_outcomes.proofs.Telling.{tells_seen, untold, failed_unsuspended}
@@ -85,6 +91,19 @@ child_apart told is = subst Apart (sym is) refl
 uncompleted_apart : (invocation : Bytes) (slots : Slots) (runs : Runs) (waits : WaitsFor) (told : Result Error AllocError) → IfOk told (TellsUncompleted invocation slots runs waits) → Apart told
 uncompleted_apart invocation slots runs waits (Ok error) uncompleted = ap (λ (code : ℕ). code == suspended) (uncompleted_code invocation slots runs waits error uncompleted)
 uncompleted_apart invocation slots runs waits (Err refused) uncompleted = tt
+
+refusal_apart : (refused : CallRefusal) → (refusal_code refused == suspended) ≡ false
+refusal_apart CallRefusal.EmptyIdempotencyKey = refl
+refusal_apart CallRefusal.EmptyScope = refl
+refusal_apart CallRefusal.EmptyLimitKey = refl
+refusal_apart CallRefusal.UnsupportedScope = refl
+refusal_apart CallRefusal.UnsupportedLimitKey = refl
+refusal_apart CallRefusal.UnsupportedFailureMetadata = refl
+refusal_apart CallRefusal.UnsupportedAtLeast = refl
+refusal_apart CallRefusal.OutOfBoundsDuration = refl
+
+refused_apart : (refused : CallRefusal) (text : Option Bytes) (told : Result Error AllocError) → IfOk told (Tells (refusal_code refused) text) → Apart told
+refused_apart refused text told causes = code_apart (refusal_code refused) told (refusal_apart refused) (plain_code (refusal_code refused) text told causes)
 
 decoding_apart : (error : DecodingError) → (decoding_code error == suspended) ≡ false
 decoding_apart (DecodingError.UnknownMessageType ty) = refl
@@ -118,6 +137,23 @@ asked_behind front old new is = inr (
   SendSignalCommand,
   ([], record { commands = ap (λ (j : JournalCounts). j.commands) is; last_type = ap (λ (j : JournalCounts). j.last_type) is; last_name = ap (λ (j : JournalCounts). j.last_name) is }),
 )
+
+-- an await that waits is not refused
+unrefused_where : (given : Invocation) (m : Machine) (tree : AwaitTree ℕ) (headers : Request → Request → Bool) (refusal : Option Refusal) (waits : WaitsFor) (machine : Machine)
+    → reply_unless_refused headers given m (Call.Await tree) refusal ≡ waits_as waits machine → refusal ≡ None
+unrefused_where given m tree headers None waits machine replies = refl
+unrefused_where given m tree headers (Some refused) (waitings.Future left) machine replies = cc
+unrefused_where given m tree headers (Some refused) (waitings.Child completion) machine replies = cc
+
+-- nor is one that makes a request
+none_behind : (front behind : List Request) (next : Request) (rest : List Request) → [] ≡ front ++ behind → behind ≡ next ∷ rest → ⊥
+none_behind [] behind next rest none is = let made : [] ≡ next ∷ rest = none ∙ is in cc
+none_behind (request ∷ front) behind next rest none is = cc
+
+unrefused_behind : (refusal : Option Refusal) (requests front behind : List Request) (next : Request) (rest : List Request)
+    → unless_refused refusal requests ≡ front ++ behind → behind ≡ next ∷ rest → refusal ≡ None
+unrefused_behind None requests front behind next rest parts is = refl
+unrefused_behind (Some refused) requests front behind next rest parts is = absurd (none_behind front behind next rest parts is)
 
 module _ (given : Invocation) (m : Machine) (tree : AwaitTree ℕ) (old : MachineState) (driven : IsDriven given m old) where
   -- the machine fails behind the requests that were put
@@ -215,7 +251,7 @@ module _ (given : Invocation) (m : Machine) (tree : AwaitTree ℕ) (old : Machin
         fails_long answer new long idle fails =
             fails_awaiting fails.cause resolved answer new (code_apart internal fails.cause refl (plain_code internal (Some too_long_text) fails.cause fails.causes)) (record {
               cause = TooLong;
-              when = (refl, inr (inl (asleep idle, long)));
+              when = (unrefused_where given m tree (same_header (checks_off old.options.non_determinism_checks) (Call.Await tree)) (refusal_of given.version (Call.Await tree)) waits becomes.machine becomes.replies, inr (inl (asleep idle, long)));
               at = tt;
               tells = told_plain resolved.journal internal (Some too_long_text) fails.cause fails.causes;
               leaves = looked_asked old.active resolved looked;
@@ -344,7 +380,7 @@ module _ (given : Invocation) (m : Machine) (tree : AwaitTree ℕ) (old : Machin
     cancel_cause difference (puts.Replay unmatched.OutOfMemory) why awaits told causes = memory_lacks given m (Call.Await tree) old stops.far active command_asked told (unless_ok told causes)
     cancel_cause difference (puts.Encoding unsent.PayloadTooLong) why awaits told causes = record {
       cause = TooLong;
-      when = (refl, inr (inr (record { next = stops.next; rest = stops.rest; behind = stops.behind; left = why.0; long = why.1 })));
+      when = (unrefused_behind (refusal_of given.version (Call.Await tree)) _ stops.far.front stops.far.behind stops.next stops.rest stops.far.parts stops.behind, inr (inr (record { next = stops.next; rest = stops.rest; behind = stops.behind; left = why.0; long = why.1 })));
       at = tt;
       tells = told_last active.journal internal (Some too_long_text) told causes;
       leaves = command_asked;
@@ -387,12 +423,12 @@ module _ (given : Invocation) (m : Machine) (tree : AwaitTree ℕ) (old : Machin
   goes_on_as (Err unawaited.OutOfMemory) resolved (Err answer) new (inr stops) awaits goes_on =
       lacks_memory_behind stops.far resolved answer new (command_asked resolved stops) stops.output goes_on
 
-  await_made : (result : Result AwaitResponse Error) (new : MachineState) → IsAwaited tree old result new → Comes given m (Call.Await tree) old (awaited_as result) new
-  await_made result new made =
+  await_made : refusal_of given.version (Call.Await tree) ≡ None → (result : Result AwaitResponse Error) (new : MachineState) → IsAwaited tree old result new → Comes given m (Call.Await tree) old (awaited_as result) new
+  await_made unrefused result new made =
       goes_on_as made.awaited made.between.active result new
-      (await_keeps given m tree old driven.sees made.awaited made.between.active
+      (await_keeps given m tree old driven.sees unrefused made.awaited made.between.active
       (subst (λ (c : ImplicitCancellationOption). ComesTo c (checks_off old.options.non_determinism_checks) tree old.active made.awaited made.between.active) (sym driven.version.cancellation) made.held))
-      (made.awaits given m driven.version.cancellation driven.sees)
+      (made.awaits given m driven.version.cancellation unrefused driven.sees)
       (subst (λ (vm : MachineState). GoesOnAs made.awaited vm result new) made.others made.goes_on)
 
   no_read_ready : (is_replaying : Bool) → ready_read phases.Active is_replaying no_reads ≡ None
@@ -404,11 +440,18 @@ module _ (given : Invocation) (m : Machine) (tree : AwaitTree ℕ) (old : Machin
       ap (λ (p : Phase). ready_read p old.active.is_replaying old.reads) driven.phase
       ∙ ap (λ (reads : EphemeralReads). ready_read phases.Active old.active.is_replaying reads) driven.reads ∙ no_read_ready old.active.is_replaying
 
+  await_refused : (error : RefusalError) (answer : Error) (new : MachineState) → IsRefusalOf old.version (Call.Await tree) [] (Some error) → IsRefused error old answer new
+      → Comes given m (Call.Await tree) old (awaited_as (Err answer)) new
+  await_refused error answer new refuses is_refused =
+      fails_awaiting is_refused.cause old.active answer new (refused_apart error.refusal (Some (refusal_text error)) is_refused.cause is_refused.causes)
+      (refused_cause given m (Call.Await tree) old driven.phase error answer old.runs new (ap (λ (n : ℕ). refusal_of n (Call.Await tree)) driven.version.version ∙ refuses.0) refuses.1 refuses.2 is_refused) refl is_refused.fails
+
   await_comes : (result : Result AwaitResponse Error) (new : MachineState) → DoesAwait tree old result new → Comes given m (Call.Await tree) old (awaited_as result) new
   await_comes result new does =
-      steps_of (IsAwaited tree) (IsUnexpected (codes "await")) None old driven.phase (λ (r : Result AwaitResponse Error) (vm : MachineState). Comes given m (Call.Await tree) old (awaited_as r) vm)
-      (λ r vm free made. await_made r vm made) (λ error told vm some refused. cc) result new
-      (subst (λ (ready : Option EphemeralCompletionId). DoesAwaitWhere ready tree old result new) none_ready does)
+      let unread : AwaitsUnread tree old result new = subst (λ (ready : Option EphemeralCompletionId). DoesAwaitWhere ready tree old result new) none_ready does in
+      steps_of (IsAwaited tree) (IsUnexpected (codes "await")) unread.refusal old driven.phase (λ (r : Result AwaitResponse Error) (vm : MachineState). Comes given m (Call.Await tree) old (awaited_as r) vm)
+      (λ r vm free made. await_made (refusal_none given (Call.Await tree) [] unread.refusal old driven.version unread.refuses free) r vm made)
+      (λ error told vm some refused. await_refused error told vm (refusal_some (Call.Await tree) [] unread.refusal error old unread.refuses some) refused) result new unread.steps
 
 -- an await is carried out
 pub await_carried : (tree : AwaitTree ℕ) (asked : AwaitTree ℕ) (old : MachineState) (result : Result AwaitResponse Error) (new : MachineState) (outcome : CallOutcome) → asked ≡ tree

@@ -55,12 +55,12 @@ pub lacks_completions : (given : Invocation) (m : Machine) (call : Call) (active
 lacks_completions given m call active sees same lacks = lacks_number m call same (lacks_so_many given m active (completions_of call) sees lacks)
 
 -- what is refused of this version is no call of this invocation
-refusal_none : (given : Invocation) (call : Call) (event : List ℕ) (refusal : Option RefusalError) (old : MachineState) → IsOf given old → IsRefusalOf old.version call event refusal → refusal ≡ None
+pub refusal_none : (given : Invocation) (call : Call) (event : List ℕ) (refusal : Option RefusalError) (old : MachineState) → IsOf given old → IsRefusalOf old.version call event refusal → refusal ≡ None
     → refusal_of given.version call ≡ None
 refusal_none given call event None old is_of refuses none = ap (λ (n : ℕ). refusal_of n call) is_of.version ∙ refuses
 refusal_none given call event (Some error) old is_of refuses none = cc
 
-refusal_some : (call : Call) (event : List ℕ) (refusal : Option RefusalError) (error : RefusalError) (old : MachineState) → IsRefusalOf old.version call event refusal → refusal ≡ Some error
+pub refusal_some : (call : Call) (event : List ℕ) (refusal : Option RefusalError) (error : RefusalError) (old : MachineState) → IsRefusalOf old.version call event refusal → refusal ≡ Some error
     → IsRefusalOf old.version call event (Some error)
 refusal_some call event refusal error old refuses some = subst (λ (r : Option RefusalError). IsRefusalOf old.version call event r) some refuses
 

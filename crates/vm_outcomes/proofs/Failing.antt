@@ -211,12 +211,17 @@ module _ (given : Invocation) (m : Machine) (call : Call) (old : MachineState) (
   failed told active answer new has_cause unwritten fails = failed_alone told active old.runs answer new has_cause unwritten (inl refl) fails
 
   -- a call that is refused
-  pub refused_call : (error : RefusalError) (runs : Runs) (answer : Error) (new : MachineState) → refusal_of given.version call ≡ Some (refusal_meant error.refusal) → error.version ≡ old.version
-      → error.event.now ≡ moment_event call → MayBe m call old runs → IsRefused error (record old { runs = runs }) answer new → Fails given m call old answer new
-  refused_call error runs answer new refuses speaks names may is_refused = failed_alone is_refused.cause old.active runs answer new (record {
+  pub refused_cause : (error : RefusalError) (answer : Error) (runs : Runs) (new : MachineState) → refusal_of given.version call ≡ Some (refusal_meant error.refusal) → error.version ≡ old.version
+      → error.event.now ≡ moment_event call → (is_refused : IsRefused error (record old { runs = runs }) answer new) → HasCause given m call old (none_put given m call old) old.active is_refused.cause
+  refused_cause error answer runs new refuses speaks names is_refused = record {
     cause = ByFault (Refused (refusal_meant error.refusal));
     when = ap (λ (r : Option Refusal). reply_unless_refused (same_header (checks_off old.options.non_determinism_checks) call) given m call r) refuses;
     at = tt;
     tells = refusal_tells old.version (started_id old.start) m.left old.active.journal (slots_of old.active.results) old.runs call error is_refused.cause speaks names is_refused.causes;
     leaves = refl;
-  }) refl may is_refused.fails
+  }
+
+  pub refused_call : (error : RefusalError) (runs : Runs) (answer : Error) (new : MachineState) → refusal_of given.version call ≡ Some (refusal_meant error.refusal) → error.version ≡ old.version
+      → error.event.now ≡ moment_event call → MayBe m call old runs → IsRefused error (record old { runs = runs }) answer new → Fails given m call old answer new
+  refused_call error runs answer new refuses speaks names may is_refused =
+      failed_alone is_refused.cause old.active runs answer new (refused_cause error answer runs new refuses speaks names is_refused) refl may is_refused.fails

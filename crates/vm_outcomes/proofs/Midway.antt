@@ -15,7 +15,7 @@ use Rattle.attempt_model.specs.Results.{Resolution, Awake, Asleep, resolution_of
 use Rattle.vm_commands.specs.HeaderEquality.{same_header}
 use Rattle.vm_feeding.specs.Passed.{checks_off, MachineState}
 use Rattle.vm_outcomes.specs.Driven.{reply_of}
-use Rattle.vm_outcomes.specs.Stopping.{children_requests, awake_requests, await_requests, requests_at, HasPut}
+use Rattle.vm_outcomes.specs.Stopping.{children_requests, awake_requests, await_requests, unless_refused, requests_at, HasPut}
 
 -- what was matched and written by a machine that answers
 abbrev done_by : Reply → List Request
@@ -82,9 +82,14 @@ module _ (headers : Request → Request → Bool) (given : Invocation) (answer :
   take_done m handle (Some result) same = taken_done m handle result _ _ same
 
   work_done : (m : Machine) (call : Call) (work : Work) (front behind : List Request) → requests_at given m work ≡ front ++ behind → reply_to_work headers given m call work ≡ Answered answer whole → Behind m front
-  work_done m call (ToAwait tree) front behind parts same =
-      let resolution = resolution_of given.options.signal_delivery m.slots (awaited_tree given.options.implicit_cancellation tree) m.queue m.ready in
-      (behind, await_done m resolution same ∙ ap (λ (requests : List Request). m.done ++ requests) parts ∙ sym (append_assoc m.done front behind))
+  work_done m call (ToAwait tree) front behind parts same = by_refusal (refusal_of given.version (Call.Await tree)) parts
+    where
+      resolution : Resolution
+      resolution = resolution_of given.options.signal_delivery m.slots (awaited_tree given.options.implicit_cancellation tree) m.queue m.ready
+
+      by_refusal : (refusal : Option Refusal) → unless_refused refusal (await_requests given m resolution) ≡ front ++ behind → Behind m front
+      by_refusal None is = (behind, await_done m resolution same ∙ ap (λ (requests : List Request). m.done ++ requests) is ∙ sym (append_assoc m.done front behind))
+      by_refusal (Some refusal) is = none_in_front m front behind (await_requests given m resolution) is (await_done m resolution same)
   work_done m call ToEnd front behind parts same = end_unanswered m whole answer m.left same
   work_done m call (ToTake handle) front behind parts same = unchanged m front behind parts (take_done m handle (waiting_for m.slots m.ready handle) same)
   work_done m call (ToLook handle) front behind parts same = unchanged m front behind parts (sym (ap done_by same))

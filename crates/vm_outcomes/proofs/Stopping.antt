@@ -4,6 +4,7 @@ use Rattle.std.specs.Prelude.{ℕ, is_some}
 use Rattle.journal_model.specs.Await.{ends_awaits, awaited_tree}
 use Rattle.journal_model.specs.AwaitTree.{AwaitTree}
 use Rattle.journal_model.specs.History.{cancel_handle}
+use Rattle.journal_model.specs.Refusal.{Refusal, refusal_of}
 use Rattle.journal_model.specs.Request.{Request}
 use Rattle.journal_model.specs.Run.{Invocation}
 use Rattle.journal_model.specs.Spelling.{request_payload}
@@ -37,7 +38,7 @@ use Rattle.vm_waiting.specs.declared.awaiting.AwaitError.TheVariants as unawaite
 use Rattle.vm_waiting.specs.declared.children.ChildrenKnown.{ChildrenKnown}
 use Rattle.vm_waiting.specs.declared.children.ChildrenKnown.TheVariants as known
 use Rattle.vm_waiting.specs.declared.waits_for.WaitsFor.{WaitsFor}
-use Rattle.vm_outcomes.specs.Stopping.{awake_requests, children_requests, await_requests, requests_passed_on, HasPut}
+use Rattle.vm_outcomes.specs.Stopping.{awake_requests, children_requests, await_requests, unless_refused, requests_passed_on, HasPut}
 
 pub looks_on : (old between new : Active) → LooksAlone old between → LooksAlone between new → LooksAlone old new
 looks_on old between new first others = others ∙ ap (λ (a : Active). record a { results = new.results }) first
@@ -196,7 +197,7 @@ module _ (given : Invocation) (m : Machine) (tree : AwaitTree ℕ) (vm : Machine
 
     -- ---- the tree is resolved
 
-    module _ (before : Active) (looks : LooksAlone vm.active before) where
+    module _ (unrefused : refusal_of given.version (Call.Await tree) ≡ None) (before : Active) (looks : LooksAlone vm.active before) where
       abbrev now : AsyncResults
       now = results_of before.results
 
@@ -220,7 +221,8 @@ module _ (given : Invocation) (m : Machine) (tree : AwaitTree ℕ) (vm : Machine
 
           awake_is : requests_passed_on given m (Call.Await tree) ≡ children_requests m.children (children_outcome now.delivery before.children now.queue now.ready)
           awake_is =
-              ap (λ (r : Resolution). await_requests given m r) wakes_as
+              ap (λ (o : Option Refusal). unless_refused o (await_requests given m (resolution_of given.options.signal_delivery m.slots (awaited_tree given.options.implicit_cancellation tree) m.queue m.ready))) unrefused
+              ∙ ap (λ (r : Resolution). await_requests given m r) wakes_as
               ∙ ap (λ (b : Bool). awake_requests given awake b) cancelled_is
               ∙ ap (λ (d : SignalDelivery). children_requests m.children (children_outcome d m.children now.queue now.ready)) delivery_is
               ∙ ap (λ (cs : List Child). children_requests m.children (children_outcome now.delivery cs now.queue now.ready)) (sym sees.children ∙ sym (ap (λ (a : Active). a.children) looks))
@@ -231,6 +233,6 @@ module _ (given : Invocation) (m : Machine) (tree : AwaitTree ℕ) (vm : Machine
       answer_keeps (resolved.WaitExternalInput left) resolves result new goes =
           keeps_so result (asleep_as before.is_replaying (WaitsFor.Future left)) new before goes.0 goes.1 (asleep_keeps before.is_replaying (WaitsFor.Future left) before looks)
 
-    pub await_keeps : (result : Result Awaited AwaitError) (new : Active) → ComesTo given.options.implicit_cancellation ignoring tree vm.active result new → Keeps result new
-    await_keeps result new (inl comes) = answer_keeps comes.looked comes.others comes.answer comes.resolves result new comes.goes_on
-    await_keeps result new (inr out) = runs_out vm.active new result refl out
+    pub await_keeps : refusal_of given.version (Call.Await tree) ≡ None → (result : Result Awaited AwaitError) (new : Active) → ComesTo given.options.implicit_cancellation ignoring tree vm.active result new → Keeps result new
+    await_keeps unrefused result new (inl comes) = answer_keeps unrefused comes.looked comes.others comes.answer comes.resolves result new comes.goes_on
+    await_keeps unrefused result new (inr out) = runs_out vm.active new result refl out

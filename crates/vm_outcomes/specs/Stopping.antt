@@ -1,7 +1,8 @@
 -- How far a call has come with its requests where it stops midway.
-use Rattle.std.specs.Prelude.{◌≡◌, Bool, true, false, List, [], ◌∷◌, ◌++◌, Some, None}
+use Rattle.std.specs.Prelude.{◌≡◌, Bool, true, false, List, [], ◌∷◌, ◌++◌, Option, Some, None}
 use Rattle.std.specs.List.{AllByRecursion}
 use Rattle.journal_model.specs.Await.{awaited_tree}
+use Rattle.journal_model.specs.Refusal.{Refusal, refusal_of}
 use Rattle.journal_model.specs.Request.{Request}
 use Rattle.journal_model.specs.Run.{Invocation}
 use Rattle.journal_model.specs.declared.call.Call.{Call}
@@ -20,6 +21,10 @@ abbrev pub children_requests : List Child → ChildrenOutcome → List Request
 children_requests children (AllKnown queue ready) = cancel_requests_for ready children
 children_requests children _ = []
 
+abbrev pub unless_refused : Option Refusal → List Request → List Request
+unless_refused None requests = requests
+unless_refused (Some refusal) requests = []
+
 module _ (given : Invocation) where
   abbrev pub awake_requests : Machine → (cancelled : Bool) → List Request
   awake_requests m true = children_requests m.children (children_outcome given.options.signal_delivery m.children m.queue m.ready)
@@ -29,8 +34,11 @@ module _ (given : Invocation) where
   await_requests m (Awake queue ready) = awake_requests (record m { queue = queue; ready = ready }) (is_cancelled given (record m { queue = queue; ready = ready }))
   await_requests m _ = []
 
+  -- one that is refused passes nothing on
   abbrev pub requests_at : Machine → Work → List Request
-  requests_at m (ToAwait tree) = await_requests m (resolution_of given.options.signal_delivery m.slots (awaited_tree given.options.implicit_cancellation tree) m.queue m.ready)
+  requests_at m (ToAwait tree) =
+      unless_refused (refusal_of given.version (Call.Await tree))
+      (await_requests m (resolution_of given.options.signal_delivery m.slots (awaited_tree given.options.implicit_cancellation tree) m.queue m.ready))
   requests_at m _ = []
 
   -- any other call makes one request at most, and is stopped before it

@@ -13,11 +13,11 @@ module _ {Leaf : Type 0} (own : AwaitTrees NotificationId → List Leaf) (P : Le
   below_fit no_trees h = tt
   below_fit (and_trees (Single leaf) trees) h = below_fit trees h.1
   below_fit (and_trees (Combined combinator children) trees) h =
-      all_append P _ (below own trees) (all_append P (own children) (below own children) (owned children h.0) (below_fit children h.0)) (below_fit trees h.1)
+      all_append P _ (below own trees) (all_append P (own children) (below own children) (owned children h.0.1) (below_fit children h.0.1)) (below_fit trees h.1)
 
   listed_fit : (tree : AwaitTree NotificationId) → LeavesFit tree → AllByRecursion P (listed own tree)
   listed_fit (Single leaf) h = owned (and_trees (Single leaf) no_trees) (h, tt)
-  listed_fit (Combined combinator children) h = all_append P (own children) (below own children) (owned children h) (below_fit children h)
+  listed_fit (Combined combinator children) h = all_append P (own children) (below own children) (owned children h.1) (below_fit children h.1)
 
 pub completions_listed : (tree : AwaitTree NotificationId) → LeavesFit tree → AllByRecursion IsSmall (listed completions_in tree)
 completions_listed = listed_fit completions_in IsSmall completions_fit

@@ -1,5 +1,5 @@
 -- Each frame is read as what it was meant as.
-use Rattle.std.proofs.Common.{◌≡◌, ◌<◌, ◌-◌, ◌^◌, ℕ, arith, Bool, true, false, List, [], ◌++◌, length, Option, Some, None, refl, sym, ap, ◌∙◌, subst}
+use Rattle.std.proofs.Common.{◌≡◌, ◌<◌, ◌-◌, ◌^◌, ℕ, arith, Bool, true, false, ◌&&◌, List, [], ◌++◌, length, Option, Some, None, refl, sym, ap, ◌∙◌, subst}
 use Rattle.std.specs.Prelude.{if◌then◌else◌}
 use Rattle.protocol_table.specs.declared.table.RecordType.{RecordType}
 use Rattle.protocol_table.specs.declared.table.RecordType.TheVariants as records
@@ -13,18 +13,19 @@ use Rattle.protocol_wire.specs.declared.record.TheConstants.{LEVELS}
 use Rattle.protocol_wire.proofs.Holds.{Reads}
 use Rattle.protocol_types.specs.declared.version.Version.{Version}
 use Rattle.protocol_types.specs.declared.message_type.MessageType.TheVariants as types
-use Rattle.protocol_types.specs.declared.feature.Feature.TheVariants.{Acknowledgement, AwaitTree as TellsTrees}
+use Rattle.protocol_types.specs.declared.feature.Feature.TheVariants.{Acknowledgement, AtLeast, AwaitTree as TellsTrees}
 use Rattle.protocol_types.specs.Version.{version_number}
 use Rattle.protocol_types.specs.Feature.{has_feature, lacks_feature}
 use Rattle.protocol_types.proofs.Types.{is_named, named_is_wire}
 use Rattle.journal_model.specs.declared.notification.NotificationId.{NotificationId}
 use Rattle.journal_model.specs.declared.value.NonEmptyValue.{NonEmptyValue}
-use Rattle.journal_model.specs.AwaitTree.{AwaitTree}
+use Rattle.journal_model.specs.AwaitTree.{AwaitTree, has_number}
 use Rattle.journal_model.specs.Request.{Request}
 use Rattle.journal_model.specs.Event.{Frame}
 use Rattle.journal_model.specs.Spelling.{completions_in, signals_in, names_in, request_type, request_payload, suspension_payload, awaiting_on_payload}
 use Rattle.protocol_records.specs.declared.suspension_v6.SuspensionMessageV6.{SuspensionMessageV6}
 use Rattle.protocol_records.specs.declared.suspension.SuspensionMessage.{SuspensionMessage}
+use Rattle.protocol_records.specs.declared.awaiting_on.AwaitingOnMessage.{AwaitingOnMessage}
 use Rattle.protocol_records.specs.SleepCommand.{sleep_command_of}
 use Rattle.protocol_records.specs.OutputCommand.{output_command_of}
 use Rattle.protocol_records.specs.Suspension.{suspension_of, suspension_parts}
@@ -56,7 +57,7 @@ use Rattle.protocol_laws.specs.Requests.{request_of_output, request_of_get_lazy_
 use Rattle.protocol_laws.proofs.Notifications.{suspensions_spelled}
 use Rattle.protocol_laws.proofs.Told.{output_told}
 use Rattle.vm_commands.specs.Recorded.{unless_wrong, request_read}
-use Rattle.store_frames.specs.Meaning.{unless_faulty, read_as, command_or_broken, error_frame, suspension_frame, outcome_or_broken, frame_of}
+use Rattle.store_frames.specs.Meaning.{unless_faulty, read_as, command_or_broken, error_frame, unless_numbered, suspension_frame, awaiting_frame, outcome_or_broken, frame_of}
 use Rattle.store_frames.specs.Requests.{suspension_of_tree, suspension_of_lists, outcome_told, proposal_told}
 use Rattle.store_frames.proofs.Payloads.{lists_payload as lists_spelled}
 use Rattle.vm_start.specs.Failure.{told_error}
@@ -66,7 +67,8 @@ use Rattle.vm_request_laws.specs.Calls.{IsTypedValue}
 use Rattle.vm_request_laws.specs.Fitting.{RequestFits}
 use Rattle.vm_request_laws.proofs.Records.{output_fits}
 use Rattle.vm_request_laws.proofs.Requests.{payload_read}
-use Rattle.vm_request_laws.specs.Trees.{TreeFits}
+use Rattle.vm_request_laws.specs.Trees.{IsSpoken, TreeFits}
+use Rattle.vm_output_laws.proofs.Told.{told_number}
 use Rattle.vm_output_laws.specs.Sent.{Sent, Asks, Proposes, Awaits, Suspends, Fails, Ends, sent_payload, sent_frame, sent_message, SuspendedFits, SentFits, suspension_told, frame_meant}
 use Rattle.vm_output_laws.specs.Reading.{FramesAreRead, ErrorsAreMeant}
 use Rattle.vm_request_laws.proofs.Fitting.{future_fits}
@@ -127,17 +129,34 @@ request_read_as version (Request.AttachInvocation target n name) h = recorded re
 request_read_as version (Request.GetInvocationOutput target n name) h = recorded records.GetInvocationOutputCommand get_invocation_output_command_of request_of_get_invocation_output (Request.GetInvocationOutput target n name) (request_payload (Request.GetInvocationOutput target n name)) (payload_read (Request.GetInvocationOutput target n name) h)
 request_read_as version (Request.CompleteAwakeable id value name) h = recorded records.CompleteAwakeableCommand complete_awakeable_command_of request_of_complete_awakeable (Request.CompleteAwakeable id value name) (request_payload (Request.CompleteAwakeable id value name)) (payload_read (Request.CompleteAwakeable id value name) h)
 
-awaiting_read : (tree : AwaitTree NotificationId) → TreeFits tree → length (awaiting_on_payload tree false) < 2 ^ 32 → payload_fault LEVELS records.AwaitingOn (awaiting_on_payload tree false) ≡ None
-awaiting_read tree h short =
-    (spelled_read records.AwaitingOn awaiting_on_of awaiting_on_parts _ awaiting_on_reads (awaiting_on_record tree false) (awaiting_on_payload tree false)
-    (record { level = omega arith; awaiting_on = future_fits (LEVELS - 1) tree h.leaves h.levels }) (awaiting_on_spelled tree false) short).sound
+-- a tree that asks for no number in a version in which none does is what it is
+swapped : (a b : Bool) → (a && b) ≡ (b && a)
+swapped true true = refl
+swapped true false = refl
+swapped false true = refl
+swapped false false = refl
+
+numbered : (version : ℕ) (tree : AwaitTree NotificationId) (frame : Frame) → IsSpoken version tree → unless_numbered (lacks_feature version AtLeast) (Some (future_record tree)) frame ≡ frame
+numbered version tree frame allowed =
+    ap (λ (b : Bool). if b then Frame.Broken else frame)
+    (ap (λ (b : Bool). lacks_feature version AtLeast && b) (told_number tree) ∙ swapped (lacks_feature version AtLeast) (has_number tree) ∙ allowed)
+
+awaiting_read : (version : ℕ) (tree : AwaitTree NotificationId) → TreeFits tree → IsSpoken version tree → length (awaiting_on_payload tree false) < 2 ^ 32
+    → awaiting_frame (lacks_feature version AtLeast) (awaiting_on_payload tree false) ≡ Frame.AwaitingOn
+awaiting_read version tree h allowed short =
+    let lacks = lacks_feature version AtLeast in
+    let is = spelled_read records.AwaitingOn awaiting_on_of awaiting_on_parts _ awaiting_on_reads (awaiting_on_record tree false) (awaiting_on_payload tree false)
+    (record { level = omega arith; awaiting_on = future_fits (LEVELS - 1) tree h.leaves h.levels }) (awaiting_on_spelled tree false) short in
+    read_sound records.AwaitingOn (λ fs. unless_numbered lacks (awaiting_on_of LEVELS fs).awaiting_on Frame.AwaitingOn) (awaiting_on_payload tree false) is.sound
+    ∙ ap (λ (one : AwaitingOnMessage). unless_numbered lacks one.awaiting_on Frame.AwaitingOn) (sym is.value)
+    ∙ numbered version tree Frame.AwaitingOn allowed
 
 abbrev lists_record : AwaitTree NotificationId → SuspensionMessageV6
 lists_record tree = record { waiting_completions = listed completions_in tree; waiting_signals = listed signals_in tree; waiting_named_signals = listed names_in tree }
 
-suspension_read : (has_lists : Bool) (tree : AwaitTree NotificationId) → SuspendedFits has_lists tree → length (if has_lists then lists_payload tree else suspension_payload tree) < 2 ^ 32
-    → suspension_frame has_lists (if has_lists then lists_payload tree else suspension_payload tree) ≡ Frame.Suspend (Some (suspension_told has_lists tree))
-suspension_read true tree h short =
+suspension_read : (version : ℕ) (has_lists : Bool) (tree : AwaitTree NotificationId) → SuspendedFits has_lists tree → IsSpoken version tree → length (if has_lists then lists_payload tree else suspension_payload tree) < 2 ^ 32
+    → suspension_frame has_lists (lacks_feature version AtLeast) (if has_lists then lists_payload tree else suspension_payload tree) ≡ Frame.Suspend (Some (suspension_told has_lists tree))
+suspension_read version true tree h allowed short =
     let is = spelled_read records.SuspensionV6 suspension_v6_of suspension_v6_parts _ suspension_v6_reads (lists_record tree) (lists_payload tree)
     (record {
       level = omega arith;
@@ -146,10 +165,13 @@ suspension_read true tree h short =
       waiting_named_signals = names_listed tree h;
     }) (lists_spelled (lists_record tree)) short in
     read_sound records.SuspensionV6 (λ fs. Frame.Suspend (Some (suspension_of_lists (suspension_v6_of LEVELS fs)))) (lists_payload tree) is.sound ∙ ap (λ (one : SuspensionMessageV6). Frame.Suspend (Some (suspension_of_lists one))) (sym is.value)
-suspension_read false tree h short =
+suspension_read version false tree h allowed short =
     let is = spelled_read records.Suspension suspension_of suspension_parts _ suspension_reads (record { awaiting_on = Some (future_record tree) }) (suspension_payload tree)
     (record { level = omega arith; awaiting_on = future_fits (LEVELS - 1) tree h.leaves h.levels }) (suspensions_spelled tree) short in
-    read_sound records.Suspension (λ fs. Frame.Suspend (suspension_of_tree (suspension_of LEVELS fs))) (suspension_payload tree) is.sound ∙ ap (λ (one : SuspensionMessage). Frame.Suspend (suspension_of_tree one)) (sym is.value)
+    let lacks = lacks_feature version AtLeast in
+    read_sound records.Suspension (λ fs. unless_numbered lacks (suspension_of LEVELS fs).awaiting_on (Frame.Suspend (suspension_of_tree (suspension_of LEVELS fs)))) (suspension_payload tree) is.sound
+    ∙ ap (λ (one : SuspensionMessage). unless_numbered lacks one.awaiting_on (Frame.Suspend (suspension_of_tree one))) (sym is.value)
+    ∙ numbered version tree (Frame.Suspend (Some (suspension_told false tree))) allowed
 
 error_read : (error : ErrorMessage) → ErrorFits LEVELS error → length (payload_of (error_parts error)) < 2 ^ 32 → IsRead LEVELS records.Error error_of (payload_of (error_parts error)) error
 error_read error h short = spelled_read records.Error error_of error_parts ErrorFits error_reads error (payload_of (error_parts error)) h refl short
@@ -194,8 +216,8 @@ end_sound = (end_reads LEVELS (record {}) (record { level = omega arith }) (omeg
 pub read_as_meant : (version : Version) (sent : Sent) → SentFits version sent → frame_of (version_number version) (sent_message version sent) ≡ frame_meant version sent
 read_as_meant version (Asks request) h = request_read_as version request h.told
 read_as_meant version (Proposes n value) h = proposal_read (has_feature (version_number version) Acknowledgement) n value h.told.0 h.told.1 h.short
-read_as_meant version (Awaits tree) h = read_sound records.AwaitingOn (λ fs. Frame.AwaitingOn) (awaiting_on_payload tree false) (awaiting_read tree h.told h.short)
-read_as_meant version (Suspends tree) h = suspension_read (lacks_feature (version_number version) TellsTrees) tree h.told h.short
+read_as_meant version (Awaits tree) h = awaiting_read (version_number version) tree h.told.0 h.told.1 h.short
+read_as_meant version (Suspends tree) h = suspension_read (version_number version) (lacks_feature (version_number version) TellsTrees) tree h.told.0 h.told.1 h.short
 read_as_meant version (Fails error) h = error_frame_read (version_number version) error h.told h.short
 read_as_meant version Ends h = read_sound records.End (λ fs. Frame.End) [] end_sound
 

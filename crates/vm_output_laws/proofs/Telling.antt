@@ -141,7 +141,7 @@ module _ (test : NotificationId → Bool) where
 told_awake : (version : ℕ) (tree : AwaitTree NotificationId) (states : NotificationId → AwaitState) → is_awake (future_tree (future_record tree)) states ≡ is_awake tree states
 told_awake version (Single id) states =
     ap (λ (t : AwaitTree NotificationId). is_awake t states) (leaf_told id) ∙ tells_leaf version id states
-told_awake version (Combined combinator children) states = same_awake states (node_same combinator children).onward
+told_awake version (Combined combinator children) states = sym (same_awake states (node_same combinator children))
 
 by_version : (version : ℕ) (has_lists : Bool) (tree : AwaitTree (Option NotificationId)) → lacks_feature version TellsTrees ≡ has_lists → is_awake tree (λ leaf. Pending) ≡ false
     → Tells version tree (Some (suspension_told has_lists (only_leaves (λ leaf. leaf) tree)))

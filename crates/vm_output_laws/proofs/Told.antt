@@ -1,11 +1,10 @@
 -- The tree that a suspension tells is the tree of its ids but for the order of each node's children.
-use Rattle.std.proofs.Common.{◌≡◌, List, [], ◌∷◌, ◌++◌, map, refl, sym, ap, ◌∙◌, subst}
-use Rattle.std.specs.List.{AllByRecursion}
+use Rattle.std.proofs.Common.{◌≡◌, Bool, ◌||◌, ap₂, List, [], ◌∷◌, ◌++◌, map, refl, sym, ap, ◌∙◌, subst}
 use Rattle.journal_model.specs.declared.notification.NotificationId.{NotificationId}
 use Rattle.journal_model.specs.declared.notification.NotificationId.TheVariants as ids
-use Rattle.journal_model.specs.AwaitTree.{AwaitTree, Single, Combined, AwaitTrees, no_trees, and_trees, Combinator, Unknown, FirstCompleted, AllCompleted, FirstSucceededOrAllFailed, AllSucceededOrFirstFailed}
-use Rattle.journal_model.specs.Spelling.{completions_in, signals_in, names_in}
-use Rattle.journal_model.specs.Waiting.{SameTree, same_leaf, same_node, EachAmong, no_more, one_more, IsAmong, here, there}
+use Rattle.journal_model.specs.AwaitTree.{AwaitTree, Single, Combined, AwaitTrees, no_trees, and_trees, Combinator, Unknown, FirstCompleted, AllCompleted, FirstSucceededOrAllFailed, AllSucceededOrFirstFailed, AtLeast, asks_number, has_number, some_has_number}
+use Rattle.journal_model.specs.Spelling.{completions_in, signals_in, names_in, required_by}
+use Rattle.journal_model.specs.Waiting.{SameTree, same_leaf, same_list, Puts, in_front, behind, Reordered, none, put}
 use Rattle.protocol_records.specs.declared.future.Future.{Future, roll-Future}
 use Rattle.protocol_records.specs.declared.future.Future.TheOpen.{Future-F}
 use Rattle.protocol_records.specs.declared.future.Future.TheViews.{out-roll-Future}
@@ -13,7 +12,6 @@ use Rattle.protocol_stream.specs.Records.{combinator_record, future_record, nest
 use Rattle.protocol_trees.specs.Shape.{combinator_of, forest, node}
 use Rattle.protocol_trees.specs.Future.{shape_in, ids_in, future_tree}
 use Rattle.protocol_trees.specs.FutureShape.{future_tree_is}
-use Rattle.vm_request_laws.proofs.Fitting.{all_append}
 
 abbrev Tree : Type 0
 Tree = AwaitTree NotificationId
@@ -27,17 +25,18 @@ abbrev under : List NotificationId → List Tree → Trees
 under leaves trees = forest (map (λ leaf. Single leaf) leaves ++ trees)
 
 rolled_tree : (o : Future-F Future)
-    → future_tree (roll-Future o) ≡ node (combinator_of (shape_in o.combinator_type)) (ids_in o.waiting_completions o.waiting_signals o.waiting_named_signals) (map future_tree o.nested_futures)
+    → future_tree (roll-Future o) ≡ node (combinator_of (shape_in o.combinator_type o.required)) (ids_in o.waiting_completions o.waiting_signals o.waiting_named_signals) (map future_tree o.nested_futures)
 rolled_tree o =
     future_tree_is (roll-Future o)
-    ∙ ap (λ (p : Future-F Future). node (combinator_of (shape_in p.combinator_type)) (ids_in p.waiting_completions p.waiting_signals p.waiting_named_signals) (map future_tree p.nested_futures)) (out-roll-Future o)
+    ∙ ap (λ (p : Future-F Future). node (combinator_of (shape_in p.combinator_type p.required)) (ids_in p.waiting_completions p.waiting_signals p.waiting_named_signals) (map future_tree p.nested_futures)) (out-roll-Future o)
 
-combinator_back : (combinator : Combinator) → combinator_of (shape_in (combinator_record combinator)) ≡ combinator
+combinator_back : (combinator : Combinator) → combinator_of (shape_in (combinator_record combinator) (required_by combinator)) ≡ combinator
 combinator_back Unknown = refl
 combinator_back FirstCompleted = refl
 combinator_back AllCompleted = refl
 combinator_back FirstSucceededOrAllFailed = refl
 combinator_back AllSucceededOrFirstFailed = refl
+combinator_back (AtLeast required) = refl
 
 abbrev children_told : Trees → Trees
 children_told children = under (ids_in (completions_in children) (signals_in children) (names_in children)) (map future_tree (nested_records children))
@@ -50,141 +49,65 @@ leaf_told (ids.CompletionId n) = rolled_tree _
 leaf_told (ids.SignalId n) = rolled_tree _
 leaf_told (ids.SignalName name) = rolled_tree _
 
--- ---- among trees
+-- ---- in some order
 
--- whatever is the same as what was made of each is among these
-abbrev AllAmong : {A : Type 0} → (A → Tree) → Trees → List A → Type 0
-AllAmong made all xs = AllByRecursion (λ x. (tree : Tree) → SameTree tree (made x) → IsAmong tree all) xs
+-- a tree is put behind leaves
+past : {A : Type 0} (made : A → NotificationId) (tree : Tree) (xs : List A) (more others : List NotificationId) (trees those : List Tree)
+    → Puts tree (under more trees) (under others those) → Puts tree (under (map made xs ++ more) trees) (under (map made xs ++ others) those)
+past made tree [] more others trees those puts = puts
+past made tree (x ∷ xs) more others trees those puts = behind (Single (made x)) (past made tree xs more others trees those puts)
 
-abbrev Includes : Trees → Trees → Type 0
-Includes all trees = (tree : Tree) → IsAmong tree trees → IsAmong tree all
+past_last : {A : Type 0} (made : A → NotificationId) (tree : Tree) (xs : List A) (trees those : List Tree)
+    → Puts tree (forest trees) (forest those) → Puts tree (under (map made xs) trees) (under (map made xs) those)
+past_last made tree [] trees those puts = puts
+past_last made tree (x ∷ xs) trees those puts = behind (Single (made x)) (past_last made tree xs trees those puts)
 
-trees_among : {A : Type 0} (made : A → Tree) (all : Trees) (xs : List A) → Includes all (forest (map made xs)) → AllAmong made all xs
-trees_among made all [] included = tt
-trees_among made all (x ∷ xs) included = ((λ tree same. included tree (here same)), trees_among made all xs (λ tree among. included tree (there among)))
+node_same_by : (combinator : Combinator) (children : Trees) → Reordered children (children_told children) → SameTree (Combined combinator children) (future_tree (future_record (Combined combinator children)))
+node_same_by combinator children reordered =
+    subst (λ (tree : Tree). SameTree (Combined combinator children) tree) (sym (node_told combinator children)) (same_list combinator reordered)
 
-pub record LeavesAmong {A : Type 0} (made : A → NotificationId) (all rest : Trees) (xs : List A) : Type 0 where
-  pub leaves : AllAmong (λ x. Single (made x)) all xs
-  pub others : Includes all rest
+-- the trees that are told are a node's trees: completions first, then signals by number, then by name, then nodes
+reorders : (children : Trees) → Reordered children (children_told children)
+reorders no_trees = none
+reorders (and_trees (Single (ids.CompletionId n)) trees) = put (same_leaf (ids.CompletionId n)) in_front (reorders trees)
+reorders (and_trees (Single (ids.SignalId n)) trees) =
+    put (same_leaf (ids.SignalId n)) (past ids.CompletionId (Single (ids.SignalId n)) (completions_in trees) _ _ _ _ in_front) (reorders trees)
+reorders (and_trees (Single (ids.SignalName name)) trees) =
+    put (same_leaf (ids.SignalName name))
+    (past ids.CompletionId (Single (ids.SignalName name)) (completions_in trees) _ _ _ _ (past ids.SignalId (Single (ids.SignalName name)) (signals_in trees) _ _ _ _ in_front))
+    (reorders trees)
+reorders (and_trees (Combined combinator children) trees) =
+    let told = future_tree (future_record (Combined combinator children)) in
+    let nested = map future_tree (nested_records trees) in
+    let names = map ids.SignalName (names_in trees) in
+    let signals = map ids.SignalId (signals_in trees) in
+    put (node_same_by combinator children (reorders children))
+    (past ids.CompletionId told (completions_in trees) (signals ++ names) (signals ++ names) nested (told ∷ nested)
+    (past ids.SignalId told (signals_in trees) names names nested (told ∷ nested) (past_last ids.SignalName told (names_in trees) nested (told ∷ nested) in_front)))
+    (reorders trees)
 
-leaves_among : {A : Type 0} (made : A → NotificationId) (all : Trees) (more : List NotificationId) (trees : List Tree) (xs : List A) → Includes all (under (map made xs ++ more) trees)
-    → LeavesAmong made all (under more trees) xs
-leaves_among made all more trees [] included = record { leaves = tt; others = included }
-leaves_among made all more trees (x ∷ xs) included =
-    let later = leaves_among made all more trees xs (λ tree among. included tree (there among)) in
-    record { leaves = ((λ tree same. included tree (here same)), later.leaves); others = later.others }
+pub node_same : (combinator : Combinator) (children : Trees) → SameTree (Combined combinator children) (future_tree (future_record (Combined combinator children)))
+node_same combinator children = node_same_by combinator children (reorders children)
 
-last_among : {A : Type 0} (made : A → NotificationId) (all : Trees) (trees : List Tree) (xs : List A) → Includes all (under (map made xs) trees) → LeavesAmong made all (forest trees) xs
-last_among made all trees [] included = record { leaves = tt; others = included }
-last_among made all trees (x ∷ xs) included =
-    let later = last_among made all trees xs (λ tree among. included tree (there among)) in
-    record { leaves = ((λ tree same. included tree (here same)), later.leaves); others = later.others }
+-- ---- the numbers of successes that are asked for
 
--- what a node's lists and records stand for is among these trees
-pub record StandAmong (all children : Trees) : Type 0 where
-  pub completions : AllAmong (λ n. Single (ids.CompletionId n)) all (completions_in children)
-  pub signals : AllAmong (λ n. Single (ids.SignalId n)) all (signals_in children)
-  pub names : AllAmong (λ name. Single (ids.SignalName name)) all (names_in children)
-  pub nested : AllAmong future_tree all (nested_records children)
+none_asked : (leaves : List NotificationId) (trees : List Tree) → some_has_number (under leaves trees) ≡ some_has_number (forest trees)
+none_asked [] trees = refl
+none_asked (leaf ∷ leaves) trees = none_asked leaves trees
 
-stand_told : (children : Trees) → StandAmong (children_told children) children
-stand_told children =
-    let completions = completions_in children in
-    let signals = signals_in children in
-    let names = names_in children in
-    let nested = map future_tree (nested_records children) in
-    let first = leaves_among ids.CompletionId (children_told children) (map ids.SignalId signals ++ map ids.SignalName names) nested completions (λ tree among. among) in
-    let second = leaves_among ids.SignalId (children_told children) (map ids.SignalName names) nested signals first.others in
-    let third = last_among ids.SignalName (children_told children) nested names second.others in
-    record {
-      completions = first.leaves;
-      signals = second.leaves;
-      names = third.leaves;
-      nested = trees_among future_tree (children_told children) (nested_records children) third.others;
-    }
+node_number : (combinator : Combinator) (children : Trees) → some_has_number (forest (map future_tree (nested_records children))) ≡ some_has_number children
+    → has_number (future_tree (future_record (Combined combinator children))) ≡ has_number (Combined combinator children)
+node_number combinator children same =
+    ap (λ (t : Tree). has_number t) (node_told combinator children)
+    ∙ ap (λ (b : Bool). asks_number combinator || b)
+    (none_asked (ids_in (completions_in children) (signals_in children) (names_in children)) (map future_tree (nested_records children)) ∙ same)
 
--- ---- both ways
+nested_number : (trees : Trees) → some_has_number (forest (map future_tree (nested_records trees))) ≡ some_has_number trees
+nested_number no_trees = refl
+nested_number (and_trees (Single leaf) trees) = nested_number trees
+nested_number (and_trees (Combined combinator children) trees) = ap₂ (λ (a b : Bool). a || b) (node_number combinator children (nested_number children)) (nested_number trees)
 
-pub record AreSame (one other : Tree) : Type 0 where
-  pub onward : SameTree one other
-  pub back : SameTree other one
-
-single_same : (id : NotificationId) → SameTree (Single id) (Single id)
-single_same id = same_leaf id
-
--- trees that are each among others, behind leaves that are
-each_of : (all : Trees) (trees : List Tree) → AllByRecursion (λ tree. IsAmong tree all) trees → EachAmong (forest trees) all
-each_of all [] h = no_more
-each_of all (tree ∷ trees) h = one_more h.0 (each_of all trees h.1)
-
-all_made : {A B : Type 0} (P : B → Type 0) (made : A → B) (xs : List A) → AllByRecursion (λ x. P (made x)) xs → AllByRecursion P (map made xs)
-all_made P made [] h = tt
-all_made P made (x ∷ xs) h = (h.0, all_made P made xs h.1)
-
--- the lists and records of trees, each among these
-pub record ListedAmong (all children : Trees) : Type 0 where
-  pub completions : AllByRecursion (λ n. IsAmong (Single (ids.CompletionId n)) all) (completions_in children)
-  pub signals : AllByRecursion (λ n. IsAmong (Single (ids.SignalId n)) all) (signals_in children)
-  pub names : AllByRecursion (λ name. IsAmong (Single (ids.SignalName name)) all) (names_in children)
-  pub nested : AllByRecursion (λ f. IsAmong (future_tree f) all) (nested_records children)
-
-abbrev IsLeafOf : Trees → NotificationId → Type 0
-IsLeafOf all id = IsAmong (Single id) all
-
-told_among : (all children : Trees) → ListedAmong all children → EachAmong (children_told children) all
-told_among all children h =
-    let cs = completions_in children in
-    let ss = signals_in children in
-    let ns = names_in children in
-    let nested = nested_records children in
-    let leaves = all_append (IsLeafOf all) (map ids.CompletionId cs) (map ids.SignalId ss ++ map ids.SignalName ns) (all_made (IsLeafOf all) ids.CompletionId cs h.completions)
-    (all_append (IsLeafOf all) (map ids.SignalId ss) (map ids.SignalName ns) (all_made (IsLeafOf all) ids.SignalId ss h.signals) (all_made (IsLeafOf all) ids.SignalName ns h.names)) in
-    each_of all (map (λ leaf. Single leaf) (ids_in cs ss ns) ++ map future_tree nested)
-    (all_append (λ tree. IsAmong tree all) (map (λ leaf. Single leaf) (ids_in cs ss ns)) (map future_tree nested)
-    (all_made (λ tree. IsAmong tree all) (λ leaf. Single leaf) (ids_in cs ss ns) leaves)
-    (all_made (λ tree. IsAmong tree all) future_tree nested h.nested))
-
--- a node whose children are among each other's both ways
-node_by : (combinator : Combinator) (children : Trees) → EachAmong (children_told children) children → EachAmong children (children_told children)
-    → AreSame (future_tree (future_record (Combined combinator children))) (Combined combinator children)
-node_by combinator children onward back = record {
-  onward = subst (λ (t : Tree). SameTree t (Combined combinator children)) (sym (node_told combinator children)) (same_node combinator onward back);
-  back = subst (λ (t : Tree). SameTree (Combined combinator children) t) (sym (node_told combinator children)) (same_node combinator back onward);
-}
-
--- the trees themselves are among those that their lists and records are among, and these among them
-mutual
-  each_told : (all children : Trees) → StandAmong all children → EachAmong children all
-  each_told all no_trees h = no_more
-  each_told all (and_trees (Single (ids.CompletionId n)) trees) h =
-      one_more (h.completions.0 (Single (ids.CompletionId n)) (single_same (ids.CompletionId n))) (each_told all trees (record { completions = h.completions.1; signals = h.signals; names = h.names; nested = h.nested }))
-  each_told all (and_trees (Single (ids.SignalId n)) trees) h =
-      one_more (h.signals.0 (Single (ids.SignalId n)) (single_same (ids.SignalId n))) (each_told all trees (record { completions = h.completions; signals = h.signals.1; names = h.names; nested = h.nested }))
-  each_told all (and_trees (Single (ids.SignalName name)) trees) h =
-      one_more (h.names.0 (Single (ids.SignalName name)) (single_same (ids.SignalName name))) (each_told all trees (record { completions = h.completions; signals = h.signals; names = h.names.1; nested = h.nested }))
-  each_told all (and_trees (Combined combinator children) trees) h =
-      one_more (h.nested.0 (Combined combinator children) (node_by combinator children (told_among children children (listed_among children children (λ tree among. among))) (each_told (children_told children) children (stand_told children))).back) (each_told all trees (record { completions = h.completions; signals = h.signals; names = h.names; nested = h.nested.1 }))
-
-  listed_among : (all children : Trees) → Includes all children → ListedAmong all children
-  listed_among all no_trees included = record { completions = tt; signals = tt; names = tt; nested = tt }
-  listed_among all (and_trees (Single (ids.CompletionId n)) trees) included =
-      let later = listed_among all trees (λ tree among. included tree (there among)) in
-      record { completions = (included (Single (ids.CompletionId n)) (here (single_same (ids.CompletionId n))), later.completions); signals = later.signals; names = later.names; nested = later.nested }
-  listed_among all (and_trees (Single (ids.SignalId n)) trees) included =
-      let later = listed_among all trees (λ tree among. included tree (there among)) in
-      record { completions = later.completions; signals = (included (Single (ids.SignalId n)) (here (single_same (ids.SignalId n))), later.signals); names = later.names; nested = later.nested }
-  listed_among all (and_trees (Single (ids.SignalName name)) trees) included =
-      let later = listed_among all trees (λ tree among. included tree (there among)) in
-      record { completions = later.completions; signals = later.signals; names = (included (Single (ids.SignalName name)) (here (single_same (ids.SignalName name))), later.names); nested = later.nested }
-  listed_among all (and_trees (Combined combinator children) trees) included =
-      let later = listed_among all trees (λ tree among. included tree (there among)) in
-      record {
-        completions = later.completions;
-        signals = later.signals;
-        names = later.names;
-        nested = (included (future_tree (future_record (Combined combinator children))) (here (node_by combinator children (told_among children children (listed_among children children (λ tree among. among))) (each_told (children_told children) children (stand_told children))).onward), later.nested);
-      }
-
-pub node_same : (combinator : Combinator) (children : Trees) → AreSame (future_tree (future_record (Combined combinator children))) (Combined combinator children)
-node_same combinator children =
-    node_by combinator children (told_among children children (listed_among children children (λ tree among. among))) (each_told (children_told children) children (stand_told children))
+-- the tree that is told asks for one where the tree does
+pub told_number : (tree : Tree) → has_number (future_tree (future_record tree)) ≡ has_number tree
+told_number (Single id) = ap (λ (t : Tree). has_number t) (leaf_told id)
+told_number (Combined combinator children) = node_number combinator children (nested_number children)

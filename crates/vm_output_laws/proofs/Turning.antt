@@ -74,15 +74,15 @@ waiting_sends version is_closed m after (Future left) sent sends = sends
 waiting_sends version is_closed m after (Child completion) sent sends = sends
 
 stays_send : StaysSend
-stays_send true done m after waits old new opens fits tells =
-    let one = frames_are_written.awaits (awaited_ids old waits) done old new opens fits tells in
+stays_send true done m after waits old new opens fits allowed tells =
+    let one = frames_are_written.awaits (awaited_ids old waits) done old new opens fits allowed tells in
     record {
       coming = Awaits (awaited_ids old waits) ∷ [];
       fit = (one.fits, tt);
       written = one.sends;
       sends = waiting_sends (version_number old.output.version) false m after waits (Frame.AwaitingOn ∷ []) (inr refl);
     }
-stays_send false done m after waits old new opens fits tells =
+stays_send false done m after waits old new opens fits allowed tells =
     record {
       coming = [];
       fit = tt;
@@ -91,10 +91,10 @@ stays_send false done m after waits old new opens fits tells =
     }
 
 suspensions_send : SuspensionsSend
-suspensions_send m after waits old new opens slots fits asleep shallow is =
+suspensions_send m after waits old new opens slots fits allowed asleep shallow is =
     let version = version_number old.output.version in
     let ids = awaited_ids old waits in
-    let one = frames_are_written.suspensions ids old new opens fits shallow is in
+    let one = frames_are_written.suspensions ids old new opens fits allowed shallow is in
     let told = suspension_told (lacks_feature version TellsTrees) ids in
     let same : only_leaves (λ (leaf : Option NotificationId). leaf) (leaves_over after.slots waits) ≡ ids =
     told_of after.slots waits ∙ ap (λ (s : Slots). ids_over s waits) (sym slots) in

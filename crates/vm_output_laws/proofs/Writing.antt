@@ -43,14 +43,14 @@ proposals_written n value done old new opens small typed writes =
     record { fits = record { told = (small, typed); short = writes.0 opens }; sends = sends_one (Proposes n value) old new opens writes.1 }
 
 awaits_written : AwaitsAreWritten
-awaits_written ids done old new opens fits tells =
-    record { fits = record { told = shallow_fits ids fits tells.0; short = tells.1.0.0 opens }; sends = sends_one (Awaits ids) old.output new.output opens tells.1.0.1 }
+awaits_written ids done old new opens fits allowed tells =
+    record { fits = record { told = (shallow_fits ids fits tells.0, allowed); short = tells.1.0.0 opens }; sends = sends_one (Awaits ids) old.output new.output opens tells.1.0.1 }
 
 suspensions_written : SuspensionsAreWritten
-suspensions_written ids old new opens fits shallow is =
+suspensions_written ids old new opens fits allowed shallow is =
     let sends = sends_one (Suspends ids) old.output (with_frame (sent_frame old.output.version (Suspends ids)) old.output) opens refl in
     record {
-      fits = record { told = suspended_fits (lacks_feature (version_number old.output.version) TellsTrees) ids fits shallow; short = is.fits opens };
+      fits = record { told = (suspended_fits (lacks_feature (version_number old.output.version) TellsTrees) ids fits shallow, allowed); short = is.fits opens };
       sends = record {
         version = ap (λ (active : Active). active.output.version) is.suspended ∙ sends.version;
         bytes = ap (λ (active : Active). active.output.bytes) is.suspended ∙ sends.bytes;

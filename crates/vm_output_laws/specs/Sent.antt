@@ -31,7 +31,7 @@ use Rattle.vm_proposals.specs.Proposing.{proposal, proposal_message}
 use Rattle.vm_waiting.specs.Suspending.{listed, suspension_payload_in}
 use Rattle.vm_request_laws.specs.Calls.{IsTypedValue}
 use Rattle.vm_request_laws.specs.Fitting.{RequestFits}
-use Rattle.vm_request_laws.specs.Trees.{LeavesFit, TreeFits}
+use Rattle.vm_request_laws.specs.Trees.{IsSpoken, LeavesFit, TreeFits}
 
 -- a request, the outcome of a run that is proposed for its completion, what is waited for while the attempt stays and where it is suspended,
 -- an error, and the end
@@ -84,8 +84,8 @@ SuspendedFits false tree = TreeFits tree
 abbrev pub IsTold : Version → Sent → Type 0
 IsTold version (Asks request) = RequestFits request
 IsTold version (Proposes n value) = (n < 2 ^ 32) × IsTypedValue value
-IsTold version (Awaits tree) = TreeFits tree
-IsTold version (Suspends tree) = SuspendedFits (lacks_feature (version_number version) TellsTrees) tree
+IsTold version (Awaits tree) = TreeFits tree × IsSpoken (version_number version) tree
+IsTold version (Suspends tree) = SuspendedFits (lacks_feature (version_number version) TellsTrees) tree × IsSpoken (version_number version) tree
 IsTold version (Fails error) = ErrorFits LEVELS error
 IsTold version Ends = Unit {0}
 

@@ -30,7 +30,7 @@ use Rattle.protocol_errors.specs.declared.error.Error.{Error}
 use Rattle.vm_proposals.specs.Proposing.{proposal, WritesProposal}
 use Rattle.vm_request_laws.specs.Calls.{IsTypedValue}
 use Rattle.vm_request_laws.specs.Fitting.{RequestFits}
-use Rattle.vm_request_laws.specs.Trees.{LeavesFit}
+use Rattle.vm_request_laws.specs.Trees.{IsSpoken, LeavesFit}
 use Rattle.vm_output_laws.specs.Sent.{Sent, Asks, Proposes, AllFit, is_recorded, frame_meant}
 use Rattle.vm_output_laws.specs.Writing.{Sends}
 
@@ -53,12 +53,12 @@ leaves_over slots (Child completion) = Single (Some (CompletionId completion))
 
 -- an await that stays, which may be told or not
 abbrev pub StaysSend : Type 0
-StaysSend = (told : Bool) (done : Unit {0}) (m after : Machine) (waits : WaitsFor) (old new : Active) → old.output.is_closed ≡ false → LeavesFit (awaited_ids old waits)
+StaysSend = (told : Bool) (done : Unit {0}) (m after : Machine) (waits : WaitsFor) (old new : Active) → old.output.is_closed ≡ false → LeavesFit (awaited_ids old waits) → IsSpoken (version_number old.output.version) (awaited_ids old waits)
     → TellsIf told (awaited_ids old waits) old (Ok done) new → TurnSends false m (waits_as waits after) old.output new.output
 
 -- an await that is suspended, for what the machine's reply waits for; a child alone is not awake by itself
 abbrev pub SuspensionsSend : Type 0
-SuspensionsSend = (m after : Machine) (waits : WaitsFor) (old new : Active) → old.output.is_closed ≡ false → slots_of old.results ≡ after.slots → LeavesFit (awaited_ids old waits)
+SuspensionsSend = (m after : Machine) (waits : WaitsFor) (old new : Active) → old.output.is_closed ≡ false → slots_of old.results ≡ after.slots → LeavesFit (awaited_ids old waits) → IsSpoken (version_number old.output.version) (awaited_ids old waits)
     → is_awake (leaves_over after.slots waits) (λ leaf. Pending) ≡ false → is_suspension_too_deep old.output.version (awaited_ids old waits) ≡ false → IsSuspended (awaited_ids old waits) old new
     → TurnSends true m (waits_as waits after) old.output new.output
 

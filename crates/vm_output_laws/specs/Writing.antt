@@ -14,7 +14,8 @@ use Rattle.vm_start.specs.Failure.{told_error}
 use Rattle.vm_start.specs.Failing as failing
 use Rattle.vm_proposals.specs.Proposing.{proposal, WritesProposal}
 use Rattle.vm_request_laws.specs.Calls.{IsTypedValue}
-use Rattle.vm_request_laws.specs.Trees.{LeavesFit}
+use Rattle.protocol_types.specs.Version.{version_number}
+use Rattle.vm_request_laws.specs.Trees.{IsSpoken, LeavesFit}
 use Rattle.vm_output_laws.specs.Sent.{Sent, Asks, Proposes, Awaits, Suspends, Fails, Ends, sent_stream, SentFits}
 
 -- these frames are behind what was written, and no other
@@ -36,11 +37,11 @@ ProposalsAreWritten = (n : ℕ) (value : NonEmptyValue) (done : Unit {0}) (old n
     → WritesProposal (proposal n value) old (Ok done) new → SendsOne (Proposes n value) old new
 
 abbrev pub AwaitsAreWritten : Type 0
-AwaitsAreWritten = (ids : AwaitTree NotificationId) (done : Unit {0}) (old new : Active) → old.output.is_closed ≡ false → LeavesFit ids → TellsIf true ids old (Ok done) new
+AwaitsAreWritten = (ids : AwaitTree NotificationId) (done : Unit {0}) (old new : Active) → old.output.is_closed ≡ false → LeavesFit ids → IsSpoken (version_number old.output.version) ids → TellsIf true ids old (Ok done) new
     → SendsOne (Awaits ids) old.output new.output
 
 abbrev pub SuspensionsAreWritten : Type 0
-SuspensionsAreWritten = (ids : AwaitTree NotificationId) (old new : Active) → old.output.is_closed ≡ false → LeavesFit ids → is_suspension_too_deep old.output.version ids ≡ false → IsSuspended ids old new
+SuspensionsAreWritten = (ids : AwaitTree NotificationId) (old new : Active) → old.output.is_closed ≡ false → LeavesFit ids → IsSpoken (version_number old.output.version) ids → is_suspension_too_deep old.output.version ids ≡ false → IsSuspended ids old new
     → SendsOne (Suspends ids) old.output new.output
 
 abbrev pub ErrorsAreWritten : Type 0

@@ -1,6 +1,8 @@
 -- What an await does to a machine in any phase.
-use Rattle.std.specs.Prelude.{◌≡◌, ℕ, Bool, false, codes, Option, Some, None, Result, Ok, Err}
+use Rattle.std.specs.Prelude.{◌≡◌, ℕ, Bool, false, codes, [], Option, Some, None, Result, Ok, Err}
 use Rattle.journal_model.specs.AwaitTree.{AwaitTree}
+use Rattle.journal_model.specs.declared.call.Call.{Call}
+use Rattle.vm_refusals.specs.declared.refusal_error.RefusalError.{RefusalError}
 use Rattle.protocol_errors.specs.declared.error.Error.{Error}
 use Rattle.protocol_calls.specs.declared.send_signal_command.SendSignalCommandMessage.{SendSignalCommandMessage}
 use Rattle.protocol_differences.specs.Invocations.{send_signal_command_difference}
@@ -14,7 +16,7 @@ use Rattle.vm_machine.specs.declared.machine_state.MachineState.{MachineState}
 use Rattle.vm_types.specs.declared.answers.AwaitResponse.{AwaitResponse}
 use Rattle.vm_types.specs.declared.answers.AwaitResponse.TheVariants as responses
 use Rattle.vm_types.specs.declared.handles.EphemeralCompletionId.{EphemeralCompletionId}
-use Rattle.vm_machine.specs.Calls.{checks_off}
+use Rattle.vm_machine.specs.Calls.{checks_off, IsRefusalOf}
 use Rattle.vm_machine.specs.Failing.{MachineFails}
 use Rattle.vm_machine.specs.PassedMachine.{child_not_id_error}
 use Rattle.vm_machine.specs.Settling.{Settles}
@@ -60,11 +62,17 @@ pub record IsAwaited (tree : AwaitTree ℕ) (old : MachineState) (result : Resul
   pub awaits : AwaitsSeen old.options.implicit_cancellation (checks_off old.options.non_determinism_checks) tree old.active awaited between.active
   pub goes_on : GoesOnAs awaited between result new
 
+-- One that has failed answers that again; then an await that is refused fails; then it is awaited, or there is no await in this phase.
+pub record AwaitsUnread (tree : AwaitTree ℕ) (old : MachineState) (result : Result AwaitResponse Error) (new : MachineState) : Type 0 where
+  pub refusal : Option RefusalError
+  pub refuses : IsRefusalOf old.version (Call.Await tree) [] refusal
+  pub steps : Steps (IsAwaited tree) (IsUnexpected (codes "await")) refusal old result new
+
 abbrev pub DoesAwaitWhere : (ready : Option EphemeralCompletionId) → AwaitTree ℕ → (old : MachineState) → Result AwaitResponse Error → (new : MachineState) → Type 0
 DoesAwaitWhere (Some id) tree old (Ok response) new = (response ≡ responses.EphemeralNotificationReady id) × (new ≡ old)
 DoesAwaitWhere (Some id) tree old (Err answer) new = ⊥
-DoesAwaitWhere None tree old result new = Steps (IsAwaited tree) (IsUnexpected (codes "await")) None old result new
+DoesAwaitWhere None tree old result new = AwaitsUnread tree old result new
 
--- A read's answer comes first. Then one that has failed answers that again; then it is awaited, or there is no await in this phase.
+-- a read's answer comes first
 abbrev pub DoesAwait : AwaitTree ℕ → (old : MachineState) → Result AwaitResponse Error → (new : MachineState) → Type 0
 DoesAwait tree old result new = DoesAwaitWhere (ready_read old.phase old.active.is_replaying old.reads) tree old result new

@@ -1,14 +1,14 @@
 // A future is awaited, in any phase.
-ghost use Rattle.std.specs.Prelude.{◌≡◌, codes, None};
+ghost use Rattle.std.specs.Prelude.{◌≡◌};
 ghost use Rattle.journal_model.specs.Future.{tree_of};
-ghost use Rattle.vm_machine.specs.Steps.{IsUnexpected, Steps};
-ghost use Rattle.vm_progress.specs.Awaiting.{ready_read, GoesOnAs, IsAwaited, DoesAwait};
+ghost use Rattle.vm_progress.specs.Awaiting.{ready_read, AwaitsUnread, GoesOnAs, IsAwaited, DoesAwait};
 
 use crate::asleep::{fail_for_memory, sleep_with};
 use crate::uncompleted::fail_uncompleted;
 use journal_model::UnresolvedFuture;
 use protocol_errors::Error;
-use vm_machine::{Admission, CallError, MachineState, checks_off, child_not_id};
+use vm_machine::{Admission, CallError, MachineState, checks_off, child_not_id, refusal_error};
+use vm_refusals::refuse_await;
 use vm_start::Phase;
 use vm_types::{AwaitResponse, EphemeralCompletionId};
 use vm_waiting::{AwaitError, Awaited, await_future};
@@ -66,9 +66,12 @@ fn await_admitted(vm: &mut MachineState, future: UnresolvedFuture) -> Result<Awa
 
 // Awaits, where no read's answer comes first.
 fn await_unread(vm: &mut MachineState, future: UnresolvedFuture) -> Result<AwaitResponse, Error>
-    ensures { Steps (IsAwaited (tree_of future)) (IsUnexpected (codes "await")) None vm.old result vm.new }
+    ensures { AwaitsUnread (tree_of future) vm.old result vm.new }
 {
-    match vm.admit(None) {
+    let number = vm.version.number();
+    let refused = refuse_await(number, &future);
+    let refusal = refusal_error(vm.version, refused, "");
+    match vm.admit(refusal) {
         Admission::Admitted => await_admitted(vm, future),
         Admission::Elsewhere => {
             drop(future);
@@ -84,7 +87,8 @@ fn await_unread(vm: &mut MachineState, future: UnresolvedFuture) -> Result<Await
 /// Awaits a future.
 ///
 /// Where the answer of an ephemeral read can be taken that is told first, and nothing is looked at. An attempt that is suspended
-/// answers `SUSPENDED`, and is closed: it has not failed.
+/// answers `SUSPENDED`, and is closed: it has not failed. An await that asks for a number of successes is refused in a version in which none
+/// does.
 ///
 /// Where a cancellation ends it, each invocation that was called, and is tracked, is cancelled by a command before that is answered. The
 /// first of which the invocation id is unknown is waited for alone, in the same way. Where one of the commands is not what is recorded,

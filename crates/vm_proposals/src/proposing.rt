@@ -18,8 +18,9 @@ use std::alloc::{AllocError, Global};
 use std::time::Duration;
 use vm_context::Output;
 use vm_machine::{MachineState, Phase, about_nothing, again};
-use vm_refusals::{EntryRetryInfo, RetryPolicy, RunExitResult};
-use vm_refusals::{BodyEnd, end_of_body, feature_lacked, inherited};
+use vm_refusals::{
+    BodyEnd, EntryRetryInfo, RetryPolicy, RunExitResult, end_of_body, feature_lacked, inherited,
+};
 use vm_runs::RunState;
 
 // How often the runs of an attempt were tried before it, as its start has told.

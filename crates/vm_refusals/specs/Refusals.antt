@@ -20,6 +20,7 @@ refusal_meant CallRefusal.EmptyLimitKey = Refusal.EmptyLimitKey
 refusal_meant CallRefusal.UnsupportedScope = Refusal.UnsupportedScope
 refusal_meant CallRefusal.UnsupportedLimitKey = Refusal.UnsupportedLimitKey
 refusal_meant CallRefusal.UnsupportedFailureMetadata = Refusal.UnsupportedFailureMetadata
+refusal_meant CallRefusal.UnsupportedAtLeast = Refusal.UnsupportedAtLeast
 -- what the arguments pass
 refusal_meant CallRefusal.OutOfBoundsDuration = Refusal.OutOfBoundsDuration
 
@@ -32,6 +33,7 @@ refusal_code CallRefusal.EmptyLimitKey = fixed_code fixed.EmptyLimitKey
 refusal_code CallRefusal.UnsupportedScope = unsupported_feature
 refusal_code CallRefusal.UnsupportedLimitKey = unsupported_feature
 refusal_code CallRefusal.UnsupportedFailureMetadata = unsupported_feature
+refusal_code CallRefusal.UnsupportedAtLeast = unsupported_feature
 -- what the arguments pass
 refusal_code CallRefusal.OutOfBoundsDuration = internal
 
@@ -44,6 +46,7 @@ text_of_refusal CallRefusal.EmptyLimitKey version event = fixed_text fixed.Empty
 text_of_refusal CallRefusal.UnsupportedScope version event = feature_text (codes "scope") version (first_version features.Scope)
 text_of_refusal CallRefusal.UnsupportedLimitKey version event = feature_text (codes "limit key") version (first_version features.Scope)
 text_of_refusal CallRefusal.UnsupportedFailureMetadata version event = feature_text (codes "terminal error metadata") version (first_version features.FailureMetadata)
+text_of_refusal CallRefusal.UnsupportedAtLeast version event = feature_text (codes "at least") version (first_version features.AtLeast)
 text_of_refusal CallRefusal.OutOfBoundsDuration version event = out_of_bounds_text event
 
 abbrev pub refusal_text : RefusalError → List ℕ

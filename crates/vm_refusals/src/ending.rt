@@ -5,6 +5,7 @@ ghost use Rattle.journal_model.specs.declared.value.NonEmptyValue.{NonEmptyValue
 ghost use Rattle.vm_refusals.specs.Ending.{Outcome, as_ending, ending, feature_lacked, has_metadata, makes_failure, terminal_of};
 
 use crate::retrying::{failed_again, next_retry, should_pause_on_max_attempts};
+use crate::{EntryRetryInfo, NextRetry, RetryPolicy, RunExitResult};
 use bytes::ByteStr;
 use journal_model::{NonEmptyValue, TerminalFailure};
 use protocol_errors::Error;
@@ -12,7 +13,6 @@ use protocol_types::Feature;
 use sequence::Sequence;
 use std::alloc::{AllocError, Global};
 use std::time::Duration;
-use crate::{EntryRetryInfo, NextRetry, RetryPolicy, RunExitResult};
 
 /// What the end of a run's body comes to.
 #[derive(Debug, Drop)]

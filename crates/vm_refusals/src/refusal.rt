@@ -18,6 +18,8 @@ pub enum CallRefusal {
     UnsupportedScope,
     /// A limit key is given in a version that has none.
     UnsupportedLimitKey,
+    /// A number of successes is awaited in a version in which none is.
+    UnsupportedAtLeast,
 }
 
 /// Where a later version is needed the feature is not supported, anything else is internal.
@@ -30,7 +32,8 @@ impl WithInvocationErrorCode for CallRefusal {
         match self {
             CallRefusal::UnsupportedScope
             | CallRefusal::UnsupportedLimitKey
-            | CallRefusal::UnsupportedFailureMetadata => codes::UNSUPPORTED_FEATURE,
+            | CallRefusal::UnsupportedFailureMetadata
+            | CallRefusal::UnsupportedAtLeast => codes::UNSUPPORTED_FEATURE,
             CallRefusal::EmptyIdempotencyKey
             | CallRefusal::EmptyScope
             | CallRefusal::EmptyLimitKey

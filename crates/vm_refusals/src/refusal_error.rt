@@ -67,6 +67,7 @@ fn write_refusal<W: fmt::Write>(
             Feature::FailureMetadata,
             f,
         ),
+        CallRefusal::UnsupportedAtLeast => write_lack("at least", version, Feature::AtLeast, f),
         CallRefusal::OutOfBoundsDuration => write_out_of_bounds(event, f),
     }
 }

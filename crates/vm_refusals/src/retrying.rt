@@ -4,8 +4,8 @@ ghost use Rattle.std.specs.Duration.{as_nanos, max_nanos};
 ghost use Rattle.vm_refusals.specs.Retrying.{after_failure, as_told, at_bound, inherits, is_reached, may_pause, most_of, one_more, pauses_at_bound, reaches_bound, tried};
 
 use crate::intervals::interval_after;
-use std::time::Duration;
 use crate::{EntryRetryInfo, NextRetry, OnMaxAttempts, RetryPolicy};
+use std::time::Duration;
 
 fn is_count_reached(bound: Option<u32>, count: u32) -> bool
     ensures { result ≡ is_reached bound count }

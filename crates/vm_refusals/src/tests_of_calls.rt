@@ -1,6 +1,7 @@
 // The first refusal of a call.
 ghost use Rattle.std.specs.Prelude.{◌≡◌, ◌≤◌, ◌^◌, ◌↔◌, ◌&&◌, is_some, option_map, IfOk, IfErr, IsErr};
-ghost use Rattle.journal_model.specs.Refusal.{is_given_empty, has_pairs, milliseconds, first_refusal, moment_tests, target_tests, scope_tests, attach_tests, value_tests, send_tests};
+ghost use Rattle.journal_model.specs.Refusal.{is_given_empty, has_pairs, milliseconds, first_refusal, moment_tests, target_tests, scope_tests, attach_tests, await_tests, value_tests, send_tests};
+ghost use Rattle.journal_model.specs.Future.{tree_of};
 ghost use Rattle.protocol_types.specs.Feature.{lacks_feature};
 ghost use Rattle.protocol_types.specs.declared.feature.Feature.{Feature};
 ghost use Rattle.vm_refusals.specs.Refusals.{refusal_meant};
@@ -8,7 +9,10 @@ ghost use Rattle.vm_refusals.specs.declared.refusal.CallRefusal.TheVariants.{Out
 
 use crate::CallRefusal;
 use bytes::ByteStr;
-use journal_model::{AttachInvocationTarget, Moment, NonEmptyValue, Target, TerminalFailure};
+use journal_model::{
+    AttachInvocationTarget, Moment, NonEmptyValue, Target, TerminalFailure, UnresolvedFuture,
+    has_number,
+};
 use protocol_types::Feature;
 
 /// A moment in whole milliseconds, where 64 bits hold them.
@@ -105,6 +109,18 @@ pub fn refuse_attach(version: u32, target: &AttachInvocationTarget) -> Option<Ca
         AttachInvocationTarget::WorkflowId { scope, .. } => refuse_scope(version, scope),
         AttachInvocationTarget::IdempotencyId { scope, .. } => refuse_scope(version, scope),
     }
+}
+
+/// Why an await is refused, if it is.
+pub fn refuse_await(version: u32, future: &UnresolvedFuture) -> Option<CallRefusal>
+    ensures { option_map refusal_meant result ≡ first_refusal (await_tests version (tree_of future.now)) }
+{
+    if Feature::AtLeast.is_later_than(version) {
+        if has_number(future) {
+            return Some(CallRefusal::UnsupportedAtLeast);
+        }
+    }
+    None
 }
 
 // Whether a failure has metadata in a version that has none.

@@ -1,10 +1,10 @@
 -- Trees that fit have records that fit.
-use Rattle.std.proofs.Common.{◌<◌, ◌^◌, ℕ, zero, suc, List, [], ◌∷◌, ◌++◌, sym, subst}
+use Rattle.std.proofs.Common.{arith, ◌<◌, ◌^◌, ℕ, zero, suc, List, [], ◌∷◌, ◌++◌, sym, subst}
 use Rattle.std.specs.Prelude.{IsUtf8}
 use Rattle.std.specs.List.{AllByRecursion}
 use Rattle.journal_model.specs.declared.notification.NotificationId.{NotificationId}
 use Rattle.journal_model.specs.declared.notification.NotificationId.TheVariants.{CompletionId, SignalId, SignalName}
-use Rattle.journal_model.specs.AwaitTree.{AwaitTree, Single, Combined, AwaitTrees, no_trees, and_trees, Combinator, Unknown, FirstCompleted, AllCompleted, FirstSucceededOrAllFailed, AllSucceededOrFirstFailed}
+use Rattle.journal_model.specs.AwaitTree.{AwaitTree, Single, Combined, AwaitTrees, no_trees, and_trees, Combinator, Unknown, FirstCompleted, AllCompleted, FirstSucceededOrAllFailed, AllSucceededOrFirstFailed, AtLeast}
 use Rattle.journal_model.specs.Spelling.{completions_in, signals_in, names_in}
 use Rattle.protocol_records.specs.declared.future.Future.{Future, roll-Future}
 use Rattle.protocol_records.specs.declared.future.Future.TheOpen.{Future-F}
@@ -51,6 +51,10 @@ combinator_fits FirstCompleted = tt
 combinator_fits AllCompleted = tt
 combinator_fits FirstSucceededOrAllFailed = tt
 combinator_fits AllSucceededOrFirstFailed = tt
+combinator_fits (AtLeast required) = tt
+
+none_small : IsSmall 0
+none_small = omega arith
 
 rolled : (levels : ℕ) (o : Future-F Future) → LayerFits (FutureFits levels) o → FutureFits (suc levels) (roll-Future o)
 unfolding FutureFits
@@ -59,11 +63,11 @@ rolled levels o h = subst (LayerFits (FutureFits levels)) (sym (out-roll-Future 
 mutual
   pub future_fits : (levels : ℕ) (tree : AwaitTree NotificationId) → LeavesFit tree → IsWithin levels tree → FutureFits levels (future_record tree)
   future_fits zero tree h within = absurd within
-  future_fits (suc levels) (Single (CompletionId n)) h within = rolled levels _ ((h, tt), tt, tt, tt, tt)
-  future_fits (suc levels) (Single (SignalId n)) h within = rolled levels _ (tt, (h, tt), tt, tt, tt)
-  future_fits (suc levels) (Single (SignalName name)) h within = rolled levels _ (tt, tt, (h, tt), tt, tt)
+  future_fits (suc levels) (Single (CompletionId n)) h within = rolled levels _ ((h, tt), tt, tt, tt, tt, none_small)
+  future_fits (suc levels) (Single (SignalId n)) h within = rolled levels _ (tt, (h, tt), tt, tt, tt, none_small)
+  future_fits (suc levels) (Single (SignalName name)) h within = rolled levels _ (tt, tt, (h, tt), tt, tt, none_small)
   future_fits (suc levels) (Combined combinator children) h within =
-      rolled levels _ (completions_fit children h, signals_fit children h, names_fit children h, nested_fit levels children h within, combinator_fits combinator)
+      rolled levels _ (completions_fit children h.1, signals_fit children h.1, names_fit children h.1, nested_fit levels children h.1 within, combinator_fits combinator, h.0)
 
   nested_fit : (levels : ℕ) (trees : AwaitTrees NotificationId) → AllLeavesFit trees → AreWithin levels trees → AllByRecursion (FutureFits levels) (nested_records trees)
   nested_fit levels no_trees h within = tt

@@ -181,7 +181,7 @@ machines_stand handler given journal arrivals calls m h =
     each_fits m.slots (λ place. subst FitsIfSome (sym (h.stands.tables.handles (17 + place)) ∙ at_place m.slots place) (stands_fit h.stands.steps (17 + place) created))
 
 trees_stand : TreesStandFitting
-trees_stand handler given journal arrivals calls m tree h = handles_fit m.slots tree (machines_stand handler given journal arrivals calls m h)
+trees_stand handler given journal arrivals calls m tree h numbers = handles_fit m.slots tree (machines_stand handler given journal arrivals calls m h) numbers
 
 pub machines_fit : MachinesFit
 machines_fit = record { calls = calls_fit; machines = machines_stand; trees = trees_stand }

@@ -1,7 +1,10 @@
--- What the types of the code say of a call: each text in it is UTF-8, and each code of a failure has sixteen bits.
-use Rattle.std.specs.Prelude.{◌<◌, ◌^◌, IsUtf8, IfSome}
+-- What the types of the code say of a call: each text in it is UTF-8, each code of a failure has sixteen bits, and each number of
+-- successes that an awaited tree asks for has 32.
+use Rattle.std.specs.Prelude.{ℕ, ◌<◌, ◌^◌, IsUtf8, IfSome}
 use Rattle.std.specs.List.{AllByRecursion}
 use Rattle.journal_model.specs.Notification.{Text}
+use Rattle.journal_model.specs.AwaitTree.{AwaitTree, Single, Combined, AwaitTrees, no_trees, and_trees}
+use Rattle.journal_model.specs.Spelling.{required_by}
 use Rattle.journal_model.specs.declared.value.NonEmptyValue.{NonEmptyValue}
 use Rattle.journal_model.specs.declared.value.TerminalFailure.{TerminalFailure}
 use Rattle.journal_model.specs.declared.call.Call.{Call}
@@ -39,6 +42,15 @@ IsTypedAttach (AttachInvocationTarget.WorkflowId name key scope) = IsUtf8 name �
 IsTypedAttach (AttachInvocationTarget.IdempotencyId service handler key service_key scope) =
     IsUtf8 service × IsUtf8 handler × IsUtf8 key × IfSome service_key IsUtf8 × IfSome scope IsUtf8
 
+abbrev mutual
+  pub NumbersFit : {Leaf : Type 0} → AwaitTree Leaf → Type 0
+  NumbersFit (Single leaf) = Unit {0}
+  NumbersFit (Combined combinator children) = (required_by combinator < 2 ^ 32) × AllNumbersFit children
+
+  pub AllNumbersFit : {Leaf : Type 0} → AwaitTrees Leaf → Type 0
+  AllNumbersFit no_trees = Unit {0}
+  AllNumbersFit (and_trees tree trees) = NumbersFit tree × AllNumbersFit trees
+
 abbrev pub IsTypedCall : Call → Type 0
 IsTypedCall (Call.StateGet key name options) = IsUtf8 key × IfSome name IsUtf8
 IsTypedCall (Call.StateGetKeys name) = IfSome name IsUtf8
@@ -59,4 +71,5 @@ IsTypedCall (Call.Cancel target) = IsUtf8 target
 IsTypedCall (Call.Attach target) = IsTypedAttach target
 IsTypedCall (Call.GetOutput target) = IsTypedAttach target
 IsTypedCall (Call.Output value options) = IsTypedValue value
+IsTypedCall (Call.Await tree) = NumbersFit tree
 IsTypedCall _ = Unit {0}

@@ -11,7 +11,7 @@ use Rattle.journal_model.specs.Waiting.{only_leaves}
 use Rattle.attempt_model.specs.Results.{slot_of}
 use Rattle.attempt_model.specs.Machine.{Machine, Reply, Answered, AwaitsTree, AwaitsChild, Finished, FailedBy, reply_to}
 use Rattle.attempt_model.specs.Standing.{Stands}
-use Rattle.vm_request_laws.specs.Calls.{IsTypedCall}
+use Rattle.vm_request_laws.specs.Calls.{NumbersFit, IsTypedCall}
 use Rattle.vm_request_laws.specs.Trees.{LeavesFit, SlotsFit}
 
 -- ---- one call
@@ -47,10 +47,10 @@ abbrev pub MachinesStandFitting : Type 0
 MachinesStandFitting = (handler : Handler) (given : Invocation) (journal : List Request) (arrivals : List Arrival) (calls : ℕ) (m : Machine)
     → StandsTyped handler given journal arrivals calls m → SlotsFit m.slots
 
--- so the leaves of each tree over its handles fit
+-- so the leaves of each tree over its handles fit, whose numbers do
 abbrev pub TreesStandFitting : Type 0
 TreesStandFitting = (handler : Handler) (given : Invocation) (journal : List Request) (arrivals : List Arrival) (calls : ℕ) (m : Machine) (tree : AwaitTree ℕ)
-    → StandsTyped handler given journal arrivals calls m → LeavesFit (only_leaves (slot_of m.slots) tree)
+    → StandsTyped handler given journal arrivals calls m → NumbersFit tree → LeavesFit (only_leaves (slot_of m.slots) tree)
 
 pub record MachinesFit : Type 0 where
   pub calls : CallsLeaveFitting

@@ -1,7 +1,5 @@
-//! Which requests are within what the records of the protocol hold: their frames are read back, and what calls make is. Each function
-//! does nothing: its contract is the law.
-//!
-//! What trees over its handles a machine tells, and which child a cancellation waits for. Each function does nothing: its contract is the law.
+//! Which requests are within what the records of the protocol hold: their frames are read back, and what calls make is. And what trees over
+//! its handles a machine tells, and which child a cancellation waits for. Each function does nothing: its contract is the law.
 #![tactic(auto)]
 
 ghost use Rattle.vm_request_laws.specs.Requests.{RequestsReadBack};

@@ -8,11 +8,11 @@ ghost use Rattle.std.specs.Ordering.{nat_cmp};
 ghost use Rattle.vm_types.specs.Reads.{no_reads, asked, known, is_in_flight, answer_of, after_answer, after_take, least_of};
 ghost use Rattle.vm_types.specs.declared.commands.RegisterError.TheVariants.{IdsExhausted, OutOfMemory};
 
+use crate::EphemeralCompletionId;
 use journal_model::Value;
 use std::alloc::{AllocError, Global};
 use std::collections::{BTreeMap, BTreeSet};
 use std::marker::Model;
-use crate::EphemeralCompletionId;
 
 /// The ephemeral reads of one attempt.
 ///

@@ -1,5 +1,5 @@
 -- What an await comes to, as the abstract machine's reply.
-use Rattle.std.proofs.Common.{◌≡◌, inl, inr, refl, sym, ap, ◌∙◌, subst, ℕ, Bool, true, false, ◌&&◌, List, [], ◌∷◌, is_some, Result, Ok, Err}
+use Rattle.std.proofs.Common.{◌≡◌, inl, inr, refl, sym, ap, ◌∙◌, subst, ℕ, Bool, true, false, ◌&&◌, List, [], ◌∷◌, is_some, Option, None, Result, Ok, Err}
 use Rattle.journal_model.specs.declared.call.Call.{Call}
 use Rattle.journal_model.specs.declared.options.ImplicitCancellationOption.{ImplicitCancellationOption}
 use Rattle.journal_model.specs.declared.options.SignalDelivery.{SignalDelivery}
@@ -14,7 +14,8 @@ use Rattle.journal_model.specs.declared.future.UnresolvedFuture.{UnresolvedFutur
 use Rattle.attempt_model.specs.Children.{Child, ChildrenOutcome, children_outcome}
 use Rattle.attempt_model.specs.Requests.{Commands}
 use Rattle.attempt_model.specs.Results.{Ready, Slots, waiting_for, Resolution, resolution_of}
-use Rattle.attempt_model.specs.Machine.{Machine, Reply, FailedBy, UncompletedInReplay, ChildNotId, is_cancelled, reply_where_asleep, reply_where_unknown, reply_where_awake, reply_to_children, reply_to_await, reply_to}
+use Rattle.journal_model.specs.Refusal.{Refusal, refusal_of}
+use Rattle.attempt_model.specs.Machine.{Machine, Reply, FailedBy, UncompletedInReplay, ChildNotId, is_cancelled, reply_where_asleep, reply_where_unknown, reply_where_awake, reply_to_children, reply_to_await, reply_unless_refused, reply_to}
 use Rattle.vm_awaits.specs.Views.{AsyncResults, results_of}
 use Rattle.vm_awaits.specs.Resolving.{resolution_as}
 use Rattle.vm_awaits.specs.declared.resolving.ResolveFutureResult.{ResolveFutureResult}
@@ -74,7 +75,7 @@ stays_of_child : (n : ℕ) (machine : Machine) (commands : Commands) → reply_w
 stays_of_child n machine [] = refl
 stays_of_child n machine (command ∷ commands) = refl
 
-module _ (checks_off : Bool) (given : Invocation) (m : Machine) (tree : AwaitTree ℕ) (old : Active) where
+module _ (checks_off : Bool) (given : Invocation) (m : Machine) (tree : AwaitTree ℕ) (old : Active) (unrefused : refusal_of given.version (Call.Await tree) ≡ None) where
   abbrev reply : Reply
   reply = reply_to (same_header checks_off) given m (Call.Await tree)
 
@@ -140,7 +141,8 @@ module _ (checks_off : Bool) (given : Invocation) (m : Machine) (tree : AwaitTre
 
     replies : reply ≡ reply_to_await headers given m (resolution_as middle.queue middle.ready answer)
     replies =
-        ap (λ (r : AsyncResults). reply_to_await headers given m (resolution_of r.delivery r.slots (awaited_tree given.options.implicit_cancellation tree) r.queue r.ready)) (sym sees.results)
+        ap (λ (o : Option Refusal). reply_unless_refused headers given m (Call.Await tree) o) unrefused
+        ∙ ap (λ (r : AsyncResults). reply_to_await headers given m (resolution_of r.delivery r.slots (awaited_tree given.options.implicit_cancellation tree) r.queue r.ready)) (sym sees.results)
         ∙ ap (λ (c : ImplicitCancellationOption). reply_to_await headers given m (resolution_of (results_of old.results).delivery (results_of old.results).slots (awaited_tree c tree) (results_of old.results).queue (results_of old.results).ready)) is
         ∙ ap (λ (r : Resolution). reply_to_await headers given m r) resolves.resolution
 
@@ -186,6 +188,6 @@ module _ (checks_off : Bool) (given : Invocation) (m : Machine) (tree : AwaitTre
 -- whatever it comes to, it is what the abstract machine's comes to
 pub awaits_as : (cancellation : ImplicitCancellationOption) (checks_off : Bool) (tree : AwaitTree ℕ) (old : Active) (result : Result Awaited AwaitError) (new : Active)
     → ComesTo cancellation checks_off tree old result new → AwaitsSeen cancellation checks_off tree old result new
-awaits_as cancellation checks_off tree old result new (inl comes) given m is sees =
-    by_answer checks_off given m tree old sees cancellation is comes.looked comes.others comes.answer comes.resolves result new comes.goes_on
-awaits_as cancellation checks_off tree old result new (inr out) given m is sees = runs_out checks_off given m tree old old new result refl out
+awaits_as cancellation checks_off tree old result new (inl comes) given m is unrefused sees =
+    by_answer checks_off given m tree old unrefused sees cancellation is comes.looked comes.others comes.answer comes.resolves result new comes.goes_on
+awaits_as cancellation checks_off tree old result new (inr out) given m is unrefused sees = runs_out checks_off given m tree old unrefused old new result refl out

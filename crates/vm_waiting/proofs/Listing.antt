@@ -5,7 +5,7 @@ use Rattle.std.specs.List.{flat_map}
 use Rattle.journal_model.specs.declared.notification.NotificationId.{NotificationId}
 use Rattle.journal_model.specs.declared.notification.NotificationId.TheVariants.{CompletionId, SignalId, SignalName}
 use Rattle.journal_model.specs.AwaitTree.{AwaitTree, Single, Combined, AwaitTrees, no_trees, and_trees}
-use Rattle.journal_model.specs.Spelling.{packed_numbers, repeated_bytes, completions_in, signals_in, names_in, suspension_payload}
+use Rattle.journal_model.specs.Spelling.{packed_numbers, repeated_bytes, completions_in, signals_in, names_in, required_by, suspension_payload}
 use Rattle.protocol_wire.specs.Parts.{payload_of}
 use Rattle.protocol_records.specs.declared.future.Future.{Future, out-Future, roll-Future}
 use Rattle.protocol_records.specs.declared.future.Future.TheOpen.{Future-F}
@@ -24,15 +24,16 @@ use Rattle.vm_waiting.specs.Suspending.{below, listed, lists_payload}
 
 -- one level of the record of a tree
 abbrev layer_of : AwaitTree NotificationId → Future-F Future
-layer_of (Single (CompletionId n)) = record { waiting_completions = n ∷ []; waiting_signals = []; waiting_named_signals = []; nested_futures = []; combinator_type = combinators.FirstCompleted }
-layer_of (Single (SignalId n)) = record { waiting_completions = []; waiting_signals = n ∷ []; waiting_named_signals = []; nested_futures = []; combinator_type = combinators.FirstCompleted }
-layer_of (Single (SignalName name)) = record { waiting_completions = []; waiting_signals = []; waiting_named_signals = name ∷ []; nested_futures = []; combinator_type = combinators.FirstCompleted }
+layer_of (Single (CompletionId n)) = record { waiting_completions = n ∷ []; waiting_signals = []; waiting_named_signals = []; nested_futures = []; combinator_type = combinators.FirstCompleted; required = 0 }
+layer_of (Single (SignalId n)) = record { waiting_completions = []; waiting_signals = n ∷ []; waiting_named_signals = []; nested_futures = []; combinator_type = combinators.FirstCompleted; required = 0 }
+layer_of (Single (SignalName name)) = record { waiting_completions = []; waiting_signals = []; waiting_named_signals = name ∷ []; nested_futures = []; combinator_type = combinators.FirstCompleted; required = 0 }
 layer_of (Combined combinator children) = record {
   waiting_completions = completions_in children;
   waiting_signals = signals_in children;
   waiting_named_signals = names_in children;
   nested_futures = nested_records children;
   combinator_type = combinator_record combinator;
+  required = required_by combinator;
 }
 
 -- the trees among which a node's own leaves stand

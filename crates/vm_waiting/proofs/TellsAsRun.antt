@@ -1,37 +1,17 @@
 -- What is told of a tree that stays asleep is what the run still waits for.
-use Rattle.std.proofs.Common.{◌≡◌, refl, sym, ap, ◌∙◌, subst, ℕ, List, Option}
+use Rattle.std.proofs.Common.{◌≡◌, refl, sym, ap, ◌∙◌, ℕ, List, Option}
 use Rattle.journal_model.specs.declared.notification.NotificationId.{NotificationId}
 use Rattle.journal_model.specs.Notification.{Arrival}
 use Rattle.journal_model.specs.AwaitTree.{AwaitTree, Single, Combined, AwaitTrees, no_trees, and_trees, map_leaves, map_leaves_of_trees}
 use Rattle.journal_model.specs.Request.{Request}
 use Rattle.journal_model.specs.History.{Step, stands_for}
-use Rattle.journal_model.specs.Waiting.{only_leaves, only_children, and_leaf, still_awaited, SameTree, same_leaf, same_node, EachAmong, no_more, one_more, here, there}
+use Rattle.journal_model.specs.Waiting.{only_leaves, only_children, and_leaf, still_awaited}
 use Rattle.journal_model.specs.Run.{Handler, Invocation, Progress, run}
 use Rattle.attempt_model.specs.Results.{slot_of}
 use Rattle.attempt_model.specs.Machine.{Machine}
 use Rattle.attempt_model.specs.Standing.{WaitsWithRun}
 use Rattle.vm_awaits.specs.Views.{AsyncResults}
 use Rattle.vm_waiting.specs.Telling.{WaitsTellAsRun}
-
--- ---- equal trees are the same
-
-among_more : {Leaf : Type 0} {trees others : AwaitTrees Leaf} (other : AwaitTree Leaf) → EachAmong trees others → EachAmong trees (and_trees other others)
-among_more other no_more = no_more
-among_more other (one_more is rest) = one_more (there is) (among_more other rest)
-
-mutual
-  same_itself : {Leaf : Type 0} (tree : AwaitTree Leaf) → SameTree tree tree
-  same_itself (Single leaf) = same_leaf leaf
-  same_itself (Combined combinator trees) = same_node combinator (among_themselves trees) (among_themselves trees)
-
-  among_themselves : {Leaf : Type 0} (trees : AwaitTrees Leaf) → EachAmong trees trees
-  among_themselves no_trees = no_more
-  among_themselves (and_trees tree trees) = one_more (here (same_itself tree)) (among_more tree (among_themselves trees))
-
-equal_are_same : (one other : AwaitTree NotificationId) → one ≡ other → SameTree one other
-equal_are_same one other is = subst (λ (tree : AwaitTree NotificationId). SameTree one tree) is (same_itself one)
-
--- ---- what is told
 
 -- leaves are replaced, and then left out, in one step
 only_mapped : {A B : Type 0} (f : A → Option B) (trees : AwaitTrees A) → only_children (λ (leaf : Option B). leaf) (map_leaves_of_trees f trees) ≡ only_children f trees
@@ -54,4 +34,4 @@ tells_of_run handler given journal arrivals calls tree m waits =
 
 pub tells_as_run : WaitsTellAsRun
 tells_as_run tree active handler given journal arrivals calls m sees waits =
-    equal_are_same _ _ (ap (λ (r : AsyncResults). only_leaves (slot_of r.slots) tree) sees.results ∙ tells_of_run handler given journal arrivals calls tree m waits)
+    ap (λ (r : AsyncResults). only_leaves (slot_of r.slots) tree) sees.results ∙ tells_of_run handler given journal arrivals calls tree m waits

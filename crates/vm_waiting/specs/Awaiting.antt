@@ -1,5 +1,5 @@
 -- What an await does, one step behind the other, and what that is to the abstract machine.
-use Rattle.std.specs.Prelude.{◌≡◌, ◌≤◌, ◌^◌, ◌⊎◌, ℕ, Bool, true, false, ◌&&◌, is_some, List, [], ◌∷◌, ◌++◌, length, Some, Result, Ok, Err}
+use Rattle.std.specs.Prelude.{◌≡◌, ◌≤◌, ◌^◌, ◌⊎◌, ℕ, Bool, true, false, ◌&&◌, is_some, List, [], ◌∷◌, ◌++◌, length, Some, None, Result, Ok, Err}
 use Rattle.std.specs.List.{AllByRecursion}
 use Rattle.journal_model.specs.declared.call.Call.{Call}
 use Rattle.journal_model.specs.declared.call.Answer.{Answer}
@@ -8,6 +8,7 @@ use Rattle.journal_model.specs.Notification.{cancel_id}
 use Rattle.journal_model.specs.AwaitTree.{AwaitTree, Combined, FirstCompleted, no_trees}
 use Rattle.journal_model.specs.History.{cancel_handle}
 use Rattle.journal_model.specs.Await.{ends_awaits, awaited_tree}
+use Rattle.journal_model.specs.Refusal.{refusal_of}
 use Rattle.journal_model.specs.Request.{Request}
 use Rattle.journal_model.specs.Run.{Invocation}
 use Rattle.journal_model.specs.Spelling.{request_payload}
@@ -187,7 +188,8 @@ module _ (checks_off : Bool) (given : Invocation) (m : Machine) (tree : AwaitTre
   Awaits old (Err (unawaited.Put error)) new = FailsCancelling error old new
   Awaits old (Err unawaited.OutOfMemory) new = (new.output ≡ old.output) ⊎ StopsCancelling old new
 
--- what it does, for every machine that the attempt is seen as
+-- what it does, for every machine that the attempt is seen as, where it is not refused
 abbrev pub AwaitsSeen : ImplicitCancellationOption → (checks_off : Bool) → AwaitTree ℕ → (old : Active) → Result Awaited AwaitError → (new : Active) → Type 0
 AwaitsSeen cancellation checks_off tree old result new =
-    (given : Invocation) (m : Machine) → given.options.implicit_cancellation ≡ cancellation → Sees given old m → Awaits checks_off given m tree old result new
+    (given : Invocation) (m : Machine) → given.options.implicit_cancellation ≡ cancellation → refusal_of given.version (Call.Await tree) ≡ None → Sees given old m
+    → Awaits checks_off given m tree old result new

@@ -1,8 +1,8 @@
 -- What is told of a tree that stays asleep, in the words of the run.
-use Rattle.std.specs.Prelude.{ℕ, List}
+use Rattle.std.specs.Prelude.{◌≡◌, ℕ, List}
 use Rattle.journal_model.specs.Notification.{Arrival}
 use Rattle.journal_model.specs.AwaitTree.{AwaitTree}
-use Rattle.journal_model.specs.Waiting.{still_awaited, SameTree}
+use Rattle.journal_model.specs.Waiting.{still_awaited}
 use Rattle.journal_model.specs.Request.{Request}
 use Rattle.journal_model.specs.Run.{Handler, Invocation, run}
 use Rattle.attempt_model.specs.Machine.{Machine}
@@ -11,9 +11,8 @@ use Rattle.vm_calls.specs.declared.active.Active.{Active}
 use Rattle.vm_calls.specs.Active.{Sees}
 use Rattle.vm_waiting.specs.Suspending.{over_ids}
 
--- Where the abstract machine stands to a run that waits with a tree, the ids that this tree is told as are what the run still waits for:
--- the same tree, where children are a set.
+-- Where the abstract machine stands to a run that waits with a tree, the ids that this tree is told as are what the run still waits for.
 abbrev pub WaitsTellAsRun : Type 0
 WaitsTellAsRun = (tree : AwaitTree ℕ) (active : Active) (handler : Handler) (given : Invocation) (journal : List Request) (arrivals : List Arrival) (calls : ℕ) (m : Machine)
     → Sees given active m → (waits : WaitsWithRun handler given journal arrivals calls tree m)
-    → SameTree (over_ids active tree) (still_awaited given.options (run handler given arrivals calls).steps arrivals waits.ids)
+    → over_ids active tree ≡ still_awaited given.options (run handler given arrivals calls).steps arrivals waits.ids

@@ -38,6 +38,7 @@ fn record_of_child(alloc: Global, completion: u32) -> Result<Future, AllocError>
         waiting_named_signals: Sequence::new(alloc),
         nested_futures: Sequence::new(alloc),
         combinator_type: CombinatorType::FirstCompleted,
+        required: 0,
     })
 }
 

@@ -2,9 +2,9 @@
 use crate::fault::Fault;
 use crate::schedule::timed::Timed;
 use bytes::{ByteStr, Bytes};
-use scheduler::{Event, Reply, Scheduler};
 use invocation_vm::RunOutcome;
 use journal_store::{NewInvocation, NotificationResult, StateMode};
+use scheduler::{Event, Reply, Scheduler};
 use sequence::Sequence;
 use sqlite::Alter;
 use std::alloc::Global;

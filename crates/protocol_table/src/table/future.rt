@@ -14,10 +14,13 @@ pub const NESTED_FUTURES: FieldDescriptor = field!(4 Record(Future));
 
 pub const COMBINATOR_TYPE: FieldDescriptor = field!(5 Number);
 
-pub const FIELDS: [FieldDescriptor; 5] = [
+pub const REQUIRED: FieldDescriptor = field!(6 Number);
+
+pub const FIELDS: [FieldDescriptor; 6] = [
     WAITING_COMPLETIONS,
     WAITING_SIGNALS,
     WAITING_NAMED_SIGNALS,
     NESTED_FUTURES,
     COMBINATOR_TYPE,
+    REQUIRED,
 ];

@@ -34,4 +34,4 @@ returns t c =
     let below = c.args.levels - 1 in
     let inv = c.loop-found.invariant.nested in
     let ended = rw (c.in-None.ensures.steps.0, append-nil) at inv in
-    rw (future_of_is c.args.levels (fields c.args.payload.now) (level_left c.args.levels future_type c.args.payload.now c.requires), c.in_ok-numbers_at.ensures, c.in_ok-numbers_at-2.ensures, c.in_ok-texts_at.ensures, ended, c.combinator_at.ensures, c.u32_at.ensures) refl
+    rw (future_of_is c.args.levels (fields c.args.payload.now) (level_left c.args.levels future_type c.args.payload.now c.requires), c.in_ok-numbers_at.ensures, c.in_ok-numbers_at-2.ensures, c.in_ok-texts_at.ensures, ended, c.combinator_at.ensures, c.u32_at.ensures, c.u32_at-2.ensures) refl

@@ -17,5 +17,5 @@ returns t c =
     let nested = c.loop-nested.invariant
     ∙ ap (λ (xs : List Future). counted c.len_texts-len.result (part_spelling (repeated_bytes NESTED_FUTURES.number (map (λ f. payload_of (future_parts f)) xs)))) whole
     ∙ ap (λ (ps : List (List ℕ)). counted c.len_texts-len.result (part_spelling (repeated_bytes NESTED_FUTURES.number ps))) (nested_is (out-Future c.args.one.now).nested_futures) in
-    let last = rw c.number.ensures at c.len_enum.ensures in
-    measured (future_parts c.args.one.now) _ (_, c.len_numbers-len.ensures, (_, c.len_numbers-len-2.ensures, (_, c.len_texts-len.ensures, (_, nested, (_, last, refl)))))
+    let last = rw c.number.ensures at c.len_enum-len.ensures in
+    measured (future_parts c.args.one.now) _ (_, c.len_numbers-len.ensures, (_, c.len_numbers-len-2.ensures, (_, c.len_texts-len.ensures, (_, nested, (_, last, (_, c.len_u32.ensures, refl))))))

@@ -18,4 +18,4 @@ returns t c =
     ∙ ap (λ (xs : List Future). c.put_texts.new.out.items ++ part_spelling (repeated_bytes NESTED_FUTURES.number (map (λ f. payload_of (future_parts f)) xs))) whole
     ∙ ap (λ (ps : List (List ℕ)). c.put_texts.new.out.items ++ part_spelling (repeated_bytes NESTED_FUTURES.number ps)) (nested_is (out-Future c.args.one.now).nested_futures) in
     let last = rw c.number.ensures at c.in_ok-put_enum.ensures in
-    chained (future_parts c.args.one.now) c.args.out.now.items _ (_, c.in_ok-put_numbers.ensures, (_, c.in_ok-put_numbers-2.ensures, (_, c.in_ok-put_texts.ensures, (_, nested, (_, last, refl)))))
+    chained (future_parts c.args.one.now) c.args.out.now.items _ (_, c.in_ok-put_numbers.ensures, (_, c.in_ok-put_numbers-2.ensures, (_, c.in_ok-put_texts.ensures, (_, nested, (_, last, (_, c.in_ok-put_u32.ensures, refl))))))

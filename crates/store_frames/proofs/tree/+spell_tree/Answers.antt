@@ -13,6 +13,7 @@ returns t c =
     let whole : take c.loop-nested.nested-index items ≡ (out-Future c.args.one.now).nested_futures = take_all c.loop-nested.nested-index items c.loop-nested-test.false ∙ c.as_slice-nested-items.ensures in
     let nested = c.loop-nested.invariant
     ∙ ap (λ (xs : List Future). c.put_texts.new.out.items ++ part_spelling (repeated_bytes NESTED_FUTURES.number (map tree_spelling xs))) whole in
-    let last = rw c.meant_number.ensures at c.in_ok-put_u32.ensures in
-    chained (tree_parts c.args.one.now) c.args.out.now.items _ (_, c.in_ok-put_numbers.ensures, (_, c.in_ok-put_numbers-2.ensures, (_, c.in_ok-put_texts.ensures, (_, nested, (_, last, refl)))))
+    let number = rw (c.meant_number.ensures (out-Future c.args.one.now).required) at c.in_ok-put_u32.ensures in
+    let last = rw c.meant_required-required.ensures at c.in_ok-put_u32-2.ensures in
+    chained (tree_parts c.args.one.now) c.args.out.now.items _ (_, c.in_ok-put_numbers.ensures, (_, c.in_ok-put_numbers-2.ensures, (_, c.in_ok-put_texts.ensures, (_, nested, (_, number, (_, last, refl))))))
     ∙ ap (λ (s : List ℕ). c.args.out.now.items ++ s) (tree_parts_are c.args.one.now)
