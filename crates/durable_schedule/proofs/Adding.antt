@@ -24,11 +24,11 @@ use Rattle.schedule_laws.specs.Schedules.reply
 use Rattle.schedule_laws.specs.Schedules.refusal
 use Rattle.schedule_laws.specs.Schedules.{Reply, HeldAttempt, held_of, RepliesDone, RepliesPlace, RepliesCount, BeginDoes, FeedsOne, ClosesOne, StopsOne, TurnsOne, MovesOne, IfHeld, UnlessMismatch, tells_mismatch, Does, Scheduled, AppliesAll}
 use Rattle.durable_schedule.specs.Front.{AreAcceptedOf, IsAcceptedOf, stop_for}
-use Rattle.durable_schedule.proofs.Feeding.{parts_events, some_parts, stopped_events, sum_given}
+use Rattle.durable_schedule.proofs.Feeding.{are_fed, parts_events, some_parts, stopped_events, sum_given}
 
 -- these were accepted of the event, and put in front
 abbrev pub Adds : {H : Type 0} → scheduled.Event H → Reply → Standing → Standing → Type 0
-Adds one answer s t = (accepted : List Event) × IsAcceptedOf one answer accepted × (t.events ≡ accepted ++ s.events)
+Adds one answer s t = (accepted : List Event) × IsAcceptedOf one answer s.events accepted × (t.events ≡ accepted ++ s.events)
 
 -- ---- frames
 
@@ -69,23 +69,23 @@ module _ {H : Type 0} (function : H → Handler) (options : VMOptions) where
 
   complete_adds : (id : Text) (n : ℕ) (value : NotificationResult) (answer : Reply) (s t : Standing) → RepliesPlace (λ result. Completes id n value result s t) answer
       → Adds {H = H} (event.Result id n value) answer s t
-  complete_adds id n value (reply.Placed place) s t it = (Event.Complete id n value ∷ [], refl, it.1.events)
+  complete_adds id n value (reply.Placed place) s t it = (Event.Complete id n value ∷ [], (it.0, refl), it.1.events)
   complete_adds id n value (reply.Refused (refusal.Store why)) s t it = ([], refl, it.stays.events)
   complete_adds id n value _ s t it = absurd it
 
   signal_adds : (id : Text) (key : SignalKey) (value : NotificationResult) (answer : Reply) (s t : Standing) → RepliesPlace (λ result. Signals id key value result s t) answer
       → Adds {H = H} (event.Signal id key value) answer s t
-  signal_adds id key value (reply.Placed place) s t it = (Event.Signal id key value ∷ [], refl, it.1.events)
+  signal_adds id key value (reply.Placed place) s t it = (Event.Signal id key value ∷ [], (it.0, refl), it.1.events)
   signal_adds id key value (reply.Refused (refusal.Store why)) s t it = ([], refl, it.stays.events)
   signal_adds id key value _ s t it = absurd it
 
   cancel_adds : (id : Text) (answer : Reply) (s t : Standing) → RepliesPlace (λ result. Cancels id result s t) answer → Adds {H = H} (event.Cancel id) answer s t
-  cancel_adds id (reply.Placed place) s t it = (Event.Cancel id ∷ [], refl, it.1.events)
+  cancel_adds id (reply.Placed place) s t it = (Event.Cancel id ∷ [], (it.0, refl), it.1.events)
   cancel_adds id (reply.Refused (refusal.Store why)) s t it = ([], refl, it.stays.events)
   cancel_adds id _ s t it = absurd it
 
   tick_adds : (now : ℕ) (answer : Reply) (s t : Standing) → RepliesCount (λ result. Ticks now result s t) answer → Adds {H = H} (event.Tick now) answer s t
-  tick_adds now (reply.Ticked count) s t it = (Event.Tick now ∷ [], refl, it.1.events)
+  tick_adds now (reply.Ticked count) s t it = (Event.Tick now ∷ [], (it.0, refl), it.1.events)
   tick_adds now (reply.Refused (refusal.Store why)) s t it = ([], refl, it.stays.events)
   tick_adds now _ s t it = absurd it
 
@@ -96,7 +96,7 @@ module _ {H : Type 0} (function : H → Handler) (options : VMOptions) where
 
   begin_adds : (id : Text) (handler : H) (now : ℕ) (s t : Standing) (held more : List (HeldAttempt H)) (answer : Reply) → BeginDoes options id handler now s held answer t more
       → Adds (event.Begin id handler now) answer s t
-  begin_adds id handler now s t held more (reply.Begun n) it = (Event.Begin id now ∷ [], refl, it.2.leaves.events)
+  begin_adds id handler now s t held more (reply.Begun n) it = (Event.Begin id now ∷ [], (it.1 ∙ it.2.number, refl), it.2.leaves.events)
   begin_adds id handler now s t held more (reply.Refused (refusal.Store why)) it = elim it [
     | inl none_made ↦ ([], inl refl, none_made.0.stays.events)
     | inr unheld ↦ (Event.Begin id now ∷ [], inr (ap (λ (w : Refusal). refusal.Store w) unheld.1, refl), unheld.2.leaves.events)
@@ -110,7 +110,7 @@ module _ {H : Type 0} (function : H → Handler) (options : VMOptions) where
       let n = one.number in
       let lengths : List ℕ = map length it.0 in (
         map (Event.HandOut id n) lengths,
-        (lengths, some_parts id n count it.0 why it.2.0 t it.2.3, sum_given it.0 ∙ sym it.1, refl),
+        (lengths, some_parts id n count it.0 why it.2.0 t it.2.3, sum_given it.0 ∙ sym it.1, are_fed id n count it.0 why bytes it.1 s it.2.0 t it.2.1 it.2.3, refl),
         stopped_events id n count it.0 why it.2.0 t it.2.3 ∙ parts_events id n count it.0 s it.2.0 it.2.1,
       )
   feed_adds count one s t (reply.Refused (refusal.Store why)) changed it = ([], refl, it.0.stays.events)

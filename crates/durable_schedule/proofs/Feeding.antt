@@ -1,11 +1,14 @@
--- What a feed adds to the accepted events: a hand-out for each of its parts.
-use Rattle.std.proofs.Common.{◌≡◌, ◌≢◌, refl, ap, ◌∙◌, ℕ, arith, sum, List, [], ◌∷◌, ◌++◌, length, length-append, map, Option, Some, None}
+-- What a feed adds to the accepted events, a hand-out for each of its parts, and how many bytes it tells.
+use Rattle.std.proofs.Common.{◌≡◌, ◌≢◌, refl, sym, ap, ◌∙◌, ℕ, arith, sum, List, [], ◌∷◌, ◌++◌, length, length-append, map, Option, Some, None}
 use Rattle.std.proofs.lemmas.List.Sums.{sum_by-cons}
 use Rattle.journal_model.specs.Notification.{Bytes, Text}
 use Rattle.journal_model.specs.Event.{Event}
+use Rattle.journal_model.specs.Attempt.{input_left}
 use Rattle.store_refusals.specs.declared.refusal.Refusal.{Refusal}
 use Rattle.store_calls.specs.Standing.{Standing}
 use Rattle.schedule_laws.specs.Schedules.{given_in, HandsOutEach, StopsHandingOut}
+use Rattle.schedule_laws.proofs.Feeding.{parts_taken}
+use Rattle.durable_schedule.specs.Front.{AreFed}
 
 module _ (id : Text) (n count : ℕ) where
   pub parts_events : (parts : List Bytes) (s t : Standing) → HandsOutEach id n count parts s t → t.events ≡ map (Event.HandOut id n) (map length parts) ++ s.events
@@ -30,3 +33,13 @@ sum_given (last ∷ earlier) =
     let before = sum_given earlier in
     let all = length-append (given_in earlier) last in
     omega (arith, first, before, all)
+
+no_bytes : (bytes : Bytes) → length bytes ≡ 0 → bytes ≡ []
+no_bytes [] none = refl
+no_bytes (b ∷ bytes) none = absurd (omega (arith, none))
+
+-- as many as are left, up to those that are asked for, or one at least
+pub are_fed : (id : Text) (n count : ℕ) (parts : List Bytes) (why : Option Refusal) (bytes : ℕ) → bytes ≡ length (given_in parts) → (s between t : Standing)
+    → HandsOutEach id n count parts s between → StopsHandingOut id n count parts why between t → AreFed count (input_left s.events id) bytes why
+are_fed id n count parts None bytes told s between t hands stops = told ∙ ap (λ (given : Bytes). length given) (parts_taken id n count parts s between hands stops.0)
+are_fed id n count parts (Some why) bytes told s between t hands stops = λ zero. stops.0 (no_bytes (given_in parts) (sym told ∙ zero))

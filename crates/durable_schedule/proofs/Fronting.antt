@@ -1,4 +1,4 @@
--- A schedule over a new store: what stands of each invocation, of all accepted events, and of what a crash leaves.
+-- A schedule in terms of accepted events: what stands of each invocation, of all accepted events, and of what a crash leaves.
 use Rattle.std.proofs.Common.{◌≡◌, refl, sym, ap, subst, ◌∙◌, inl, inr, Bool, true, false, ◌||◌, if◌then◌else◌, List, [], ◌∷◌, option_map, filter_map}
 use Rattle.sqlite_trees.specs.declared.store.Store.{Ghosts}
 use Rattle.sqlite.specs.Held.{state}
@@ -18,7 +18,6 @@ use Rattle.journal_store.specs.Stored.{Stored}
 use Rattle.journal_store.specs.Stands.{Endures, IsStanding, Keeps, Outlasts}
 use Rattle.journal_store.proofs.Leading.{stood}
 use Rattle.schedule_laws.specs.Isolation.{AllStandAlone}
-use Rattle.schedule_laws.specs.Following.{HoldsOf}
 use Rattle.schedule_laws.specs.Schedules.event
 use Rattle.schedule_laws.specs.Schedules.reply
 use Rattle.schedule_laws.specs.Schedules.refusal
@@ -94,42 +93,38 @@ module _ {H : Type 0} where
 -- ---- a schedule
 
 module _ {H : Type 0} (function : H → Handler) (options : VMOptions) (stand : AllStandAlone) where
-  -- where nothing was accepted yet, no invocation was begun
-  none_begun : (next : Handler) (id : Text) → HoldsOf next options id []
-  none_begun next id new e = cc
-
-  faithful : (asked : List (Asked H)) (replies : List Reply) (s : Standing) (new : Scheduled H) → s.events ≡ [] → AppliesAll function options asked replies (at_first s) new
-      → Leaves function options asked replies (at_first s) new → IsFaithful function options asked replies new.standing.events
-  faithful asked replies s new none applies leaves = record {
+  faithful : (asked : List (Asked H)) (replies : List Reply) (s : Standing) (new : Scheduled H) → AppliesAll function options asked replies (at_first s) new
+      → Leaves function options asked replies (at_first s) new → IsFaithful function options s.events asked replies new.standing.events
+  faithful asked replies s new applies leaves = record {
     accepted = new.standing.accepted;
-    told = subst (λ (events : List Event). AreAcceptedOf asked replies events new.standing.events) none (all_accepted function options asked replies (at_first s) new applies);
-    in_run = λ next id in_line brings.
-        let it = leaves.in_run next id in_line brings (subst (λ (events : List Event). HoldsOf next options id events) (sym none) (none_begun next id)) in
-        record { headline = it.headline; listed = it.listed; never_late = it.never_late; wakes_exactly = it.wakes_exactly };
+    told = all_accepted function options asked replies (at_first s) new applies;
+    in_run = λ next id in_line brings holds.
+        let it = leaves.in_run next id in_line brings holds in
+        record { holds = it.holds; headline = it.headline; listed = it.listed; never_late = it.never_late; wakes_exactly = it.wakes_exactly };
     isolated = λ id. told_alike id stand new.standing.events;
   }
 
-  module _ {S : Type 0} (g : Ghosts S) (asked : List (Asked H)) (store : Stored S) (is_new : StandsFor g [] store) where
-    -- what is told of a schedule over any store, said of a new one
+  module _ {S : Type 0} (g : Ghosts S) (asked : List (Asked H)) (store : Stored S) (before : List Event) (stands : StandsFor g before store) where
+    -- what is told of a schedule over any store, said of accepted events
     pub records : (replies : List Reply) (scheduler : Scheduler H S) → (HasCleanDisk (state g scheduler.store.connection) → (s : Standing) → IsStanding g s store
         → (new : Scheduled H) × IsScheduled g new scheduler × AppliesAll function options asked replies (at_first s) new × Leaves function options asked replies (at_first s) new
         × (LastsBehind (Outlasts s.events (state g store.connection)) asked replies → Outlasts new.standing.events (state g scheduler.store.connection)))
-        → HasCleanDisk (state g scheduler.store.connection) → RecordsFaithfully g function options asked replies scheduler
+        → HasCleanDisk (state g scheduler.store.connection) → RecordsFaithfully g function options before asked replies scheduler
     records replies scheduler applies clean =
-        let first = stood g [] store is_new in
+        let first = stood g before store stands in
         let it = applies clean first.0 first.1.standing in
         record {
           events = it.0.standing.events;
           readers = record { store = it.1.standing.stands; scheduled = it.0; is = it.1; same = refl };
-          faithful = faithful asked replies first.0 it.0 first.1.same it.2 it.3;
+          faithful = subst (λ (events : List Event). IsFaithful function options events asked replies it.0.standing.events) first.1.same (faithful asked replies first.0 it.0 it.2 it.3);
           lasts = λ written. it.4 (behind_more ⊥ (Outlasts first.0.events (state g store.connection)) (λ never. absurd never) asked replies written);
         }
 
     -- and of what a crash leaves of it
-    pub keeps : (new : Stored S) → Endures g (LeavesFirst function options asked) store new → Survives (state g store.connection) (state g new.connection) (KeepsFirst function options asked)
+    pub keeps : (new : Stored S) → Endures g (LeavesFirst function options asked) store new → Survives (state g store.connection) (state g new.connection) (KeepsFirst function options before asked)
     keeps new lives =
-        let first = stood g [] store is_new in
-        survives_weaker (state g store.connection) (state g new.connection) (Keeps g (LeavesFirst function options asked) store) (KeepsFirst function options asked)
+        let first = stood g before store stands in
+        survives_weaker (state g store.connection) (state g new.connection) (Keeps g (LeavesFirst function options asked) store) (KeepsFirst function options before asked)
         (λ clean trees it.
         let kept = it first.0 first.1.standing in
         let applied = kept.1.applied in
@@ -139,7 +134,8 @@ module _ {H : Type 0} (function : H → Handler) (options : VMOptions) (stand : 
           first_are = applied.beginning;
           replies = applied.answers;
           events = kept.0.events;
-          faithful = faithful applied.first applied.answers first.0 (record { standing = kept.0; held = applied.held }) first.1.same applied.applies kept.1.leaves;
+          faithful = subst (λ (events : List Event). IsFaithful function options events applied.first applied.answers kept.0.events) first.1.same
+              (faithful applied.first applied.answers first.0 (record { standing = kept.0; held = applied.held }) applied.applies kept.1.leaves);
           keeps = kept.2;
         })
         lives

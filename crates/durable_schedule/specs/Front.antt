@@ -1,14 +1,14 @@
--- What a schedule over a new store has recorded, in terms of accepted events: the statement in front of all others.
-use Rattle.std.specs.Prelude.{◌≡◌, ◌≢◌, ◌⊎◌, ℕ, ◌||◌, if◌then◌else◌, List, [], ◌∷◌, ◌++◌, length, map, Option, Some, None, bytes_eq}
+-- What a schedule has recorded, in terms of accepted events, behind those that its store stood for: the statement in front of all others.
+use Rattle.std.specs.Prelude.{◌≡◌, ◌≢◌, ◌⊎◌, ℕ, ◌+◌, ◌||◌, if◌then◌else◌, List, [], ◌∷◌, ◌++◌, length, map, take, Option, Some, None, bytes_eq}
 use Rattle.std.specs.List.{AllByRecursion, list_any, sum}
 use Rattle.sqlite_trees.specs.declared.store.Store.{Ghosts}
 use Rattle.sqlite_trees.specs.Tree.{Trees}
 use Rattle.sqlite.specs.Held.{state}
-use Rattle.journal_model.specs.Notification.{Text}
+use Rattle.journal_model.specs.Notification.{Bytes, Text}
 use Rattle.journal_model.specs.declared.invocation.NewInvocation.{NewInvocation}
 use Rattle.journal_model.specs.Event.{Event, Frame}
-use Rattle.journal_model.specs.Journal.{begins, is_of, is_tick, is_open as is_open_after, invocation_begun}
-use Rattle.journal_model.specs.Attempt.{due, is_due as is_due_after}
+use Rattle.journal_model.specs.Journal.{begins, entries_of, is_of, is_tick, is_open as is_open_after, invocation_begun}
+use Rattle.journal_model.specs.Attempt.{attempts_begun, completions_of_tick, due, input_left, is_due as is_due_after}
 use Rattle.journal_model.specs.Cause.{IsAccepted}
 use Rattle.journal_model.specs.Run.{Handler}
 use Rattle.journal_model.specs.Headline.{Headline, NeverLate, WakesExactly}
@@ -22,7 +22,7 @@ use Rattle.store_invocations.specs.Told.{entries_told}
 use Rattle.store_invocations.specs.Answered.{answer_told}
 use Rattle.journal_store.specs.Stored.{Stored}
 use Rattle.journal_store.specs.Stands.{KeepsAll, Outlasts, Stands}
-use Rattle.schedule_laws.specs.Following.{ReplaysInLine, given_of}
+use Rattle.schedule_laws.specs.Following.{HoldsOf, ReplaysInLine, given_of}
 use Rattle.schedule_laws.specs.Schedules.scheduled
 use Rattle.schedule_laws.specs.Schedules.event
 use Rattle.schedule_laws.specs.Schedules.reply
@@ -39,37 +39,47 @@ abbrev pub stop_for : Text → (attempt : ℕ) → Option Refusal → List Event
 stop_for id attempt None = []
 stop_for id attempt (Some why) = if lies_in_frame why then Event.Stop id attempt ∷ [] else []
 
--- What is accepted of one event of a schedule, the last one first, by its reply. A feed is handed out in parts. A begin for whose attempt the
--- scheduler had no memory may have been accepted; anything else that was refused was not.
-abbrev pub IsAcceptedOf : {H : Type 0} → scheduled.Event H → Reply → List Event → Type 0
-IsAcceptedOf (event.Invoke new) reply.Done accepted = accepted ≡ Event.Invoke new ∷ []
-IsAcceptedOf (event.Result id completion value) (reply.Placed place) accepted = accepted ≡ Event.Complete id completion value ∷ []
-IsAcceptedOf (event.Signal id key value) (reply.Placed place) accepted = accepted ≡ Event.Signal id key value ∷ []
-IsAcceptedOf (event.Cancel id) (reply.Placed place) accepted = accepted ≡ Event.Cancel id ∷ []
-IsAcceptedOf (event.Tick now) (reply.Ticked count) accepted = accepted ≡ Event.Tick now ∷ []
-IsAcceptedOf (event.Begin id handler now) (reply.Begun number) accepted = accepted ≡ Event.Begin id now ∷ []
-IsAcceptedOf (event.Begin id handler now) (reply.Refused why) accepted =
+-- How many bytes are fed of those that are left: as many as are there, up to those that are asked for. Where the store refuses a further part,
+-- one at least.
+abbrev pub AreFed : (count : ℕ) → (left : Bytes) → (bytes : ℕ) → Option Refusal → Type 0
+AreFed count left bytes None = bytes ≡ length (take count left)
+AreFed count left bytes (Some why) = bytes ≢ 0
+
+-- What is accepted of one event of a schedule behind those before, the last one first, by its reply, and which numbers the reply tells: the
+-- place that an arrival takes, how many sleeps a tick ends, which attempt begins, how much of its input it is fed. A feed is handed out in
+-- parts. A begin for whose attempt the scheduler had no memory may have been accepted; anything else that was refused was not.
+abbrev pub IsAcceptedOf : {H : Type 0} → scheduled.Event H → Reply → (before accepted : List Event) → Type 0
+IsAcceptedOf (event.Invoke new) reply.Done before accepted = accepted ≡ Event.Invoke new ∷ []
+IsAcceptedOf (event.Result id completion value) (reply.Placed place) before accepted =
+    (place ≡ 1 + length (entries_of before id)) × (accepted ≡ Event.Complete id completion value ∷ [])
+IsAcceptedOf (event.Signal id key value) (reply.Placed place) before accepted = (place ≡ 1 + length (entries_of before id)) × (accepted ≡ Event.Signal id key value ∷ [])
+IsAcceptedOf (event.Cancel id) (reply.Placed place) before accepted = (place ≡ 1 + length (entries_of before id)) × (accepted ≡ Event.Cancel id ∷ [])
+IsAcceptedOf (event.Tick now) (reply.Ticked count) before accepted = (count ≡ completions_of_tick before now) × (accepted ≡ Event.Tick now ∷ [])
+IsAcceptedOf (event.Begin id handler now) (reply.Begun number) before accepted = (number ≡ 1 + attempts_begun before id) × (accepted ≡ Event.Begin id now ∷ [])
+IsAcceptedOf (event.Begin id handler now) (reply.Refused why) before accepted =
     (accepted ≡ []) ⊎ ((why ≡ refusal.Store OutOfMemory) × (accepted ≡ Event.Begin id now ∷ []))
-IsAcceptedOf (event.Feed id attempt count) (reply.Fed bytes why) accepted =
-    (parts : List ℕ) × (parts ≢ []) × (sum parts ≡ bytes) × (accepted ≡ map (Event.HandOut id attempt) parts)
-IsAcceptedOf (event.Close id attempt) reply.Done accepted = accepted ≡ Event.CloseInput id attempt ∷ []
-IsAcceptedOf (event.Turn id attempt outcome) (reply.Turned turn) accepted = accepted ≡ []
-IsAcceptedOf (event.Move id attempt count) (reply.Moved bytes frames why) accepted =
+IsAcceptedOf (event.Feed id attempt count) (reply.Fed bytes why) before accepted =
+    (parts : List ℕ) × (parts ≢ []) × (sum parts ≡ bytes) × AreFed count (input_left before id) bytes why × (accepted ≡ map (Event.HandOut id attempt) parts)
+IsAcceptedOf (event.Close id attempt) reply.Done before accepted = accepted ≡ Event.CloseInput id attempt ∷ []
+IsAcceptedOf (event.Turn id attempt outcome) (reply.Turned turn) before accepted = accepted ≡ []
+IsAcceptedOf (event.Move id attempt count) (reply.Moved bytes frames why) before accepted =
     (taken : List Frame) × (length taken ≡ frames) × (accepted ≡ stop_for id attempt why ++ map (Event.Take id attempt) taken)
-IsAcceptedOf (event.Stop id attempt) reply.Done accepted = accepted ≡ Event.Stop id attempt ∷ []
-IsAcceptedOf one (reply.Refused why) accepted = accepted ≡ []
-IsAcceptedOf one answer accepted = ⊥
+IsAcceptedOf (event.Stop id attempt) reply.Done before accepted = accepted ≡ Event.Stop id attempt ∷ []
+IsAcceptedOf one (reply.Refused why) before accepted = accepted ≡ []
+IsAcceptedOf one answer before accepted = ⊥
 
 -- These are all that is accepted of a schedule, behind what was accepted before.
 abbrev pub AreAcceptedOf : {H : Type 0} → List (scheduled.Event H) → List Reply → (before events : List Event) → Type 0
 AreAcceptedOf [] [] before events = events ≡ before
-AreAcceptedOf (one ∷ asked) (answer ∷ replies) before events = (accepted : List Event) × IsAcceptedOf one answer accepted × AreAcceptedOf asked replies (accepted ++ before) events
+AreAcceptedOf (one ∷ asked) (answer ∷ replies) before events = (accepted : List Event) × IsAcceptedOf one answer before accepted × AreAcceptedOf asked replies (accepted ++ before) events
 AreAcceptedOf _ _ before events = ⊥
 
 -- ---- what stands of one invocation
 
 -- It is in the one uninterrupted run of this function.
 pub record FollowsItsRun (next : Handler) (options : VMOptions) (id : Text) (events : List Event) : Type 0 where
+  -- What the next schedule asks of the records: over this store, or, by `reopened_stores_hold`, over one that is opened again.
+  pub holds : HoldsOf next options id events
   -- Its recorded requests are a beginning of those that the run makes over its recorded arrivals, and where an attempt was suspended or ended,
   -- all of the run's over the arrivals that it was handed; its answer is the run's; and its object's state follows.
   pub headline : Headline next (run_options options) options.fallback_random_seed events id
@@ -77,7 +87,7 @@ pub record FollowsItsRun (next : Handler) (options : VMOptions) (id : Text) (eve
   pub listed : list_any (bytes_eq id) (due events) ≡ is_due_after events id
   -- where the run over all arrivals goes on, an invocation that is suspended is due
   pub never_late : (new : NewInvocation) → invocation_begun events id ≡ Some new → NeverLate next (given_of options id events new) events id
-  -- and from version 7 on it is due there alone
+  -- and from version 7 on, where nothing was cancelled and each handle that it awaits stands for an id, it is due there alone
   pub wakes_exactly : (new : NewInvocation) → invocation_begun events id ≡ Some new → WakesExactly next (given_of options id events new) events id
 
 -- the accepted events without those of other invocations that came since this one was made
@@ -96,15 +106,16 @@ pub record IsToldAlike (id : Text) (events others : List Event) : Type 0 where
 
 -- ---- what stands of all
 
-module _ {H : Type 0} (function : H → Handler) (options : VMOptions) where
-  -- these accepted events, the last one first, are a faithful record of what was asked
+module _ {H : Type 0} (function : H → Handler) (options : VMOptions) (before : List Event) where
+  -- These accepted events, the last one first, are a faithful record of what was asked behind those from before.
   pub record IsFaithful (asked : List (scheduled.Event H)) (replies : List Reply) (events : List Event) : Type 0 where
     -- each was accepted after those before it, for no cause of a refusal held then
     pub accepted : IsAccepted events
     -- they are those that the replies tell
-    pub told : AreAcceptedOf asked replies [] events
-    -- each invocation whose begins all bring one function is in the run of that function
-    pub in_run : (next : Handler) (id : Text) → ReplaysInLine options → AllByRecursion (Brings function id next) asked → FollowsItsRun next options id events
+    pub told : AreAcceptedOf asked replies before events
+    -- Each invocation whose begins all bring one function is in the run of that function, if it was in it before: one that was not begun
+    -- before is.
+    pub in_run : (next : Handler) (id : Text) → ReplaysInLine options → AllByRecursion (Brings function id next) asked → HoldsOf next options id before → FollowsItsRun next options id events
     -- what came of others since an invocation was made changes nothing of it, whatever its begins bring
     pub isolated : (id : Text) → IsToldAlike id events (without_others id events)
 
@@ -138,9 +149,9 @@ module _ {S : Type 0} (g : Ghosts S) where
       pub same : scheduled.standing.events ≡ events
 
     -- There is one list of accepted events of which the readers tell; it is a faithful record of what was asked; and all of it lasts.
-    pub record RecordsFaithfully (function : H → Handler) (options : VMOptions) (asked : List (scheduled.Event H)) (replies : List Reply) (scheduler : Scheduler H S) : Type 0 where
+    pub record RecordsFaithfully (function : H → Handler) (options : VMOptions) (before : List Event) (asked : List (scheduled.Event H)) (replies : List Reply) (scheduler : Scheduler H S) : Type 0 where
       pub events : List Event
       pub readers : ReadersTell events scheduler
-      pub faithful : IsFaithful function options asked replies events
+      pub faithful : IsFaithful function options before asked replies events
       -- whatever a crash leaves from then on, the tables keep all of it
       pub lasts : IsWrittenLast asked replies → Outlasts events (state g scheduler.store.connection)

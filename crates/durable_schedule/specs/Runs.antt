@@ -113,7 +113,7 @@ pub record StandsInRun {H : Type 0} (next : Handler) (options : VMOptions) (id :
   pub headline : Headline next (run_options options) options.fallback_random_seed after id
   -- the call `due` lists it where it is due
   pub listed : list_any (bytes_eq id) (due after) ≡ is_due after id
-  -- so waking is never late, and from version 7 on exact
+  -- so waking is never late, and from version 7 on exact, where nothing was cancelled and each handle that is awaited stands for an id
   pub never_late : (new : NewInvocation) → invocation_begun after id ≡ Some new → NeverLate next (given_of options id after new) after id
   pub wakes_exactly : (new : NewInvocation) → invocation_begun after id ≡ Some new → WakesExactly next (given_of options id after new) after id
   -- no frame of it was refused for a cause that lies in the frame

@@ -15,7 +15,7 @@ ghost use Rattle.durable_schedule.specs.Runs.{LastsBehind, Leaves, LeavesFirst, 
 mod front;
 mod laws;
 
-pub use front::run_new_schedule;
+pub use front::{run_new_schedule, run_reopened_schedule};
 pub use journal_store::Store;
 pub use laws::reopened_stores_hold;
 pub use schedule_laws::{

@@ -1,15 +1,10 @@
 use Rattle.std.proofs.lemmas.Result.{IfOk-weaker}
-use Rattle.durable_schedule.proofs.Fronting.{keeps, records}
+use Rattle.std.specs.Prelude.{[]}
 use Rattle.durable_schedule.proofs.front.run_new_schedule.Goals as goal
 
+-- no event was accepted before
 pub returns-clause-faithful : goal.returns-clause-faithful
-returns-clause-faithful g c =
-    IfOk-weaker c.run_schedule.result _ _
-    (λ done applies is_new. records g.H.Handler.next_call c.args.options c.invocations_stand_alone.ensures.stand g.S.Store c.args.events.items c.args.store is_new done.1.items done.0 applies)
-    c.run_schedule.ensures.applies
+returns-clause-faithful g c = IfOk-weaker c.run_reopened_schedule.result _ _ (λ done faithful. faithful []) c.run_reopened_schedule.ensures.faithful
 
 pub returns-clause-crash : goal.returns-clause-crash
-returns-clause-crash g c =
-    IfOk-weaker c.run_schedule.result _ _
-    (λ done lives is_new. keeps g.H.Handler.next_call c.args.options c.invocations_stand_alone.ensures.stand g.S.Store c.args.events.items c.args.store is_new done.0.store lives)
-    c.run_schedule.ensures.crash
+returns-clause-crash g c = IfOk-weaker c.run_reopened_schedule.result _ _ (λ done crash. crash []) c.run_reopened_schedule.ensures.crash
