@@ -1,5 +1,5 @@
 -- What a store stands for that is opened over files, and what is left of files that are not taken.
-use Rattle.std.proofs.Common.{◌≡◌, ◌≢◌, ℕ, Bool, sym, ap, ap₂, subst, ◌∙◌, arith, inl, inr, List, [], ◌∷◌, IsTrue, IfSome, Option, None, Some, Result, Ok, Err, if◌then◌else◌}
+use Rattle.std.proofs.Common.{◌≡◌, ◌≢◌, ◌⊎◌, refl, ℕ, Bool, sym, ap, ap₂, subst, ◌∙◌, arith, inl, inr, List, [], ◌∷◌, IsTrue, IfSome, Option, None, Some, Result, Ok, Err, if◌then◌else◌}
 use Rattle.sqlite_disk.specs.declared.Disk.{Ghosts}
 use Rattle.sqlite_disk.specs.declared.Files.{Files}
 use Rattle.sqlite_disk.specs.Events.{Event as Call, replay, settled}
@@ -11,6 +11,8 @@ use Rattle.sqlite.specs.State.{State, HasCleanDisk, IsLive, Opens, Survives}
 use Rattle.sqlite.specs.Start.{FindsIn}
 use Rattle.sqlite.specs.Files.{AreFoundIn, FailsToOpenFiles, IsCleanLeft, LeavesFiles}
 use Rattle.sqlite.specs.declared.error.Error.{Error}
+use Rattle.sqlite.specs.declared.error.Error.TheVariants.{SqliteFailure}
+use Rattle.sqlite.specs.declared.error.ErrorCode.TheVariants.{CannotOpen, OutOfMemory}
 use Rattle.sqlite.specs.declared.file.Leftover.{Leftover}
 use Rattle.journal_model.specs.Event.{Event}
 use Rattle.journal_model.specs.Cause.{IsAccepted, after_open}
@@ -22,7 +24,7 @@ use Rattle.store_refusals.specs.declared.refusal.Refusal.TheVariants.{ForeignRow
 use Rattle.journal_store.specs.Opened.{CanBeTaken, ComesBack, IsNotTaken}
 use Rattle.journal_store.specs.Stands.{KeepsAll, Stands}
 use Rattle.store_files.specs.Files.{IsNoFile, KeepsEvents}
-use Rattle.store_files.specs.Refused.{AreGiven, IsGivenBack}
+use Rattle.store_files.specs.Refused.{AreGiven, IsGivenBack, IsUnopened}
 use Rattle.store_files.specs.Taken.{IsTaken}
 use Rattle.store_files.specs.declared.open.NotTaken.{NotTaken}
 use Rattle.store_files.specs.declared.open.NotTaken.TheVariants.{NoStore, Unopened}
@@ -140,6 +142,11 @@ module _ {A F C : Type 0} where
 
   pub by_store : (left : C) (P : C → Type 0) → P left → (l : C) → ◌≡◌ {A = Result A (NotTaken F C)} (Err (NoStore left)) (Err (NoStore l)) → P l
   by_store left P holds l same = subst P (ap (store_in left) same) holds
+
+-- no database could be made, before the files were opened
+pub unmade : {D : Type 0} {g : Ghosts D} (image : Image) (error : Error) → (error ≡ SqliteFailure CannotOpen) ⊎ (error ≡ SqliteFailure OutOfMemory) → IsUnopened {g = g} image error None
+unmade image error (inl e) = record { named = rw e refl; none = λ none. inl e; some = tt }
+unmade image error (inr e) = record { named = rw e refl; none = λ none. inr (inl e); some = tt }
 
 pub given_back : {D : Type 0} {g : Ghosts D} (image : Image) (error : Error) (Log Db : D → Type 0) → ((files : Files D) → Log files.log → Db files.db → AreGiven g image files)
     → (rest : Option (Leftover D g)) → IfSome rest (λ left. (files : Files D) × Log files.log × Db files.db × (IsCleanLeft left → FailsToOpenFiles files left error × LeavesFiles files left))

@@ -54,7 +54,9 @@ pub fn open_file<S: Start>(
     if is_refused_unopened(rt, path) {
         return Err(NotTaken::Unopened(CANNOT_OPEN, None));
     }
-    make_file(rt, path);
+    if let Err(error) = make_file(rt, path) {
+        return Err(NotTaken::Unopened(error, None));
+    }
     let connection = match Connection::open_from(rt, path, false, start) {
         Ok(connection) => connection,
         Err((error, left)) => return Err(NotTaken::Unopened(error, left)),

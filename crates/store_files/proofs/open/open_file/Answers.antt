@@ -1,7 +1,7 @@
-use Rattle.std.proofs.Common.{true, false, ap₂}
+use Rattle.std.proofs.Common.{true, false, ap₂, None}
 use Rattle.sqlite_std_file.specs.File.{IsFresh}
 use Rattle.store_files.specs.Refused.{IsNoStore, IsUnopened}
-use Rattle.store_files.proofs.Opening.{by_error, by_store, fresh_left, fresh_read, given_back, image, is_spared, is_taken, kept_stands, none_stands, seen_again}
+use Rattle.store_files.proofs.Opening.{by_error, by_store, fresh_left, fresh_read, given_back, image, is_spared, is_taken, kept_stands, none_stands, seen_again, unmade}
 use Rattle.sqlite.specs.Files.{file_state}
 use Rattle.sqlite_wal.specs.Files.{image_at}
 use Rattle.store_files.proofs.open.open_file.Goals as goal
@@ -23,14 +23,18 @@ returns-in-Ok-open-clause-taken g c = λ clean.
 
 pub returns-in-Err-clause-unopened : goal.returns-in-Err-clause-unopened
 returns-in-Err-clause-unopened g c =
-    by_error c.in-Err.error c.in-Err.left (IsUnopened (image_at g.S.Start)) (record {
-      named = c.in-Err.ensures.named;
-      none = c.in-Err.ensures.unopened;
-      some = given_back (image_at g.S.Start) c.in-Err.error (IsFresh true) (IsFresh false) (λ files log db. record {
+    by_error c.in-Err.error None (IsUnopened (image_at g.S.Start)) (unmade (image_at g.S.Start) c.in-Err.error c.in-Err.ensures.why)
+
+pub returns-in-Err-open_from-clause-unopened : goal.returns-in-Err-open_from-clause-unopened
+returns-in-Err-open_from-clause-unopened g c =
+    by_error c.in-Err-open_from.error c.in-Err-open_from.left (IsUnopened (image_at g.S.Start)) (record {
+      named = c.in-Err-open_from.ensures.named;
+      none = c.in-Err-open_from.ensures.unopened;
+      some = given_back (image_at g.S.Start) c.in-Err-open_from.error (IsFresh true) (IsFresh false) (λ files log db. record {
         read = ap₂ image (fresh_read g.S.Start.log g.S.Start.db _ true _ _ log.0 log.1) (fresh_read g.S.Start.log g.S.Start.db _ false _ _ db.0 db.1);
         left = λ other may. ap₂ image (fresh_left g.S.Start.is_mixing g.S.Start.log g.S.Start.db _ true _ _ other.log log.0 log.1 may.0)
             (fresh_left g.S.Start.is_mixing g.S.Start.log g.S.Start.db _ false _ _ other.db db.0 db.1 may.1);
-      }) c.in-Err.left c.in-Err.ensures.cause;
+      }) c.in-Err-open_from.left c.in-Err-open_from.ensures.cause;
     })
 
 pub returns-in-Err-open-clause-no_store : goal.returns-in-Err-open-clause-no_store
