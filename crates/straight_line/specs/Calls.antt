@@ -1,4 +1,4 @@
--- The calls of a handler, as steps.
+-- The calls of a handler, as steps: each is made until it has an answer, and then brings what the answer says.
 use Rattle.std.specs.Prelude.{ℕ, Bool, true, false, List, [], ◌∷◌, Option, Some, None, Result, Ok, Err, codes}
 use Rattle.journal_model.specs.Notification.{Bytes, Text}
 use Rattle.journal_model.specs.AwaitTree.{AwaitTree}
@@ -11,18 +11,15 @@ use Rattle.journal_model.specs.declared.value.Value.{Value}
 use Rattle.journal_model.specs.declared.call.Call.{Call}
 use Rattle.journal_model.specs.declared.call.Answer.{Answer}
 use Rattle.journal_model.specs.declared.call.PayloadOptions.{PayloadOptions}
-use Rattle.straight_line.specs.declared.handles.Slept.{Slept}
+use Rattle.straight_line.specs.declared.handles.Timer.{Timer}
 use Rattle.straight_line.specs.declared.handles.Outcome.{Outcome}
-use Rattle.straight_line.specs.declared.handles.Asked.{Asked}
+use Rattle.straight_line.specs.declared.handles.Peeked.{Peeked}
 use Rattle.straight_line.specs.declared.handles.StateRead.{StateRead}
 use Rattle.straight_line.specs.declared.handles.KeysRead.{KeysRead}
 use Rattle.straight_line.specs.declared.handles.IdAsked.{IdAsked}
 use Rattle.straight_line.specs.declared.handles.Called.{Called}
-use Rattle.straight_line.specs.declared.handles.Awakened.{Awakened}
+use Rattle.straight_line.specs.declared.handles.Awakeable.{Awakeable}
 use Rattle.straight_line.specs.Steps.{Steps, ◌>>=◌, ◌>>◌, done, fail, astray, make}
-
-abbrev pub stable : PayloadOptions
-stable = record { unstable_serialization = false }
 
 abbrev pub handle_in : Answer → Steps ℕ
 handle_in (Answer.Handle handle) = done handle
@@ -38,83 +35,51 @@ done_by call = do
   make call
   done tt
 
-unfoldable pub begin_read : Bytes → Steps StateRead
-begin_read key = do
-  handle ← handle_for (Call.StateGet key None stable)
+-- the state of the object
+unfoldable pub begin_get : Bytes → Option Text → PayloadOptions → Steps StateRead
+begin_get key name options = do
+  handle ← handle_for (Call.StateGet key name options)
   done (record { handle = handle })
 
-unfoldable pub begin_read_keys : Steps KeysRead
-begin_read_keys = do
-  handle ← handle_for (Call.StateGetKeys None)
+unfoldable pub begin_get_keys : Option Text → Steps KeysRead
+begin_get_keys name = do
+  handle ← handle_for (Call.StateGetKeys name)
   done (record { handle = handle })
 
-unfoldable pub set : Bytes → Bytes → Steps Unit
-set key value = done_by (Call.StateSet key value None stable)
+unfoldable pub set_with : Bytes → Bytes → Option Text → PayloadOptions → Steps Unit
+set_with key value name options = done_by (Call.StateSet key value name options)
 
-unfoldable pub clear : Bytes → Steps Unit
-clear key = done_by (Call.StateClear key None)
+unfoldable pub clear_with : Bytes → Option Text → Steps Unit
+clear_with key name = done_by (Call.StateClear key name)
 
-unfoldable pub clear_all : Steps Unit
-clear_all = done_by (Call.StateClearAll None)
+unfoldable pub clear_all_with : Option Text → Steps Unit
+clear_all_with name = done_by (Call.StateClearAll name)
 
-unfoldable pub begin_sleep : Moment → Steps Slept
-begin_sleep wake_up = do
-  handle ← handle_for (Call.Sleep [] wake_up None)
-  done (record { handle = handle })
-
-abbrev pub called_in : Answer → Steps Called
-called_in (Answer.Handles id_handle result_handle) =
-    done (record { invocation_id = record { handle = id_handle }; outcome = record { handle = result_handle } })
-called_in _ = astray
-
-unfoldable pub begin_call : Target → Bytes → Steps Called
-begin_call target parameter = do
-  answer ← make (Call.Call target parameter None stable)
-  called_in answer
-
-unfoldable pub send : Target → Bytes → Option Moment → Steps IdAsked
-send target parameter execution_time = do
-  handle ← handle_for (Call.Send target parameter execution_time None stable)
-  done (record { handle = handle })
-
-abbrev pub awakened_in : Answer → Steps Awakened
-awakened_in (Answer.Awakeable id handle) = done (record { id = id; outcome = record { handle = handle } })
-awakened_in _ = astray
-
-unfoldable pub awakeable : Steps Awakened
-awakeable = do
-  answer ← make Call.Awakeable
-  awakened_in answer
-
-unfoldable pub complete_awakeable : Text → NonEmptyValue → Steps Unit
-complete_awakeable id value = done_by (Call.CompleteAwakeable id value stable)
-
-unfoldable pub begin_signal : Text → Steps Outcome
-begin_signal name = do
-  handle ← handle_for (Call.Signal name)
-  done (record { handle = handle })
-
-unfoldable pub complete_signal : Text → Text → NonEmptyValue → Steps Unit
-complete_signal target_id name value = done_by (Call.CompleteSignal target_id name value)
-
-unfoldable pub begin_get_promise : Text → Steps Outcome
-begin_get_promise key = do
-  handle ← handle_for (Call.GetPromise key)
-  done (record { handle = handle })
-
-unfoldable pub begin_peek_promise : Text → Steps Asked
-begin_peek_promise key = do
-  handle ← handle_for (Call.PeekPromise key)
-  done (record { handle = handle })
-
-unfoldable pub begin_complete_promise : Text → NonEmptyValue → Steps Outcome
-begin_complete_promise key value = do
-  handle ← handle_for (Call.CompletePromise key value stable)
+-- sleeps and effects
+unfoldable pub begin_sleep : Moment → Text → Steps Timer
+begin_sleep wake_up name = do
+  handle ← handle_for (Call.Sleep name wake_up None)
   done (record { handle = handle })
 
 unfoldable pub begin_run : Text → Steps Outcome
 begin_run name = do
   handle ← handle_for (Call.Run name)
+  done (record { handle = handle })
+
+-- other invocations
+abbrev pub called_in : Answer → Steps Called
+called_in (Answer.Handles id_handle result_handle) =
+    done (record { invocation_id = record { handle = id_handle }; outcome = record { handle = result_handle } })
+called_in _ = astray
+
+unfoldable pub begin_call : Target → Bytes → Option Text → PayloadOptions → Steps Called
+begin_call target parameter name options = do
+  answer ← make (Call.Call target parameter name options)
+  called_in answer
+
+unfoldable pub send_with : Target → Bytes → Option Moment → Option Text → PayloadOptions → Steps IdAsked
+send_with target parameter execution_time name options = do
+  handle ← handle_for (Call.Send target parameter execution_time name options)
   done (record { handle = handle })
 
 unfoldable pub cancel : Text → Steps Unit
@@ -125,11 +90,48 @@ begin_attach target = do
   handle ← handle_for (Call.Attach target)
   done (record { handle = handle })
 
-unfoldable pub begin_get_output : AttachInvocationTarget → Steps Asked
+unfoldable pub begin_get_output : AttachInvocationTarget → Steps Peeked
 begin_get_output target = do
   handle ← handle_for (Call.GetOutput target)
   done (record { handle = handle })
 
+-- what the outside completes
+abbrev pub awakeable_in : Answer → Steps Awakeable
+awakeable_in (Answer.Awakeable id handle) = done (record { id = id; outcome = record { handle = handle } })
+awakeable_in _ = astray
+
+unfoldable pub awakeable : Steps Awakeable
+awakeable = do
+  answer ← make Call.Awakeable
+  awakeable_in answer
+
+unfoldable pub complete_awakeable : Text → NonEmptyValue → PayloadOptions → Steps Unit
+complete_awakeable id value options = done_by (Call.CompleteAwakeable id value options)
+
+unfoldable pub begin_signal : Text → Steps Outcome
+begin_signal name = do
+  handle ← handle_for (Call.Signal name)
+  done (record { handle = handle })
+
+unfoldable pub complete_signal : Text → Text → NonEmptyValue → Steps Unit
+complete_signal target_id name value = done_by (Call.CompleteSignal target_id name value)
+
+unfoldable pub begin_promise : Text → Steps Outcome
+begin_promise key = do
+  handle ← handle_for (Call.GetPromise key)
+  done (record { handle = handle })
+
+unfoldable pub begin_peek_promise : Text → Steps Peeked
+begin_peek_promise key = do
+  handle ← handle_for (Call.PeekPromise key)
+  done (record { handle = handle })
+
+unfoldable pub begin_complete_promise : Text → NonEmptyValue → PayloadOptions → Steps Outcome
+begin_complete_promise key value options = do
+  handle ← handle_for (Call.CompletePromise key value options)
+  done (record { handle = handle })
+
+-- waiting, and taking what has come
 abbrev pub completed_in : Answer → Steps Bool
 completed_in (Answer.Completed is_completed) = done is_completed
 completed_in _ = astray
@@ -139,7 +141,8 @@ is_completed handle = do
   answer ← make (Call.IsCompleted handle)
   completed_in answer
 
-abbrev pub cancelled : TerminalFailure
+-- a cancellation, as the handler sees it
+unfoldable pub cancelled : TerminalFailure
 cancelled = record { code = 409; message = codes "cancelled"; metadata = [] }
 
 abbrev pub woken_in : Answer → Steps Unit
@@ -152,55 +155,57 @@ wait_for tree = do
   answer ← make (Call.Await tree)
   woken_in answer
 
+-- a success without bytes is that of a call that brings nothing else, such as the completion of a promise
 abbrev pub outcome_in : Answer → Steps (Result Bytes TerminalFailure)
 outcome_in (Answer.Taken (Some (Value.Success bytes))) = done (Ok bytes)
 outcome_in (Answer.Taken (Some Value.Void)) = done (Ok [])
 outcome_in (Answer.Taken (Some (Value.Failure failure))) = done (Err failure)
 outcome_in _ = astray
 
-unfoldable pub take_outcome : Outcome → Steps (Result Bytes TerminalFailure)
-take_outcome outcome = do
-  answer ← make (Call.Take outcome.handle)
+unfoldable pub take_outcome : ℕ → Steps (Result Bytes TerminalFailure)
+take_outcome handle = do
+  answer ← make (Call.Take handle)
   outcome_in answer
 
-abbrev pub asked_in : Answer → Steps (Option (Result Bytes TerminalFailure))
-asked_in (Answer.Taken (Some (Value.Success bytes))) = done (Some (Ok bytes))
-asked_in (Answer.Taken (Some (Value.Failure failure))) = done (Some (Err failure))
-asked_in (Answer.Taken (Some Value.Void)) = done None
-asked_in _ = astray
+abbrev pub peeked_in : Answer → Steps (Option (Result Bytes TerminalFailure))
+peeked_in (Answer.Taken (Some (Value.Success bytes))) = done (Some (Ok bytes))
+peeked_in (Answer.Taken (Some (Value.Failure failure))) = done (Some (Err failure))
+peeked_in (Answer.Taken (Some Value.Void)) = done None
+peeked_in _ = astray
 
-unfoldable pub take_asked : Asked → Steps (Option (Result Bytes TerminalFailure))
-take_asked asked = do
-  answer ← make (Call.Take asked.handle)
-  asked_in answer
+unfoldable pub take_peeked : ℕ → Steps (Option (Result Bytes TerminalFailure))
+take_peeked handle = do
+  answer ← make (Call.Take handle)
+  peeked_in answer
 
-abbrev pub read_in : Answer → Steps (Option Bytes)
-read_in (Answer.Taken (Some (Value.Success bytes))) = done (Some bytes)
-read_in (Answer.Taken (Some Value.Void)) = done None
-read_in _ = astray
+abbrev pub state_in : Answer → Steps (Option Bytes)
+state_in (Answer.Taken (Some (Value.Success bytes))) = done (Some bytes)
+state_in (Answer.Taken (Some Value.Void)) = done None
+state_in _ = astray
 
-unfoldable pub take_read : StateRead → Steps (Option Bytes)
-take_read read = do
-  answer ← make (Call.Take read.handle)
-  read_in answer
+unfoldable pub take_state : ℕ → Steps (Option Bytes)
+take_state handle = do
+  answer ← make (Call.Take handle)
+  state_in answer
 
 abbrev pub keys_in : Answer → Steps (List Bytes)
 keys_in (Answer.Taken (Some (Value.StateKeys keys))) = done keys
 keys_in _ = astray
 
-unfoldable pub take_keys : KeysRead → Steps (List Bytes)
-take_keys read = do
-  answer ← make (Call.Take read.handle)
+unfoldable pub take_keys : ℕ → Steps (List Bytes)
+take_keys handle = do
+  answer ← make (Call.Take handle)
   keys_in answer
 
 abbrev pub id_in : Answer → Steps Text
 id_in (Answer.Taken (Some (Value.InvocationId id))) = done id
 id_in _ = astray
 
-unfoldable pub take_id : IdAsked → Steps Text
-take_id asked = do
-  answer ← make (Call.Take asked.handle)
+unfoldable pub take_id : ℕ → Steps Text
+take_id handle = do
+  answer ← make (Call.Take handle)
   id_in answer
 
-unfoldable pub output : NonEmptyValue → Steps Unit
-output value = done_by (Call.Output value stable)
+-- the result of the invocation; the last one counts
+unfoldable pub output : NonEmptyValue → PayloadOptions → Steps Unit
+output value options = done_by (Call.Output value options)

@@ -1,5 +1,6 @@
 pub mod Steps
 pub mod Calls
-pub mod Waits
+pub mod Everyday
+pub mod Combining
 pub mod Rounds
 pub mod Laws

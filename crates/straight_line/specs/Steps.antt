@@ -1,5 +1,5 @@
 -- Steps of a handler: what straight-line code comes to, by the answers that are left.
-use Rattle.std.specs.Prelude.{◌≡◌, ℕ, Bool, true, false, IsTrue, List, [], ◌∷◌, Result, Ok, Err, MatchResult, codes}
+use Rattle.std.specs.Prelude.{◌≡◌, ℕ, Bool, true, false, IsTrue, List, [], ◌∷◌, Option, Some, None, Result, Ok, Err, MatchResult, codes}
 use Rattle.journal_model.specs.Notification.{Bytes}
 use Rattle.journal_model.specs.declared.value.NonEmptyValue.{NonEmptyValue}
 use Rattle.journal_model.specs.declared.value.TerminalFailure.{TerminalFailure}
@@ -49,6 +49,16 @@ abbrev pub or_fail : {A : Type 0} → Result A TerminalFailure → Steps A
 or_fail (Ok value) = done value
 or_fail (Err failure) = fail failure
 
+-- `match result { Ok(value) => .., Err(failure) => .. }`
+abbrev pub by_result : {A B : Type 0} → Result A TerminalFailure → (A → Steps B) → (TerminalFailure → Steps B) → Steps B
+by_result (Ok value) fine failed = fine value
+by_result (Err failure) fine failed = failed failure
+
+-- `match option { Some(value) => .., None => .. }`
+abbrev pub by_option : {A B : Type 0} → Option A → (A → Steps B) → Steps B → Steps B
+by_option (Some value) some none = some value
+by_option None some none = none
+
 -- a call: it is the next one, or has an answer
 abbrev pub make : Call → Steps Answer
 make call [] = Stops (Stop.Call call) []
@@ -69,6 +79,15 @@ caught (Stops why answers) otherwise = recovered otherwise why answers
 -- steps, and what is done when they fail: a `match` over `Err(Stop::Failed(failure))`
 abbrev pub on_failure : {A : Type 0} → Steps A → (TerminalFailure → Steps A) → Steps A
 on_failure steps otherwise = λ answers. caught (steps answers) otherwise
+
+abbrev pub tried_turn : {A : Type 0} → Turn A → Turn (Result A TerminalFailure)
+tried_turn (Goes value answers) = Goes (Ok value) answers
+tried_turn (Stops (Stop.Failed failure) answers) = Goes (Err failure) answers
+tried_turn (Stops why answers) = Stops why answers
+
+-- steps whose failure is a result: a `match` over `Ok(value)` and `Err(Stop::Failed(failure))`
+abbrev pub tried : {A : Type 0} → Steps A → Steps (Result A TerminalFailure)
+tried steps = λ answers. tried_turn (steps answers)
 
 -- all but that memory was refused
 abbrev pub is_told : Stop → Bool

@@ -5,14 +5,21 @@
 #![tactic(auto)]
 
 pub mod calls;
+pub mod combinators;
+pub mod effects;
+mod gathered;
 pub mod handler;
 pub mod handles;
+pub mod invocations;
 pub mod laws;
-pub mod services;
+pub mod promises;
+pub mod several;
+pub mod state;
 pub mod stop;
 pub mod waits;
 
 pub use calls::Calls;
+pub use combinators::{Combinator, future_over};
 pub use handler::{Straight, StraightLine};
-pub use handles::{Asked, Awakened, Called, IdAsked, KeysRead, Outcome, Slept, StateRead};
-pub use stop::{Stop, Told, astray};
+pub use handles::{Awakeable, Called, IdAsked, KeysRead, Outcome, Peeked, StateRead, Timer};
+pub use stop::{Stop, Told, astray, cancelled};

@@ -1,0 +1,4 @@
+pub mod Trees
+pub mod Loops
+pub mod AnswerKinds
+pub mod Staying
