@@ -4,3 +4,5 @@ pub mod Holding
 pub mod Parts
 pub mod Lasting
 pub mod Replying
+pub mod Looping
+pub mod DueAttempts

@@ -58,7 +58,7 @@ pub(crate) fn make<H: Handler + Drop>(
 }
 
 /// Moves the next bytes of its output from an attempt to the store, at most so many, and takes the whole frames.
-pub(crate) fn take_in<H: Handler + Drop, S: Alter + Drop>(
+pub(crate) fn move_output<H: Handler + Drop, S: Alter + Drop>(
     store: &mut Store<S>,
     invocation: &ByteStr,
     number: u32,

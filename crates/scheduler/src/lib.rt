@@ -1,11 +1,15 @@
-//! Invocations and their attempts, from one event to what is recorded.
+//! Invocations and their attempts, from one event to what is recorded; and a whole attempt, of one invocation or of each that is due.
 #![tactic(auto)]
 
+mod attempt;
+mod due;
 mod feeding;
 mod held;
+mod outcome;
 mod replies;
 mod scheduler;
 
+pub use outcome::Outcome;
 pub use schedule_model::{
     Attempt, Event, HeldAttempt, HeldAttempts, OutsideSignal, Refusal, Reply, RetryPolicy,
     RunExitResult, RunOutcome, Turn, attempts_are_held, schedules_grow,

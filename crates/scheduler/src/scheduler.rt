@@ -18,7 +18,7 @@ ghost use Rattle.schedule_model.specs.Fitting.{FitsEvent};
 ghost use Rattle.scheduler.specs.Scheduled.{AppliesWith, HasBegun, IsScheduled, IsTakenUp, IsWritten, OutlastsEvent, Performs, Spares, TakesLive, TellsAlways, TellsCauseOf, TellsOf, refusal_told};
 
 use crate::feeding::feed_in;
-use crate::held::{make, take_in};
+use crate::held::{make, move_output};
 use crate::replies::{done, placed, ticked};
 use bytes::ByteStr;
 use journal_model::{Handler, NewInvocation, NonEmptyValue, NotificationResult};
@@ -99,7 +99,7 @@ impl<H: Handler + Drop, S: Alter + Drop> Scheduler<H, S> {
     }
 
     /// The sleeps that are due are over.
-    fn tick(&mut self, now: u64) -> Reply
+    pub(crate) fn tick(&mut self, now: u64) -> Reply
         ensures { Performs S.Store H.next_call (Event.Tick now) result self.old self.new }
     {
         ticked(self.store.tick(now))
@@ -151,7 +151,7 @@ impl<H: Handler + Drop, S: Alter + Drop> Scheduler<H, S> {
     }
 
     /// Bytes of its input go to an attempt.
-    fn feed(&mut self, invocation: &ByteStr, number: u32, count: usize) -> Reply
+    pub(crate) fn feed(&mut self, invocation: &ByteStr, number: u32, count: usize) -> Reply
         ensures { Performs S.Store H.next_call (Event.Feed invocation.now number count) result self.old self.new }
     {
         match self.held.get_mut(invocation, number) {
@@ -161,7 +161,7 @@ impl<H: Handler + Drop, S: Alter + Drop> Scheduler<H, S> {
     }
 
     /// The input of an attempt is closed.
-    fn close(&mut self, invocation: &ByteStr, number: u32) -> Reply
+    pub(crate) fn close(&mut self, invocation: &ByteStr, number: u32) -> Reply
         ensures { Performs S.Store H.next_call (Event.Close invocation.now number) result self.old self.new }
     {
         let Some(attempt) = self.held.get_mut(invocation, number) else {
@@ -177,7 +177,7 @@ impl<H: Handler + Drop, S: Alter + Drop> Scheduler<H, S> {
     }
 
     /// An attempt makes a turn, unless the outcome tells a mismatch.
-    fn turn(&mut self, invocation: &ByteStr, number: u32, outcome: RunOutcome) -> Reply
+    pub(crate) fn turn(&mut self, invocation: &ByteStr, number: u32, outcome: RunOutcome) -> Reply
         ensures { Performs S.Store H.next_call (Event.Turn invocation.now number outcome) result self.old self.new }
     {
         if tells_mismatch(&outcome) {
@@ -194,17 +194,17 @@ impl<H: Handler + Drop, S: Alter + Drop> Scheduler<H, S> {
     }
 
     /// Bytes of its output go from an attempt to the store.
-    fn transfer(&mut self, invocation: &ByteStr, number: u32, count: usize) -> Reply
+    pub(crate) fn move_output(&mut self, invocation: &ByteStr, number: u32, count: usize) -> Reply
         ensures { Performs S.Store H.next_call (Event.Move invocation.now number count) result self.old self.new }
     {
         match self.held.get_mut(invocation, number) {
             None => Reply::Refused(Refusal::AttemptNotHeld),
-            Some(attempt) => take_in(&mut self.store, invocation, number, attempt, count),
+            Some(attempt) => move_output(&mut self.store, invocation, number, attempt, count),
         }
     }
 
     /// Does what an event says.
-    fn perform(&mut self, event: Event<H>) -> Reply
+    pub(crate) fn perform(&mut self, event: Event<H>) -> Reply
         ensures { Performs S.Store H.next_call event result self.old self.new }
     {
         match event {
@@ -244,7 +244,7 @@ impl<H: Handler + Drop, S: Alter + Drop> Scheduler<H, S> {
                 invocation,
                 attempt,
                 count,
-            } => self.transfer(&invocation, attempt, count),
+            } => self.move_output(&invocation, attempt, count),
             Event::Stop {
                 invocation,
                 attempt,

@@ -16,7 +16,7 @@ use Rattle.schedule_model.specs.declared.event.Refusal.TheVariants as refusal
 use Rattle.scheduler.specs.Scheduled.{MovesSome}
 use Rattle.scheduler.proofs.Lasting.{rest_lasts}
 use Rattle.scheduler.proofs.Moving.{memory_refuses, moves_crashed, moves_shown, shown_cause}
-use Rattle.scheduler.proofs.held.take_in.Goals as goal
+use Rattle.scheduler.proofs.held.move_output.Goals as goal
 
 -- no bytes were shown
 pub returns-in-Err-clause-does : goal.returns-in-Err-clause-does

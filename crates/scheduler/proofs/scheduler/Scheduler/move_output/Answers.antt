@@ -4,7 +4,7 @@ use Rattle.schedule_model.specs.Schedule.{MovesOne}
 use Rattle.scheduler.specs.Scheduled.{refusal_told}
 use Rattle.scheduler.proofs.Holding.{misses, finds, finds_cause, finds_lasting, finds_crashed}
 use Rattle.scheduler.proofs.Scheduling.{performs_unheld, spares_all, spares_taken_up}
-use Rattle.scheduler.proofs.scheduler.Scheduler.transfer.Goals as goal
+use Rattle.scheduler.proofs.scheduler.Scheduler.move_output.Goals as goal
 
 pub returns-in-None : goal.returns-in-None
 returns-in-None g c =
@@ -19,7 +19,7 @@ returns-in-Some g c =
     let n = c.args.number in
     let Moves = MovesOne c.args.count in
     let attempt = c.in-Some.attempt in
-    let taken = c.take_in in
+    let taken = c.move_output in
     let there = c.get_mut in
     record {
       does = finds g.S.Store Moves id n old.held there.result there.ensures.found attempt c.in-Some.is old.store taken.new.store taken.new.attempt taken.result taken.ensures.does;
