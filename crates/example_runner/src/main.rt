@@ -2,23 +2,26 @@
 //! `example_runner FILE NAME` adds an invocation of this name, which begins now.
 #![tactic(auto)]
 
+mod fault;
 mod rounds;
 mod work;
 
-use anyhow::{Result, bail};
+use anyhow::{Error, Result, anyhow, bail};
 use bytes::{ByteStr, Bytes};
 use durable_schedule::{
     Event, NewInvocation, Reply, Scheduler, Sequence, StateMode, Store, VMOptions,
 };
+use fault::Fault;
 use rounds::Rounds;
 use sqlite::{Alter, File, FileStore, Unknown};
 use sqlite_disk::Disk;
 use std::alloc::{AllocError, Global};
+use std::process::ExitCode;
 use std::rt::{Clock, Env, HostRuntime};
 use std::time::{SystemTime, UNIX_EPOCH};
 use std::{env, io};
-use store_files::{close_file, let_go, open_file, reason_of};
-use work::go_on;
+use store_files::{Reason, close_file, let_go, open_file, reason_of};
+use work::{Outcome, go_on};
 
 /// The words of the call.
 #[derive(Drop)]
@@ -27,13 +30,24 @@ struct Words {
     name: Option<String>,
 }
 
-fn read_words<R: Env + AllocGlobal>(rt: &R) -> Result<Words> {
-    let mut words = env::args(rt)?;
+/// Whether a word is asked for as a flag is, such as `--help`. There is none.
+fn is_flag(word: &str) -> bool {
+    word.starts_with('-')
+}
+
+fn read_words<R: Env + AllocGlobal>(rt: &R) -> Result<Words, Fault> {
+    let Ok(mut words) = env::args(rt) else {
+        return Err(Fault::Usage);
+    };
     let _program = words.next();
     let Some(file) = words.next() else {
-        bail!("usage: example_runner FILE [NAME]");
+        return Err(Fault::Usage);
     };
     let name = words.next();
+    let has_more = words.next().is_some();
+    if has_more || is_flag(&file) || name.as_deref().is_some_and(is_flag) {
+        return Err(Fault::Usage);
+    }
     Ok(Words { file, name })
 }
 
@@ -58,13 +72,13 @@ fn named(alloc: Global, name: &str, now: u64) -> Result<NewInvocation, AllocErro
     })
 }
 
-/// Goes on with each invocation that is due, and prints a line for each.
+/// Goes on with each invocation that is due, prints a line for each, and answers whether each came as far as it could.
 fn go_on_with_all<S: Alter + Drop>(
     rt: &HostRuntime,
     scheduler: &mut Scheduler<Rounds, S>,
     now: u64,
-) -> Result<()> {
-    scheduler.apply(Event::Tick(now));
+) -> Result<bool> {
+    let mut all_went_on = !matches!(scheduler.apply(Event::Tick(now)), Reply::Refused(_));
     let ids = match scheduler.due() {
         Ok(ids) => ids,
         Err(why) => bail!("the file cannot be read: {why:?}"),
@@ -72,8 +86,9 @@ fn go_on_with_all<S: Alter + Drop>(
     for id in ids {
         let outcome = go_on(scheduler, rt.alloc(), &id, now)?;
         println!(rt; "{id}: {outcome:?}")?;
+        all_went_on &= matches!(&outcome, Outcome::Suspended | Outcome::Ended);
     }
-    Ok(())
+    Ok(all_went_on)
 }
 
 /// Tells when the next sleep ends, in milliseconds.
@@ -95,14 +110,16 @@ fn add<S: Alter + Drop>(
     scheduler: &mut Scheduler<Rounds, S>,
     name: &str,
     now: u64,
-) -> Result<()> {
-    let new = named(rt.alloc(), name, now)?;
+) -> Result<(), Fault> {
+    let new = named(rt.alloc(), name, now).map_err(Error::from)?;
     match scheduler.apply(Event::Invoke(new)) {
-        Reply::Done => println!(rt; "{name}: added")?,
-        Reply::Refused(refusal) => bail!("{name}: refused {}, {refusal:?}", refusal.name()),
-        _ => bail!("{name}: not added"),
+        Reply::Done => Ok(println!(rt; "{name}: added").map_err(Error::from)?),
+        Reply::Refused(refusal) => Err(Fault::Refused(anyhow!(
+            "{name}: refused {}, {refusal:?}",
+            refusal.name()
+        ))),
+        _ => Err(Fault::Refused(anyhow!("{name}: not added"))),
     }
-    Ok(())
 }
 
 /// What a call does over an opened file.
@@ -110,25 +127,33 @@ fn run_over<S: Alter + Drop>(
     rt: &HostRuntime,
     scheduler: &mut Scheduler<Rounds, S>,
     name: Option<String>,
-) -> Result<()> {
-    let now = now_ms(rt)?;
-    match name {
-        Some(name) => add(rt, scheduler, name.as_str(), now),
-        None => {
-            go_on_with_all(rt, scheduler, now)?;
-            print_next(rt, scheduler)
-        }
+) -> Result<(), Fault> {
+    let now = now_ms(rt).map_err(Error::from)?;
+    if let Some(name) = name {
+        return add(rt, scheduler, name.as_str(), now);
+    }
+    let all_went_on = go_on_with_all(rt, scheduler, now)?;
+    print_next(rt, scheduler)?;
+    if all_went_on {
+        Ok(())
+    } else {
+        Err(Fault::Refused(anyhow!("not all jobs went on")))
     }
 }
 
 /// The store in a file, or why it is not taken.
-fn open(rt: &HostRuntime, file: &str) -> Result<Store<FileStore<File>>> {
+fn open(rt: &HostRuntime, file: &str) -> Result<Store<FileStore<File>>, Fault> {
     match open_file(rt, file, Unknown) {
         Ok(store) => Ok(store),
         Err(mut why) => {
             let reason = reason_of(rt, file, &mut why);
             let_go(rt, file, why);
-            bail!("{file}: {reason}")
+            let told = anyhow!("{file}: {reason}");
+            if reason == Reason::Held {
+                Err(Fault::InUse(told))
+            } else {
+                Err(Fault::Failed(told))
+            }
         }
     }
 }
@@ -146,16 +171,22 @@ fn close<D: Disk + Drop>(store: Store<FileStore<D>>) -> Result<()> {
     }
 }
 
-fn run(rt: &HostRuntime) -> Result<()> {
+fn run(rt: &HostRuntime) -> Result<(), Fault> {
     let Words { file, name } = read_words(rt)?;
     let store = open(rt, &file)?;
     let mut scheduler = Scheduler::new(rt.alloc(), store, VMOptions::default());
     let done = run_over(rt, &mut scheduler, name);
     let closed = close(scheduler.into_store());
     done?;
-    closed
+    Ok(closed?)
 }
 
-fn main(rt: HostRuntime) -> Result<()> {
-    run(&rt)
+fn main(rt: HostRuntime) -> ExitCode {
+    match run(&rt) {
+        Ok(()) => ExitCode::SUCCESS,
+        Err(fault) => {
+            let _ = eprintln!(rt; "{fault}");
+            ExitCode::from(fault.status())
+        }
+    }
 }

@@ -1,0 +1,43 @@
+//! Why a call does not come to its end.
+use anyhow::Error;
+use std::fmt;
+
+/// Why a call does not come to its end.
+#[derive(Drop)]
+pub enum Fault {
+    /// It was called with other words.
+    Usage,
+    /// Another process has the file.
+    InUse(Error),
+    /// A job was refused, or did not come as far as it could.
+    Refused(Error),
+    /// The file is not taken, or something else failed.
+    Failed(Error),
+}
+
+impl Fault {
+    /// The status that the program ends with.
+    pub fn status(&self) -> u8 {
+        match self {
+            Fault::Refused(_) => 1,
+            Fault::Failed(_) => 2,
+            Fault::Usage => 3,
+            Fault::InUse(_) => 5,
+        }
+    }
+}
+
+impl fmt::Display for Fault {
+    fn fmt<W: fmt::Write>(&self, f: &mut fmt::Formatter<W>) -> fmt::Result {
+        match self {
+            Fault::Usage => write!(f, "usage: example_runner FILE [NAME]"),
+            Fault::InUse(why) | Fault::Refused(why) | Fault::Failed(why) => write!(f, "{why}"),
+        }
+    }
+}
+
+impl From<Error> for Fault {
+    fn from(why: Error) -> Fault {
+        Fault::Failed(why)
+    }
+}
