@@ -1,9 +1,5 @@
 -- What is applied in a row, what that leaves of each invocation, when it lasts, and where a crash comes into it.
-use Rattle.std.proofs.Common.{◌≡◌, refl, sym, ap, subst, ◌∙◌, ◌++◌, append_assoc, append-nil, map-id, length, List, [], ◌∷◌, Option, None, inl}
-use Rattle.std.proofs.lemmas.Iterator.Consumers.{YieldsList-end}
-use Rattle.std.proofs.lemmas.Iterator.Adapters.{YieldsList-from_vec}
-use Rattle.std.specs.Iterator.{Yields}
-use Rattle.std.specs.Vec.Iter.{into_iter_items, into_iter_len, into_iter_steps}
+use Rattle.std.proofs.Common.{◌≡◌, refl, sym, ap, subst, ◌∙◌, ◌++◌, append_assoc, append-nil, List, [], ◌∷◌, None, inl}
 use Rattle.std.specs.List.{AllByRecursion}
 use Rattle.sqlite_trees.specs.declared.store.Store.{Ghosts}
 use Rattle.sqlite.specs.Held.{state}
@@ -37,12 +33,6 @@ each_more P (y ∷ ys) x all one = (all.0, each_more P ys x all.1 one)
 first_all : {A : Type 0} (P : A → Type 0) (xs ys : List A) → AllByRecursion P (xs ++ ys) → AllByRecursion P xs
 first_all P [] ys all = tt
 first_all P (x ∷ xs) ys all = (all.0, first_all P xs ys all.1)
-
--- a vector's items, once all are yielded
-pub all_yielded : {A Z : Type 0} (first : _) (items : List A) → into_iter_items first ≡ items → into_iter_len first ≡ length items → (yielded : List A) (last : _)
-    → Yields (into_iter_steps {X = A} {Z = Z}) first yielded last → (end : Option A) (behind : _) → end ≡ None → into_iter_steps {X = A} {Z = Z} last end behind → yielded ≡ items
-all_yielded {A} {Z} first items is len yielded last yields end behind none step =
-    sym (map-id yielded) ∙ (YieldsList-end (YieldsList-from_vec {A = A} {Z = Z} {s = first} items is len) yielded last yields end behind none step).0
 
 module _ {H : Type 0} (function : H → Handler) (options : VMOptions) where
   -- what is applied to a store, by a scheduler that held nothing at first, and when all of that lasts

@@ -5,3 +5,4 @@ pub mod Runs
 pub mod Schedules
 pub mod Passed
 pub mod Attempts
+pub mod Handlers

@@ -1,4 +1,5 @@
-//! A whole schedule over a store: what it answers and leaves, whatever its events and the cuts of the bytes are.
+//! A whole schedule over a store: what it answers and leaves, whatever its events and the cuts of the bytes are. And all that a program
+//! names that has such a schedule, or a scheduler of its own.
 #![tactic(auto)]
 
 ghost use Rattle.std.specs.Prelude.{◌≡◌, ◌<◌, ◌≤◌, ◌+◌, List, [], ◌∷◌, ◌++◌, length, IfOk, IfErr, vec_len, vec_capacity};
@@ -12,9 +13,15 @@ ghost use Rattle.scheduler.specs.Scheduled.{IsScheduled};
 ghost use Rattle.durable_schedule.specs.Causes.{TellsCauses};
 ghost use Rattle.durable_schedule.specs.Runs.{LastsBehind, Leaves, LeavesFirst, at_first};
 
+mod files;
 mod front;
 mod laws;
 
+pub use bytes::{ByteStr, Bytes};
+pub use files::{
+    File, FileNotTaken, FileStore, MemoryFile, NotTaken, Reason, close_file, leave_file, let_go,
+    open, open_file, open_in_memory, reason_of,
+};
 pub use front::{run_new_schedule, run_reopened_schedule};
 pub use journal_store::Store;
 pub use laws::reopened_stores_hold;
@@ -25,11 +32,11 @@ pub use schedule_laws::{
 pub use scheduler::{
     Answer, AttachInvocationTarget, AwaitedFuture, Call, EntryKind, Event, Failure, Handler,
     Header, HeldAttempt, Input, LastError, Moment, NewInvocation, NonEmptyValue,
-    NotificationHandle, NotificationResult, OutsideSignal, PayloadOptions, RecordedEntry, Refusal,
-    Reply, RetryPolicy, RunExitResult, RunOutcome, Scheduler, Sequence, StateMode, StateRow,
-    Target, TerminalFailure, Turn, UnresolvedFuture, VMOptions, Value,
+    NotificationHandle, NotificationResult, Outcome, OutsideSignal, PayloadOptions, RecordedEntry,
+    Refusal, Reply, RetryPolicy, RunExitResult, RunOutcome, Scheduler, Sequence, StateMode,
+    StateRow, Target, TerminalFailure, Turn, UnresolvedFuture, VMOptions, Value,
 };
-use sqlite::Alter;
+pub use sqlite::Alter;
 use std::alloc::Global;
 
 /// Puts a reply behind the others, for which there is room.

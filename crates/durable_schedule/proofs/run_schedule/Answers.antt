@@ -7,7 +7,8 @@ use Rattle.journal_store.specs.Stands.{Endures}
 use Rattle.scheduler.specs.Scheduled.{AppliesWith}
 use Rattle.durable_schedule.specs.Runs.{AppliesFirst}
 use Rattle.journal_store.proofs.Enduring.{same_endures}
-use Rattle.durable_schedule.proofs.Running.{LeadsFirst, all_kept, all_left, all_yielded, each_more, one_endures}
+use Rattle.durable_schedule.proofs.Running.{LeadsFirst, all_kept, all_left, each_more, one_endures}
+use Rattle.scheduler.proofs.DueAttempts.{all_yielded}
 use Rattle.durable_schedule.proofs.Settling.{AppliesOne, SettlesOne, one_leads, none_leads}
 use Rattle.durable_schedule.specs.Causes.{TellsCauses}
 use Rattle.durable_schedule.proofs.Causing.{causes_on}
