@@ -1,0 +1,5 @@
+pub mod Values
+pub mod Counter
+pub mod Offers
+pub mod Order
+pub mod Rounds
