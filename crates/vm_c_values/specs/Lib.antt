@@ -1,0 +1,5 @@
+pub mod Nodes
+pub mod Options
+pub mod Records
+pub mod Policies
+pub mod Replies
