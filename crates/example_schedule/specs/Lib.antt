@@ -1,3 +1,4 @@
 pub mod Payment
 pub mod Reminder
 pub mod Stamp
+pub mod Work

@@ -1,11 +1,6 @@
 -- A handler that has something done outside, as a function.
 use Rattle.std.specs.Prelude.{ℕ, false, List, [], ◌∷◌, Some, codes}
-use Rattle.journal_model.specs.declared.value.NonEmptyValue.{NonEmptyValue}
-use Rattle.journal_model.specs.declared.value.Value.{Value}
-use Rattle.journal_model.specs.AwaitTree.{Single}
-use Rattle.journal_model.specs.declared.call.Call.{Call}
-use Rattle.journal_model.specs.declared.call.Answer.{Answer}
-use Rattle.journal_model.specs.Run.{Handler}
+use Rattle.durable_schedule.specs.Handlers.{Answer, Call, Handler, NonEmptyValue, Single, Value}
 
 -- the handle that an effect was answered
 abbrev pub handle_of : Answer → ℕ

@@ -1,10 +1,6 @@
 -- A handler as a function: its next call, by what the calls before were answered.
 use Rattle.std.specs.Prelude.{ℕ, false, [], ◌∷◌, None, codes}
-use Rattle.journal_model.specs.declared.value.NonEmptyValue.{NonEmptyValue}
-use Rattle.journal_model.specs.AwaitTree.{Single}
-use Rattle.journal_model.specs.declared.call.Call.{Call}
-use Rattle.journal_model.specs.declared.call.Answer.{Answer}
-use Rattle.journal_model.specs.Run.{Handler}
+use Rattle.durable_schedule.specs.Handlers.{Answer, Call, Handler, NonEmptyValue, Single}
 
 -- the handle that a sleep was answered
 abbrev pub sleep_of : Answer → ℕ

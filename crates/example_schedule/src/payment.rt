@@ -2,13 +2,13 @@
 ghost use Rattle.std.specs.Prelude.{◌≡◌, IfOk};
 ghost use Rattle.example_schedule.specs.Payment as paying;
 
-use crate::{ALL, id, invocation};
-use bytes::{ByteStr, Bytes};
+use crate::invocation;
+use crate::work::Work;
 use durable_schedule::{
-    Answer, AwaitedFuture, Call, Event, Handler, Input, NonEmptyValue, NotificationHandle,
-    PayloadOptions, Reply, RetryPolicy, RunExitResult, RunOutcome, Scheduler, Value,
+    Alter, Answer, AwaitedFuture, ByteStr, Bytes, Call, Event, Handler, Input, NonEmptyValue,
+    NotificationHandle, Outcome, PayloadOptions, RetryPolicy, RunExitResult, RunOutcome, Scheduler,
+    Value,
 };
-use sqlite::Alter;
 use std::alloc::AllocError;
 use std::io;
 
@@ -56,51 +56,32 @@ impl Handler for Payment {
     }
 }
 
+fn order() -> ByteStr {
+    ByteStr::from_static("order-10")
+}
+
 /// An attempt, which makes so many turns. The one that has the order paid is given this receipt. What was asked for is recorded.
 fn attempt<S: Alter + Drop>(
-    scheduler: &mut Scheduler<Payment, S>,
+    scheduler: &mut Scheduler<Work, S>,
     turns: u32,
     receipt: &'static [u8],
-) -> Reply {
-    let begun = scheduler.apply(Event::Begin {
-        invocation: id(),
-        handler: Payment,
-        now: 0,
-    });
-    let Reply::Begun(attempt) = begun else {
-        return begun;
+) -> Outcome {
+    let paid = RunOutcome {
+        result: RunExitResult::Success(Bytes::from_static(receipt)),
+        policy: RetryPolicy::Infinite,
     };
-    scheduler.apply(Event::Feed {
-        invocation: id(),
-        attempt,
-        count: ALL,
-    });
-    for _ in 0..turns {
-        scheduler.apply(Event::Turn {
-            invocation: id(),
-            attempt,
-            outcome: RunOutcome {
-                result: RunExitResult::Success(Bytes::from_static(receipt)),
-                policy: RetryPolicy::Infinite,
-            },
-        });
-    }
-    scheduler.apply(Event::Move {
-        invocation: id(),
-        attempt,
-        count: ALL,
-    })
+    scheduler.go_on(&order(), Work::Payment(Payment), 10, turns, &paid)
 }
 
 /// Has an order paid in its first attempt, and answered in its second one.
 pub fn pay<R: Print, S: Alter + Drop>(
     rt: &R,
-    scheduler: &mut Scheduler<Payment, S>,
+    scheduler: &mut Scheduler<Work, S>,
 ) -> io::Result<()> {
-    let alloc = scheduler.alloc;
-    scheduler.apply(Event::Invoke(invocation(alloc)));
+    let new = invocation(scheduler.alloc, order());
+    scheduler.apply(Event::Invoke(new));
     println!(rt; "{:?}", attempt(scheduler, 3, b"receipt 1"))?;
     // The receipt is recorded, so nothing is paid again.
     println!(rt; "{:?}", attempt(scheduler, 6, b"receipt 2"))?;
-    println!(rt; "{:?}", scheduler.answer(&id()))
+    println!(rt; "{:?}", scheduler.answer(&order()))
 }

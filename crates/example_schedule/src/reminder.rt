@@ -2,10 +2,9 @@
 ghost use Rattle.std.specs.Prelude.{◌≡◌};
 ghost use Rattle.example_schedule.specs.Reminder as reminding;
 
-use bytes::{ByteStr, Bytes};
 use durable_schedule::{
-    Answer, AwaitedFuture, Call, Handler, Input, Moment, NonEmptyValue, NotificationHandle,
-    PayloadOptions,
+    Answer, AwaitedFuture, ByteStr, Bytes, Call, Handler, Input, Moment, NonEmptyValue,
+    NotificationHandle, PayloadOptions,
 };
 use std::alloc::AllocError;
 

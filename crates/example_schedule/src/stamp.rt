@@ -2,10 +2,9 @@
 ghost use Rattle.std.specs.Prelude.{◌≡◌, IfOk};
 ghost use Rattle.example_schedule.specs.Stamp as stamping;
 
-use bytes::{ByteStr, Bytes};
 use durable_schedule::{
-    Answer, AwaitedFuture, Call, Handler, Input, NonEmptyValue, NotificationHandle, PayloadOptions,
-    Value,
+    Answer, AwaitedFuture, ByteStr, Bytes, Call, Handler, Input, NonEmptyValue, NotificationHandle,
+    PayloadOptions, Value,
 };
 use std::alloc::{AllocError, Global};
 
