@@ -260,14 +260,12 @@ class Writer:
         return lines if value is None else [*lines, f"{pad}done {value}"]
 
     def middle(self, it, statements, tail, goes, lines, indent):
-        """An `if` or a `match`: what follows it stands in the one branch that goes on. With none that makes calls it is a choice of values."""
+        """An `if` or a `match`: what follows it stands in the one branch that goes on."""
         pad = "  " * indent
         bodies = [it[2], it[3] or ("block", [], None)] if it[0] == "if" else [body for _, body in it[2]]
         is_end = not statements and tail is None
-        if it[0] == "if" and not is_end and not any(map(leaves, bodies)):
-            return self.choice(it, lines, pad)
         if not is_end and sum(not leaves(body) for body in bodies) > 1:
-            raise Unread("two branches go on, and calls are made in them: put the choice into a function of its own")
+            raise Unread("two branches go on: put the choice into a function of its own")
 
         def on(body, deeper=3):
             if is_end or leaves(body):
@@ -279,22 +277,6 @@ class Writer:
             test = self.hoisted(it[1], lines, pad)
             return lines + self.branch(test, on(bodies[0]), on(bodies[1]), pad)
         return lines + self.match(it, on, pad)
-
-    def choice(self, it, lines, pad):
-        bodies = [it[2], it[3] or ("block", [], None)]
-        if any(body[2] is not None or any(inner[0] != "set" for inner in body[1]) for body in bodies):
-            raise Unread("both branches go on, and make calls: put the choice into a function of its own")
-        test = self.value(self.hoisted(it[1], lines, pad), False)
-        names = list(dict.fromkeys(inner[1] for body in bodies for inner in body[1]))
-        if any([inner[1] for inner in body[1]].count(name) > 1 for body in bodies for name in names) or (
-            len(names) > 1 and any(("name", name) in parts(inner[2]) for body in bodies for inner in body[1] for name in names if name != inner[1])
-        ):
-            raise Unread("the branches change one variable twice, or by one another: put the choice into a function of its own")
-        self.use("if◌then◌else◌")
-        for name in names:
-            then, otherwise = (next((self.value(inner[2]) for inner in body[1] if inner[1] == name), name) for body in bodies)
-            lines.append(f"{pad}let {name} = if {test} then {then} else {otherwise}")
-        return None
 
     def let_match(self, it, statements, tail, goes, indent):
         """`let x = match .. { Ok(x) => x, Err(failure) => return .. }`."""
@@ -375,7 +357,7 @@ class Writer:
         self.types[name], self.until = "ℕ", is_until
         written = self.block(body, ("next", states), 1)
         self.until, self.types = False, outer
-        given = [known for known in outer if known not in states and ("name", known) in list(parts(body))]
+        given = self.held([known for known in outer if known not in states and ("name", known) in list(parts(body))], outer)
         state_type = " × ".join(self.known(it, outer) for it in states) or "Unit {0}"
         flow = f"({self.use('Flow')} {tight(state_type)} {tight(self.gives)})" if is_until else tight(state_type)
         self.define(of, [*(self.known(it, outer) for it in given), "ℕ", tight(state_type)], f"Steps {flow}", [*given, name], states, written)
@@ -396,10 +378,17 @@ class Writer:
             raise Unread("a loop with a `return` stands in a branch that goes on")
         rest = self.run(list(statements), tail, goes, 1)
         left = ("block", statements, tail)
-        more = [known for known in outer if known not in states and ("name", known) in list(parts(left))]
+        more = self.held([known for known in outer if known not in states and ("name", known) in list(parts(left))], outer)
         self.define(after, [*(self.known(it, outer) for it in more), tight(state_type)], f"Steps {tight(self.gives)}", more, states, rest)
         self.loops[-1] = (word, name, self.value(low), high, states, of, given, after, more)
         return lines + [f"{pad}{word} {ends} {start} {applied} {tight(' '.join([after, *more]))}"]
+
+    def held(self, names, types):
+        """These names, where an invariant can speak of them: parameters, numbers and truths."""
+        for name in names:
+            if name not in dict(self.params) and types.get(name) not in ("ℕ", "Bool"):
+                raise Unread(f"the loop, or what follows it, reads `{name}`: put them into a function that is handed it")
+        return names
 
     def known(self, name, types):
         if not types.get(name):
