@@ -1,0 +1,81 @@
+-- What a call of C has come to, by what its machine was and is: done with a reply, or not done, and why.
+use Rattle.std.specs.Prelude.{◌≡◌, ◌==◌, ℕ, Bool, Some, None, Option, IfSome, Result, Ok, Err}
+use Rattle.std.specs.declared.convert.Infallible.{Infallible}
+use Rattle.journal_model.specs.Notification.{Bytes, Text}
+use Rattle.journal_model.specs.declared.value.Value.{Value}
+use Rattle.protocol_errors.specs.Code.{suspended}
+use Rattle.protocol_errors.specs.declared.error.Error.{Error}
+use Rattle.vm_syscalls.specs.Passed.{MachineState}
+use Rattle.vm_feeding.specs.Asking.{TakesOutput}
+use Rattle.vm_feeding.specs.Beginning.{Begins}
+use Rattle.vm_feeding.specs.Reading.{IsRead}
+use Rattle.vm_types.specs.declared.options.VMOptions.{VMOptions}
+use Rattle.vm_c_values.specs.Replies.{kind_of, reply_of}
+use Rattle.vm_c_values.specs.declared.not_done.NotDone.{NotDone}
+use Rattle.vm_c_values.specs.declared.not_done.NotDone.TheVariants.{Unread, Failed, Untold}
+use Rattle.vm_c_machine.specs.declared.machine.Machine.{Machine}
+
+-- the error that is kept is what the machine has answered
+abbrev pub Fails : (Error → Type 0) → (is_suspended : Bool) → Machine → Type 0
+Fails Answers is_suspended new = IfSome new.failure (λ error. Answers error × (is_suspended ≡ (error.code.0 == suspended)))
+
+-- A call of the machine, whose answer is told as `told` says; nothing is done where the arguments cannot be read.
+abbrev pub Does : {A : Type 0} → (Call : MachineState → Result A Error → MachineState → Type 0) → (told : Bytes → A) → (old : Machine) → Result Bytes NotDone → (new : Machine) → Type 0
+Does Call told old (Ok reply) new = Call old.vm.state (Ok (told reply)) new.vm.state
+Does Call told old (Err (Unread why)) new = new ≡ old
+Does Call told old (Err (Failed is_suspended)) new = Fails (λ error. Call old.vm.state (Err error) new.vm.state) is_suspended new
+Does Call told old (Err Untold) new = ⊥
+
+-- of one that cannot fail
+abbrev pub Changes : (MachineState → MachineState → Type 0) → (old : Machine) → Result Bytes NotDone → (new : Machine) → Type 0
+Changes Call old (Ok reply) new = Call old.vm.state new.vm.state
+Changes Call old (Err (Unread why)) new = new ≡ old
+Changes Call old (Err why) new = ⊥
+
+-- of one that asks, and changes nothing
+abbrev pub Asks : (MachineState → Bytes → Type 0) → (old : Machine) → Result Bytes NotDone → (new : Machine) → Type 0
+Asks Answers old (Ok reply) new = (new ≡ old) × Answers old.vm.state reply
+Asks Answers old (Err (Unread why)) new = new ≡ old
+Asks Answers old (Err why) new = ⊥
+
+-- ---- calls of their own
+
+-- a machine is made of the version that the content type names, or none is
+abbrev pub Makes : (content_type : Text) → VMOptions → Result Machine NotDone → Type 0
+Makes content_type options (Ok machine) = Begins Infallible (λ error. ⊥) (Some content_type) options (Ok machine.vm.state) × (machine.failure ≡ None)
+Makes content_type options (Err why) = Unit {0}
+
+-- the output is the reply
+abbrev pub GivesOutput : (old : Machine) → Result Bytes NotDone → (new : Machine) → Type 0
+GivesOutput old (Ok reply) new = TakesOutput old.vm.state (Ok reply) new.vm.state
+GivesOutput old (Err (Unread why)) new = new.vm.state ≡ old.vm.state
+GivesOutput old (Err why) new = ⊥
+
+-- the input is kept, so that its parts can be told; its bytes are the reply
+abbrev pub ReadsInput : (seed : ℕ) → (old : Machine) → Result Bytes NotDone → (new : Machine) → Type 0
+ReadsInput seed old (Ok reply) new = IfSome new.input (λ input. IsRead old.vm.state (Ok input) new.vm.state × (reply ≡ input.input) × (seed ≡ input.random_seed))
+ReadsInput seed old (Err (Unread why)) new = ⊥
+ReadsInput seed old (Err (Failed is_suspended)) new = Fails (λ error. IsRead old.vm.state (Err error) new.vm.state) is_suspended new
+ReadsInput seed old (Err Untold) new = IfSome new.input (λ input. IsRead old.vm.state (Ok input) new.vm.state)
+
+-- what was taken, if anything was, is told by its kind and its bytes, or is lost where there is no memory to tell it
+abbrev pub Tells : Option Value → (kind : ℕ) → Result Bytes NotDone → Type 0
+Tells taken kind (Ok reply) = (kind ≡ kind_of taken) × (reply ≡ reply_of taken)
+Tells taken kind (Err Untold) = Unit {0}
+Tells taken kind (Err why) = ⊥
+
+pub record Told (Call : MachineState → Result (Option Value) Error → MachineState → Type 0) (kind : ℕ) (old : Machine) (reply : Bytes) (new : Machine) : Type 0 where
+  pub taken : Option Value
+  pub takes : Call old.vm.state (Ok taken) new.vm.state
+  pub kind_is : kind ≡ kind_of taken
+  pub bytes : reply ≡ reply_of taken
+
+pub record Lost (Call : MachineState → Result (Option Value) Error → MachineState → Type 0) (old new : Machine) : Type 0 where
+  pub taken : Option Value
+  pub takes : Call old.vm.state (Ok taken) new.vm.state
+
+abbrev pub Takes : (Call : MachineState → Result (Option Value) Error → MachineState → Type 0) → (kind : ℕ) → (old : Machine) → Result Bytes NotDone → (new : Machine) → Type 0
+Takes Call kind old (Ok reply) new = Told Call kind old reply new
+Takes Call kind old (Err (Unread why)) new = ⊥
+Takes Call kind old (Err (Failed is_suspended)) new = Fails (λ error. Call old.vm.state (Err error) new.vm.state) is_suspended new
+Takes Call kind old (Err Untold) new = Lost Call old new
