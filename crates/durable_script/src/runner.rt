@@ -14,7 +14,7 @@ use crate::show::show;
 use crate::state::show_state;
 use built_in_handlers::BuiltIn;
 use bytes::{ByteStr, Bytes};
-use durable_schedule::{Event, OutsideSignal, Refusal, Reply, Scheduler, Turn};
+use durable_schedule::{Event, EventRefusal, OutsideSignal, Reply, Scheduler, Turn};
 use journal_model::{Failure, NewInvocation, NotificationResult};
 use journal_store::Store;
 use script_lines::fault::ScriptFault;
@@ -129,7 +129,7 @@ fn take_turn<S: Alter + Drop>(
 {
     match run_outcome(scheduler.alloc, outcome) {
         Ok(given) => scheduler.take_turn(id, attempt, given),
-        Err(_) => Reply::Refused(Refusal::Store(store_refusals::Refusal::OutOfMemory)),
+        Err(_) => Reply::Refused(EventRefusal::Store(store_refusals::Refusal::OutOfMemory)),
     }
 }
 

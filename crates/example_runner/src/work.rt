@@ -1,7 +1,7 @@
 //! What one call does: each invocation that is due is gone on with.
 use crate::rounds::Rounds;
 use bytes::ByteStr;
-use durable_schedule::{Event, Refusal, Reply, RunOutcome, Scheduler, Turn};
+use durable_schedule::{Event, EventRefusal, Reply, RunOutcome, Scheduler, Turn};
 use sqlite::Alter;
 use std::alloc::{AllocError, Global};
 
@@ -15,7 +15,7 @@ pub enum Outcome {
     Ended,
     /// It can go on, and was not given more turns.
     Stopped,
-    Refused(Refusal),
+    Refused(EventRefusal),
 }
 
 /// The outcome that a reply to a turn tells, if it is the last turn.
@@ -74,7 +74,7 @@ pub fn go_on<S: Alter + Drop>(
         Reply::Moved {
             refusal: Some(refusal),
             ..
-        } => Ok(Outcome::Refused(Refusal::Store(refusal))),
+        } => Ok(Outcome::Refused(EventRefusal::Store(refusal))),
         Reply::Refused(refusal) => Ok(Outcome::Refused(refusal)),
         _ => Ok(outcome),
     }

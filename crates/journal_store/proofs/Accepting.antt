@@ -12,7 +12,7 @@ use Rattle.store_refusals.specs.declared.refusal.Refusal.TheVariants.{OutOfMemor
 use Rattle.store_steps.specs.declared.frame.FrameReply.{FrameReply}
 use Rattle.store_steps.specs.Taken.{does_end}
 use Rattle.store_calls.specs.Standing.{Standing}
-use Rattle.store_calls.specs.Calls.{Feeds, PutsBehind}
+use Rattle.store_calls.specs.Calls.{Pushes, PutsBehind}
 use Rattle.store_calls.specs.Frames.{Accepts, AcceptsFirst, Steps, TakesEach, TakesFirst, TakesFrames, TakesOne}
 use Rattle.store_calls.proofs.Taking.{goes_on, none_behind, same_stays, takes_first, takes_more}
 use Rattle.journal_store.specs.declared.accept.Accepted.{Accepted}
@@ -189,20 +189,20 @@ module _ {S : Type 0} (g : Ghosts S) (id : Text) (n : ℕ) where
   none_taken replies none store clean s is =
       (s, is, record { taken = subst (λ (all : List FrameReply). TakesEach id n all s s) (sym none) (same_stays s); live = λ live. live })
 
-module _ {S : Type 0} (g : Ghosts S) (id : Text) (n : ℕ) (bytes : Bytes) (old fed new : Stored S) (feeds : Leads g (Feeds id n bytes (Ok tt)) old fed) where
+module _ {S : Type 0} (g : Ghosts S) (id : Text) (n : ℕ) (bytes : Bytes) (old pushed new : Stored S) (pushes : Leads g (Pushes id n bytes (Ok tt)) old pushed) where
   -- bytes were put behind, and the frames are taken
-  pub accepts : (accepted : Accepted) → (HasCleanDisk (state g new.connection) → HasCleanDisk (state g fed.connection))
-      → Leads g (TakesLive id n accepted.replies.items accepted.refusal) fed new → Leads g (Accepts id n bytes (Ok (accepted.replies.items, accepted.refusal))) old new
+  pub accepts : (accepted : Accepted) → (HasCleanDisk (state g new.connection) → HasCleanDisk (state g pushed.connection))
+      → Leads g (TakesLive id n accepted.replies.items accepted.refusal) pushed new → Leads g (Accepts id n bytes (Ok (accepted.replies.items, accepted.refusal))) old new
   accepts accepted early takes clean s is =
-      let m = feeds (early clean) s is in
+      let m = pushes (early clean) s is in
       let t = takes clean m.0 m.1 in
       (t.0, t.1, (m.0, m.2, t.2 (subst (λ (events : List Event). is_live events id n ≡ true) (sym m.2.events) m.2.live)))
 
   -- what was answered lasts
-  pub accept_settled : (replies : List FrameReply) (why : Option Refusal) → (HasCleanDisk (state g new.connection) → HasCleanDisk (state g fed.connection))
-      → SettlesFrames g (λ s m. m ≡ s) id n replies why fed new → SettlesFrames g (PutsBehind id n bytes) id n replies why old new
+  pub accept_settled : (replies : List FrameReply) (why : Option Refusal) → (HasCleanDisk (state g new.connection) → HasCleanDisk (state g pushed.connection))
+      → SettlesFrames g (λ s m. m ≡ s) id n replies why pushed new → SettlesFrames g (PutsBehind id n bytes) id n replies why old new
   accept_settled replies why early settled some clean s is =
-      let m = feeds (early clean) s is in
+      let m = pushes (early clean) s is in
       let t = settled some clean m.0 m.1 in (
         m.0,
         m.2,
@@ -210,7 +210,7 @@ module _ {S : Type 0} (g : Ghosts S) (id : Text) (n : ℕ) (bytes : Bytes) (old 
       )
 
   -- where a crash comes
-  pub accept_endures : IsQuiet g old fed → Endures g (TakesFirst id n) fed new → Endures g (AcceptsFirst id n bytes) old new
+  pub accept_endures : IsQuiet g old pushed → Endures g (TakesFirst id n) pushed new → Endures g (AcceptsFirst id n bytes) old new
   accept_endures quiet lives =
-      endures_on g (AcceptsFirst id n bytes) (Feeds id n bytes (Ok tt)) (TakesFirst id n) (AcceptsFirst id n bytes) old fed new (λ s t it. it)
-      (λ s m t put taken. (m, put, taken)) (quiet_endures g (AcceptsFirst id n bytes) old fed quiet) feeds lives
+      endures_on g (AcceptsFirst id n bytes) (Pushes id n bytes (Ok tt)) (TakesFirst id n) (AcceptsFirst id n bytes) old pushed new (λ s t it. it)
+      (λ s m t put taken. (m, put, taken)) (quiet_endures g (AcceptsFirst id n bytes) old pushed quiet) pushes lives

@@ -18,7 +18,7 @@ use Rattle.store_live.specs.Attempts.{Attempts, ByInvocation, attempt_of, IsNow,
 use Rattle.store_live_laws.specs.Agrees.{Agrees, has_number, cause_of_stale, CausesOfStale}
 use Rattle.store_live_laws.proofs.Tests.{live_told, stale_told}
 use Rattle.store_calls.specs.Standing.{Standing, Stays, Refuses}
-use Rattle.store_calls.specs.Calls.{HandsOut, ClosesInput, Feeds, Stops}
+use Rattle.store_calls.specs.Calls.{HandsOut, ClosesInput, Pushes, Stops}
 use Rattle.store_calls.specs.Frames.{Steps}
 use Rattle.journal_store.specs.Stored.{stored}
 use Rattle.journal_store.specs.Stands.{Stands, IsStanding, Leads}
@@ -50,8 +50,8 @@ module _ (id : Text) (n : ℕ) (why : Refusal) (s t : Standing) (d : IsDead id n
   pub close_dead : ClosesInput id n (Err why) s t
   close_dead = record { cause = stale_refused why (cause_of_stale s.events id) (causes_of s.events (Event.CloseInput id n)) d.causes.of_close d.told; stays = d.stays }
 
-  pub feed_dead : (bytes : Bytes) → Feeds id n bytes (Err why) s t
-  feed_dead bytes = rw d.dead (record { cause = stop_refused; stays = d.stays })
+  pub push_dead : (bytes : Bytes) → Pushes id n bytes (Err why) s t
+  push_dead bytes = rw d.dead (record { cause = stop_refused; stays = d.stays })
 
   pub stop_dead : Stops id n (Err why) s t
   stop_dead = record { dead = d.dead; cause = stop_refused; stays = d.stays }
@@ -109,8 +109,8 @@ output_kept events id bytes None agrees = agrees
 output_kept events id bytes (Some attempt) agrees =
     record { number = agrees.number; version = agrees.version; input = agrees.input; closed = agrees.closed }
 
-stands_fed : (events : List Event) (database : State) (old new : ByInvocation) (id : Text) (bytes : Bytes) → Stands events database old → Changes id (after_output bytes) old new → Stands events database new
-stands_fed events database old new id bytes stands changes = record {
+stands_pushed : (events : List Event) (database : State) (old new : ByInvocation) (id : Text) (bytes : Bytes) → Stands events database old → Changes id (after_output bytes) old new → Stands events database new
+stands_pushed events database old new id bytes stands changes = record {
   kept = stands.kept;
   live = λ other. elim (true_or_false (bytes_eq id other)) [
     | inl same ↦ subst (λ (o : Text). Agrees events o (attempt_of new o)) ((bytes_eq-Decides id other).0 same)
@@ -166,9 +166,9 @@ module _ {S : Type 0} (g : Ghosts S) (tables : Held S) (before : Attempts) (id :
   closes_closed rest closed s read is =
       (s, is, record { cause = close_closed s.events (state g tables) before.attempts id n is.stands here read rest closed; stays = record { events = refl; outputs = λ one. refl } })
 
-  pub feeds : (bytes : Bytes) (after : Attempts) → Changes id (after_output bytes) before.attempts after.attempts → Leads g (Feeds id n bytes (Ok tt)) (stored tables before) (stored tables after)
-  feeds bytes after changed clean s is =
-      let it = stood g s.events (stored tables after) (stands_fed s.events (state g tables) before.attempts after.attempts id bytes is.stands changed) in
+  pub pushes : (bytes : Bytes) (after : Attempts) → Changes id (after_output bytes) before.attempts after.attempts → Leads g (Pushes id n bytes (Ok tt)) (stored tables before) (stored tables after)
+  pushes bytes after changed clean s is =
+      let it = stood g s.events (stored tables after) (stands_pushed s.events (state g tables) before.attempts after.attempts id bytes is.stands changed) in
       let one = this_one n (attempt_of before.attempts id) here in (
         it.0,
         it.1.standing,
@@ -182,12 +182,12 @@ module _ {S : Type 0} (g : Ghosts S) (tables : Held S) (before : Attempts) (id :
         },
       )
 
-  pub feeds_none : (bytes : Bytes) (after : Attempts) (result : Result (Unit {0}) Refusal) → after ≡ before → result ≡ Err refusal.OutOfMemory
-      → Leads g (Feeds id n bytes result) (stored tables before) (stored tables after)
-  feeds_none bytes after result same memory =
-      subst (λ (r : Result (Unit {0}) Refusal). Leads g (Feeds id n bytes r) (stored tables before) (stored tables after)) (sym memory)
+  pub pushes_none : (bytes : Bytes) (after : Attempts) (result : Result (Unit {0}) Refusal) → after ≡ before → result ≡ Err refusal.OutOfMemory
+      → Leads g (Pushes id n bytes result) (stored tables before) (stored tables after)
+  pushes_none bytes after result same memory =
+      subst (λ (r : Result (Unit {0}) Refusal). Leads g (Pushes id n bytes r) (stored tables before) (stored tables after)) (sym memory)
       (λ clean s is.
-      subst (λ (live : Attempts). (t : Standing) × IsStanding g t (stored tables live) × Feeds id n bytes (Err refusal.OutOfMemory) s t) (sym same)
+      subst (λ (live : Attempts). (t : Standing) × IsStanding g t (stored tables live) × Pushes id n bytes (Err refusal.OutOfMemory) s t) (sym same)
       (s, is, rw (live_here s.events (state g tables) before.attempts id n is.stands ∙ here) (refl, record { events = refl; outputs = λ one. refl })))
 
   pub stops : (after : Attempts) → IsNow id None before.attempts after.attempts → Leads g (Stops id n (Ok tt)) (stored tables before) (stored tables after)

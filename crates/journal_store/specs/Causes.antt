@@ -49,7 +49,7 @@ TriesFrameBehind id attempt replies s at event = TakesEach id attempt replies s 
 
 -- among bytes that were put behind
 abbrev pub TriesFrameOf : Text → (attempt : ℕ) → Bytes → List FrameReply → Tries
-TriesFrameOf id attempt bytes replies s at event = (fed : Standing) × PutsBehind id attempt bytes s fed × TriesFrameBehind id attempt replies fed at event
+TriesFrameOf id attempt bytes replies s at event = (pushed : Standing) × PutsBehind id attempt bytes s pushed × TriesFrameBehind id attempt replies pushed at event
 
 -- ---- why it was refused
 

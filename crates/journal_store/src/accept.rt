@@ -92,7 +92,7 @@ impl<S: Alter + Drop> Store<S> {
         ensures cause_of_frame { IfOk result (λ accepted. IfSome accepted.refusal (TellsWhyUnwritten S.Store self.old self.new (TriesFrameOf id.now attempt bytes.now accepted.replies.items))) }
         ensures crash { Endures S.Store (AcceptsFirst id.now attempt bytes.now) self.old self.new }
     {
-        match self.feed(id, attempt, bytes) {
+        match self.push(id, attempt, bytes) {
             Ok(()) => Ok(take_all(self, id, attempt)),
             Err(why) => Err(why),
         }

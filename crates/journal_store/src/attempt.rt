@@ -4,7 +4,7 @@ ghost use Rattle.journal_model.specs.Event.{Event};
 ghost use Rattle.store_tables.specs.Looks.{Looks};
 ghost use Rattle.store_invocations.specs.Rows.{IsStoreOf};
 ghost use Rattle.store_refusals.specs.declared.refusal.Refusal.TheVariants.{OutOfMemory};
-ghost use Rattle.store_calls.specs.Calls.{ClosesInput, Feeds, HandsOut, Stops};
+ghost use Rattle.store_calls.specs.Calls.{ClosesInput, Pushes, HandsOut, Stops};
 ghost use Rattle.store_refusals.specs.Prepared.{Tells};
 ghost use Rattle.store_live.specs.Attempts.{Changes};
 ghost use Rattle.journal_store.specs.Attempts.{FitsNext, GivesOneFrame, HasRoomFor, IsStale, IsWanted, ReadsNext, after_wanted, has_closed, has_rest};
@@ -163,8 +163,8 @@ impl<S: Alter + Drop> Store<S> {
 
     /// Takes in the next bytes that the attempt wrote. `step` then takes the frames among them. Of a live attempt they are refused
     /// for want of memory alone, and the database is not asked.
-    pub fn feed(&mut self, id: &ByteStr, attempt: u32, bytes: &[u8]) -> Result<(), Refusal>
-        ensures does { Leads S.Store (Feeds id.now attempt bytes.now result) self.old self.new }
+    pub fn push(&mut self, id: &ByteStr, attempt: u32, bytes: &[u8]) -> Result<(), Refusal>
+        ensures does { Leads S.Store (Pushes id.now attempt bytes.now result) self.old self.new }
         ensures live { has_number attempt (attempt_of self.old.live.attempts id.now) ≡ true → IfErr result (λ why. why ≡ OutOfMemory) }
         ensures asks { has_number attempt (attempt_of self.old.live.attempts id.now) ≡ true → self.new.connection ≡ self.old.connection }
         ensures kept { IsKept (state S.Store self.old.connection) (state S.Store self.new.connection) }

@@ -15,7 +15,7 @@ use Rattle.store_refusals.specs.declared.refusal.Refusal.{Refusal}
 use Rattle.store_calls.specs.Standing.{Standing, Stays, Adds}
 use Rattle.store_calls.specs.Calls.{HandsOut}
 use Rattle.vm_attempt_laws.specs.Telling.{Told}
-use Rattle.schedule_model.specs.declared.event.Refusal.{Refusal as Cause}
+use Rattle.schedule_model.specs.declared.event.EventRefusal.{EventRefusal}
 use Rattle.schedule_laws.specs.Attempts.{Feeds, ClosesInput, Turns, Attempt, Turn, RunOutcome}
 use Rattle.schedule_laws.specs.Attending.{Tracked, Attends}
 use Rattle.schedule_laws.specs.Following.{ReplaysInLine, FollowsBegun, FollowsWhere, FollowsTold, ToldOf}
@@ -194,7 +194,7 @@ module _ {H : Type 0} (function : H → Handler) (next : Handler) (options : VMO
   not_meant : (start : AttemptStart) (one : Event H) (answer : Reply) (bytes : Bytes) (t : Told) → Tells next start false one answer bytes t t
   not_meant start one answer bytes t = refl
 
-  not_done : (b : Bool) (start : AttemptStart) (one : Event H) (why : Cause) (bytes : Bytes) (t : Told) → Tells next start b one (reply.Refused why) bytes t t
+  not_done : (b : Bool) (start : AttemptStart) (one : Event H) (why : EventRefusal) (bytes : Bytes) (t : Told) → Tells next start b one (reply.Refused why) bytes t t
   not_done false start one why bytes t = refl
   not_done true start (event.Turn other n ran) why bytes t = refl
   not_done true start (event.Close other n) why bytes t = refl
@@ -207,11 +207,11 @@ module _ {H : Type 0} (function : H → Handler) (next : Handler) (options : VMO
       → FollowsTold function next options id told t more → Keeps one answer bytes s t more
   quiet one answer bytes s t more tells begins f = record { now = told; follows = f; tells = λ m tracked is. (tracked.told, is ∙ whole tracked, tells m tracked); begins = begins }
 
-  refused_begins : (one : Event H) (why : Cause) (s : Standing) → BeginsTold options id one (reply.Refused why) s.events told
+  refused_begins : (one : Event H) (why : EventRefusal) (s : Standing) → BeginsTold options id one (reply.Refused why) s.events told
   refused_begins (event.Begin other handler now) why s = tt
   refused_begins one why s = tt
 
-  refused : (one : Event H) (why : Cause) (answer : Reply) (bytes : Bytes) (s t : Standing) (held more : List (HeldAttempt H)) → answer ≡ reply.Refused why → Stays s t → more ≡ held
+  refused : (one : Event H) (why : EventRefusal) (answer : Reply) (bytes : Bytes) (s t : Standing) (held more : List (HeldAttempt H)) → answer ≡ reply.Refused why → Stays s t → more ≡ held
       → FollowsTold function next options id told s held → Keeps one answer bytes s t more
   refused one why answer bytes s t held more is stays same f =
       subst (λ (said : Reply). Keeps one said bytes s t more) (sym is)

@@ -8,7 +8,7 @@ pub use Rattle.schedule_model.specs.Schedule.{RepliesDone, RepliesPlace, Replies
 pub use Rattle.schedule_model.specs.declared.event.Event as scheduled
 pub use Rattle.schedule_model.specs.declared.event.Event.TheVariants as event
 pub use Rattle.schedule_model.specs.declared.event.Event.{Event}
-pub use Rattle.schedule_model.specs.declared.event.Refusal.TheVariants as refusal
+pub use Rattle.schedule_model.specs.declared.event.EventRefusal.TheVariants as refusal
 pub use Rattle.schedule_model.specs.declared.event.Reply.TheVariants as reply
 pub use Rattle.schedule_model.specs.declared.event.Reply.{Reply}
 pub use Rattle.schedule_model.specs.declared.held.HeldAttempt.{HeldAttempt}

@@ -7,7 +7,7 @@ use Rattle.journal_model.specs.Run.{Handler}
 use Rattle.vm_attempt.specs.declared.attempt.Attempt.{Attempt}
 use Rattle.schedule_model.specs.declared.event.Reply.{Reply}
 use Rattle.schedule_model.specs.declared.event.Reply.TheVariants as reply
-use Rattle.schedule_model.specs.declared.event.Refusal.TheVariants as refusal
+use Rattle.schedule_model.specs.declared.event.EventRefusal.TheVariants as refusal
 use Rattle.schedule_model.specs.declared.held.HeldAttempt.{HeldAttempt}
 use Rattle.schedule_model.specs.First.{with_first, IsFirstAt}
 use Rattle.store_calls.specs.Standing.{Standing}

@@ -14,8 +14,8 @@ use Rattle.schedule_model.specs.declared.event.Event.{Event}
 use Rattle.schedule_model.specs.declared.event.Event.TheVariants as event
 use Rattle.schedule_model.specs.declared.event.Reply.{Reply}
 use Rattle.schedule_model.specs.declared.event.Reply.TheVariants as reply
-use Rattle.schedule_model.specs.declared.event.Refusal as own
-use Rattle.schedule_model.specs.declared.event.Refusal.TheVariants as refusal
+use Rattle.schedule_model.specs.declared.event.EventRefusal.{EventRefusal}
+use Rattle.schedule_model.specs.declared.event.EventRefusal.TheVariants as refusal
 use Rattle.schedule_model.specs.declared.held.HeldAttempt.{HeldAttempt}
 use Rattle.store_steps.specs.declared.frame.FrameReply.{FrameReply}
 use Rattle.store_calls.specs.declared.begun.BegunAttempt.{BegunAttempt}
@@ -102,7 +102,7 @@ module _ {H : Type 0} where
   MovesOne count one old _ new changed = ⊥
 
   -- an event is refused before anything is asked, and nothing changes
-  abbrev pub RefusesAtOnce : own.Refusal → Standing → List (HeldAttempt H) → Reply → Standing → List (HeldAttempt H) → Type 0
+  abbrev pub RefusesAtOnce : EventRefusal → Standing → List (HeldAttempt H) → Reply → Standing → List (HeldAttempt H) → Type 0
   RefusesAtOnce why old held answer new more = (answer ≡ reply.Refused why) × Stays old new × (more ≡ held)
 
   -- the attempt that is held is changed in its place; one that is not held is refused before the store is asked

@@ -68,7 +68,7 @@ pub enum Event<H> {
 
 /// Why an event is refused.
 #[derive(Clone, Copy, Debug, PartialEq, Eq)]
-pub enum Refusal {
+pub enum EventRefusal {
     /// The store refuses it.
     Store(store_refusals::Refusal),
     /// X1: a turn's outcome is a failure that is tried again, and its code is that of a journal that does not match.
@@ -80,15 +80,15 @@ pub enum Refusal {
     AttemptNotHeld,
 }
 
-impl Refusal {
+impl EventRefusal {
     /// The name as it is printed.
     pub fn name(self) -> &'static str
         ensures { result.now ≡ name_of self }
     {
         match self {
-            Refusal::Store(refusal) => refusal.name(),
-            Refusal::JournalMismatchOutcome => "X1",
-            Refusal::AttemptNotHeld => "X2",
+            EventRefusal::Store(refusal) => refusal.name(),
+            EventRefusal::JournalMismatchOutcome => "X1",
+            EventRefusal::AttemptNotHeld => "X2",
         }
     }
 }
@@ -116,5 +116,5 @@ pub enum Reply {
         frames: usize,
         refusal: Option<store_refusals::Refusal>,
     },
-    Refused(Refusal),
+    Refused(EventRefusal),
 }

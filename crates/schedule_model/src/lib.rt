@@ -13,7 +13,7 @@ mod places;
 mod signal;
 
 pub use attempts::HeldAttempts;
-pub use event::{Event, Refusal, Reply};
+pub use event::{Event, EventRefusal, Reply};
 pub use fitting::{invocation_fits, result_fits, signal_fits};
 pub use held::HeldAttempt;
 pub use kept::KeptAttempt;

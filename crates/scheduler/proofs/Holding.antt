@@ -8,7 +8,7 @@ use Rattle.store_refusals.specs.declared.refusal.Refusal.{Refusal}
 use Rattle.schedule_model.specs.declared.event.Event.TheVariants as event
 use Rattle.schedule_model.specs.declared.event.Reply.{Reply}
 use Rattle.schedule_model.specs.declared.event.Reply.TheVariants as reply
-use Rattle.schedule_model.specs.declared.event.Refusal.TheVariants as refusal
+use Rattle.schedule_model.specs.declared.event.EventRefusal.TheVariants as refusal
 use Rattle.schedule_model.specs.declared.held.HeldAttempt.{HeldAttempt}
 use Rattle.schedule_model.specs.Held.{held_of, with_attempt}
 use Rattle.schedule_model.specs.Lends.{held_as}

@@ -11,7 +11,7 @@ use Rattle.store_calls.specs.Standing.{Standing}
 use Rattle.store_calls.specs.Calls.{HandsOut}
 use Rattle.schedule_model.specs.Attempts.{Attempt}
 use Rattle.schedule_model.specs.declared.event.Reply.TheVariants as reply
-use Rattle.schedule_model.specs.declared.event.Refusal.TheVariants as refusal
+use Rattle.schedule_model.specs.declared.event.EventRefusal.TheVariants as refusal
 use Rattle.schedule_model.specs.declared.held.HeldAttempt.{HeldAttempt}
 use Rattle.schedule_model.specs.Feeding.{given_in, IsAskedAgain, IsAskedFor, HandsOutEach, FeedsEach}
 use Rattle.schedule_model.specs.Schedule.{FeedsOne}

@@ -22,8 +22,8 @@ use Rattle.schedule_model.specs.declared.event.Event as scheduled
 use Rattle.schedule_model.specs.declared.event.Event.TheVariants as event
 use Rattle.schedule_model.specs.declared.event.Reply.{Reply}
 use Rattle.schedule_model.specs.declared.event.Reply.TheVariants as reply
-use Rattle.schedule_model.specs.declared.event.Refusal as own
-use Rattle.schedule_model.specs.declared.event.Refusal.TheVariants as refusal
+use Rattle.schedule_model.specs.declared.event.EventRefusal.{EventRefusal}
+use Rattle.schedule_model.specs.declared.event.EventRefusal.TheVariants as refusal
 use Rattle.schedule_model.specs.declared.held.HeldAttempt.{HeldAttempt}
 use Rattle.schedule_model.specs.Held.{held_of}
 use Rattle.store_steps.specs.declared.frame.FrameReply.{FrameReply}
@@ -111,7 +111,7 @@ IsTakenUp (reply.Refused refusal.JournalMismatchOutcome) = ⊥
 IsTakenUp _ = Unit {0}
 
 -- where it is, all is as it was
-abbrev pub SparesWhere : {H S : Type 0} → own.Refusal → Reply → Scheduler H S → Scheduler H S → Type 0
+abbrev pub SparesWhere : {H S : Type 0} → EventRefusal → Reply → Scheduler H S → Scheduler H S → Type 0
 SparesWhere why answer old new = answer ≡ reply.Refused why → new ≡ old
 
 -- a turn leaves the store as it was; bytes that are handed out, an input that is closed and a stop commit nothing

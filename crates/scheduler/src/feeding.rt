@@ -9,7 +9,7 @@ ghost use Rattle.scheduler.specs.Scheduled.{FeedsPart, IsTakenUp, refused_behind
 use bytes::ByteStr;
 use journal_model::Handler;
 use journal_store::Store;
-use schedule_model::{KeptAttempt, Refusal, Reply};
+use schedule_model::{EventRefusal, KeptAttempt, Reply};
 use sqlite::Alter;
 
 /// Hands an attempt the next part of its input, at most so many bytes, and tells how many they were.
@@ -47,7 +47,7 @@ fn stopped(fed: usize, refusal: store_refusals::Refusal) -> Reply
     ensures { result ≡ refused_behind fed refusal }
 {
     if fed == 0 {
-        return Reply::Refused(Refusal::Store(refusal));
+        return Reply::Refused(EventRefusal::Store(refusal));
     }
     Reply::Fed {
         bytes: fed,

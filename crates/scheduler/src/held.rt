@@ -10,7 +10,7 @@ use bytes::{ByteStr, Bytes};
 use journal_model::Handler;
 use journal_store::Store;
 use protocol_types::Version;
-use schedule_model::{Attempt, KeptAttempt, Refusal, Reply};
+use schedule_model::{Attempt, EventRefusal, KeptAttempt, Reply};
 use sqlite::Alter;
 use std::alloc::Global;
 use vm_types::VMOptions;
@@ -74,13 +74,13 @@ pub(crate) fn move_output<H: Handler + Drop, S: Alter + Drop>(
 {
     let bytes = match attempt.first_output(count) {
         Ok(bytes) => bytes,
-        Err(_) => return Reply::Refused(Refusal::Store(store_refusals::Refusal::OutOfMemory)),
+        Err(_) => return Reply::Refused(EventRefusal::Store(store_refusals::Refusal::OutOfMemory)),
     };
     let len = bytes.len();
     let accepted = store.accept(invocation, number, bytes.as_slice());
     drop(bytes);
     match accepted {
-        Err(refusal) => Reply::Refused(Refusal::Store(refusal)),
+        Err(refusal) => Reply::Refused(EventRefusal::Store(refusal)),
         Ok(accepted) => {
             attempt.advance_output(len);
             let frames = accepted.replies.len();

@@ -11,7 +11,7 @@ mod scheduler;
 
 pub use outcome::Outcome;
 pub use schedule_model::{
-    Attempt, Event, HeldAttempt, HeldAttempts, OutsideSignal, Refusal, Reply, RetryPolicy,
+    Attempt, Event, EventRefusal, HeldAttempt, HeldAttempts, OutsideSignal, Reply, RetryPolicy,
     RunExitResult, RunOutcome, Turn, attempts_are_held, schedules_grow,
 };
 pub use scheduler::Scheduler;

@@ -2,7 +2,7 @@
 ghost use Rattle.std.specs.Prelude.{◌≡◌};
 ghost use Rattle.scheduler.specs.Scheduled.{reply_to};
 
-use schedule_model::{Refusal, Reply};
+use schedule_model::{EventRefusal, Reply};
 
 /// It was done.
 pub(crate) fn done(told: Result<(), store_refusals::Refusal>) -> Reply
@@ -10,7 +10,7 @@ pub(crate) fn done(told: Result<(), store_refusals::Refusal>) -> Reply
 {
     match told {
         Ok(()) => Reply::Done,
-        Err(refusal) => Reply::Refused(Refusal::Store(refusal)),
+        Err(refusal) => Reply::Refused(EventRefusal::Store(refusal)),
     }
 }
 
@@ -20,7 +20,7 @@ pub(crate) fn placed(told: Result<u32, store_refusals::Refusal>) -> Reply
 {
     match told {
         Ok(place) => Reply::Placed(place),
-        Err(refusal) => Reply::Refused(Refusal::Store(refusal)),
+        Err(refusal) => Reply::Refused(EventRefusal::Store(refusal)),
     }
 }
 
@@ -30,6 +30,6 @@ pub(crate) fn ticked(told: Result<u64, store_refusals::Refusal>) -> Reply
 {
     match told {
         Ok(sleeps) => Reply::Ticked(sleeps),
-        Err(refusal) => Reply::Refused(Refusal::Store(refusal)),
+        Err(refusal) => Reply::Refused(EventRefusal::Store(refusal)),
     }
 }

@@ -24,8 +24,8 @@ use bytes::ByteStr;
 use journal_model::{Handler, NewInvocation, NonEmptyValue, NotificationResult};
 use journal_store::Store;
 use schedule_model::{
-    Event, HeldAttempt, HeldAttempts, OutsideSignal, Refusal, Reply, RunOutcome, invocation_fits,
-    result_fits, signal_fits, tells_mismatch,
+    Event, EventRefusal, HeldAttempt, HeldAttempts, OutsideSignal, Reply, RunOutcome,
+    invocation_fits, result_fits, signal_fits, tells_mismatch,
 };
 use sqlite::Alter;
 use std::alloc::Global;
@@ -110,7 +110,7 @@ impl<H: Handler + Drop, S: Alter + Drop> Scheduler<H, S> {
         ensures { Performs S.Store H.next_call (Event.Stop invocation.now number) result self.old self.new }
     {
         match self.held.get_mut(invocation, number) {
-            None => Reply::Refused(Refusal::AttemptNotHeld),
+            None => Reply::Refused(EventRefusal::AttemptNotHeld),
             Some(_) => done(self.store.stop(invocation, number)),
         }
     }
@@ -127,7 +127,7 @@ impl<H: Handler + Drop, S: Alter + Drop> Scheduler<H, S> {
     {
         let begun = match self.store.begin(&invocation, now) {
             Ok(begun) => begun,
-            Err(refusal) => return Reply::Refused(Refusal::Store(refusal)),
+            Err(refusal) => return Reply::Refused(EventRefusal::Store(refusal)),
         };
         let BegunAttempt {
             number,
@@ -135,7 +135,7 @@ impl<H: Handler + Drop, S: Alter + Drop> Scheduler<H, S> {
             start,
         } = begun;
         let Some(attempt) = make(self.alloc, version, self.options, handler, start) else {
-            return Reply::Refused(Refusal::Store(store_refusals::Refusal::OutOfMemory));
+            return Reply::Refused(EventRefusal::Store(store_refusals::Refusal::OutOfMemory));
         };
         match self.held.push(HeldAttempt {
             invocation,
@@ -145,7 +145,7 @@ impl<H: Handler + Drop, S: Alter + Drop> Scheduler<H, S> {
             Ok(()) => Reply::Begun(number),
             Err(refused) => {
                 drop(refused);
-                Reply::Refused(Refusal::Store(store_refusals::Refusal::OutOfMemory))
+                Reply::Refused(EventRefusal::Store(store_refusals::Refusal::OutOfMemory))
             }
         }
     }
@@ -155,7 +155,7 @@ impl<H: Handler + Drop, S: Alter + Drop> Scheduler<H, S> {
         ensures { Performs S.Store H.next_call (Event.Feed invocation.now number count) result self.old self.new }
     {
         match self.held.get_mut(invocation, number) {
-            None => Reply::Refused(Refusal::AttemptNotHeld),
+            None => Reply::Refused(EventRefusal::AttemptNotHeld),
             Some(attempt) => feed_in(&mut self.store, invocation, number, attempt, count),
         }
     }
@@ -165,14 +165,14 @@ impl<H: Handler + Drop, S: Alter + Drop> Scheduler<H, S> {
         ensures { Performs S.Store H.next_call (Event.Close invocation.now number) result self.old self.new }
     {
         let Some(attempt) = self.held.get_mut(invocation, number) else {
-            return Reply::Refused(Refusal::AttemptNotHeld);
+            return Reply::Refused(EventRefusal::AttemptNotHeld);
         };
         match self.store.close_input(invocation, number) {
             Ok(()) => {
                 attempt.close_input();
                 Reply::Done
             }
-            Err(refusal) => Reply::Refused(Refusal::Store(refusal)),
+            Err(refusal) => Reply::Refused(EventRefusal::Store(refusal)),
         }
     }
 
@@ -182,12 +182,12 @@ impl<H: Handler + Drop, S: Alter + Drop> Scheduler<H, S> {
     {
         if tells_mismatch(&outcome) {
             drop(outcome);
-            return Reply::Refused(Refusal::JournalMismatchOutcome);
+            return Reply::Refused(EventRefusal::JournalMismatchOutcome);
         }
         match self.held.get_mut(invocation, number) {
             None => {
                 drop(outcome);
-                Reply::Refused(Refusal::AttemptNotHeld)
+                Reply::Refused(EventRefusal::AttemptNotHeld)
             }
             Some(attempt) => Reply::Turned(attempt.turn(outcome)),
         }
@@ -198,7 +198,7 @@ impl<H: Handler + Drop, S: Alter + Drop> Scheduler<H, S> {
         ensures { Performs S.Store H.next_call (Event.Move invocation.now number count) result self.old self.new }
     {
         match self.held.get_mut(invocation, number) {
-            None => Reply::Refused(Refusal::AttemptNotHeld),
+            None => Reply::Refused(EventRefusal::AttemptNotHeld),
             Some(attempt) => move_output(&mut self.store, invocation, number, attempt, count),
         }
     }

@@ -51,10 +51,10 @@ module _ (id : Text) (attempt : ℕ) (first second : Bytes) where
       let dead : is_live between.events id attempt ≡ false = (refused_bytes (is_live between.events id attempt) id attempt why between new accepts by).0 in
       absurd (true≢false (sym live ∙ ap (λ (events : List Event). is_live events id attempt) (sym stays.events) ∙ dead))
   goes_on replies later all last (Ok taken) mid between new point joined live stays accepts by all_is behind takes also =
-      let fed : Standing = accepts.0 in
-      let puts : PutsBehind id attempt second between fed = accepts.1 in
+      let pushed : Standing = accepts.0 in
+      let puts : PutsBehind id attempt second between pushed = accepts.1 in
       let same : Stays new joined × (later ≡ taken.0) =
-      frames_same id attempt taken.0 later taken.1 last fed new point joined
+      frames_same id attempt taken.0 later taken.1 last pushed new point joined
       (record {
         events = behind.events ∙ sym stays.events ∙ sym puts.events;
         own =
@@ -84,8 +84,8 @@ module _ (id : Text) (attempt : ℕ) (first second : Bytes) where
       by_left false stays = goes_on replies later all last two mid between new point joined refused.live stays accepts also all_is behind takes too
 
   -- the first piece, and both, put behind what waits
-  fed_behind : (old fed far : Standing) → PutsBehind id attempt first old fed → PutsBehind id attempt (first ++ second) old far → IsBehind id attempt second fed far
-  fed_behind old fed far one two = record {
+  pushed_behind : (old pushed far : Standing) → PutsBehind id attempt first old pushed → PutsBehind id attempt (first ++ second) old far → IsBehind id attempt second pushed far
+  pushed_behind old pushed far one two = record {
     events = two.events ∙ sym one.events;
     own =
         two.own ∙ ap (λ (before : Bytes). Some (before ++ (first ++ second))) (some_same (sym two.waits ∙ one.waits)) ∙ ap Some (sym (append_assoc one.before first second))
@@ -111,7 +111,7 @@ module _ (id : Text) (attempt : ℕ) (first second : Bytes) where
   by_answers (Ok taken) two (Ok all) old between new joined one accepts whole by also too =
       let takes : TakesFrames id attempt taken.0 taken.1 one.0 between = one.2 in
       let on : GoesOn id attempt second taken.0 all.0 all.1 takes.between joined =
-      frames_join id attempt second taken.0 one.0 takes.between takes.taken all.0 all.1 whole.0 joined (fed_behind old one.0 whole.0 one.1 whole.1) whole.2 too in
+      frames_join id attempt second taken.0 one.0 takes.between takes.taken all.0 all.1 whole.0 joined (pushed_behind old one.0 whole.0 one.1 whole.1) whole.2 too in
       by_rests taken.1 all.1 taken.0 on.later all.0 two takes.between between new on.point joined takes.rests by accepts also on.all_is on.behind on.takes too
 
 pub pieces : PiecesJoin

@@ -81,9 +81,9 @@ pub record PutsBehind (id : Text) (attempt : ℕ) (bytes : Bytes) (old new : Sta
   pub own : new.outputs id ≡ Some (before ++ bytes)
   pub others : KeepsOthers id old new
 
-abbrev pub Feeds : Text → (attempt : ℕ) → Bytes → Result (Unit {0}) Refusal → Standing → Standing → Type 0
-Feeds id attempt bytes (Ok done) old new = PutsBehind id attempt bytes old new
-Feeds id attempt bytes (Err why) old new = RefusesBytes (is_live old.events id attempt) id attempt why old new
+abbrev pub Pushes : Text → (attempt : ℕ) → Bytes → Result (Unit {0}) Refusal → Standing → Standing → Type 0
+Pushes id attempt bytes (Ok done) old new = PutsBehind id attempt bytes old new
+Pushes id attempt bytes (Err why) old new = RefusesBytes (is_live old.events id attempt) id attempt why old new
 
 -- a stop of a live attempt is never refused
 pub record RefusesStop (id : Text) (attempt : ℕ) (why : Refusal) (old new : Standing) : Type 0 where

@@ -112,9 +112,9 @@ pub record TakesFrames (id : Text) (attempt : ℕ) (replies : List FrameReply) (
 
 -- bytes of a live attempt are put behind those that wait, and then its frames are taken; or the bytes are refused
 abbrev pub Accepts : Text → (attempt : ℕ) → Bytes → Result (List FrameReply × Option Refusal) Refusal → Standing → Standing → Type 0
-Accepts id attempt bytes (Ok taken) old new = (fed : Standing) × PutsBehind id attempt bytes old fed × TakesFrames id attempt taken.0 taken.1 fed new
+Accepts id attempt bytes (Ok taken) old new = (pushed : Standing) × PutsBehind id attempt bytes old pushed × TakesFrames id attempt taken.0 taken.1 pushed new
 Accepts id attempt bytes (Err why) old new = RefusesBytes (is_live old.events id attempt) id attempt why old new
 
 -- bytes are put behind, and the first frames are taken
 abbrev pub AcceptsFirst : Text → (attempt : ℕ) → Bytes → Standing → Standing → Type 0
-AcceptsFirst id attempt bytes old new = (fed : Standing) × PutsBehind id attempt bytes old fed × TakesFirst id attempt fed new
+AcceptsFirst id attempt bytes old new = (pushed : Standing) × PutsBehind id attempt bytes old pushed × TakesFirst id attempt pushed new

@@ -91,7 +91,7 @@ fn next_input<R: Print>(
     }
 }
 
-fn feed<R: Print>(
+fn push<R: Print>(
     rt: &R,
     alloc: Global,
     store: &mut Memory,
@@ -100,7 +100,7 @@ fn feed<R: Print>(
     bytes: &str,
 ) -> Result<(), Fault> {
     let bytes = parse_bytes(alloc, bytes)?;
-    print_done(rt, store.feed(id, attempt, bytes.as_slice()))
+    print_done(rt, store.push(id, attempt, bytes.as_slice()))
 }
 
 fn accept<R: Print>(
@@ -146,7 +146,7 @@ fn ask_attempt<R: Print>(
         },
         [operand] => match call {
             "next_input" => next_input(rt, store, id, attempt, *operand),
-            "feed" => feed(rt, alloc, store, id, attempt, *operand),
+            "push" => push(rt, alloc, store, id, attempt, *operand),
             "accept" => accept(rt, alloc, store, id, attempt, *operand),
             _ => Err(Fault::NotUnderstood),
         },

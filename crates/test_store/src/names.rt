@@ -10,5 +10,5 @@ use test_rows::named;
 /// What is called of a store.
 pub fn name_stores<S: Alter + Drop>() {
     named!(Store<S>: open into_connection invoke result tick begin step accept);
-    named!(Store<S>: next_input close_input feed stop entries answer failure is_open);
+    named!(Store<S>: next_input close_input push stop entries answer failure is_open);
 }

@@ -12,7 +12,7 @@ use Rattle.store_calls.specs.Standing.{Standing}
 use Rattle.journal_store.proofs.Enduring.{same_endures}
 use Rattle.schedule_model.specs.Lends.{held_as}
 use Rattle.schedule_model.specs.declared.event.Reply.TheVariants as reply
-use Rattle.schedule_model.specs.declared.event.Refusal.TheVariants as refusal
+use Rattle.schedule_model.specs.declared.event.EventRefusal.TheVariants as refusal
 use Rattle.scheduler.specs.Scheduled.{MovesSome}
 use Rattle.scheduler.proofs.Lasting.{rest_lasts}
 use Rattle.scheduler.proofs.Moving.{memory_refuses, moves_crashed, moves_shown, shown_cause}
