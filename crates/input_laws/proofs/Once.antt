@@ -1,5 +1,5 @@
 -- Each completion is asked for once and comes once.
-use Rattle.std.proofs.Common.{ℕ, zero, suc, ◌+◌, ◌≤◌, ◌<◌, ◌==◌, ◌^◌, max, nat_lt, nat_le, arith, ◌≡◌, refl, sym, ap, subst, ◌∙◌, Bool, true, false, true≢false, not, ◌||◌, ◌&&◌, if◌then◌else◌, List, [], ◌∷◌, ◌++◌, append-nil, append_assoc, map, filter, Option, Some, None, is_some, bytes_eq}
+use Rattle.std.proofs.Common.{ℕ, zero, suc, ◌+◌, ◌≤◌, ◌<◌, ◌==◌, max, nat_lt, nat_le, arith, ◌≡◌, refl, sym, ap, subst, ◌∙◌, Bool, true, false, true≢false, not, ◌||◌, ◌&&◌, if◌then◌else◌, List, [], ◌∷◌, ◌++◌, append-nil, append_assoc, map, filter, Option, Some, None, is_some, bytes_eq}
 use Rattle.std.specs.List.{list_any, find}
 use Rattle.std.proofs.lemmas.Bool.{eqb-true, ltb-true}
 use Rattle.std.proofs.lemmas.Slice.Eq.{bytes_eq-Decides}
@@ -10,7 +10,7 @@ use Rattle.journal_model.specs.Notification.{Text, Arrival, same_id}
 use Rattle.journal_model.specs.State.{StateMap, state_after}
 use Rattle.journal_model.specs.Request.{Request, SignalKey, completions_asked}
 use Rattle.journal_model.specs.Event.{Event, Frame}
-use Rattle.journal_model.specs.Journal.{Entry, Recorded, Arrived, completion, begins, is_of, is_tick, is_open, invocation_begun, starting_state, requests_in, arrivals_in, completes, is_awaited, asks_for, request_asking, open_request, sleep_in, sleeps_in, by_moment, sorted_by_moment, is_over, slept, read_answer, entries_of_event, entries_of, recorded_requests, recorded_arrivals}
+use Rattle.journal_model.specs.Journal.{Entry, Recorded, Arrived, completion, begins, is_of, is_tick, is_open, invocation_begun, starting_state, requests_in, arrivals_in, completes, is_awaited, asks_for, request_asking, open_request, sleep_in, sleeps_in, by_moment, sorted_by_moment, can_be_due, is_over, slept, read_answer, entries_of_event, entries_of, recorded_requests, recorded_arrivals}
 use Rattle.journal_model.specs.Cause.{Cause, do_ascend, greatest, last_completion, is_run, own_tests, causes_of, IsAccepted}
 use Rattle.journal_model.specs.Value.{result_of_value}
 use Rattle.journal_laws.proofs.ObjectState.{tail_of, holds-head, holds-tail, not-false}
@@ -219,8 +219,8 @@ over_awaited entries now m (sleep ∷ sleeps) e = by_test (is_over entries now s
     by_number false g f later = omega arith
     by_number true g f later =
         let same : sleep.1 ≡ m = eqb-true sleep.1 m g in
-        let parts = and-true (nat_le sleep.0 now) (nat_lt sleep.0 (2 ^ 63) && is_awaited entries sleep.1) f in
-        let more = and-true (nat_lt sleep.0 (2 ^ 63)) (is_awaited entries sleep.1) parts.1 in
+        let parts = and-true (nat_le sleep.0 now) (can_be_due sleep && is_awaited entries sleep.1) f in
+        let more = and-true (can_be_due sleep) (is_awaited entries sleep.1) parts.1 in
         absurd (true≢false (sym more.1 ∙ ap (is_awaited entries) same ∙ e))
 
     by_test : (b : Bool) → is_over entries now sleep ≡ b → count_of m (numbers_of (filter (is_over entries now) sleeps)) ≡ 0

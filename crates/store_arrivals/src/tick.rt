@@ -17,7 +17,7 @@ ghost use Rattle.store_refusals.specs.Causes.{TellsCause};
 use crate::ended::end_sleeps;
 use crate::groups::{SleepGroup, groups_of};
 use crate::woken::woken_row;
-use journal_model::{Notification, NotificationId, NotificationResult};
+use journal_model::{NEVER, Notification, NotificationId, NotificationResult};
 use sqlite::Alter;
 use std::alloc::{AllocError, Global};
 use std::collections::VecDeque;
@@ -34,11 +34,11 @@ pub struct PreparedTick {
     pub count: u64,
 }
 
-/// The last moment of which a sleep is kept: a later one is never due.
+/// The last moment by which a tick at this one ends sleeps: a later one is never due.
 fn due_until(now: u64) -> u64
     ensures { result ≡ the_last_due now }
 {
-    now.min(i64::MAX as u64)
+    now.min(NEVER - 1)
 }
 
 /// The ends of these sleeps, as they arrive.

@@ -1,5 +1,5 @@
 -- The first of the kept sleeps is the next one that a tick ends.
-use Rattle.std.proofs.Common.{ℕ, pos, ◌<◌, ◌≤◌, ◌^◌, arith, nat_lt, nat_le, ◌≡◌, ◌⊎◌, refl, sym, ap, ap₂, subst, ◌∙◌, inl, inr, true≢false, Bool, true, false, not, ◌&&◌, ◌||◌, if◌then◌else◌, List, [], ◌∷◌, ◌++◌, map, filter, cond, Option, Some, None, option_map, bytes_eq, Less, Equal, Greater, is_gt, is_ge}
+use Rattle.std.proofs.Common.{ℕ, pos, ◌<◌, ◌≤◌, arith, nat_lt, nat_le, ◌≡◌, ◌⊎◌, refl, sym, ap, ap₂, subst, ◌∙◌, inl, inr, true≢false, Bool, true, false, not, ◌&&◌, ◌||◌, if◌then◌else◌, List, [], ◌∷◌, ◌++◌, map, filter, cond, Option, Some, None, option_map, bytes_eq, Less, Equal, Greater, is_gt, is_ge}
 use Rattle.std.specs.List.{AllByRecursion, list_any}
 use Rattle.std.specs.Int.{w64, cast_signed}
 use Rattle.std.specs.Ordering.{int_cmp}
@@ -14,13 +14,13 @@ use Rattle.sql_tables.specs.Statements.{IsFirst}
 use Rattle.journal_model.specs.Notification.{Text, Arrival}
 use Rattle.journal_model.specs.declared.notification.NotificationResult.{NotificationResult}
 use Rattle.journal_model.specs.Event.{Frame, Event}
-use Rattle.journal_model.specs.Journal.{completion, version_of, closes, is_open, sleep_in, requests_in, sleeps_in, sorted_by_moment, is_over, slept, entries_of}
+use Rattle.journal_model.specs.Journal.{completion, version_of, closes, is_open, sleep_in, requests_in, sleeps_in, sorted_by_moment, never, can_be_due, is_over, slept, entries_of}
 use Rattle.journal_model.specs.Cause.{is_empty, IsAccepted}
 use Rattle.due_laws.specs.NextMoment.{ends_sleep}
 use Rattle.store_tables.specs.Records.{Records, ends_by, ends_from, is_sleep_of}
 use Rattle.store_tables.specs.Orders.{moment_cmp, sleep_cmp}
 use Rattle.store_tables.specs.declared.row.SleepRow.{SleepRow}
-use Rattle.store_model.specs.Sleeps.{can_be_due, due_until, sleep_row, sleeps_opened, sleeps_after_frame, sleeps_kept}
+use Rattle.store_model.specs.Sleeps.{due_until, sleep_row, sleeps_opened, sleeps_after_frame, sleeps_kept}
 use Rattle.store_model.specs.Kept.{IsKept}
 use Rattle.store_model.proofs.States.{itself}
 use Rattle.store_model.specs.Lookups.{due_sleeps, ended_sleeps}
@@ -31,7 +31,7 @@ use Rattle.store_live_laws.specs.Kept.{NextFromRecords}
 -- ---- the moments that are kept fit
 
 abbrev IsSmall : SleepRow → Type 0
-IsSmall s = s.moment < 2 ^ 63
+IsSmall s = s.moment < never
 
 small_opened : (id : Text) (sleeps : List (ℕ × ℕ)) → AllByRecursion IsSmall (map (sleep_row id) (filter can_be_due sleeps))
 small_opened id [] = tt
@@ -39,7 +39,7 @@ small_opened id (sleep ∷ sleeps) = by_test (can_be_due sleep) refl (small_open
   where
     by_test : (b : Bool) → can_be_due sleep ≡ b → AllByRecursion IsSmall (map (sleep_row id) (filter can_be_due sleeps))
         → AllByRecursion IsSmall (map (sleep_row id) (if b then sleep ∷ filter can_be_due sleeps else filter can_be_due sleeps))
-    by_test true e later = (ltb-true sleep.0 (2 ^ 63) e, later)
+    by_test true e later = (ltb-true sleep.0 never e, later)
     by_test false e later = later
 
 small_unless : (b : Bool) (id : Text) (sleeps : List SleepRow) → AllByRecursion IsSmall sleeps
@@ -59,7 +59,7 @@ all_small (event ∷ events) = all_small events
 
 -- so they are told as they are
 until : (now : ℕ) (s : SleepRow) → IsSmall s → ends_by (due_until now) s ≡ nat_le s.moment now
-until now s small = due_told s.invocation (s.moment, s.completion) now (lt-ltb s.moment (2 ^ 63) small)
+until now s small = due_told s.invocation (s.moment, s.completion) now (lt-ltb s.moment never small)
 
 from_zero : (s : SleepRow) → IsSmall s → ends_from 0 s ≡ true
 from_zero s small =

@@ -11,10 +11,9 @@ use Rattle.journal_model.specs.declared.value.NonEmptyValue.{NonEmptyValue}
 use Rattle.journal_model.specs.Request.{Request, SignalKey, completions_asked}
 use Rattle.journal_model.specs.State.{StateMap}
 use Rattle.journal_model.specs.Event.{Frame, Event}
-use Rattle.journal_model.specs.Journal.{Entry, Recorded, Arrived, asks_for as is_asking, id_of_signal, requests_in, arrivals_in, completes, completion, is_awaited, request_asking, open_request, read_answer, sleep_in, sleeps_in, entries_of}
+use Rattle.journal_model.specs.Journal.{Entry, Recorded, Arrived, asks_for as is_asking, id_of_signal, requests_in, arrivals_in, completes, completion, is_awaited, request_asking, open_request, read_answer, sleep_in, sleeps_in, can_be_due, entries_of}
 use Rattle.journal_model.specs.Cause.{IsAccepted, causes_of, tests_of, do_ascend, greatest, last_completion, is_run, refuses_kind}
 use Rattle.journal_laws.proofs.ObjectState.{holds-head, holds-tail, tail_of, not-false, requests_in-append}
-use Rattle.store_model.specs.Sleeps.{can_be_due}
 use Rattle.store_model.specs.Lookups.{is_open_sleep, open_among}
 use Rattle.store_model.proofs.Opening.{both_parts, filter_on, or_nothing}
 use Rattle.store_model.proofs.Asking.{ascend_from, ascends, below_greatest}

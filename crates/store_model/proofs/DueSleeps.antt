@@ -18,12 +18,12 @@ use Rattle.sqlite_keyed.proofs.SortLemmas.{IsPermutation-sort_by}
 use Rattle.journal_model.specs.Notification.{Text}
 use Rattle.journal_model.specs.Request.{Request, completions_asked}
 use Rattle.journal_model.specs.Event.{Event}
-use Rattle.journal_model.specs.Journal.{Entry, is_open, requests_in, is_awaited, sleeps_in, by_moment, sorted_by_moment, is_over, entries_of}
+use Rattle.journal_model.specs.Journal.{Entry, is_open, requests_in, is_awaited, sleeps_in, by_moment, sorted_by_moment, can_be_due, is_over, entries_of}
 use Rattle.journal_model.specs.Cause.{IsAccepted, do_ascend, greatest}
 use Rattle.store_tables.specs.Records.{Records, ends_by, is_sleep_of}
 use Rattle.store_tables.specs.Orders.{AreApart, sleep_cmp}
 use Rattle.store_tables.specs.declared.row.SleepRow.{SleepRow}
-use Rattle.store_model.specs.Sleeps.{can_be_due, due_until, sleep_row}
+use Rattle.store_model.specs.Sleeps.{due_until, sleep_row}
 use Rattle.store_model.specs.Kept.{IsKept}
 use Rattle.store_model.proofs.Lists.{filter_swap}
 use Rattle.store_model.proofs.States.{itself}

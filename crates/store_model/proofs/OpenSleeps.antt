@@ -16,12 +16,12 @@ use Rattle.journal_model.specs.Request.{Request, completions_asked}
 use Rattle.journal_model.specs.State.{state_after}
 use Rattle.journal_model.specs.Value.{result_of_value}
 use Rattle.journal_model.specs.Event.{Frame, Event}
-use Rattle.journal_model.specs.Journal.{Entry, Recorded, Arrived, is_of, is_tick, invoked_by, invocation_begun, version_of, closes, frame_of, frames_of, starting_state, is_open, id_of_signal, requests_in, completes, completion, is_awaited, read_answer, sleep_in, sleeps_in, sorted_by_moment, is_over, slept, entries_of, entries_of_event}
+use Rattle.journal_model.specs.Journal.{Entry, Recorded, Arrived, is_of, is_tick, invoked_by, invocation_begun, version_of, closes, frame_of, frames_of, starting_state, is_open, id_of_signal, requests_in, completes, completion, is_awaited, read_answer, sleep_in, sleeps_in, sorted_by_moment, can_be_due, is_over, slept, entries_of, entries_of_event}
 use Rattle.journal_model.specs.Cause.{IsAccepted, do_ascend, last_completion}
 use Rattle.journal_laws.proofs.ObjectState.{begin_when_new, begun_before, no_entries, none_of, open_when_accepted, requests_in-append}
 use Rattle.store_tables.specs.Records.{ends_by, is_sleep_of}
 use Rattle.store_tables.specs.declared.row.SleepRow.{SleepRow}
-use Rattle.store_model.specs.Sleeps.{can_be_due, due_until, sleep_row, sleeps_kept, sleeps_opened}
+use Rattle.store_model.specs.Sleeps.{due_until, sleep_row, sleeps_kept, sleeps_opened}
 use Rattle.store_model.proofs.Journals.{added_to}
 use Rattle.store_model.proofs.Lists.{filter_swap}
 use Rattle.store_model.proofs.Same.{both_same, foreign_adds, opened, same_entries, same_open, version_in}

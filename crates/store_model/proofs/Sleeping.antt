@@ -1,5 +1,5 @@
 -- Sleeps that a tick ends: each completion once, and only one that is awaited and was asked for.
-use Rattle.std.proofs.Common.{ℕ, max, ◌≤◌, arith, le_trans, le_of_eq, ◌==◌, nat_lt, nat_le, ◌^◌, ◌≡◌, refl, sym, ap, ◌∙◌, Bool, true, false, ◌||◌, ◌&&◌, if◌then◌else◌, List, [], ◌∷◌, length, map, filter, IsPermutation}
+use Rattle.std.proofs.Common.{ℕ, max, ◌≤◌, arith, le_trans, le_of_eq, ◌==◌, nat_lt, nat_le, ◌≡◌, refl, sym, ap, ◌∙◌, Bool, true, false, ◌||◌, ◌&&◌, if◌then◌else◌, List, [], ◌∷◌, length, map, filter, IsPermutation}
 use Rattle.std.specs.List.{list_any}
 use Rattle.std.proofs.lemmas.Bool.{eqb-true}
 use Rattle.std.proofs.lemmas.List.Sorted.{IsPermutation-refl, IsPermutation-trans, IsPermutation-cons, length_permutation, list_any-IsPermutation}
@@ -7,7 +7,7 @@ use Rattle.sqlite_keyed.proofs.ListLemmas.{IsPermutation-filter}
 use Rattle.journal_model.specs.Notification.{Arrival}
 use Rattle.journal_model.specs.declared.notification.NotificationResult.{NotificationResult}
 use Rattle.journal_model.specs.Request.{Request, completions_asked}
-use Rattle.journal_model.specs.Journal.{Entry, asks_for as is_asking, requests_in, completes, completion, is_awaited, sleep_in, sleeps_in, by_moment, sorted_by_moment, is_over, slept}
+use Rattle.journal_model.specs.Journal.{Entry, asks_for as is_asking, requests_in, completes, completion, is_awaited, sleep_in, sleeps_in, by_moment, sorted_by_moment, can_be_due, is_over, slept}
 use Rattle.journal_model.specs.Cause.{do_ascend, greatest}
 use Rattle.store_model.proofs.States.{exchanged}
 use Rattle.store_model.proofs.Opening.{both_parts}
@@ -119,7 +119,7 @@ awaited_of entries now n (sleep ∷ sleeps) e = by_over (is_over entries now sle
         by_number : (b : Bool) → (sleep.1 == n) ≡ b → (b || list_any (completes n) (map answer_of_sleep (filter (is_over entries now) sleeps))) ≡ true
             → (is_awaited entries n ≡ true) × ((b || list_any (ends_at n) sleeps) ≡ true)
         by_number true g e =
-            (ap (is_awaited entries) (sym (eqb-true sleep.1 n g)) ∙ and_last (nat_le sleep.0 now) (nat_lt sleep.0 (2 ^ 63)) (is_awaited entries sleep.1) f, refl)
+            (ap (is_awaited entries) (sym (eqb-true sleep.1 n g)) ∙ and_last (nat_le sleep.0 now) (can_be_due sleep) (is_awaited entries sleep.1) f, refl)
         by_number false g e = later e
     by_over false f e later = ((later e).0, or_right (sleep.1 == n) (list_any (ends_at n) sleeps) ((later e).1))
 

@@ -7,7 +7,7 @@ use Rattle.journal_model.specs.State.{value_at}
 use Rattle.journal_model.specs.Spelling.{frame_bytes}
 use Rattle.journal_model.specs.Event.{Event}
 use Rattle.journal_model.specs.Attempt.{input_bytes, journal_pieces}
-use Rattle.journal_model.specs.Journal.{Entry, Recorded, Arrived, asks_for as is_asking, invocation_begun, is_busy, is_open, entries_of, requests_in, sleeps_in, sorted_by_moment, is_over, request_asking, is_awaited, object_state}
+use Rattle.journal_model.specs.Journal.{Entry, Recorded, Arrived, asks_for as is_asking, invocation_begun, is_busy, is_open, entries_of, requests_in, sleeps_in, sorted_by_moment, can_be_due, is_over, request_asking, is_awaited, object_state}
 use Rattle.journal_model.specs.Cause.{IsAccepted}
 use Rattle.sqlite_keyed.specs.Lists.{sort_by}
 use Rattle.store_tables.specs.Records.{Records, ends_by, is_at_key, is_sleep_of}
@@ -16,7 +16,7 @@ use Rattle.store_tables.specs.declared.row.EntryRow.{EntryRow}
 use Rattle.store_tables.specs.declared.row.SleepRow.{SleepRow}
 use Rattle.store_tables.specs.Questions.{has_id, is_open_of, is_at_place, asks_for, asks_second_for, answers, journal_of, is_arrival_after, is_arrival_at, is_number, AreCounted, AreInPlace}
 use Rattle.store_model.specs.Progress.{first_of, second_of}
-use Rattle.store_model.specs.Sleeps.{can_be_due, due_until, sleep_row, sleeps_kept}
+use Rattle.store_model.specs.Sleeps.{due_until, sleep_row, sleeps_kept}
 use Rattle.store_model.specs.Kept.{entry_row, journal_rows, invocation_row, state_row, IsKept}
 
 -- of all these, what passes a test is this one, or none: so it is the first one, and the only one

@@ -1,10 +1,10 @@
 -- Which sleeps are kept apart from the journals: those that may still be ended, each opened by its request, and closed by the tick
 -- that ends it or by the end of its invocation.
-use Rattle.std.specs.Prelude.{ℕ, ◌^◌, ◌-◌, nat_lt, not, Bool, if◌then◌else◌, List, [], ◌∷◌, ◌++◌, map, filter}
+use Rattle.std.specs.Prelude.{ℕ, ◌-◌, nat_lt, not, Bool, if◌then◌else◌, List, [], ◌∷◌, ◌++◌, map, filter}
 use Rattle.journal_model.specs.Notification.{Text}
 use Rattle.journal_model.specs.Request.{Request}
 use Rattle.journal_model.specs.Event.{Frame, Event}
-use Rattle.journal_model.specs.Journal.{version_of, closes, sleep_in}
+use Rattle.journal_model.specs.Journal.{version_of, closes, sleep_in, never, can_be_due}
 use Rattle.store_tables.specs.Records.{ends_by, is_sleep_of}
 use Rattle.store_tables.specs.declared.row.SleepRow.{SleepRow}
 
@@ -12,12 +12,9 @@ use Rattle.store_tables.specs.declared.row.SleepRow.{SleepRow}
 abbrev pub sleep_row : Text → ℕ × ℕ → SleepRow
 sleep_row id sleep = record { moment = sleep.0; invocation = id; completion = sleep.1 }
 
--- a moment past 2^63 - 1 milliseconds is never due
-abbrev pub can_be_due : ℕ × ℕ → Bool
-can_be_due sleep = nat_lt sleep.0 (2 ^ 63)
-
+-- the last moment by which a tick at this one ends sleeps
 abbrev pub due_until : ℕ → ℕ
-due_until now = if nat_lt now (2 ^ 63) then now else 2 ^ 63 - 1
+due_until now = if nat_lt now never then now else never - 1
 
 -- the sleep that a request opens
 abbrev pub sleeps_opened : Text → Request → List SleepRow

@@ -1,12 +1,12 @@
 -- What is written of a frame, by what is kept of its invocation and of the frame, is what the event writes.
-use Rattle.std.proofs.Common.{arith, ◌≡◌, refl, sym, ap, ap₂, ◌∙◌, ℕ, ◌+◌, ◌^◌, max, nat_lt, Bool, true, false, ◌&&◌, if◌then◌else◌, List, [], ◌∷◌, ◌++◌, append-nil, length, map, Option, Some, None, option_map}
+use Rattle.std.proofs.Common.{arith, ◌≡◌, refl, sym, ap, ap₂, ◌∙◌, ℕ, ◌+◌, max, nat_lt, Bool, true, false, ◌&&◌, if◌then◌else◌, List, [], ◌∷◌, ◌++◌, append-nil, length, map, Option, Some, None, option_map}
 use Rattle.journal_model.specs.Notification.{Text, Arrival}
 use Rattle.journal_model.specs.State.{state_after}
 use Rattle.journal_model.specs.declared.invocation.NewInvocation.{NewInvocation}
 use Rattle.journal_model.specs.Request.{Request, completions_asked}
 use Rattle.journal_model.specs.Spelling.{request_type, request_payload}
 use Rattle.journal_model.specs.Event.{Behavior, Frame, Event}
-use Rattle.journal_model.specs.Journal.{Entry, Recorded, Arrived, invocation_begun, version_of, object_of, closes, sleep_in, starting_state, requests_in, entries_of}
+use Rattle.journal_model.specs.Journal.{Entry, Recorded, Arrived, invocation_begun, version_of, object_of, closes, sleep_in, never, starting_state, requests_in, entries_of}
 use Rattle.journal_model.specs.Cause.{greatest, causes_of, IsAccepted}
 use Rattle.due_laws.specs.Noted.{Noted, noted_of}
 use Rattle.due_laws.specs.Awake.{after_frame as noted_after}
@@ -83,8 +83,8 @@ row_same id before place request command h = λ i. record {
 
 -- the sleep that a request asks for is told by the type, the moment and the completion of its command
 sleep_told_so : (id : Text) (request : Request)
-    → sleeps_opened id request ≡ sleep_if (keeps_moment (facts_of (request_type request)) && nat_lt (moment_told request) (2 ^ 63)) id (moment_told request) (first_asked (completions_asked request))
-sleep_told_so id (Request.Sleep moment n name) = by_test (nat_lt moment (2 ^ 63))
+    → sleeps_opened id request ≡ sleep_if (keeps_moment (facts_of (request_type request)) && nat_lt (moment_told request) never) id (moment_told request) (first_asked (completions_asked request))
+sleep_told_so id (Request.Sleep moment n name) = by_test (nat_lt moment never)
   where
     by_test : (b : Bool) → map (sleep_row id) (if b then (moment, n) ∷ [] else []) ≡ sleep_if b id moment (Some n)
     by_test true = refl
@@ -94,7 +94,7 @@ sleep_told_so id _ = refl
 sleep_same : (id : Text) (request : Request) (command : RecordedCommand) → IsCommand request command → sleeps_opened id request ≡ sleep_told id command
 sleep_same id request command h =
     sleep_told_so id request
-    ∙ (λ i. sleep_if (keeps_moment (facts_of (sym h.kind i)) && nat_lt (sym h.moment i) (2 ^ 63)) id (sym h.moment i) (sym h.completion i))
+    ∙ (λ i. sleep_if (keeps_moment (facts_of (sym h.kind i)) && nat_lt (sym h.moment i) never) id (sym h.moment i) (sym h.completion i))
 
 output_same : (request : Request) → output_payload request ≡ (if puts_out (facts_of (request_type request)) then Some (request_payload request) else None)
 output_same (Request.Output value name) = refl

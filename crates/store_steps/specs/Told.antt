@@ -2,6 +2,7 @@
 use Rattle.std.specs.Prelude.{ℕ, ◌+◌, ◌<◌, ◌-◌, ◌^◌, max, nat_lt, Bool, true, false, not, ◌&&◌, if◌then◌else◌, List, [], ◌∷◌, ◌++◌, map, Option, Some, None, option_to_list}
 use Rattle.journal_model.specs.Notification.{Bytes, Text}
 use Rattle.journal_model.specs.Cause.{BrokenPayload, NestedTooDeep, FrameNotAccepted, BadCompletion, KeyNotText, InputNotClosed, NumbersUsedUp, PayloadTooLong, Tests, do_ascend, greatest, is_too_long}
+use Rattle.journal_model.specs.Journal.{never}
 use Rattle.protocol_stream.specs.declared.command_facts.CommandFacts.{CommandFacts}
 use Rattle.protocol_stream.specs.CommandFacts.{facts_of, is_answer, is_moment}
 use Rattle.protocol_types.specs.declared.feature.Feature.TheVariants as features
@@ -69,7 +70,7 @@ sleep_if true id moment None = []
 sleep_if false id moment completion = []
 
 abbrev pub sleep_told : Text → RecordedCommand → List SleepRow
-sleep_told id command = sleep_if (keeps_moment (facts_of command.kind) && nat_lt command.moment (2 ^ 63)) id command.moment command.completion
+sleep_told id command = sleep_if (keeps_moment (facts_of command.kind) && nat_lt command.moment never) id command.moment command.completion
 
 -- how many answers the store gives to a command at once
 abbrev pub answers_told : StateUse → ℕ

@@ -9,6 +9,7 @@ ghost use Rattle.store_steps.specs.Told.{HasRoom, after_end, after_error, after_
 
 use crate::frame::{FrameReply, LiveFacts};
 use bytes::{ByteStr, Bytes};
+use journal_model::NEVER;
 use protocol_stream::{CommandFacts, Feature, Version};
 use std::alloc::{AllocError, Global};
 use std::mem;
@@ -111,9 +112,6 @@ fn keeps_moment(command: &RecordedCommand) -> bool
         None => false,
     }
 }
-
-/// A sleep that ends at this moment or later is never due.
-const NEVER: u64 = 1 << 63;
 
 /// The sleep that a command asks for, where it may be due some day.
 fn sleep_of(id: &ByteStr, command: &RecordedCommand) -> Result<Option<SleepRow>, AllocError>
