@@ -20,9 +20,9 @@ pub use protocol_stream::{
     CommandFacts, CommandType, CompletedBy, Completion, Completions, ContentTypeError, Decoder,
     DecodingError, EncodingError, Feature, FirstItem, HEADER_LEN, HeaderMap, Kept, MessageHeader,
     MessageType, NotificationField, RawMessage, UnknownMessageType, Version, begin_frame,
-    first_item, frame_of, payload_of_frame, put_frame, to_failure, to_failure_record, to_header,
-    to_header_record, to_header_records, to_headers, to_non_empty_value, to_output_result,
-    to_terminal_failure, write_message,
+    first_item, frame_of, payload_of_frame, put_frame, to_arrived_failure_record, to_failure,
+    to_failure_record, to_header, to_header_record, to_header_records, to_headers,
+    to_non_empty_value, to_output_result, to_terminal_failure, write_message,
 };
 
 // Whole messages: which record a payload is, and which frame a record is written as.

@@ -10,11 +10,11 @@ use Rattle.journal_model.specs.declared.notification.NotificationResult.TheVaria
 use Rattle.protocol_records.specs.Failure.{failure_parts}
 use Rattle.protocol_records.specs.Suspension.{suspension_parts}
 use Rattle.protocol_controls.specs.ProposeRunCompletionAck.{propose_run_completion_ack_parts}
-use Rattle.protocol_stream.specs.Records.{future_record}
+use Rattle.protocol_stream.specs.Records.{future_record, arrived_failure_record}
 use Rattle.protocol_controls.specs.Notification.{id_parts, result_parts}
 use Rattle.protocol_stream.proofs.Spellings.{plain_number-is, optional_bytes-is, AreSpelled, spelled-cons, spelled-last, payload_is}
 use Rattle.protocol_stream.proofs.RecordSpellings.{value_spelling, failure_spelling, one_record, tree_spelled}
-use Rattle.protocol_laws.specs.Records.{arrived_failure_record, id_record, result_record}
+use Rattle.protocol_laws.specs.Records.{id_record, result_record}
 use Rattle.protocol_laws.specs.Laws.{NotificationsSpelled, AcknowledgementsSpelled, SuspensionsSpelled}
 use Rattle.protocol_laws.proofs.Fields.{present_number, spelled-none, keys_spelling}
 

@@ -1,7 +1,6 @@
 -- The records that stand for requests, notifications and what is waited for.
 use Rattle.std.specs.Prelude.{ℕ, List, map, Option, Some, None}
 use Rattle.journal_model.specs.Notification.{Arrival, Bytes, Text}
-use Rattle.journal_model.specs.declared.notification.Failure.{Failure}
 use Rattle.journal_model.specs.declared.notification.NotificationId.{NotificationId}
 use Rattle.journal_model.specs.declared.notification.NotificationId.TheVariants as model_ids
 use Rattle.journal_model.specs.declared.notification.NotificationResult.{NotificationResult}
@@ -10,9 +9,8 @@ use Rattle.journal_model.specs.declared.value.NonEmptyValue.{NonEmptyValue}
 use Rattle.journal_model.specs.declared.call.AttachInvocationTarget.{AttachInvocationTarget}
 use Rattle.journal_model.specs.Request.{CallRecord, SignalKey, SignalValue}
 use Rattle.protocol_records.specs.declared.void.Void.{Void}
-use Rattle.protocol_records.specs.declared.failure.Failure.{Failure as FailureRecord}
 use Rattle.protocol_records.specs.declared.state_keys.StateKeys.{StateKeys}
-use Rattle.protocol_stream.specs.Records.{header_record, value_record, pair_record, failure_record}
+use Rattle.protocol_stream.specs.Records.{header_record, value_record, failure_record, arrived_failure_record}
 use Rattle.protocol_commands.specs.declared.get_eager_state_command.GetEagerStateCommandResult.{GetEagerStateCommandResult}
 use Rattle.protocol_commands.specs.declared.get_eager_state_command.GetEagerStateCommandResult.TheVariants as eager
 use Rattle.protocol_commands.specs.declared.complete_promise_command.CompletePromiseCommandCompletion.{CompletePromiseCommandCompletion}
@@ -40,10 +38,6 @@ void_record = record {}
 
 abbrev pub keys_record : List Bytes → StateKeys
 keys_record keys = record { keys = keys }
-
--- a failure that has arrived
-abbrev pub arrived_failure_record : Failure → FailureRecord
-arrived_failure_record failure = record { code = failure.code; message = failure.message; metadata = map pair_record failure.metadata }
 
 -- ---- commands
 

@@ -49,6 +49,10 @@ pair_told metadata = (metadata.key, metadata.value)
 abbrev pub failure_record : TerminalFailure → FailureRecord
 failure_record failure = record { code = failure.code; message = failure.message; metadata = map pair_record failure.metadata }
 
+-- a failure that has arrived
+abbrev pub arrived_failure_record : Failure → FailureRecord
+arrived_failure_record failure = record { code = failure.code; message = failure.message; metadata = map pair_record failure.metadata }
+
 -- what a recorded failure says
 abbrev pub failure_told : FailureRecord → Failure
 failure_told failure = record { code = failure.code; message = failure.message; metadata = map pair_told failure.metadata }

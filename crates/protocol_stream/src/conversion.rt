@@ -1,6 +1,6 @@
 // Between the records of messages and the values that handlers speak in.
 ghost use Rattle.std.specs.Prelude.{◌≡◌, map, IfOk};
-ghost use Rattle.protocol_stream.specs.Records.{header_record, header_told, pair_record, pair_told, failure_record, failure_told, terminal_failure_told, result_record, result_told};
+ghost use Rattle.protocol_stream.specs.Records.{header_record, header_told, pair_record, pair_told, arrived_failure_record, failure_record, failure_told, terminal_failure_told, result_record, result_told};
 
 use bytes::ByteStr;
 use journal_model::{Failure, Header, NonEmptyValue, TerminalFailure};
@@ -102,6 +102,25 @@ pub fn to_failure_record(
     } = failure;
     Ok(FailureRecord {
         code: u32::from(code),
+        message,
+        metadata: pair_records(alloc, metadata)?,
+    })
+}
+
+/// The record of a failure that arrives.
+pub fn to_arrived_failure_record(
+    alloc: Global,
+    failure: Failure,
+) -> Result<FailureRecord, AllocError>
+    ensures { IfOk result (λ recorded. recorded ≡ arrived_failure_record failure) }
+{
+    let Failure {
+        code,
+        message,
+        metadata,
+    } = failure;
+    Ok(FailureRecord {
+        code,
         message,
         metadata: pair_records(alloc, metadata)?,
     })

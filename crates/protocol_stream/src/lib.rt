@@ -16,8 +16,8 @@ mod request_headers;
 pub use command_facts::{CommandFacts, CompletedBy, Completion, Completions, Kept};
 pub use command_type::CommandType;
 pub use conversion::{
-    to_failure, to_failure_record, to_header, to_header_record, to_header_records, to_headers,
-    to_non_empty_value, to_output_result, to_terminal_failure,
+    to_arrived_failure_record, to_failure, to_failure_record, to_header, to_header_record,
+    to_header_records, to_headers, to_non_empty_value, to_output_result, to_terminal_failure,
 };
 pub use decoder::{Decoder, DecodingError, NotificationField, RawMessage};
 pub use encoder::{EncodingError, write_message};

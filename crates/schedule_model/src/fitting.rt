@@ -8,8 +8,8 @@ ghost use Rattle.protocol_records.specs.Failure.{FailureFits};
 ghost use Rattle.protocol_records.specs.FailureMetadata.{FailureMetadataFits};
 ghost use Rattle.protocol_records.specs.Header.{HeaderFits};
 ghost use Rattle.protocol_records.specs.InputCommand.{InputCommandFits};
-ghost use Rattle.protocol_laws.specs.Records.{arrived_failure_record, result_record};
-ghost use Rattle.protocol_stream.specs.Records.{header_record, input_record, pair_record};
+ghost use Rattle.protocol_laws.specs.Records.{result_record};
+ghost use Rattle.protocol_stream.specs.Records.{arrived_failure_record, header_record, input_record, pair_record};
 ghost use Rattle.protocol_wire.specs.declared.record.TheConstants.{LEVELS};
 ghost use Rattle.schedule_model.specs.Fitting.{ResultFits, signal_arrival};
 

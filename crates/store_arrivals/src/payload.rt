@@ -1,46 +1,16 @@
 //! The canonical payload of an arrival.
 
-ghost use Rattle.std.specs.Prelude.{◌≡◌, map, IfOk};
+ghost use Rattle.std.specs.Prelude.{◌≡◌, IfOk};
 ghost use Rattle.journal_model.specs.Spelling.{notification_payload};
-ghost use Rattle.protocol_stream.specs.Records.{pair_record};
-ghost use Rattle.protocol_laws.specs.Records.{arrived_failure_record, id_record, notification_record, result_record};
+ghost use Rattle.protocol_laws.specs.Records.{id_record, notification_record, result_record};
 
-use bytes::{ByteStr, Bytes};
-use journal_model::{Failure, Notification, NotificationId, NotificationResult};
+use bytes::Bytes;
+use journal_model::{Notification, NotificationId, NotificationResult};
 use protocol_controls::{NotificationMessage, NotificationMessageId, NotificationMessageResult};
-use protocol_records::{Failure as FailureRecord, FailureMetadata, StateKeys, Value, Void};
+use protocol_records::{StateKeys, Value, Void};
+use protocol_stream::to_arrived_failure_record;
 use protocol_wire::encode;
-use sequence::Sequence;
 use std::alloc::{AllocError, Global};
-
-fn pair_records(
-    alloc: Global,
-    pairs: Sequence<(ByteStr, ByteStr)>,
-) -> Result<Sequence<FailureMetadata>, AllocError>
-    ensures { IfOk result (λ records. records ≡ map pair_record pairs) }
-{
-    let records: Vec<FailureMetadata> = pairs
-        .into_vec()
-        .into_iter()
-        .map(|(key, value)| FailureMetadata { key, value })
-        .collect(alloc)?;
-    Ok(Sequence::from_vec(records))
-}
-
-fn failure_of(alloc: Global, failure: Failure) -> Result<FailureRecord, AllocError>
-    ensures { IfOk result (λ recorded. recorded ≡ arrived_failure_record failure) }
-{
-    let Failure {
-        code,
-        message,
-        metadata,
-    } = failure;
-    Ok(FailureRecord {
-        code,
-        message,
-        metadata: pair_records(alloc, metadata)?,
-    })
-}
 
 fn id_of(id: NotificationId) -> NotificationMessageId
     ensures { result ≡ id_record id }
@@ -63,9 +33,9 @@ fn result_of(
         NotificationResult::Value(content) => {
             Ok(NotificationMessageResult::Value(Value { content }))
         }
-        NotificationResult::Failure(failure) => Ok(NotificationMessageResult::Failure(failure_of(
-            alloc, failure,
-        )?)),
+        NotificationResult::Failure(failure) => Ok(NotificationMessageResult::Failure(
+            to_arrived_failure_record(alloc, failure)?,
+        )),
         NotificationResult::InvocationId(id) => Ok(NotificationMessageResult::InvocationId(id)),
         NotificationResult::StateKeys(keys) => {
             Ok(NotificationMessageResult::StateKeys(StateKeys { keys }))

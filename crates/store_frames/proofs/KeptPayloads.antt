@@ -17,9 +17,9 @@ use Rattle.protocol_records.specs.Failure.{failure_parts}
 use Rattle.protocol_records.specs.StateKeys.{state_keys_parts}
 use Rattle.protocol_records.specs.Value.{value_parts}
 use Rattle.protocol_records.specs.Void.{void_parts}
-use Rattle.protocol_stream.specs.Records.{value_record}
+use Rattle.protocol_stream.specs.Records.{value_record, arrived_failure_record}
 use Rattle.protocol_controls.specs.Notification.{id_parts, notification_parts, result_parts}
-use Rattle.protocol_laws.specs.Records.{arrived_failure_record, id_record, keys_record, notification_record, result_record, void_record}
+use Rattle.protocol_laws.specs.Records.{id_record, keys_record, notification_record, result_record, void_record}
 use Rattle.protocol_laws.proofs.Notifications.{notifications_spelled}
 use Rattle.store_frames.specs.First.{state_of}
 use Rattle.store_frames.specs.Kept.{completion_in, state_by}
