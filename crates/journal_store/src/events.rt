@@ -19,7 +19,7 @@ use std::alloc::{AllocError, Global};
 use store_arrivals::{PreparedArrival, prepare_result};
 use store_calls::BegunAttempt;
 use store_invocations::{PreparedAttempt, prepare_begin, prepare_invoke};
-use store_live::{AttemptInput, AttemptOutput, LiveAttempt, LiveAttempts};
+use store_live::{AttemptInput, FrameBuffer, LiveAttempt, LiveAttempts};
 use store_refusals::Refusal;
 use store_tables::{StoreTables, Write, commit_all};
 
@@ -59,7 +59,7 @@ fn fresh_attempt(
         version,
         input: AttemptInput::new(alloc, known, arrivals),
         is_input_closed: false,
-        output: AttemptOutput::new(alloc),
+        output: FrameBuffer::new(alloc),
     }
 }
 

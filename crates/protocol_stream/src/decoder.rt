@@ -3,9 +3,10 @@ ghost use Rattle.std.specs.Prelude.{◌≡◌, ◌++◌, [], length, OnOk, OnErr
 ghost use Rattle.protocol_stream.specs.Header.{message_type};
 ghost use Rattle.protocol_stream.specs.Decoder.{ConsumesNext};
 
+use crate::buffer::FrameBuffer;
 use crate::frame::HEADER_LEN;
 use crate::{MessageHeader, MessageType, UnknownMessageType};
-use bytes::{Bytes, BytesMut};
+use bytes::Bytes;
 use protocol_wire::Fault;
 use std::alloc::{AllocError, Global};
 use std::fmt;
@@ -89,7 +90,7 @@ pub enum DecodingError {
 /// it is cut out of them, not copied.
 #[derive(Drop)]
 pub struct Decoder {
-    buffer: BytesMut,
+    buffer: FrameBuffer,
 }
 
 impl Model for Decoder {
@@ -97,7 +98,7 @@ impl Model for Decoder {
 
     ghost Value = { List ℕ };
 
-    ghost view = { λ d. d.buffer.items };
+    ghost view = { λ decoder. decoder.buffer };
 }
 
 impl Decoder {
@@ -106,7 +107,7 @@ impl Decoder {
         ensures { result ≡ [] }
     {
         Decoder {
-            buffer: BytesMut::new(alloc),
+            buffer: FrameBuffer::new(alloc),
         }
     }
 
@@ -122,7 +123,7 @@ impl Decoder {
         ensures ok { OnOk result (self.new ≡ self.old ++ bytes.now) }
         ensures err { OnErr result (self.new ≡ self.old) }
     {
-        self.buffer.extend_from_slice(bytes)
+        self.buffer.push(bytes)
     }
 
     /// The next message, or `None` where no whole item remains.

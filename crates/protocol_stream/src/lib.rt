@@ -1,6 +1,7 @@
 //! What stands on the stream between a runtime and an invocation: types, headers and framing.
 #![tactic(auto)]
 
+mod buffer;
 mod command_facts;
 mod command_type;
 mod conversion;
@@ -13,6 +14,7 @@ mod header;
 pub mod laws;
 mod request_headers;
 
+pub use buffer::FrameBuffer;
 pub use command_facts::{CommandFacts, CompletedBy, Completion, Completions, Kept};
 pub use command_type::CommandType;
 pub use conversion::{

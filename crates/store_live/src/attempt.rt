@@ -1,7 +1,6 @@
 // An attempt that is live.
 use crate::input::AttemptInput;
-use crate::output::AttemptOutput;
-use protocol_stream::Version;
+use protocol_stream::{FrameBuffer, Version};
 
 /// The attempt that an invocation's frames are taken from: the last one that was begun, until it is over.
 #[derive(Debug, Drop)]
@@ -12,5 +11,6 @@ pub struct LiveAttempt {
     pub version: Version,
     pub input: AttemptInput,
     pub is_input_closed: bool,
-    pub output: AttemptOutput,
+    /// What the attempt wrote and was not taken.
+    pub output: FrameBuffer,
 }

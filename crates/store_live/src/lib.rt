@@ -5,10 +5,8 @@
 mod attempt;
 mod attempts;
 mod input;
-mod output;
 
 pub use attempt::LiveAttempt;
 pub use attempts::LiveAttempts;
 pub use input::{AttemptInput, FrameRead, NextRow};
-pub use output::AttemptOutput;
-pub use protocol_stream::{FirstItem, HEADER_LEN};
+pub use protocol_stream::{FirstItem, FrameBuffer, HEADER_LEN};

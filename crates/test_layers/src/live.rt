@@ -4,7 +4,7 @@ use bytes::{ByteStr, Bytes};
 use protocol_types::Version;
 use std::alloc::{AllocError, Global};
 use std::test::Fail;
-use store_live::{AttemptInput, AttemptOutput, FrameRead, LiveAttempt, LiveAttempts, NextRow};
+use store_live::{AttemptInput, FrameBuffer, FrameRead, LiveAttempt, LiveAttempts, NextRow};
 
 /// The frame of an input that is empty.
 const INPUT: [u8; 8] = [0x04, 0, 0, 0, 0, 0, 0, 0];
@@ -19,7 +19,7 @@ fn begun(alloc: Global) -> LiveAttempt {
         version: Version::V7,
         input: AttemptInput::new(alloc, 1, 0),
         is_input_closed: false,
-        output: AttemptOutput::new(alloc),
+        output: FrameBuffer::new(alloc),
     }
 }
 
