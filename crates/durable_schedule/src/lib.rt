@@ -30,7 +30,7 @@ pub use schedule_laws::{
     schedules_keep, schedules_leave,
 };
 pub use scheduler::{
-    Answer, AttachInvocationTarget, AwaitedFuture, Call, EntryKind, Event, EventRefusal, Failure, Handler, Header, HeldAttempt, Input, LastError, Moment, NewInvocation, NonEmptyValue, NotificationHandle, NotificationResult, Outcome, OutsideSignal, PayloadOptions, RecordedEntry, Reply, RetryPolicy, RunExitResult, RunOutcome, Scheduler, Sequence, StateMode, StateRow, Target, TerminalFailure, Turn, UnresolvedFuture, VMOptions, Value,
+    Answer, AttachInvocationTarget, AwaitedFuture, Call, EntryKind, Event, EventRefusal, Failure, Handler, Header, HeldAttempt, Input, LastError, Moment, NewInvocation, NonEmptyValue, NotificationHandle, NotificationResult, Outcome, PayloadOptions, RecordedEntry, Reply, RetryPolicy, RunExitResult, RunOutcome, Scheduler, Sequence, SignalKey, StateMode, StateRow, Target, TerminalFailure, Turn, UnresolvedFuture, VMOptions, Value,
 };
 pub use sqlite::Alter;
 use std::alloc::Global;

@@ -14,7 +14,7 @@ use Rattle.durable_schedule.specs.Schedules.{FitsEvent, Event, Reply, Scheduled,
 use Rattle.script_lines.specs.declared.line.Line.{Line}
 use Rattle.script_lines.specs.declared.line.Line.TheVariants.{Invoke, Result, Signal, Cancel, Tick, Begin, Feed, Close, Turn, Move, Stop, Due, Show, State}
 use Rattle.script_lines.specs.declared.outcome.LineOutcome.{LineOutcome}
-use Rattle.durable_script.specs.Line.{brought, new_invocation, signal_key, goes_on, turn_of, AppliesOne, TurnsGoOn, EndsTurns, AreTurns, AreOfLine, DoesEvent, DoesLine}
+use Rattle.durable_script.specs.Line.{brought, new_invocation, goes_on, turn_of, AppliesOne, TurnsGoOn, EndsTurns, AreTurns, AreOfLine, DoesEvent, DoesLine}
 use Rattle.durable_script.specs.Printed.{printed, refused_memory}
 use Rattle.durable_script.specs.Run.{DoneLine, AllBring, AreFirst, AreOfLines, DoesAll, DoesFirst, LinesFollow}
 
@@ -207,8 +207,8 @@ module _ (before : List DoneLine) (number : ℕ) (text : List ℕ) where
         (event.Invoke (new_invocation id object version state seed input), d.reply, refl, refl, refl, d.text_is) (λ id next. tt)
     line_more (Result id completion value) d = plain_more (Result id completion value) (event.Result id completion (brought value)) d (event.Result id completion (brought value), d.reply, refl, refl, refl, d.text_is) (λ id next. tt)
     line_more (Signal id target value) d =
-        plain_more (Signal id target value) (event.Signal id (signal_key target) (brought value)) d
-        (event.Signal id (signal_key target) (brought value), d.reply, refl, refl, refl, d.text_is) (λ id next. tt)
+        plain_more (Signal id target value) (event.Signal id target (brought value)) d
+        (event.Signal id target (brought value), d.reply, refl, refl, refl, d.text_is) (λ id next. tt)
     line_more (Cancel id) d = plain_more (Cancel id) (event.Cancel id) d (event.Cancel id, d.reply, refl, refl, refl, d.text_is) (λ id next. tt)
     line_more (Tick now) d = plain_more (Tick now) (event.Tick now) d (event.Tick now, d.reply, refl, refl, refl, d.text_is) (λ id next. tt)
     line_more (Begin id name now) d =

@@ -4,7 +4,6 @@ use Rattle.std.specs.List.{AllByRecursion}
 use Rattle.std.specs.declared.alloc.Global.{Global}
 use Rattle.built_in_handlers.specs.declared.built_in.BuiltIn.{BuiltIn}
 use Rattle.built_in_handlers.specs.BuiltIn.{built_in, function_of}
-use Rattle.journal_model.specs.Request.{SignalKey}
 use Rattle.journal_model.specs.Run.{Handler}
 use Rattle.journal_model.specs.declared.invocation.NewInvocation.{NewInvocation}
 use Rattle.journal_model.specs.declared.notification.NotificationResult.{NotificationResult}
@@ -18,8 +17,6 @@ use Rattle.durable_schedule.specs.Schedules.{FitsEvent, Event, Reply, Turned, Sc
 use Rattle.script_lines.specs.declared.line.Line.{Line}
 use Rattle.script_lines.specs.declared.line.Line.TheVariants.{Invoke, Result, Signal, Cancel, Tick, Begin, Feed, Close, Turn, Move, Stop, Due, Show, State}
 use Rattle.script_lines.specs.declared.outcome.LineOutcome.{LineOutcome}
-use Rattle.script_lines.specs.declared.target.LineTarget.{LineTarget}
-use Rattle.script_lines.specs.declared.target.LineTarget.TheVariants as target
 use Rattle.script_lines.specs.declared.value.LineValue.{LineValue}
 use Rattle.script_lines.specs.declared.value.LineValue.TheVariants as value
 use Rattle.script_lines.specs.Word.{handler_word}
@@ -49,11 +46,6 @@ brought value.Void = result.Void
 brought (value.Value bytes) = result.Value bytes
 brought (value.Failure code message) = result.Failure (record { code = code; message = message; metadata = [] })
 brought (value.InvocationId id) = result.InvocationId id
-
--- the signal that a line names
-abbrev pub signal_key : LineTarget → SignalKey
-signal_key (target.Number number) = SignalKey.ByIndex number
-signal_key (target.Name name) = SignalKey.ByName name
 
 -- a begin of an invocation with the handler that a name stands for
 abbrev pub IsBegin : List ℕ → HandlerName → ℕ → Event BuiltIn → Type 0
@@ -120,7 +112,7 @@ pub record TakesTurns (id : List ℕ) (attempt asked : ℕ) (outcome : Option Li
 abbrev pub DoesLine : Line → List ℕ → Scheduled BuiltIn → Scheduled BuiltIn → Type 0
 DoesLine (Invoke id object version state seed input) text old new = DoesEvent (event.Invoke (new_invocation id object version state seed input)) text old new
 DoesLine (Result id completion value) text old new = DoesEvent (event.Result id completion (brought value)) text old new
-DoesLine (Signal id target value) text old new = DoesEvent (event.Signal id (signal_key target) (brought value)) text old new
+DoesLine (Signal id target value) text old new = DoesEvent (event.Signal id target (brought value)) text old new
 DoesLine (Cancel id) text old new = DoesEvent (event.Cancel id) text old new
 DoesLine (Tick now) text old new = DoesEvent (event.Tick now) text old new
 DoesLine (Begin id name now) text old new = (handler : BuiltIn) × IsNamed name handler × DoesEvent (event.Begin id handler now) text old new
@@ -151,7 +143,7 @@ pub record AreTurns (id : List ℕ) (attempt : ℕ) (outcome : Option LineOutcom
 abbrev pub IsEventOf : Line → Event BuiltIn → Type 0
 IsEventOf (Invoke id object version state seed input) one = one ≡ event.Invoke (new_invocation id object version state seed input)
 IsEventOf (Result id completion value) one = one ≡ event.Result id completion (brought value)
-IsEventOf (Signal id target value) one = one ≡ event.Signal id (signal_key target) (brought value)
+IsEventOf (Signal id target value) one = one ≡ event.Signal id target (brought value)
 IsEventOf (Cancel id) one = one ≡ event.Cancel id
 IsEventOf (Tick now) one = one ≡ event.Tick now
 IsEventOf (Begin id name now) one = IsBegin id name now one

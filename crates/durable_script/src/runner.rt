@@ -4,7 +4,7 @@ ghost use Rattle.script_lines.specs.Line.{IsLine};
 ghost use Rattle.vm_types.specs.Options.{default_options};
 ghost use Rattle.durable_script.specs.Reaching.{Nowhere, Reaches};
 ghost use Rattle.durable_script.specs.Printed.{Makes};
-ghost use Rattle.durable_script.specs.Line.{brought, new_invocation, signal_key, goes_on, IsBegin, DoesEvent, DoesSomeEvent, TakesTurn, TakesTurns, TookTurns, DoesLine, DoesSomeLine};
+ghost use Rattle.durable_script.specs.Line.{brought, new_invocation, goes_on, IsBegin, DoesEvent, DoesSomeEvent, TakesTurn, TakesTurns, TookTurns, DoesLine, DoesSomeLine};
 ghost use Rattle.durable_script.specs.Runner.{DoesNext, StopsAt};
 
 use crate::due::show_due;
@@ -14,13 +14,12 @@ use crate::show::show;
 use crate::state::show_state;
 use built_in_handlers::BuiltIn;
 use bytes::{ByteStr, Bytes};
-use durable_schedule::{Event, EventRefusal, OutsideSignal, Reply, Scheduler, Turn};
+use durable_schedule::{Event, EventRefusal, Reply, Scheduler, Turn};
 use journal_model::{Failure, NewInvocation, NotificationResult};
 use journal_store::Store;
 use script_lines::fault::ScriptFault;
 use script_lines::line::{Line, parse_line};
 use script_lines::outcome::LineOutcome;
-use script_lines::target::LineTarget;
 use script_lines::value::LineValue;
 use script_lines::word::{HandlerName, StateMode};
 use sequence::Sequence;
@@ -73,16 +72,6 @@ fn brought(alloc: Global, value: LineValue) -> NotificationResult
             metadata: Sequence::new(alloc),
         }),
         LineValue::InvocationId(id) => NotificationResult::InvocationId(id),
-    }
-}
-
-/// The signal that a line names.
-fn outside_signal(target: LineTarget) -> OutsideSignal
-    ensures { result ≡ signal_key target }
-{
-    match target {
-        LineTarget::Number(number) => OutsideSignal::numbered(number),
-        LineTarget::Name(name) => OutsideSignal::named(name),
     }
 }
 
@@ -210,13 +199,12 @@ fn carry_out<S: Alter + Drop>(
             )
         }
         Line::Signal { id, target, value } => {
-            let signal = outside_signal(target);
             let value = brought(alloc, value);
             do_event(
                 scheduler,
                 Event::Signal {
                     invocation: id,
-                    signal,
+                    signal: target,
                     value,
                 },
             )

@@ -19,12 +19,12 @@ mod tick;
 
 pub use accept::Accepted;
 pub use journal_model::{
-    Failure, Header, NewInvocation, NonEmptyValue, NotificationResult, StateMode, TerminalFailure,
+    Failure, Header, NewInvocation, NonEmptyValue, NotificationResult, SignalKey, StateMode,
+    TerminalFailure,
 };
 pub use laws::refused_for_memory;
 pub use open::NotOpened;
 pub use store::Store;
-pub use store_arrivals::SignalKey;
 pub use store_calls::BegunAttempt;
 pub use store_invocations::{EntryKind, RecordedEntry};
 pub use store_refusals::Refusal;

@@ -1,7 +1,6 @@
 // What comes from outside without a request: signals, and the cancellation.
 ghost use Rattle.std.specs.Prelude.{OnErr, OnOk, IfErr};
 ghost use Rattle.journal_model.specs.Event.{Event};
-ghost use Rattle.store_arrivals.specs.Signals.{key_of};
 ghost use Rattle.store_calls.specs.Standing.{Adds};
 ghost use Rattle.store_calls.specs.Calls.{Cancels, Signals};
 ghost use Rattle.journal_store.specs.Stands.{EnduresAlways, KeepsOutputs, Leads, Settles};
@@ -10,9 +9,9 @@ ghost use Rattle.journal_store.specs.Causes.{TellsWhyUnwritten, TriesEvent};
 
 use crate::store::Store;
 use bytes::ByteStr;
-use journal_model::NotificationResult;
+use journal_model::{NotificationResult, SignalKey};
 use sqlite::Alter;
-use store_arrivals::{SignalKey, prepare_cancel, prepare_signal};
+use store_arrivals::{prepare_cancel, prepare_signal};
 use store_refusals::Refusal;
 
 impl<S: Alter + Drop> Store<S> {
@@ -23,12 +22,12 @@ impl<S: Alter + Drop> Store<S> {
         key: SignalKey,
         brought: NotificationResult,
     ) -> Result<u32, Refusal>
-        ensures does { Leads S.Store (Signals id.now (key_of key) brought result) self.old self.new }
+        ensures does { Leads S.Store (Signals id.now key brought result) self.old self.new }
         ensures waits { KeepsOutputs self.old.live.attempts self.new.live.attempts }
-        ensures settled { OnOk result (Settles S.Store (Signals id.now (key_of key) brought result) self.old self.new) }
+        ensures settled { OnOk result (Settles S.Store (Signals id.now key brought result) self.old self.new) }
         ensures kept { OnErr result (IsKept (state S.Store self.old.connection) (state S.Store self.new.connection)) }
-        ensures cause { IfErr result (TellsWhyUnwritten S.Store self.old self.new (TriesEvent (Event.Signal id.now (key_of key) brought))) }
-        ensures crash { EnduresAlways S.Store (Adds (Event.Signal id.now (key_of key) brought)) self.old self.new }
+        ensures cause { IfErr result (TellsWhyUnwritten S.Store self.old self.new (TriesEvent (Event.Signal id.now key brought))) }
+        ensures crash { EnduresAlways S.Store (Adds (Event.Signal id.now key brought)) self.old self.new }
     {
         match prepare_signal(&mut self.tables, id, key, brought) {
             Ok(made) => self.record_arrival(made),

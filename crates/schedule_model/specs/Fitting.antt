@@ -8,7 +8,7 @@ use Rattle.protocol_stream.specs.Records.{input_record}
 use Rattle.journal_model.specs.declared.invocation.NewInvocation.{NewInvocation}
 use Rattle.journal_model.specs.Journal.{completion}
 use Rattle.journal_model.specs.Notification.{Arrival}
-pub use Rattle.store_arrivals.specs.Signals.{key_of, signal_arrival, cancellation}
+pub use Rattle.store_arrivals.specs.Signals.{signal_arrival, cancellation}
 use Rattle.schedule_model.specs.declared.event.Event.{Event}
 use Rattle.schedule_model.specs.declared.event.Event.TheVariants as event
 

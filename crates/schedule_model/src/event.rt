@@ -2,9 +2,8 @@
 ghost use Rattle.std.specs.Prelude.{◌≡◌};
 ghost use Rattle.schedule_model.specs.Names.{name_of};
 
-use crate::signal::OutsideSignal;
 use bytes::ByteStr;
-use journal_model::{NewInvocation, NotificationResult};
+use journal_model::{NewInvocation, NotificationResult, SignalKey};
 use vm_attempt::{RunOutcome, Turn};
 
 /// What may happen next.
@@ -21,7 +20,7 @@ pub enum Event<H> {
     /// A signal comes: void, a value or a failure.
     Signal {
         invocation: ByteStr,
-        signal: OutsideSignal,
+        signal: SignalKey,
         value: NotificationResult,
     },
     /// The invocation is cancelled. It may be so any number of times.

@@ -2,20 +2,20 @@
 // look at each and change nothing.
 ghost use Rattle.std.specs.Prelude.{◌<◌, ◌^◌, IsUtf8, map, Some};
 ghost use Rattle.std.specs.List.{AllByRecursion};
-ghost use Rattle.protocol_controls.specs.Notification.{NotificationFits, NotificationMessageResultFits};
+ghost use Rattle.journal_model.specs.Journal.{id_of_signal};
+ghost use Rattle.protocol_controls.specs.Notification.{NotificationFits, NotificationMessageIdFits, NotificationMessageResultFits};
 ghost use Rattle.protocol_controls.specs.declared.notification.NotificationMessageId.TheVariants.{CompletionId};
 ghost use Rattle.protocol_records.specs.Failure.{FailureFits};
 ghost use Rattle.protocol_records.specs.FailureMetadata.{FailureMetadataFits};
 ghost use Rattle.protocol_records.specs.Header.{HeaderFits};
 ghost use Rattle.protocol_records.specs.InputCommand.{InputCommandFits};
-ghost use Rattle.protocol_laws.specs.Records.{result_record};
+ghost use Rattle.protocol_laws.specs.Records.{id_record, result_record};
 ghost use Rattle.protocol_stream.specs.Records.{arrived_failure_record, header_record, input_record, pair_record};
 ghost use Rattle.protocol_wire.specs.declared.record.TheConstants.{LEVELS};
 ghost use Rattle.schedule_model.specs.Fitting.{ResultFits, signal_arrival};
 
-use crate::signal::OutsideSignal;
 use bytes::ByteStr;
-use journal_model::{Failure, Header, NewInvocation, NotificationResult};
+use journal_model::{Failure, Header, NewInvocation, NotificationResult, SignalKey};
 use protocol_records::fits::{long_fits, short_fits, text_fits};
 
 fn header_fits(header: &Header)
@@ -89,10 +89,19 @@ pub fn result_fits(completion: u32, value: &NotificationResult)
     value_fits(value);
 }
 
-/// So it is of a signal.
-pub fn signal_fits(signal: &OutsideSignal, value: &NotificationResult)
-    ensures { ResultFits (signal_arrival signal.now value.now) }
+fn key_fits(key: &SignalKey)
+    ensures { NotificationMessageIdFits 99 (Some (id_record (id_of_signal key.now))) }
 {
-    signal.fits();
+    match key {
+        SignalKey::ByIndex(number) => short_fits(*number),
+        SignalKey::ByName(name) => text_fits(name),
+    }
+}
+
+/// So it is of a signal.
+pub fn signal_fits(key: &SignalKey, value: &NotificationResult)
+    ensures { ResultFits (signal_arrival key.now value.now) }
+{
+    key_fits(key);
     value_fits(value);
 }

@@ -10,15 +10,13 @@ mod kept;
 mod laws;
 mod outcome;
 mod places;
-mod signal;
 
 pub use attempts::HeldAttempts;
 pub use event::{Event, EventRefusal, Reply};
 pub use fitting::{invocation_fits, result_fits, signal_fits};
 pub use held::HeldAttempt;
+pub use journal_model::SignalKey;
 pub use kept::KeptAttempt;
 pub use laws::{attempts_are_held, schedules_grow};
 pub use outcome::tells_mismatch;
-pub use signal::OutsideSignal;
-pub use store_arrivals::SignalKey;
 pub use vm_attempt::{Attempt, RetryPolicy, RunExitResult, RunOutcome, Turn};

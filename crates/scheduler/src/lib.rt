@@ -11,8 +11,8 @@ mod scheduler;
 
 pub use outcome::Outcome;
 pub use schedule_model::{
-    Attempt, Event, EventRefusal, HeldAttempt, HeldAttempts, OutsideSignal, Reply, RetryPolicy,
-    RunExitResult, RunOutcome, Turn, attempts_are_held, schedules_grow,
+    Attempt, Event, EventRefusal, HeldAttempt, HeldAttempts, Reply, RetryPolicy, RunExitResult,
+    RunOutcome, Turn, attempts_are_held, schedules_grow,
 };
 pub use scheduler::Scheduler;
 
@@ -24,7 +24,7 @@ pub use store_tables::{LastError, StateRow};
 pub use journal_model::{
     Answer, AttachInvocationTarget, AwaitedFuture, Call, Failure, Handler, Header, Input, Moment,
     NewInvocation, NonEmptyValue, NotificationHandle, NotificationResult, PayloadOptions,
-    StateMode, Target, TerminalFailure, UnresolvedFuture, Value,
+    SignalKey, StateMode, Target, TerminalFailure, UnresolvedFuture, Value,
 };
 pub use sequence::Sequence;
 pub use vm_types::VMOptions;

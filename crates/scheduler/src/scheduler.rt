@@ -21,11 +21,11 @@ use crate::feeding::feed_in;
 use crate::held::{make, move_output};
 use crate::replies::{done, placed, ticked};
 use bytes::ByteStr;
-use journal_model::{Handler, NewInvocation, NonEmptyValue, NotificationResult};
+use journal_model::{Handler, NewInvocation, NonEmptyValue, NotificationResult, SignalKey};
 use journal_store::Store;
 use schedule_model::{
-    Event, EventRefusal, HeldAttempt, HeldAttempts, OutsideSignal, Reply, RunOutcome,
-    invocation_fits, result_fits, signal_fits, tells_mismatch,
+    Event, EventRefusal, HeldAttempt, HeldAttempts, Reply, RunOutcome, invocation_fits,
+    result_fits, signal_fits, tells_mismatch,
 };
 use sqlite::Alter;
 use std::alloc::Global;
@@ -79,16 +79,11 @@ impl<H: Handler + Drop, S: Alter + Drop> Scheduler<H, S> {
     }
 
     /// A signal comes.
-    fn signal(
-        &mut self,
-        invocation: &ByteStr,
-        signal: OutsideSignal,
-        value: NotificationResult,
-    ) -> Reply
-        ensures { Performs S.Store H.next_call (Event.Signal invocation.now signal value) result self.old self.new }
+    fn signal(&mut self, invocation: &ByteStr, key: SignalKey, value: NotificationResult) -> Reply
+        ensures { Performs S.Store H.next_call (Event.Signal invocation.now key value) result self.old self.new }
     {
-        signal_fits(&signal, &value);
-        placed(self.store.signal(invocation, signal.into_key(), value))
+        signal_fits(&key, &value);
+        placed(self.store.signal(invocation, key, value))
     }
 
     /// An invocation is cancelled.

@@ -15,8 +15,8 @@ use Rattle.script_lines.specs.declared.word.HandlerName.{HandlerName}
 use Rattle.script_lines.specs.declared.word.HandlerName.TheVariants.{Nap, Nap99, Race, Both, Ask, Pair, Twice, Keys, Read, Effect, Go, Hook, Quorum}
 use Rattle.script_lines.specs.declared.word.Command.{Command}
 use Rattle.script_lines.specs.declared.word.Command.TheVariants.{Invoke as InvokeCommand, Result as ResultCommand, Signal as SignalCommand, Cancel as CancelCommand, Tick as TickCommand, Begin as BeginCommand, Feed as FeedCommand, Close as CloseCommand, Turn as TurnCommand, Move as MoveCommand, Stop as StopCommand, Due as DueCommand, Show as ShowCommand, State as StateCommand}
-use Rattle.script_lines.specs.declared.target.LineTarget.{LineTarget}
-use Rattle.script_lines.specs.declared.target.LineTarget.TheVariants.{Number, Name}
+use Rattle.journal_model.specs.declared.notification.SignalKey.{SignalKey}
+use Rattle.journal_model.specs.declared.notification.SignalKey.TheVariants.{ByIndex, ByName}
 use Rattle.script_lines.specs.declared.value.LineValue.{LineValue}
 use Rattle.script_lines.specs.declared.value.LineValue.TheVariants.{Void, Value, Failure, InvocationId}
 use Rattle.script_lines.specs.declared.outcome.LineOutcome.{LineOutcome}
@@ -382,9 +382,9 @@ outcomes-no_space : (outcome : Option LineOutcome) → IfSome outcome IsOutcome 
 outcomes-no_space None h = tt
 outcomes-no_space (Some outcome) h = (outcome-no_space outcome h, tt)
 
-target-no_space : (target : LineTarget) → IsTarget target → NoSpace (target_word target)
-target-no_space (Number number) h = (refl, decimal-no_space number (omega (arith, h)))
-target-no_space (Name name) h = text-no_space name h.0
+target-no_space : (target : SignalKey) → IsTarget target → NoSpace (target_word target)
+target-no_space (ByIndex number) h = (refl, decimal-no_space number (omega (arith, h)))
+target-no_space (ByName name) h = text-no_space name h.0
 
 counted-no_space : (command id : List ℕ) (attempt count : ℕ) → NoSpace command → IsText id → attempt < 2 ^ 32 → count < 2 ^ 32 → AllByRecursion NoSpace (command ∷ text_word id ∷ decimal attempt ∷ decimal count ∷ [])
 counted-no_space command id attempt count h text a c = (h, (text-no_space id text, (decimal-no_space attempt (omega arith), (decimal-no_space count (omega arith), tt))))

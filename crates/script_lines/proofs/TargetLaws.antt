@@ -2,8 +2,8 @@
 use Rattle.std.proofs.Common.{◌≡◌, ℕ, ◌^◌, ◌<◌, eqb, inl, inr, List, [], ◌∷◌, Option, Some, None, refl, sym, ap, subst, ◌∙◌, ◌≢◌}
 use Rattle.std.proofs.lemmas.Bool.{eqb-true}
 use Rattle.std.proofs.lemmas.Option.{none-some, same_Some}
-use Rattle.script_lines.specs.declared.target.LineTarget.{LineTarget}
-use Rattle.script_lines.specs.declared.target.LineTarget.TheVariants.{Number, Name}
+use Rattle.journal_model.specs.declared.notification.SignalKey.{SignalKey}
+use Rattle.journal_model.specs.declared.notification.SignalKey.TheVariants.{ByIndex, ByName}
 use Rattle.script_lines.specs.Word.{text_word, number_word, target_word, IsTarget}
 use Rattle.script_lines.specs.Reading.{then_read, number_below, signal_number_of, named_target_of, target_from, target_of}
 use Rattle.script_lines.proofs.WordLaws.{IsReading, number_32, text_reading, read_step, chosen}
@@ -40,32 +40,32 @@ none_of [] never (Some number) e = absurd (dash number e)
 none_of (byte ∷ bytes) never (Some number) e = let it = number_takes (byte ∷ bytes) number e in absurd (never number it.0 it.1)
 
 -- a signal is read so, and the word was its own
-abbrev Takes : List ℕ → LineTarget → Type 0
+abbrev Takes : List ℕ → SignalKey → Type 0
 Takes word target = IsTarget target × (word ≡ target_word target)
 
-name_takes : (word : List ℕ) (target : LineTarget) → signal_number_of word ≡ None → named_target_of word ≡ Some target → Takes word target
+name_takes : (word : List ℕ) (target : SignalKey) → signal_number_of word ≡ None → named_target_of word ≡ Some target → Takes word target
 unfolding named_target_of
 name_takes word target none e =
     let n = read_step e in
     let it = text_reading.takes word n.0 n.1 in
-    subst (λ (t : LineTarget). Takes word t) (same_Some (Name n.0) target n.2)
+    subst (λ (t : SignalKey). Takes word t) (same_Some (ByName n.0) target n.2)
     ((it.0, no_number n.0 (ap signal_number_of (sym it.1) ∙ none)), it.1)
 
-from_takes : (word : List ℕ) (target : LineTarget) (read : Option ℕ) → signal_number_of word ≡ read → target_from read word ≡ Some target → Takes word target
+from_takes : (word : List ℕ) (target : SignalKey) (read : Option ℕ) → signal_number_of word ≡ read → target_from read word ≡ Some target → Takes word target
 unfolding target_from
 from_takes word target (Some number) is e =
     let it = number_takes word number is in
-    subst (λ (t : LineTarget). Takes word t) (same_Some (Number number) target e) it
+    subst (λ (t : SignalKey). Takes word t) (same_Some (ByIndex number) target e) it
 from_takes word target None is e = name_takes word target is e
 
-target_takes : (word : List ℕ) (target : LineTarget) → target_of word ≡ Some target → Takes word target
+target_takes : (word : List ℕ) (target : SignalKey) → target_of word ≡ Some target → Takes word target
 unfolding target_of
 target_takes word target e = from_takes word target (signal_number_of word) refl e
 
-target_again : (target : LineTarget) → IsTarget target → target_of (target_word target) ≡ Some target
+target_again : (target : SignalKey) → IsTarget target → target_of (target_word target) ≡ Some target
 unfolding target_of target_from named_target_of then_read
-target_again (Number number) h = rw (number_again number h) refl
-target_again (Name name) h = rw (none_of name h.1 (signal_number_of (text_word name)) refl, text_reading.again name h.0) refl
+target_again (ByIndex number) h = rw (number_again number h) refl
+target_again (ByName name) h = rw (none_of name h.1 (signal_number_of (text_word name)) refl, text_reading.again name h.0) refl
 
 pub target_reading : IsReading target_of target_word IsTarget
 target_reading = record { takes = target_takes; again = target_again }

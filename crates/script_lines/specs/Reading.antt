@@ -12,8 +12,8 @@ use Rattle.script_lines.specs.declared.word.LineError.{LineError}
 use Rattle.script_lines.specs.declared.word.LineError.TheVariants.{NotUnderstood, Memory}
 use Rattle.script_lines.specs.declared.word.Command.{Command}
 use Rattle.script_lines.specs.declared.word.Command.TheVariants.{Invoke as InvokeCommand, Result as ResultCommand, Signal as SignalCommand, Cancel as CancelCommand, Tick as TickCommand, Begin as BeginCommand, Feed as FeedCommand, Close as CloseCommand, Turn as TurnCommand, Move as MoveCommand, Stop as StopCommand, Due as DueCommand, Show as ShowCommand, State as StateCommand}
-use Rattle.script_lines.specs.declared.target.LineTarget.{LineTarget}
-use Rattle.script_lines.specs.declared.target.LineTarget.TheVariants.{Number, Name}
+use Rattle.journal_model.specs.declared.notification.SignalKey.{SignalKey}
+use Rattle.journal_model.specs.declared.notification.SignalKey.TheVariants.{ByIndex, ByName}
 use Rattle.script_lines.specs.declared.value.LineValue.{LineValue}
 use Rattle.script_lines.specs.declared.value.LineValue.TheVariants.{Void, Value, Failure, InvocationId}
 use Rattle.script_lines.specs.declared.outcome.LineOutcome.{LineOutcome}
@@ -123,16 +123,16 @@ unfoldable pub signal_number_of : List ℕ → Option ℕ
 signal_number_of [] = None
 signal_number_of (byte ∷ number) = if byte == 35 then number_below (2 ^ 32) number else None
 
-unfoldable pub named_target_of : List ℕ → Option LineTarget
+unfoldable pub named_target_of : List ℕ → Option SignalKey
 named_target_of word = do
   name ← text_of word
-  Some (Name name)
+  Some (ByName name)
 
-unfoldable pub target_from : Option ℕ → List ℕ → Option LineTarget
-target_from (Some number) word = Some (Number number)
+unfoldable pub target_from : Option ℕ → List ℕ → Option SignalKey
+target_from (Some number) word = Some (ByIndex number)
 target_from None word = named_target_of word
 
-unfoldable pub target_of : List ℕ → Option LineTarget
+unfoldable pub target_of : List ℕ → Option SignalKey
 target_of word = target_from (signal_number_of word) word
 
 unfoldable pub invoke_of : List ℕ → List ℕ → List ℕ → List ℕ → List ℕ → List ℕ → Option Line

@@ -4,8 +4,8 @@ use Rattle.script_lines.specs.declared.word.StateMode.{StateMode}
 use Rattle.script_lines.specs.declared.word.StateMode.TheVariants.{Whole, Hidden}
 use Rattle.script_lines.specs.declared.word.HandlerName.{HandlerName}
 use Rattle.script_lines.specs.declared.word.HandlerName.TheVariants.{Nap, Nap99, Race, Both, Ask, Pair, Twice, Keys, Read, Effect, Go, Hook, Quorum}
-use Rattle.script_lines.specs.declared.target.LineTarget.{LineTarget}
-use Rattle.script_lines.specs.declared.target.LineTarget.TheVariants.{Number, Name}
+use Rattle.journal_model.specs.declared.notification.SignalKey.{SignalKey}
+use Rattle.journal_model.specs.declared.notification.SignalKey.TheVariants.{ByIndex, ByName}
 use Rattle.script_lines.specs.declared.value.LineValue.{LineValue}
 use Rattle.script_lines.specs.declared.value.LineValue.TheVariants.{Void, Value, Failure, InvocationId}
 use Rattle.script_lines.specs.declared.outcome.LineOutcome.{LineOutcome}
@@ -87,11 +87,11 @@ IsOutcome (outcome.Retry code message) = IsCoded code message
 abbrev pub number_word : ℕ → List ℕ
 number_word number = 35 ∷ decimal number
 
-abbrev pub target_word : LineTarget → List ℕ
-target_word (Number number) = number_word number
-target_word (Name name) = text_word name
+abbrev pub target_word : SignalKey → List ℕ
+target_word (ByIndex number) = number_word number
+target_word (ByName name) = text_word name
 
 -- The signals that have a word. A name is not spelled as a number is.
-abbrev pub IsTarget : LineTarget → Type 0
-IsTarget (Number number) = number < 2 ^ 32
-IsTarget (Name name) = IsText name × ((number : ℕ) → number < 2 ^ 32 → name ≢ number_word number)
+abbrev pub IsTarget : SignalKey → Type 0
+IsTarget (ByIndex number) = number < 2 ^ 32
+IsTarget (ByName name) = IsText name × ((number : ℕ) → number < 2 ^ 32 → name ≢ number_word number)

@@ -9,7 +9,7 @@ ghost use Rattle.script_lines.specs.declared.line.Line.TheVariants as line;
 ghost use Rattle.script_lines.specs.Reading.{Gives, invoke_of, result_of, signal_of, cancel_of, tick_of, begin_of, feed_of, close_of, turns_of, turn_of, ending_turn_of, move_of, stop_of, show_of, state_of, of_none, of_one, of_two, of_three, of_six, of_turn, line_of};
 
 use crate::outcome::{LineOutcome, parse_outcome};
-use crate::target::{LineTarget, parse_target};
+use crate::target::parse_target;
 use crate::value::{LineValue, parse_value};
 use crate::word::{
     Command, HandlerName, LineError, StateMode, parse_command, parse_handler, parse_mode,
@@ -40,7 +40,7 @@ pub enum Line {
     /// Brings a signal.
     Signal {
         id: ByteStr,
-        target: LineTarget,
+        target: SignalKey,
         value: LineValue,
     },
     /// Cancels an invocation.

@@ -4,17 +4,8 @@ ghost use Rattle.std.specs.Prelude.{◌≡◌};
 ghost use Rattle.script_lines.specs.Reading.{Gives, signal_number_of, named_target_of, target_of};
 
 use crate::word::{LineError, parse_text, parse_u32};
-use bytes::ByteStr;
+use journal_model::SignalKey;
 use std::alloc::Global;
-
-/// The signal that a line brings.
-#[derive(Drop)]
-pub enum LineTarget {
-    /// By its number: 1 is the cancellation, 17 and above are awakeables.
-    Number(u32),
-    /// By its name.
-    Name(ByteStr),
-}
 
 /// The number behind a `#`.
 #[tactic(auto, unfolding(crate::specs::Reading::signal_number_of))]
@@ -28,20 +19,20 @@ fn signal_number(word: &[u8]) -> Option<u32>
 }
 
 #[tactic(auto, unfolding(crate::specs::Reading::named_target_of, crate::specs::Reading::then_read))]
-fn parse_name(alloc: Global, word: &[u8]) -> Result<LineTarget, LineError>
+fn parse_name(alloc: Global, word: &[u8]) -> Result<SignalKey, LineError>
     ensures { Gives result (named_target_of word.now) }
 {
     let name = parse_text(alloc, word)?;
-    Ok(LineTarget::Name(name))
+    Ok(SignalKey::ByName(name))
 }
 
 /// The signal that a word spells.
 #[tactic(auto, unfolding(crate::specs::Reading::target_of, crate::specs::Reading::target_from))]
-pub fn parse_target(alloc: Global, word: &[u8]) -> Result<LineTarget, LineError>
+pub fn parse_target(alloc: Global, word: &[u8]) -> Result<SignalKey, LineError>
     ensures { Gives result (target_of word.now) }
 {
     match signal_number(word) {
-        Some(number) => Ok(LineTarget::Number(number)),
+        Some(number) => Ok(SignalKey::ByIndex(number)),
         None => parse_name(alloc, word),
     }
 }

@@ -21,7 +21,7 @@ pub use groups::{SleepGroup, groups_of};
 pub use laws::{ended_grouped, ready_kept};
 pub use outcome::prepare_outcome;
 pub use result::prepare_result;
-pub use signal::{SignalKey, prepare_cancel, prepare_signal};
+pub use signal::{prepare_cancel, prepare_signal};
 pub use tick::{PreparedTick, prepare_tick};
 pub use wake::is_woken;
 pub use woken::prepare_woken;

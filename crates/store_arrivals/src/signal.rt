@@ -5,60 +5,29 @@ ghost use Rattle.sqlite.specs.Held.{state};
 ghost use Rattle.sqlite.specs.State.{HasCleanDisk};
 ghost use Rattle.journal_model.specs.Notification.{Text};
 ghost use Rattle.journal_model.specs.Event.{Event};
-ghost use Rattle.journal_model.specs.Journal.{id_of_signal};
 ghost use Rattle.store_frames.specs.Read.{SignalKeyFits};
-ghost use Rattle.journal_model.specs.Cause.{is_reserved, may_signal, own_tests};
+ghost use Rattle.journal_model.specs.Cause.{may_signal, own_tests};
 ghost use Rattle.store_tables.specs.Looks.{Looks};
 ghost use Rattle.store_refusals.specs.Prepared.{Prepares};
 ghost use Rattle.store_refusals.specs.Refused.{refusal_by};
 ghost use Rattle.store_invocations.specs.Rows.{Decides, IsOpenRow, IsStoreOf};
 ghost use Rattle.store_arrivals.specs.Arrivals.{IsMadeReady};
-ghost use Rattle.store_arrivals.specs.Signals.{key_of, signal_tests};
+ghost use Rattle.store_arrivals.specs.Signals.{signal_tests};
 ghost use Rattle.store_refusals.specs.Causes.{TellsCause};
 
 use crate::arrival::PreparedArrival;
 use crate::woken::prepare_woken;
 use bytes::ByteStr;
-use journal_model::{Notification, NotificationId, NotificationResult};
+use journal_model::{Notification, NotificationId, NotificationResult, SignalKey};
 use protocol_stream::MessageType;
 use sqlite::Alter;
 use store_invocations::open_row;
 use store_refusals::Refusal;
 use store_tables::{InvocationRow, StoreTables};
 
-/// Which signal of an invocation: by its number, or by its name.
-#[derive(Debug, Clone, PartialEq, Eq, Drop)]
-pub enum SignalKey {
-    /// 1 is the cancellation, 17 and above are awakeables; 0 and 2 to 16 are not for use.
-    ByIndex(u32),
-    ByName(ByteStr),
-}
-
-impl SignalKey {
-    /// The id by which it arrives.
-    fn into_id(self) -> NotificationId
-        ensures { result ≡ id_of_signal (key_of self) }
-    {
-        match self {
-            SignalKey::ByIndex(number) => NotificationId::SignalId(number),
-            SignalKey::ByName(name) => NotificationId::SignalName(name),
-        }
-    }
-
-    /// Whether it is one that is not for use.
-    fn is_reserved(&self) -> bool
-        ensures { result ≡ is_reserved (key_of self.now) }
-    {
-        match self {
-            SignalKey::ByIndex(number) => *number == 0 || (1 < *number && *number < 17),
-            SignalKey::ByName(_) => false,
-        }
-    }
-}
-
 /// It does nothing: its contract says that the number of a key has 32 bits.
 fn note_number(key: &SignalKey)
-    ensures { SignalKeyFits (key_of key.now) }
+    ensures { SignalKeyFits key.now }
 {
     if let SignalKey::ByIndex(number) = key {
         let _number = *number;
@@ -77,7 +46,7 @@ fn may_carry(brought: &NotificationResult) -> bool
 
 /// Why a signal is refused: for what it carries, or for its number.
 fn signal_refusal(key: &SignalKey, brought: &NotificationResult) -> Option<Refusal>
-    ensures { result ≡ refusal_by (signal_tests (key_of key.now) brought.now) }
+    ensures { result ≡ refusal_by (signal_tests key.now brought.now) }
 {
     if !may_carry(brought) {
         return Some(Refusal::WrongKind);
@@ -96,7 +65,7 @@ fn signal_for<S: Alter>(
     brought: NotificationResult,
 ) -> Result<PreparedArrival, Refusal>
     ensures decided { HasCleanDisk (state S.Store tables.new) → (events : List Event) (id : Text) → IsStoreOf events (state S.Store tables.old) → IsOpenRow events id row
-        → Decides (own_tests events (Event.Signal id (key_of key) brought)) (IsMadeReady events (Event.Signal id (key_of key) brought) id) result }
+        → Decides (own_tests events (Event.Signal id key brought)) (IsMadeReady events (Event.Signal id key brought) id) result }
     ensures looks { Looks S.Store tables.old tables.new }
     ensures cause { IfErr result (TellsCause (state S.Store tables.old) (state S.Store tables.new)) }
 {
@@ -148,8 +117,8 @@ pub fn prepare_signal<S: Alter>(
     brought: NotificationResult,
 ) -> Result<PreparedArrival, Refusal>
     ensures prepared { HasCleanDisk (state S.Store tables.new) → (events : List Event) → IsStoreOf events (state S.Store tables.old)
-        → Prepares events (Event.Signal id.now (key_of key) brought) (IsMadeReady events (Event.Signal id.now (key_of key) brought) id.now) result }
-    ensures fits { SignalKeyFits (key_of key) }
+        → Prepares events (Event.Signal id.now key brought) (IsMadeReady events (Event.Signal id.now key brought) id.now) result }
+    ensures fits { SignalKeyFits key }
     ensures looks { Looks S.Store tables.old tables.new }
     ensures cause { IfErr result (TellsCause (state S.Store tables.old) (state S.Store tables.new)) }
 {

@@ -1,12 +1,11 @@
 use Rattle.std.proofs.Common.{subst}
 use Rattle.std.specs.Prelude.{string_bytes}
 use Rattle.built_in_handlers.specs.declared.built_in.BuiltIn.{BuiltIn}
-use Rattle.journal_model.specs.Request.{SignalKey}
 use Rattle.journal_model.specs.declared.notification.NotificationResult.{NotificationResult}
 use Rattle.durable_schedule.specs.Schedules.event
 use Rattle.durable_schedule.specs.Schedules.{Event}
 use Rattle.script_lines.specs.declared.line.Line.TheVariants as line
-use Rattle.durable_script.specs.Line.{DoesEvent, DoesSomeEvent, signal_key}
+use Rattle.durable_script.specs.Line.{DoesEvent, DoesSomeEvent}
 use Rattle.durable_script.specs.Printed.{Makes}
 use Rattle.durable_script.specs.Reaching.{Reaches}
 use Rattle.durable_script.proofs.Printing.{makes_begun, makes_quiet}
@@ -29,10 +28,8 @@ returns-in-Signal g c =
     let it = c.in-Signal in
     let did = c.do_event-in-Signal in
     rw it.is
-    (subst (λ (value : NotificationResult). let one = event.Signal it.id (signal_key it.target) value in
-    Makes string_bytes did.result (λ text. Reaches g.S.Store (DoesSomeEvent one) (DoesEvent one text) c.args.scheduler.now did.new.scheduler)) c.brought-value-in-Signal.ensures
-    (subst (λ (key : SignalKey). let one = event.Signal it.id key c.brought-value-in-Signal.result in
-    Makes string_bytes did.result (λ text. Reaches g.S.Store (DoesSomeEvent one) (DoesEvent one text) c.args.scheduler.now did.new.scheduler)) c.outside_signal-signal.ensures did.ensures))
+    (subst (λ (value : NotificationResult). let one = event.Signal it.id it.target value in
+    Makes string_bytes did.result (λ text. Reaches g.S.Store (DoesSomeEvent one) (DoesEvent one text) c.args.scheduler.now did.new.scheduler)) c.brought-value-in-Signal.ensures did.ensures)
 
 pub returns-in-Cancel : goal.returns-in-Cancel
 returns-in-Cancel g c = rw c.in-Cancel.is c.do_event-in-Cancel.ensures

@@ -7,13 +7,12 @@ use Rattle.store_refusals.proofs.Causes.{err_later}
 use Rattle.store_invocations.proofs.Refusing.{decided_later, refused_more}
 use Rattle.store_invocations.proofs.Standing.{store_kept}
 use Rattle.store_arrivals.specs.Arrivals.{IsMadeReady}
-use Rattle.store_arrivals.specs.Signals.{key_of}
 use Rattle.store_arrivals.proofs.signal.prepare_signal.Goals as goal
 
 pub returns-in-Ok-clause-prepared : goal.returns-in-Ok-clause-prepared
 returns-in-Ok-clause-prepared g c clean events store =
     let id = c.args.id.now in
-    let event = Event.Signal id (key_of c.args.key) c.args.brought in
+    let event = Event.Signal id c.args.key c.args.brought in
     let old : State = state g.S.Store c.args.tables.now in
     let mid : State = state g.S.Store c.open_row.new.tables in
     let early : HasCleanDisk mid = omega (arith, c.signal_for.ensures.looks.crash.clean, clean) in
@@ -24,7 +23,7 @@ returns-in-Ok-clause-prepared g c clean events store =
 pub returns-in-Err-clause-prepared : goal.returns-in-Err-clause-prepared
 returns-in-Err-clause-prepared g c clean events store =
     let id = c.args.id.now in
-    refused_more (open_tests events id) (own_tests events (Event.Signal id (key_of c.args.key) c.args.brought)) _ (c.in-Err.ensures.decided clean events store)
+    refused_more (open_tests events id) (own_tests events (Event.Signal id c.args.key c.args.brought)) _ (c.in-Err.ensures.decided clean events store)
 
 pub returns-in-Ok-clause-cause : goal.returns-in-Ok-clause-cause
 returns-in-Ok-clause-cause g c =

@@ -1,8 +1,6 @@
-use Rattle.std.proofs.Common.{◌+◌, length, refl, sym, subst}
+use Rattle.std.proofs.Common.{◌+◌, length, refl}
 use Rattle.journal_model.specs.Event as model
 use Rattle.journal_model.specs.Journal.{entries_of}
-use Rattle.journal_model.specs.Request.{SignalKey}
-use Rattle.schedule_model.specs.Fitting.{ResultFits, key_of, signal_arrival}
 use Rattle.schedule_model.specs.declared.event.Event.TheVariants as event
 use Rattle.schedule_model.specs.declared.event.Reply.TheVariants as reply
 use Rattle.store_calls.specs.Standing.{Adds}
@@ -15,12 +13,12 @@ pub returns : goal.returns
 returns g c =
     let old = c.args.self.now in
     let id = c.args.invocation.now in
-    let key = key_of c.into_key.result in
+    let key = c.args.key in
     let value = c.args.value in
-    rw (c.placed.ensures, ← c.into_key.ensures)
+    rw c.placed.ensures
     (performs_stored g.S.Store g.H.Handler.next_call (event.Signal id key value) old c.signal.new.self (λ place. reply.Placed place) (Signals id key value)
     (λ told s t it. (replies_place (λ told. Signals id key value told s t) told it, refl)) (λ place. tt) (λ place. refl) (λ why never. never) (λ answer t database all. all)
-    (subst (λ (k : SignalKey). ResultFits (signal_arrival k value)) (sym c.into_key.ensures) c.signal_fits.ensures) (λ answer. tt) tt
+    c.signal_fits.ensures (λ answer. tt) tt
     (crashes g.S.Store g.H.Handler.next_call (event.Signal id key value) old (Adds (model.Event.Signal id key value)) c.signal.new.self
     (λ s t it. (reply.Placed (1 + length (entries_of s.events id)), old.held, ((refl, it), refl))) c.signal.ensures.crash)
     c.signal.result c.signal.ensures.does c.signal.ensures.settled c.signal.ensures.cause)
