@@ -3,13 +3,13 @@
 ghost use Rattle.std.specs.Prelude.{◌≡◌, ◌∷◌, [], IfSome, IsUtf8};
 ghost use Rattle.sqlite.specs.Held.{state};
 ghost use Rattle.sqlite.specs.State.{HasCleanDisk};
-ghost use Rattle.sqlite.specs.Values.{bound_value, or_null};
+ghost use Rattle.sqlite.specs.Values.{bound, bound_value, or_null};
 ghost use Rattle.sqlite_value.specs.Value.{owned};
 ghost use Rattle.sqlite_value.specs.declared.value.Value.TheVariants.{Text as Words};
 ghost use Rattle.sql_tables.specs.Causes.{TellsWriteCause};
 ghost use Rattle.sql_tables.specs.Cells.{IsLong, IsShort, long_cell, short_cell};
 ghost use Rattle.store_tables.specs.Looks.{Makes};
-ghost use Rattle.store_tables.specs.Records.{applied, closing_cell, delay_of, state_cells, with_entry, with_invocation, with_progress, with_sleep, with_state, without_sleeps, without_sleeps_until, without_state, without_states};
+ghost use Rattle.store_tables.specs.Records.{FitsInvocation, FitsProgress, applied, closing_cell, delay_of, invocation_cells, progress_cells, state_cells, with_entry, with_invocation, with_progress, with_sleep, with_state, without_sleeps, without_sleeps_until, without_state, without_states};
 ghost use Rattle.store_tables.specs.Statements.{add_state_text, statement, statements_of, statements_of_all};
 ghost use Rattle.store_tables.specs.Steps.{Alters, IsWriting};
 
@@ -76,6 +76,60 @@ fn error_message(error: &Option<LastError>) -> ValueRef<'_>
     }
 }
 
+/// What a row keeps of an invocation's progress, in the order of its columns.
+fn progress_cells(progress: &Progress) -> [ValueRef<'_>; 17]
+    ensures cells { bound result ≡ progress_cells progress.now }
+    ensures fits { FitsProgress progress.now }
+{
+    [
+        text_or_null(&progress.open_object),
+        blob_or_null(&progress.suspension),
+        short_or_null(progress.handed),
+        closing(progress.closing),
+        blob_or_null(&progress.answer),
+        error_code(&progress.last_error),
+        error_behavior(&progress.last_error),
+        error_delay(&progress.last_error),
+        error_message(&progress.last_error),
+        short(progress.attempts),
+        short(progress.attempts_since_entry),
+        long(progress.first_moment),
+        short(progress.last_completion),
+        short(progress.entries),
+        short_or_null(progress.heard),
+        short(progress.arrivals),
+        flag(progress.is_awake),
+    ]
+}
+
+/// The row of an invocation.
+fn invocation_cells(invocation: &InvocationRow) -> [ValueRef<'_>; 22]
+    ensures cells { bound result ≡ invocation_cells invocation.now }
+    ensures fits { FitsInvocation invocation.now }
+{
+    let mut cells = [ValueRef::Null; 22];
+    cells[..5].copy_from_slice(&[
+        text(&invocation.id),
+        text(&invocation.object),
+        short(invocation.version.number()),
+        long(invocation.seed),
+        flag(invocation.is_whole),
+    ]);
+    cells[5..].copy_from_slice(&progress_cells(&invocation.progress));
+    cells
+}
+
+/// The id of an invocation, and what takes the place of its progress.
+fn changed_cells<'a>(id: &'a ByteStr, progress: &'a Progress) -> [ValueRef<'a>; 18]
+    ensures cells { bound result ≡ Words id.now ∷ progress_cells progress.now }
+    ensures fits { FitsProgress progress.now }
+{
+    let mut cells = [ValueRef::Null; 18];
+    cells[0] = text(id);
+    cells[1..].copy_from_slice(&progress_cells(progress));
+    cells
+}
+
 fn add_invocation<S: Alter>(
     tx: &mut Transaction<'_, S>,
     invocation: &InvocationRow,
@@ -84,34 +138,10 @@ fn add_invocation<S: Alter>(
     ensures same_reference { tx.new.conn.ghost_name ≡ tx.old.conn.ghost_name }
     ensures alters { Alters S.Store (with_invocation invocation.now) (statements_of (Write.AddInvocation invocation.now)) tx.old.conn.now tx.new.conn.now result }
 {
-    let progress = &invocation.progress;
     run(
         tx,
         "INSERT INTO invocation VALUES (?1, ?2, ?3, ?4, ?5, ?6, ?7, ?8, ?9, ?10, ?11, ?12, ?13, ?14, ?15, ?16, ?17, ?18, ?19, ?20, ?21, ?22)",
-        &[
-            text(&invocation.id),
-            text(&invocation.object),
-            short(invocation.version.number()),
-            long(invocation.seed),
-            flag(invocation.is_whole),
-            text_or_null(&progress.open_object),
-            blob_or_null(&progress.suspension),
-            short_or_null(progress.handed),
-            closing(progress.closing),
-            blob_or_null(&progress.answer),
-            error_code(&progress.last_error),
-            error_behavior(&progress.last_error),
-            error_delay(&progress.last_error),
-            error_message(&progress.last_error),
-            short(progress.attempts),
-            short(progress.attempts_since_entry),
-            long(progress.first_moment),
-            short(progress.last_completion),
-            short(progress.entries),
-            short_or_null(progress.heard),
-            short(progress.arrivals),
-            flag(progress.is_awake),
-        ],
+        &invocation_cells(invocation),
     )
 }
 
@@ -127,26 +157,7 @@ fn set_progress<S: Alter>(
     run(
         tx,
         "UPDATE invocation SET open_object = ?2, suspension = ?3, handed = ?4, closing = ?5, answer = ?6, error_code = ?7, error_behavior = ?8, error_delay = ?9, error_message = ?10, attempts = ?11, attempts_since_entry = ?12, first_moment = ?13, last_completion = ?14, entries = ?15, heard = ?16, arrivals = ?17, awake = ?18 WHERE id = ?1",
-        &[
-            text(id),
-            text_or_null(&progress.open_object),
-            blob_or_null(&progress.suspension),
-            short_or_null(progress.handed),
-            closing(progress.closing),
-            blob_or_null(&progress.answer),
-            error_code(&progress.last_error),
-            error_behavior(&progress.last_error),
-            error_delay(&progress.last_error),
-            error_message(&progress.last_error),
-            short(progress.attempts),
-            short(progress.attempts_since_entry),
-            long(progress.first_moment),
-            short(progress.last_completion),
-            short(progress.entries),
-            short_or_null(progress.heard),
-            short(progress.arrivals),
-            flag(progress.is_awake),
-        ],
+        &changed_cells(id, progress),
     )
 }
 
