@@ -7,7 +7,7 @@ use Rattle.sqlite.specs.State.{State, HasCleanDisk}
 use Rattle.journal_model.specs.Notification.{Bytes, Text}
 use Rattle.journal_model.specs.Event.{Event}
 use Rattle.journal_model.specs.Attempt.{is_live}
-use Rattle.journal_model.specs.Cause.{causes_of}
+use Rattle.journal_model.specs.Cause.{Cause, causes_of}
 use Rattle.store_tables.specs.Looks.{Looks}
 use Rattle.store_refusals.specs.declared.refusal.Refusal.{Refusal}
 use Rattle.store_refusals.specs.declared.refusal.Refusal.TheVariants as refusal
@@ -145,9 +145,9 @@ module _ {S : Type 0} (g : Ghosts S) (tables : Held S) (before : Attempts) (id :
       let did = stands_closed s.events (state g tables) before.attempts after.attempts id n is.stands here read rest opened changed in
       adds g s (stored tables before) (stored tables after) is (Event.CloseInput id n) did.2 (closed_waits id before.attempts after.attempts changed)
 
-  pub hands_closed : (most : ℕ) → has_closed (attempt_of before.attempts id) ≡ true → Leads g (HandsOut id n most (Err refusal.InputAlreadyClosed)) (stored tables before) (stored tables before)
+  pub hands_closed : (most : ℕ) → has_closed (attempt_of before.attempts id) ≡ true → Leads g (HandsOut id n most (Err (refusal.Cause Cause.InputAlreadyClosed))) (stored tables before) (stored tables before)
   hands_closed most closed =
-      refuses_still (Event.HandOut id n most) refusal.InputAlreadyClosed before refl (λ events stands. hand_out_closed events (state g tables) before.attempts id n most stands here closed)
+      refuses_still (Event.HandOut id n most) (refusal.Cause Cause.InputAlreadyClosed) before refl (λ events stands. hand_out_closed events (state g tables) before.attempts id n most stands here closed)
 
   pub hands_none : (most : ℕ) (after : Attempts) (result : Result Bytes Refusal) → after ≡ before → result ≡ Err refusal.OutOfMemory
       → Leads g (HandsOut id n most result) (stored tables before) (stored tables after)
@@ -156,13 +156,13 @@ module _ {S : Type 0} (g : Ghosts S) (tables : Held S) (before : Attempts) (id :
       (refuses_still (Event.HandOut id n most) refusal.OutOfMemory after same (λ events stands. inr refl))
 
   pub closes_rest : has_rest (attempt_of before.attempts id) ≡ true → (s : Standing) → HasRead s.events id (attempt_of before.attempts id) → IsStanding g s (stored tables before)
-      → (t : Standing) × IsStanding g t (stored tables before) × ClosesInput id n (Err refusal.InputRemains) s t
+      → (t : Standing) × IsStanding g t (stored tables before) × ClosesInput id n (Err (refusal.Cause Cause.InputRemains)) s t
   closes_rest rest s read is =
       (s, is, record { cause = close_remains s.events (state g tables) before.attempts id n is.stands here read rest; stays = record { events = refl; outputs = λ one. refl } })
 
   pub closes_closed : has_rest (attempt_of before.attempts id) ≡ false → has_closed (attempt_of before.attempts id) ≡ true
       → (s : Standing) → HasRead s.events id (attempt_of before.attempts id) → IsStanding g s (stored tables before)
-      → (t : Standing) × IsStanding g t (stored tables before) × ClosesInput id n (Err refusal.InputAlreadyClosed) s t
+      → (t : Standing) × IsStanding g t (stored tables before) × ClosesInput id n (Err (refusal.Cause Cause.InputAlreadyClosed)) s t
   closes_closed rest closed s read is =
       (s, is, record { cause = close_closed s.events (state g tables) before.attempts id n is.stands here read rest closed; stays = record { events = refl; outputs = λ one. refl } })
 

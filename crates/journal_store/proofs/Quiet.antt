@@ -10,7 +10,7 @@ use Rattle.journal_model.specs.Cause.{Cause, InputAlreadyClosed, InputRemains, i
 use Rattle.store_model.specs.Writes.{state_writes}
 use Rattle.store_refusals.specs.declared.refusal.Refusal.{Refusal}
 use Rattle.store_refusals.specs.declared.refusal.Refusal.TheVariants as refusal
-use Rattle.store_refusals.specs.Refused.{first_of, refusal_of, is_circumstance, IsRefused}
+use Rattle.store_refusals.specs.Refused.{first_of, is_circumstance, IsRefused}
 use Rattle.store_live.specs.declared.attempt.LiveAttempt.{LiveAttempt}
 use Rattle.store_live.specs.Attempts.{ByInvocation, attempt_of, IsNow, Changes, bytes_out, after_close, after_hand_out}
 use Rattle.due_laws.specs.Handing.{HandsPart}
@@ -61,7 +61,7 @@ stands_stopped events database old new id number stands live now =
 
 -- ---- refusals of an attempt that is not live
 
-pub stale_refused : (why : Refusal) (cause : Cause) (causes : List Cause) → IsFirstCause cause causes → (why ≡ refusal_of cause) ⊎ IsTrue (is_circumstance why)
+pub stale_refused : (why : Refusal) (cause : Cause) (causes : List Cause) → IsFirstCause cause causes → (why ≡ refusal.Cause cause) ⊎ IsTrue (is_circumstance why)
     → IsRefused causes why
 stale_refused why cause causes first (inl is) = inl (ap first_of first.1 ∙ ap Some (sym is))
 stale_refused why cause causes first (inr circumstance) = inr circumstance
@@ -84,7 +84,7 @@ hand_out_causes events database attempts id number most stands live closed is =
 
 pub hand_out_closed : (events : List Event) (database : State) (attempts : ByInvocation) (id : Text) (number most : ℕ) → Stands events database attempts
     → has_number number (attempt_of attempts id) ≡ true → has_closed (attempt_of attempts id) ≡ true
-    → IsRefused (causes_of events (Event.HandOut id number most)) refusal.InputAlreadyClosed
+    → IsRefused (causes_of events (Event.HandOut id number most)) (refusal.Cause Cause.InputAlreadyClosed)
 hand_out_closed events database attempts id number most stands live closed =
     inl (ap first_of (hand_out_causes events database attempts id number most stands live true closed))
 
@@ -139,13 +139,13 @@ close_causes events database attempts id number stands live read rest closed lef
 
 pub close_remains : (events : List Event) (database : State) (attempts : ByInvocation) (id : Text) (number : ℕ) → Stands events database attempts
     → has_number number (attempt_of attempts id) ≡ true → HasRead events id (attempt_of attempts id) → has_rest (attempt_of attempts id) ≡ true
-    → IsRefused (causes_of events (Event.CloseInput id number)) refusal.InputRemains
+    → IsRefused (causes_of events (Event.CloseInput id number)) (refusal.Cause Cause.InputRemains)
 close_remains events database attempts id number stands live read rest =
     inl (ap first_of (close_causes events database attempts id number stands live read true (has_closed (attempt_of attempts id)) rest refl))
 
 pub close_closed : (events : List Event) (database : State) (attempts : ByInvocation) (id : Text) (number : ℕ) → Stands events database attempts
     → has_number number (attempt_of attempts id) ≡ true → HasRead events id (attempt_of attempts id) → has_rest (attempt_of attempts id) ≡ false → has_closed (attempt_of attempts id) ≡ true
-    → IsRefused (causes_of events (Event.CloseInput id number)) refusal.InputAlreadyClosed
+    → IsRefused (causes_of events (Event.CloseInput id number)) (refusal.Cause Cause.InputAlreadyClosed)
 close_closed events database attempts id number stands live read rest closed =
     inl (ap first_of (close_causes events database attempts id number stands live read false true rest closed))
 

@@ -9,7 +9,7 @@ use Rattle.journal_model.specs.Notification.{Bytes, Text}
 use Rattle.journal_model.specs.Event.{Event, Frame}
 use Rattle.journal_model.specs.Journal.{ends_attempt, version_of}
 use Rattle.journal_model.specs.Attempt.{acknowledged, is_live}
-use Rattle.journal_model.specs.Cause.{FrameNotAccepted, causes_of, those_that_hold, adding_tests, IsAccepted}
+use Rattle.journal_model.specs.Cause.{Cause, FrameNotAccepted, causes_of, those_that_hold, adding_tests, IsAccepted}
 use Rattle.protocol_stream.specs.declared.frame.TheConstants.{HEADER_LEN}
 use Rattle.protocol_types.specs.Version.{version_number}
 use Rattle.protocol_stream.specs.Item.{Item, unknown, message, item_at}
@@ -347,11 +347,11 @@ unknown_causes events database attempts id number attempt stands found here =
 module _ {S : Type 0} (g : Ghosts S) (tables : Held S) (before after : Attempts) (id : Text) (n : ℕ) (here : has_number n (attempt_of before.attempts id) ≡ true) where
   -- an unknown header that was seen
   pub header_refused : IsFirstOf (attempt_of before.attempts id) firsts.Unknown → IsNow id None before.attempts after.attempts
-      → Leads g (Steps id n (Err refusal.FrameNotAccepted)) (stored tables before) (stored tables after)
+      → Leads g (Steps id n (Err (refusal.Cause Cause.FrameNotAccepted))) (stored tables before) (stored tables after)
   header_refused first now clean s is =
       let one = this_one n (attempt_of before.attempts id) here in
       let unknown_is = subst (λ (o : Option LiveAttempt). IsFirstOf o firsts.Unknown) one.is first in
-      let it = item_refused g (stored tables before) (stored tables after) s is id n one.attempt (unknown unknown_is.0) (drop HEADER_LEN one.attempt.output) one.is unknown_is.1 refusal.FrameNotAccepted here
+      let it = item_refused g (stored tables before) (stored tables after) s is id n one.attempt (unknown unknown_is.0) (drop HEADER_LEN one.attempt.output) one.is unknown_is.1 (refusal.Cause Cause.FrameNotAccepted) here
       (inl (ap first_of (unknown_causes s.events (state g tables) before.attempts id n one.attempt is.stands one.is here))) is.stands.kept true refl now in
       (it.0, it.1, inr it.2)
 

@@ -9,7 +9,8 @@ use Rattle.journal_model.specs.Event.{Event}
 use Rattle.journal_model.specs.Attempt.{Piece, input_left, input_pieces}
 use Rattle.protocol_types.specs.declared.version.Version.{Version}
 use Rattle.store_refusals.specs.declared.refusal.Refusal.{Refusal}
-use Rattle.store_refusals.specs.Refused.{refusal_of, is_circumstance}
+use Rattle.store_refusals.specs.declared.refusal.Refusal.TheVariants as refusal
+use Rattle.store_refusals.specs.Refused.{is_circumstance}
 use Rattle.store_refusals.specs.Prepared.{Tells}
 use Rattle.store_invocations.specs.declared.attempt.PreparedAttempt.{PreparedAttempt}
 use Rattle.store_live.specs.declared.attempt.LiveAttempt.{LiveAttempt}
@@ -26,7 +27,7 @@ use Rattle.journal_store.specs.Stands.{IsStanding}
 
 -- a call on an attempt that is not live: the invocation is unknown, or closed, or the attempt is over; or a circumstance
 abbrev pub IsStale : List Event → Text → Refusal → Type 0
-IsStale events id why = (why ≡ refusal_of (cause_of_stale events id)) ⊎ IsTrue (is_circumstance why)
+IsStale events id why = (why ≡ refusal.Cause (cause_of_stale events id)) ⊎ IsTrue (is_circumstance why)
 
 -- what is seen of the live attempt's input
 abbrev pub has_closed : Option LiveAttempt → Bool

@@ -20,7 +20,7 @@ use sqlite::Alter;
 use store_invocations::open_row;
 use store_live::{FrameRead, LiveAttempts};
 use store_reads::next_frame;
-use store_refusals::Refusal;
+use store_refusals::{Cause, Refusal};
 use store_tables::StoreTables;
 
 /// Whether the live attempt of an invocation has this number.
@@ -110,7 +110,7 @@ pub(crate) fn stale_refusal<S: Alter>(tables: &mut StoreTables<S>, id: &ByteStr)
     match open_row(tables, id) {
         Ok(row) => {
             drop(row);
-            Refusal::AttemptNotLive
+            Refusal::Cause(Cause::AttemptNotLive)
         }
         Err(why) => why,
     }
@@ -132,7 +132,7 @@ impl<S: Alter + Drop> Store<S> {
             return Err(stale_refusal(&mut self.tables, id));
         }
         if is_closed(&self.live, id) {
-            return Err(Refusal::InputAlreadyClosed);
+            return Err(Refusal::Cause(Cause::InputAlreadyClosed));
         }
         read_next(&mut self.tables, &mut self.live, id)?;
         let bytes = self.live.hand_out(id, most)?;
@@ -152,10 +152,10 @@ impl<S: Alter + Drop> Store<S> {
         }
         read_next(&mut self.tables, &mut self.live, id)?;
         if is_rest_left(&self.live, id) {
-            return Err(Refusal::InputRemains);
+            return Err(Refusal::Cause(Cause::InputRemains));
         }
         if is_closed(&self.live, id) {
-            return Err(Refusal::InputAlreadyClosed);
+            return Err(Refusal::Cause(Cause::InputAlreadyClosed));
         }
         self.live.close_input(id);
         Ok(())

@@ -18,7 +18,7 @@ use sqlite::Alter;
 use std::alloc::{AllocError, Global};
 use store_frames::{AttemptFrame, read_frame_at};
 use store_live::{FirstItem, HEADER_LEN, LiveAttempt, LiveAttempts};
-use store_refusals::Refusal;
+use store_refusals::{Cause, Refusal};
 use store_steps::{FrameReply, LiveFacts, PreparedFrame, prepare_frame, refusal_ends_attempt};
 
 /// A whole frame that stands first.
@@ -216,7 +216,7 @@ impl<S: Alter + Drop> Store<S> {
             Ok(FirstSeen::Partial) => Ok(None),
             Ok(FirstSeen::Unknown) => {
                 self.live.remove(id);
-                Err(Refusal::FrameNotAccepted)
+                Err(Refusal::Cause(Cause::FrameNotAccepted))
             }
             Ok(FirstSeen::Frame(seen)) => self.take_seen(id, attempt, seen),
             Err(_) => Err(Refusal::OutOfMemory),

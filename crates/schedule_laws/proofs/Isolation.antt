@@ -13,7 +13,8 @@ use Rattle.journal_model.specs.Start.{attempts_since_entry, since_first, start_p
 use Rattle.journal_model.specs.Attempt.{arrivals_within}
 use Rattle.journal_model.specs.Cause.{Cause, IsAccepted, causes_of}
 use Rattle.protocol_types.specs.declared.message_type.MessageType.{MessageType}
-use Rattle.store_refusals.specs.Refused.{refusal_of, first_of}
+use Rattle.store_refusals.specs.declared.refusal.Refusal.TheVariants as refusal
+use Rattle.store_refusals.specs.Refused.{first_of}
 use Rattle.store_calls.specs.declared.begun.BegunAttempt.{BegunAttempt}
 use Rattle.store_calls.specs.Standing.{Standing}
 use Rattle.store_calls.specs.Calls.{Begins}
@@ -56,7 +57,7 @@ stand_alone isolated events id others views starts =
 pub keep_state : AllKeepState
 keep_state events id accepted = accepted_followed events accepted id
 
-first_is : (causes : List Cause) → first_of causes ≡ option_map refusal_of (first_cause causes)
+first_is : (causes : List Cause) → first_of causes ≡ option_map (λ c. refusal.Cause c) (first_cause causes)
 first_is [] = refl
 first_is (cause ∷ causes) = refl
 
@@ -89,7 +90,7 @@ answer_alone events others id kept kept' views starts =
       refusal = λ event own.
           let is = own_is id event own in
           first_is (causes_of events event)
-          ∙ ap (option_map refusal_of) (refused_alike events others id told (λ opened new begun. states new begun opened) event is.0 is.1)
+          ∙ ap (option_map (λ c. refusal.Cause c)) (refused_alike events others id told (λ opened new begun. states new begun opened) event is.0 is.1)
           ∙ sym (first_is (causes_of others event));
     }
 

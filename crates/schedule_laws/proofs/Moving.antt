@@ -15,7 +15,7 @@ use Rattle.live_laws.specs.Sending.{SendsOfRun}
 use Rattle.vm_types.specs.declared.options.VMOptions.{VMOptions}
 use Rattle.store_refusals.specs.declared.refusal.Refusal.{Refusal}
 use Rattle.store_refusals.specs.declared.refusal.Refusal.TheVariants as refusal
-use Rattle.store_refusals.specs.Refused.{refusal_of, is_circumstance, IsRefused}
+use Rattle.store_refusals.specs.Refused.{is_circumstance, IsRefused}
 use Rattle.store_steps.specs.Taken.{lies_in_frame}
 use Rattle.store_calls.specs.Standing.{Standing, Leaves}
 use Rattle.store_calls.specs.Calls.{PutsBehind}
@@ -57,7 +57,7 @@ pub lies_not : (causes : List Cause) (why : Refusal) → list_any is_of_frame ca
 lies_not causes why none (inr is) = circumstance why is
 lies_not [] why none (inl first) = some_none (sym first)
 lies_not (c ∷ causes) why none (inl first) =
-    let same : refusal_of c ≡ why = cc in ap lies_in_frame (sym same) ∙ lies_as c ∙ not-either (is_of_frame c) (list_any is_of_frame causes) none
+    let same : refusal.Cause c ≡ why = cc in ap lies_in_frame (sym same) ∙ lies_as c ∙ not-either (is_of_frame c) (list_any is_of_frame causes) none
 
 module _ {H : Type 0} (function : H → Handler) (next : Handler) (options : VMOptions) (id : Text) (told : ToldOf) where
   -- no frame of the attempt that is held is refused for a cause that lies in it

@@ -15,7 +15,7 @@ use Rattle.protocol_stream.specs.declared.command_facts.CompletedBy.TheVariants 
 use Rattle.protocol_stream.specs.CommandFacts.{completion_at, completion_by}
 use Rattle.protocol_stream.specs.declared.command_facts.Completions.TheVariants as asked
 use Rattle.store_refusals.specs.declared.refusal.Refusal.{Refusal}
-use Rattle.store_refusals.specs.declared.refusal.Refusal.TheVariants.{CompletionNotOpen, WrongKind}
+use Rattle.store_refusals.specs.declared.refusal.Refusal.TheVariants as refusal
 use Rattle.store_refusals.specs.Refused.{IsRefused}
 use Rattle.store_invocations.specs.Rows.{Decides}
 use Rattle.store_arrivals.specs.declared.asking.AskedCompletion.{AskedCompletion}
@@ -33,7 +33,7 @@ tests_if o n brought = (not (is_some o), Cause.CompletionNotOpen) ∷ (refuses_k
 abbrev IsTyped : (may : Bool) → MessageType → Result MessageType Refusal → Type 0
 IsTyped may given r = Decides ((not true, Cause.CompletionNotOpen) ∷ (not may, Cause.WrongKind) ∷ []) (λ ty. ty ≡ given) r
 
-by_accept : (may : Bool) (ty : MessageType) → IsTyped may ty (if may then Ok ty else Err WrongKind)
+by_accept : (may : Bool) (ty : MessageType) → IsTyped may ty (if may then Ok ty else Err (refusal.Cause Cause.WrongKind))
 by_accept true ty = (refl, refl)
 by_accept false ty = inl refl
 
@@ -61,7 +61,7 @@ request_given _ n brought = inl refl
 -- ---- of the request whose completion is open
 
 pub not_open : (n : ℕ) (brought : NotificationResult) (o : Option Request) → None ≡ option_map (asked_by n) o
-    → IsRefused (those_that_hold (tests_if o n brought)) CompletionNotOpen
+    → IsRefused (those_that_hold (tests_if o n brought)) (refusal.Cause Cause.CompletionNotOpen)
 not_open n brought None e = inl refl
 not_open n brought (Some request) e = cc
 

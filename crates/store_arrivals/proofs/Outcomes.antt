@@ -26,7 +26,7 @@ use Rattle.store_model.proofs.States.{itself}
 use Rattle.due_laws.specs.Noted.{Noted}
 use Rattle.due_laws.proofs.Noting.{noted_follows}
 use Rattle.store_refusals.specs.declared.refusal.Refusal.{Refusal}
-use Rattle.store_refusals.specs.declared.refusal.Refusal.TheVariants.{RunNotOpen}
+use Rattle.store_refusals.specs.declared.refusal.Refusal.TheVariants as refusal
 use Rattle.store_refusals.specs.Refused.{IsRefused}
 use Rattle.store_invocations.specs.Rows.{Decides, IsRowOf}
 use Rattle.store_invocations.proofs.Refusing.{first_of_one, none_of_both, none_of_one, refused_anyway, refused_later, refused_more}
@@ -132,9 +132,9 @@ module _ (events : List Event) (accepted : IsAccepted events) (id : Text) (n : �
 
 -- ---- why it is refused
 
-pub none_waits : (events : List Event) (id : Text) (n : ℕ) (brought : NotificationResult) → is_run (open_request (entries_of events id) n) ≡ false → DecidesOutcome events id n brought (Err RunNotOpen)
+pub none_waits : (events : List Event) (id : Text) (n : ℕ) (brought : NotificationResult) → is_run (open_request (entries_of events id) n) ≡ false → DecidesOutcome events id n brought (Err (refusal.Cause Cause.RunNotOpen))
 none_waits events id n brought none number value asks opened live same =
-    refused_more (frame_tests events id (Frame.RunOutcome n value asks)) (adding_tests events id (Event.Take id number (Frame.RunOutcome n value asks))) RunNotOpen
+    refused_more (frame_tests events id (Frame.RunOutcome n value asks)) (adding_tests events id (Event.Take id number (Frame.RunOutcome n value asks))) (refusal.Cause Cause.RunNotOpen)
     (first_of_one (not (is_run (open_request (entries_of events id) n))) Cause.RunNotOpen (ap not none))
 
 pub unanswered : (events : List Event) (id : Text) (n : ℕ) (brought : NotificationResult) (why : Refusal) → IsRefused [] why → DecidesOutcome events id n brought (Err why)

@@ -8,7 +8,8 @@ use Rattle.sqlite.specs.State.{State}
 use Rattle.store_frames.specs.declared.kept_fault.KeptFault.{KeptFault}
 use Rattle.store_frames.specs.declared.kept_fault.KeptFault.TheVariants.{OutOfMemory, Foreign}
 use Rattle.store_refusals.specs.declared.refusal.Refusal.{Refusal}
-use Rattle.store_refusals.specs.declared.refusal.Refusal.TheVariants.{WrongKind}
+use Rattle.journal_model.specs.Cause.{Cause}
+use Rattle.store_refusals.specs.declared.refusal.Refusal.TheVariants as refusal
 use Rattle.store_refusals.specs.Causes.{IsUnasked, TellsCause}
 use Rattle.store_arrivals.specs.Asked.{type_for}
 use Rattle.store_arrivals.specs.Woken.{fault_refusal}
@@ -19,7 +20,7 @@ fault_unasked OutOfMemory why gives cause is = cc
 fault_unasked Foreign why gives cause is = cc
 
 -- what a completion may not be given
-accept_unasked : (accepted : Bool) (ty : MessageType) → IfErr (if accepted then Ok ty else Err WrongKind) IsUnasked
+accept_unasked : (accepted : Bool) (ty : MessageType) → IfErr (if accepted then Ok ty else Err (refusal.Cause Cause.WrongKind)) IsUnasked
 accept_unasked true ty = tt
 accept_unasked false ty = λ cause is. cc
 

@@ -15,7 +15,7 @@ use Rattle.protocol_stream.specs.CommandFacts.{accepts, completion_at, facts_of}
 use Rattle.store_tables.specs.Questions.{is_number}
 use Rattle.store_model.specs.Progress.{first_of, second_of}
 use Rattle.store_refusals.specs.declared.refusal.Refusal.{Refusal}
-use Rattle.store_refusals.specs.declared.refusal.Refusal.TheVariants.{WrongKind}
+use Rattle.store_refusals.specs.declared.refusal.Refusal.TheVariants as refusal
 use Rattle.store_arrivals.specs.declared.asking.AskedCompletion.{AskedCompletion}
 
 -- whether a completion is the first, and the second, that a request asks for
@@ -48,8 +48,8 @@ completion_for asked = option_and_then (λ facts. completion_at asked.is_second 
 
 -- the type of the notification by which a completion is given this from outside, where it may be
 abbrev pub type_for : Option Completion → NotificationResult → Result MessageType Refusal
-type_for None brought = Err WrongKind
-type_for (Some one) brought = if accepts one.completed_by brought then Ok one.notification else Err WrongKind
+type_for None brought = Err (refusal.Cause Cause.WrongKind)
+type_for (Some one) brought = if accepts one.completed_by brought then Ok one.notification else Err (refusal.Cause Cause.WrongKind)
 
 -- the tests of a result, whether a request waits for it and may be given it
 abbrev pub completion_tests : List Event → Text → ℕ → NotificationResult → Tests

@@ -14,7 +14,7 @@ use bytes::{ByteStr, Bytes};
 use journal_model::{Notification, NotificationId};
 use protocol_stream::MessageType;
 use std::alloc::{AllocError, Global};
-use store_refusals::Refusal;
+use store_refusals::{Cause, Refusal};
 use store_tables::{EntryRow, InvocationRow, Progress, Write};
 
 /// What an arrival writes.
@@ -41,7 +41,7 @@ fn arrival_payload(alloc: Global, arrival: Notification) -> Result<Bytes, Refusa
 {
     let payload = payload_of(alloc, arrival)?;
     if payload.len() > u32::MAX as usize {
-        return Err(Refusal::PayloadTooLong);
+        return Err(Refusal::Cause(Cause::PayloadTooLong));
     }
     let kept = kept_bytes(payload)?;
     Ok(kept)
@@ -177,6 +177,6 @@ pub fn prepare_arrival(
     } else {
         drop(row);
         drop(arrival);
-        Err(Refusal::NumbersUsedUp)
+        Err(Refusal::Cause(Cause::NumbersUsedUp))
     }
 }

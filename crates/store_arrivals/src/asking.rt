@@ -17,7 +17,7 @@ use journal_model::NotificationResult;
 use protocol_stream::{CommandFacts, Completion, MessageType};
 use sqlite::Alter;
 use std::alloc::Global;
-use store_refusals::Refusal;
+use store_refusals::{Cause, Refusal};
 use store_tables::{
     EntryRow, StoreTables, entry_by_answered, entry_by_completion, entry_by_second_completion,
 };
@@ -168,10 +168,10 @@ impl AskedCompletion {
                 if completion.completed_by.accepts(brought) {
                     Ok(completion.notification)
                 } else {
-                    Err(Refusal::WrongKind)
+                    Err(Refusal::Cause(Cause::WrongKind))
                 }
             }
-            None => Err(Refusal::WrongKind),
+            None => Err(Refusal::Cause(Cause::WrongKind)),
         }
     }
 }

@@ -14,7 +14,7 @@ use bytes::ByteStr;
 use journal_model::{Notification, NotificationId, NotificationResult};
 use protocol_stream::MessageType;
 use std::alloc::{AllocError, Global};
-use store_refusals::Refusal;
+use store_refusals::{Cause, Refusal};
 use store_tables::{EntryRow, InvocationRow, Progress, Write};
 
 /// The entry of a sleep's end, behind so many arrivals.
@@ -149,7 +149,7 @@ pub(crate) fn end_sleeps(
     if is_full {
         drop(own);
         drop(progress);
-        return Err(Refusal::NumbersUsedUp);
+        return Err(Refusal::Cause(Cause::NumbersUsedUp));
     }
     match end_in_room(alloc, own, progress, completions, writes) {
         Ok(()) => Ok(()),

@@ -19,7 +19,7 @@ use journal_model::{Notification, NotificationId, NotificationResult};
 use protocol_stream::MessageType;
 use sqlite::Alter;
 use std::alloc::Global;
-use store_refusals::Refusal;
+use store_refusals::{Cause, Refusal};
 use store_tables::{InvocationRow, StoreTables};
 
 /// Whether a completion is that of a run that waits for its outcome.
@@ -65,7 +65,7 @@ pub fn prepare_outcome<S: Alter>(
         Ok(false) => {
             drop(row);
             drop(brought);
-            Err(Refusal::RunNotOpen)
+            Err(Refusal::Cause(Cause::RunNotOpen))
         }
         Err(why) => {
             drop(row);

@@ -24,7 +24,7 @@ use protocol_stream::MessageType;
 use sqlite::Alter;
 use std::alloc::Global;
 use store_invocations::open_row;
-use store_refusals::Refusal;
+use store_refusals::{Cause, Refusal};
 use store_tables::{InvocationRow, StoreTables};
 
 /// The type of the notification by which an open completion is given this.
@@ -42,7 +42,7 @@ fn type_of_result<S: Alter>(
     let open = open_request_of(tables, id, completion)?;
     match open {
         Some(asked) => asked.type_given(brought),
-        None => Err(Refusal::CompletionNotOpen),
+        None => Err(Refusal::Cause(Cause::CompletionNotOpen)),
     }
 }
 

@@ -22,7 +22,7 @@ use journal_model::{Notification, NotificationId, NotificationResult, SignalKey}
 use protocol_stream::MessageType;
 use sqlite::Alter;
 use store_invocations::open_row;
-use store_refusals::Refusal;
+use store_refusals::{Cause, Refusal};
 use store_tables::{InvocationRow, StoreTables};
 
 /// It does nothing: its contract says that the number of a key has 32 bits.
@@ -49,10 +49,10 @@ fn signal_refusal(key: &SignalKey, brought: &NotificationResult) -> Option<Refus
     ensures { result ≡ refusal_by (signal_tests key.now brought.now) }
 {
     if !may_carry(brought) {
-        return Some(Refusal::WrongKind);
+        return Some(Refusal::Cause(Cause::WrongKind));
     }
     if key.is_reserved() {
-        return Some(Refusal::ReservedSignal);
+        return Some(Refusal::Cause(Cause::ReservedSignal));
     }
     None
 }

@@ -14,7 +14,7 @@ use Rattle.store_tables.specs.declared.row.InvocationRow.{InvocationRow}
 use Rattle.store_tables.specs.declared.row.Progress.{Progress}
 use Rattle.store_tables.specs.declared.row.Write.TheVariants.{SetProgress}
 use Rattle.store_refusals.specs.declared.refusal.Refusal.{Refusal}
-use Rattle.store_refusals.specs.declared.refusal.Refusal.TheVariants.{NumbersUsedUp}
+use Rattle.store_refusals.specs.declared.refusal.Refusal.TheVariants as refusal
 use Rattle.store_refusals.specs.Refused.{IsRefused}
 use Rattle.store_invocations.specs.Rows.{IsRowOf, payload_tests}
 use Rattle.store_invocations.proofs.Refusing.{none_of_both, refused_by, refused_later}
@@ -48,11 +48,11 @@ module _ (events : List Event) (id : Text) (now : ℕ) (row : InvocationRow) (it
       (subst (λ (payload : Bytes). IsRefused (those_that_hold (payload_tests payload)) why) (start_payload_is events id now row it) refused)
 
   -- none is left
-  pub next_used_up : 2 ^ 32 ≤ row.progress.attempts + 1 → IsRefused (those_that_hold (own_tests events (Event.Begin id now))) NumbersUsedUp
+  pub next_used_up : 2 ^ 32 ≤ row.progress.attempts + 1 → IsRefused (those_that_hold (own_tests events (Event.Begin id now))) (refusal.Cause Cause.NumbersUsedUp)
   next_used_up full =
       let same = attempts_is events id now row it in
       elim (cases_Bool (nat_le (2 ^ 32 - 1) (attempts_begun events id))) [
-        | inl reached ↦ refused_by (own_tests events (Event.Begin id now)) NumbersUsedUp (rw reached refl)
+        | inl reached ↦ refused_by (own_tests events (Event.Begin id now)) (refusal.Cause Cause.NumbersUsedUp) (rw reached refl)
         | inr below_it ↦ absurd (let below = leb-false (2 ^ 32 - 1) (attempts_begun events id) below_it in omega arith)
       ]
 

@@ -11,7 +11,7 @@ use Rattle.journal_laws.proofs.ObjectState.{find-passes, not-false}
 use Rattle.store_tables.specs.declared.row.InvocationRow.{InvocationRow}
 use Rattle.store_model.specs.Progress.{progress_of}
 use Rattle.store_model.specs.Kept.{invocation_row}
-use Rattle.store_refusals.specs.declared.refusal.Refusal.TheVariants.{UnknownInvocation, InvocationClosed}
+use Rattle.store_refusals.specs.declared.refusal.Refusal.TheVariants as refusal
 use Rattle.store_refusals.specs.Refused.{first_of, IsRefused}
 use Rattle.store_invocations.specs.Rows.{known_tests, row_at, IsRowOf, IsOpenRow}
 
@@ -61,11 +61,11 @@ known_by events id row e = by_begun (invocation_begun events id) refl e
     by_begun None is e = cc
     by_begun (Some new) is e = (refl, record { new = new; begun = is; named = begun_named events id new is; is = cc })
 
-pub unknown_by : (events : List Event) (id : Text) → None ≡ row_at events id → IsRefused (those_that_hold (known_tests events id)) UnknownInvocation
+pub unknown_by : (events : List Event) (id : Text) → None ≡ row_at events id → IsRefused (those_that_hold (known_tests events id)) (refusal.Cause Cause.UnknownInvocation)
 unknown_by events id e = by_begun (invocation_begun events id) e
   where
     by_begun : (o : Option NewInvocation) → None ≡ option_map (invocation_row events) o
-        → IsRefused (those_that_hold ((not (is_some o), Cause.UnknownInvocation) ∷ [])) UnknownInvocation
+        → IsRefused (those_that_hold ((not (is_some o), Cause.UnknownInvocation) ∷ [])) (refusal.Cause Cause.UnknownInvocation)
     by_begun None e = inl refl
     by_begun (Some new) e = cc
 
@@ -84,7 +84,7 @@ opened_by events id row of e =
     )
 
 pub closed_by : (events : List Event) (id : Text) (row : InvocationRow) → IsRowOf events id row → is_some row.progress.closing ≡ true
-    → IsRefused (those_that_hold (open_tests events id)) InvocationClosed
+    → IsRefused (those_that_hold (open_tests events id)) (refusal.Cause Cause.InvocationClosed)
 closed_by events id row of e =
     let shut : not (is_open events id) ≡ true = sym (row_closed events id row of) ∙ e in
     inl (λ i. first_of (those_that_hold ((not (is_some (of.begun i)), Cause.UnknownInvocation) ∷ (is_some (of.begun i) && shut i, Cause.InvocationClosed) ∷ [])))

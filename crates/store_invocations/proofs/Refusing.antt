@@ -3,7 +3,8 @@ use Rattle.std.proofs.Common.{◌≡◌, refl, sym, ap, subst, ◌∙◌, inl, i
 use Rattle.journal_model.specs.Cause.{Cause, Tests, those_that_hold}
 use Rattle.store_refusals.specs.declared.refusal.Refusal.{Refusal}
 use Rattle.store_refusals.specs.declared.refusal.Refusal.TheVariants.{OutOfMemory}
-use Rattle.store_refusals.specs.Refused.{first_of, refusal_of, refusal_by, IsRefused}
+use Rattle.store_refusals.specs.declared.refusal.Refusal.TheVariants as refusal
+use Rattle.store_refusals.specs.Refused.{first_of, refusal_by, IsRefused}
 use Rattle.store_refusals.proofs.First.{first_holds}
 use Rattle.store_invocations.specs.Rows.{Decides}
 
@@ -42,7 +43,7 @@ refused_anyway tests why (inr e) = inr e
 
 -- ---- of one test, and of two
 
-pub first_of_one : (a : Bool) (x : Cause) → a ≡ true → IsRefused (those_that_hold ((a, x) ∷ [])) (refusal_of x)
+pub first_of_one : (a : Bool) (x : Cause) → a ≡ true → IsRefused (those_that_hold ((a, x) ∷ [])) (refusal.Cause x)
 first_of_one true x e = inl refl
 first_of_one false x e = cc
 
@@ -50,11 +51,11 @@ pub none_of_one : (a : Bool) (x : Cause) → a ≡ false → those_that_hold ((a
 none_of_one true x e = cc
 none_of_one false x e = refl
 
-pub first_of_two : (a b : Bool) (x y : Cause) → a ≡ true → IsRefused (those_that_hold ((a, x) ∷ (b, y) ∷ [])) (refusal_of x)
+pub first_of_two : (a b : Bool) (x y : Cause) → a ≡ true → IsRefused (those_that_hold ((a, x) ∷ (b, y) ∷ [])) (refusal.Cause x)
 first_of_two true b x y e = inl refl
 first_of_two false b x y e = cc
 
-pub second_of_two : (a b : Bool) (x y : Cause) → a ≡ false → b ≡ true → IsRefused (those_that_hold ((a, x) ∷ (b, y) ∷ [])) (refusal_of y)
+pub second_of_two : (a b : Bool) (x y : Cause) → a ≡ false → b ≡ true → IsRefused (those_that_hold ((a, x) ∷ (b, y) ∷ [])) (refusal.Cause y)
 second_of_two true b x y e f = cc
 second_of_two false true x y e f = inl refl
 second_of_two false false x y e f = cc

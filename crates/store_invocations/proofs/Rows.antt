@@ -23,7 +23,7 @@ use Rattle.store_tables.specs.Questions.{IsJournal, IsNoJournal}
 use Rattle.store_model.specs.Kept.{entry_row, journal_rows, rows_from, rows_of_journal}
 use Rattle.store_model.proofs.Finding.{all_found}
 use Rattle.store_model.proofs.Framing.{AreAskedBefore, all_asked_before, kind_stays}
-use Rattle.store_refusals.specs.declared.refusal.Refusal.TheVariants.{UnknownInvocation}
+use Rattle.store_refusals.specs.declared.refusal.Refusal.TheVariants as refusal
 use Rattle.store_refusals.specs.Refused.{IsRefused, is_circumstance, reading_refusal}
 use Rattle.store_refusals.specs.Prepared.{Keeps}
 use Rattle.store_invocations.specs.Rows.{known_tests}
@@ -112,11 +112,11 @@ known_with_rows events id rows are some =
     begun_rows (invocation_begun events id) id (entries_of events id) (ap (λ (all : List EntryRow). length all == 0) (sym are) ∙ some)
 
 no_rows : (o : Option NewInvocation) (id : Text) (entries : List Entry) → (length (rows_of_journal o id entries) == 0) ≡ true
-    → IsRefused (those_that_hold ((not (is_some o), Cause.UnknownInvocation) ∷ [])) UnknownInvocation
+    → IsRefused (those_that_hold ((not (is_some o), Cause.UnknownInvocation) ∷ [])) (refusal.Cause Cause.UnknownInvocation)
 no_rows None id entries e = inl refl
 no_rows (Some new) id entries e = absurd (let zero = eqb-true (length (rows_of_journal (Some new) id entries)) 0 e in omega (arith, zero))
 
 pub unknown_without : (events : List Event) (id : Text) (rows : List EntryRow) → rows ≡ journal_rows events id → (length rows == 0) ≡ true
-    → IsRefused (those_that_hold (known_tests events id)) UnknownInvocation
+    → IsRefused (those_that_hold (known_tests events id)) (refusal.Cause Cause.UnknownInvocation)
 unknown_without events id rows are none =
     no_rows (invocation_begun events id) id (entries_of events id) (ap (λ (all : List EntryRow). length all == 0) (sym are) ∙ none)

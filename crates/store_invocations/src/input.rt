@@ -13,7 +13,7 @@ use protocol_records::{Header, InputCommandMessage, Value};
 use protocol_wire::encode;
 use sequence::Sequence;
 use std::alloc::{AllocError, Global};
-use store_refusals::Refusal;
+use store_refusals::{Cause, Refusal};
 
 fn header_record_of(header: &journal_model::Header) -> Result<Header, AllocError>
     ensures { IfOk result (λ one. one ≡ header_record header.now) }
@@ -66,7 +66,7 @@ pub(crate) fn payload_of_input(alloc: Global, new: &NewInvocation) -> Result<Byt
 {
     let payload = spelled_input(alloc, new)?;
     if payload.len() > u32::MAX as usize {
-        return Err(Refusal::PayloadTooLong);
+        return Err(Refusal::Cause(Cause::PayloadTooLong));
     }
     let bytes = Bytes::from_vec(payload)?;
     Ok(bytes)

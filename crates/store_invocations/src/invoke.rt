@@ -21,7 +21,7 @@ use journal_model::{NewInvocation, StateMode};
 use protocol_stream::{MessageType, Version};
 use sqlite::Alter;
 use std::alloc::{AllocError, Global};
-use store_refusals::Refusal;
+use store_refusals::{Cause, Refusal};
 use store_tables::{EntryRow, InvocationRow, Progress, StoreTables, Write, open_invocation};
 
 fn is_nameless(new: &NewInvocation) -> bool
@@ -50,10 +50,10 @@ fn take_object<S: Alter>(tables: &mut StoreTables<S>, new: &NewInvocation) -> Re
 {
     let busy = has_open(tables, &new.object)?;
     if busy {
-        return Err(Refusal::ObjectBusy);
+        return Err(Refusal::Cause(Cause::ObjectBusy));
     }
     if is_nameless(new) {
-        return Err(Refusal::EmptyName);
+        return Err(Refusal::Cause(Cause::EmptyName));
     }
     Ok(())
 }
@@ -68,11 +68,11 @@ fn take_id<S: Alter>(tables: &mut StoreTables<S>, new: &NewInvocation) -> Result
     let used = row.is_some();
     drop(row);
     if used {
-        return Err(Refusal::IdUsed);
+        return Err(Refusal::Cause(Cause::IdUsed));
     }
     match Version::spoken(new.version) {
         Some(version) => Ok(version),
-        None => Err(Refusal::UnsupportedVersion),
+        None => Err(Refusal::Cause(Cause::UnsupportedVersion)),
     }
 }
 

@@ -21,7 +21,7 @@ use crate::states::object_states;
 use bytes::{ByteStr, Bytes};
 use sqlite::Alter;
 use std::alloc::Global;
-use store_refusals::Refusal;
+use store_refusals::{Cause, Refusal};
 use store_tables::{InvocationRow, StateRow, StoreTables};
 
 /// The state that an attempt is shown: all of its object's, or none.
@@ -67,7 +67,7 @@ pub(crate) fn prepare_next<S: Alter>(
 {
     let Some(number) = row.progress.attempts.checked_add(1) else {
         drop(row);
-        return Err(Refusal::NumbersUsedUp);
+        return Err(Refusal::Cause(Cause::NumbersUsedUp));
     };
     let version = row.version;
     let known = row.progress.entries;

@@ -15,7 +15,7 @@ use bytes::{ByteStr, Bytes};
 use protocol_types::MessageType;
 use sqlite::Alter;
 use std::alloc::{AllocError, Global};
-use store_refusals::Refusal;
+use store_refusals::{Cause, Refusal};
 use store_tables::{EntryRow, StoreTables, journal};
 
 /// What is recorded at a place.
@@ -80,7 +80,7 @@ fn rows_of<S: Alter>(tables: &mut StoreTables<S>, id: &ByteStr) -> Result<Vec<En
     let rows = journal(tables, id)?;
     if rows.as_slice().is_empty() {
         drop(rows);
-        return Err(Refusal::UnknownInvocation);
+        return Err(Refusal::Cause(Cause::UnknownInvocation));
     }
     Ok(rows)
 }

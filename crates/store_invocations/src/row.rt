@@ -13,7 +13,7 @@ ghost use Rattle.store_refusals.specs.Causes.{TellsCause};
 use bytes::ByteStr;
 use sqlite::Alter;
 use std::alloc::Global;
-use store_refusals::Refusal;
+use store_refusals::{Cause, Refusal};
 use store_tables::{InvocationRow, StoreTables, invocation_by_id};
 
 /// The row of an invocation, where one was begun under this id.
@@ -41,7 +41,7 @@ pub fn known_row<S: Alter>(
     let found = row_of(tables, id)?;
     match found {
         Some(row) => Ok(row),
-        None => Err(Refusal::UnknownInvocation),
+        None => Err(Refusal::Cause(Cause::UnknownInvocation)),
     }
 }
 
@@ -57,7 +57,7 @@ pub fn open_row<S: Alter>(
     let row = known_row(tables, id)?;
     if row.progress.closing.is_some() {
         drop(row);
-        return Err(Refusal::InvocationClosed);
+        return Err(Refusal::Cause(Cause::InvocationClosed));
     }
     Ok(row)
 }

@@ -9,11 +9,11 @@ use Rattle.sql_tables.specs.Causes.{TellsReadCause}
 use Rattle.sql_tables.proofs.Causes.{cause_before, cause_later}
 use Rattle.store_refusals.specs.declared.refusal.Refusal.{Refusal}
 use Rattle.store_refusals.specs.declared.refusal.Refusal.TheVariants.{OutOfMemory, StatementRefused}
+use Rattle.store_refusals.specs.declared.refusal.Refusal.TheVariants as refusal
 use Rattle.journal_model.specs.Cause.{Cause, Tests}
-use Rattle.journal_model.specs.Cause as model
 use Rattle.protocol_stream.specs.declared.encoder.EncodingError.{EncodingError}
 use Rattle.protocol_stream.specs.declared.encoder.EncodingError.TheVariants as encoding
-use Rattle.store_refusals.specs.Refused.{encoding_refusal, reading_refusal, refusal_by, refusal_of}
+use Rattle.store_refusals.specs.Refused.{encoding_refusal, reading_refusal, refusal_by}
 use Rattle.store_refusals.specs.Causes.{IsUnasked, TellsCause}
 
 -- ---- a refusal that is passed on
@@ -49,28 +49,8 @@ encoding_unasked encoding.PayloadTooLong cause is = cc
 encoding_unasked encoding.OutOfMemory cause is = cc
 
 -- a cause of an event's is none of the database
-pub cause_unasked : (c : Cause) → IsUnasked (refusal_of c)
-cause_unasked model.ObjectBusy cause is = cc
-cause_unasked model.EmptyName cause is = cc
-cause_unasked model.IdUsed cause is = cc
-cause_unasked model.UnknownInvocation cause is = cc
-cause_unasked model.InvocationClosed cause is = cc
-cause_unasked model.CompletionNotOpen cause is = cc
-cause_unasked model.WrongKind cause is = cc
-cause_unasked model.ReservedSignal cause is = cc
-cause_unasked model.AttemptNotLive cause is = cc
-cause_unasked model.UnsupportedVersion cause is = cc
-cause_unasked model.BrokenPayload cause is = cc
-cause_unasked model.NestedTooDeep cause is = cc
-cause_unasked model.FrameNotAccepted cause is = cc
-cause_unasked model.BadCompletion cause is = cc
-cause_unasked model.InputNotClosed cause is = cc
-cause_unasked model.InputRemains cause is = cc
-cause_unasked model.InputAlreadyClosed cause is = cc
-cause_unasked model.KeyNotText cause is = cc
-cause_unasked model.RunNotOpen cause is = cc
-cause_unasked model.NumbersUsedUp cause is = cc
-cause_unasked model.PayloadTooLong cause is = cc
+pub cause_unasked : (c : Cause) → IsUnasked (refusal.Cause c)
+cause_unasked c cause is = cc
 
 -- nor is a test's that holds
 pub test_unasked : (tests : Tests) (why : Refusal) → refusal_by tests ≡ Some why → IsUnasked why

@@ -1,30 +1,34 @@
 -- The names of refusals, as they are printed.
 use Rattle.std.specs.Prelude.{ℕ, List, codes}
+use Rattle.journal_model.specs.Cause.{Cause}
 use Rattle.store_refusals.specs.declared.refusal.Refusal.{Refusal}
 use Rattle.store_refusals.specs.declared.refusal.Refusal.TheVariants as refusal
 
+abbrev pub cause_name : Cause → List ℕ
+cause_name Cause.ObjectBusy = codes "S1"
+cause_name Cause.EmptyName = codes "S2"
+cause_name Cause.IdUsed = codes "S3"
+cause_name Cause.UnknownInvocation = codes "S4"
+cause_name Cause.InvocationClosed = codes "S5"
+cause_name Cause.CompletionNotOpen = codes "S6"
+cause_name Cause.WrongKind = codes "S7"
+cause_name Cause.ReservedSignal = codes "S8"
+cause_name Cause.AttemptNotLive = codes "S9"
+cause_name Cause.UnsupportedVersion = codes "S10"
+cause_name Cause.BrokenPayload = codes "S11"
+cause_name Cause.NestedTooDeep = codes "S12"
+cause_name Cause.FrameNotAccepted = codes "S13"
+cause_name Cause.BadCompletion = codes "S14"
+cause_name Cause.InputNotClosed = codes "S15"
+cause_name Cause.InputRemains = codes "S16"
+cause_name Cause.InputAlreadyClosed = codes "S17"
+cause_name Cause.KeyNotText = codes "S18"
+cause_name Cause.RunNotOpen = codes "S22"
+cause_name Cause.NumbersUsedUp = codes "S23"
+cause_name Cause.PayloadTooLong = codes "S24"
+
 abbrev pub name_of : Refusal → List ℕ
-name_of refusal.ObjectBusy = codes "S1"
-name_of refusal.EmptyName = codes "S2"
-name_of refusal.IdUsed = codes "S3"
-name_of refusal.UnknownInvocation = codes "S4"
-name_of refusal.InvocationClosed = codes "S5"
-name_of refusal.CompletionNotOpen = codes "S6"
-name_of refusal.WrongKind = codes "S7"
-name_of refusal.ReservedSignal = codes "S8"
-name_of refusal.AttemptNotLive = codes "S9"
-name_of refusal.UnsupportedVersion = codes "S10"
-name_of refusal.BrokenPayload = codes "S11"
-name_of refusal.NestedTooDeep = codes "S12"
-name_of refusal.FrameNotAccepted = codes "S13"
-name_of refusal.BadCompletion = codes "S14"
-name_of refusal.InputNotClosed = codes "S15"
-name_of refusal.InputRemains = codes "S16"
-name_of refusal.InputAlreadyClosed = codes "S17"
-name_of refusal.KeyNotText = codes "S18"
+name_of (refusal.Cause cause) = cause_name cause
 name_of (refusal.StatementRefused cause) = codes "S19"
 name_of refusal.OutOfMemory = codes "S20"
 name_of refusal.ForeignRow = codes "S21"
-name_of refusal.RunNotOpen = codes "S22"
-name_of refusal.NumbersUsedUp = codes "S23"
-name_of refusal.PayloadTooLong = codes "S24"

@@ -3,4 +3,5 @@
 
 mod refusal;
 
+pub use journal_model::Cause;
 pub use refusal::Refusal;

@@ -14,7 +14,7 @@ use Rattle.store_tables.specs.declared.row.Progress.{Progress}
 use Rattle.store_model.specs.Places.{handed_place}
 use Rattle.store_model.specs.Writes.{writes_of}
 use Rattle.store_refusals.specs.Prepared.{Prepares, Tells}
-use Rattle.store_refusals.specs.Refused.{refusal_of, refusal_by}
+use Rattle.store_refusals.specs.Refused.{refusal_by}
 use Rattle.store_refusals.specs.declared.refusal.Refusal.{Refusal}
 use Rattle.store_refusals.specs.declared.refusal.Refusal.TheVariants as refusal
 use Rattle.store_steps.specs.declared.frame.FrameReply.{FrameReply}
@@ -90,13 +90,7 @@ does_end replies.Failed = true
 does_end replies.Ended = true
 
 abbrev pub lies_in_frame : Refusal → Bool
-lies_in_frame refusal.BrokenPayload = true
-lies_in_frame refusal.NestedTooDeep = true
-lies_in_frame refusal.FrameNotAccepted = true
-lies_in_frame refusal.BadCompletion = true
-lies_in_frame refusal.InputNotClosed = true
-lies_in_frame refusal.KeyNotText = true
-lies_in_frame refusal.RunNotOpen = true
+lies_in_frame (refusal.Cause cause) = is_of_frame cause
 lies_in_frame _ = false
 
 -- a frame's answer says whether the frame ends its attempt
@@ -105,4 +99,4 @@ TellsEnd reply does = (events : List Event) (id : Text) (frame : Frame) → IsRe
 
 -- a refusal says whether its cause lies in the frame
 abbrev pub TellsCause : Refusal → Bool → Type 0
-TellsCause why does = (cause : Cause) → refusal_of cause ≡ why → does ≡ is_of_frame cause
+TellsCause why does = (cause : Cause) → refusal.Cause cause ≡ why → does ≡ is_of_frame cause

@@ -23,7 +23,7 @@ use sqlite::Alter;
 use std::alloc::Global;
 use store_arrivals::is_woken;
 use store_frames::{AttemptFrame, RecordedCommand};
-use store_refusals::Refusal;
+use store_refusals::{Cause, Refusal};
 use store_tables::{InvocationRow, Progress, StoreTables, invocation_by_id};
 
 /// What is made ready of a frame, by how far its invocation is, and of a suspension by whether it is awake at once.
@@ -203,7 +203,7 @@ pub fn prepare_frame<S: Alter>(
         },
         Ok(None) => {
             drop(frame);
-            Err(Refusal::UnknownInvocation)
+            Err(Refusal::Cause(Cause::UnknownInvocation))
         }
         Err(error) => {
             drop(frame);

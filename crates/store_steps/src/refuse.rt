@@ -6,7 +6,7 @@ ghost use Rattle.store_steps.specs.Told.{answers_told, asked, tests_of_told};
 
 use crate::frame::LiveFacts;
 use store_frames::{AttemptFrame, RecordedCommand, StateUse};
-use store_refusals::Refusal;
+use store_refusals::{Cause, Refusal};
 use store_tables::Progress;
 
 /// The greatest place.
@@ -46,13 +46,13 @@ pub(crate) fn command_refusal(progress: &Progress, command: &RecordedCommand) ->
 {
     let last = progress.last_completion;
     if !do_completions_ascend(last, command.completion, command.second_completion) {
-        Some(Refusal::BadCompletion)
+        Some(Refusal::Cause(Cause::BadCompletion))
     } else if !command.are_keys_text {
-        Some(Refusal::KeyNotText)
+        Some(Refusal::Cause(Cause::KeyNotText))
     } else if !has_places(progress, command) {
-        Some(Refusal::NumbersUsedUp)
+        Some(Refusal::Cause(Cause::NumbersUsedUp))
     } else if command.payload.len() > u32::MAX as usize {
-        Some(Refusal::PayloadTooLong)
+        Some(Refusal::Cause(Cause::PayloadTooLong))
     } else {
         None
     }
@@ -69,11 +69,11 @@ pub(crate) fn frame_refusal(
     match frame {
         AttemptFrame::Command(command) => command_refusal(progress, command),
         AttemptFrame::Suspension { .. } if !attempt.is_input_closed => {
-            Some(Refusal::InputNotClosed)
+            Some(Refusal::Cause(Cause::InputNotClosed))
         }
-        AttemptFrame::Broken => Some(Refusal::BrokenPayload),
-        AttemptFrame::TooDeep => Some(Refusal::NestedTooDeep),
-        AttemptFrame::NotAccepted => Some(Refusal::FrameNotAccepted),
+        AttemptFrame::Broken => Some(Refusal::Cause(Cause::BrokenPayload)),
+        AttemptFrame::TooDeep => Some(Refusal::Cause(Cause::NestedTooDeep)),
+        AttemptFrame::NotAccepted => Some(Refusal::Cause(Cause::FrameNotAccepted)),
         AttemptFrame::Suspension { .. }
         | AttemptFrame::AwaitingOn
         | AttemptFrame::Error { .. }

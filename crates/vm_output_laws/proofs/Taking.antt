@@ -11,7 +11,6 @@ use Rattle.journal_model.specs.Event.{Event, Frame}
 use Rattle.journal_model.specs.Journal.{entries_of, open_request, recorded_requests, version_of}
 use Rattle.journal_model.specs.Attempt.{is_input_closed}
 use Rattle.journal_model.specs.Cause.{Cause, Tests, those_that_hold, is_of_frame, causes_of, open_tests, live_tests, frame_tests, adding_tests, entry_tests, tests_of, UnknownInvocation, InvocationClosed, AttemptNotLive, BadCompletion, KeyNotText, InputNotClosed, BrokenPayload, NumbersUsedUp, PayloadTooLong, do_ascend, last_completion, is_run, keys_of}
-use Rattle.journal_model.specs.Cause as cause
 use Rattle.run_laws.proofs.Ascending.{next_ascends}
 use Rattle.live_laws.specs.Sending.{SendsOneOfRun}
 use Rattle.store_frames.specs.declared.frame.AttemptFrame.{AttemptFrame}
@@ -19,7 +18,7 @@ use Rattle.store_frames.specs.Answer.{IsFrame}
 use Rattle.store_frames.specs.Read.{IsFrameRead}
 use Rattle.store_refusals.specs.declared.refusal.Refusal.{Refusal}
 use Rattle.store_refusals.specs.declared.refusal.Refusal.TheVariants as refusal
-use Rattle.store_refusals.specs.Refused.{refusal_of, is_circumstance, IsRefused}
+use Rattle.store_refusals.specs.Refused.{is_circumstance, IsRefused}
 use Rattle.store_steps.specs.declared.frame.LiveFacts.{LiveFacts}
 use Rattle.store_steps.specs.declared.frame.PreparedFrame.{PreparedFrame}
 use Rattle.store_steps.specs.Taken.{IsLive, Takes, lies_in_frame}
@@ -80,34 +79,14 @@ causes_none next given arrivals version Ends id events h number =
 
 -- ---- refusals
 
-pub lies_as : (c : Cause) → lies_in_frame (refusal_of c) ≡ is_of_frame c
-lies_as cause.ObjectBusy = refl
-lies_as cause.EmptyName = refl
-lies_as cause.IdUsed = refl
-lies_as cause.UnknownInvocation = refl
-lies_as cause.InvocationClosed = refl
-lies_as cause.CompletionNotOpen = refl
-lies_as cause.WrongKind = refl
-lies_as cause.ReservedSignal = refl
-lies_as cause.AttemptNotLive = refl
-lies_as cause.UnsupportedVersion = refl
-lies_as cause.BrokenPayload = refl
-lies_as cause.NestedTooDeep = refl
-lies_as cause.FrameNotAccepted = refl
-lies_as cause.BadCompletion = refl
-lies_as cause.InputNotClosed = refl
-lies_as cause.InputRemains = refl
-lies_as cause.InputAlreadyClosed = refl
-lies_as cause.KeyNotText = refl
-lies_as cause.RunNotOpen = refl
-lies_as cause.NumbersUsedUp = refl
-lies_as cause.PayloadTooLong = refl
+pub lies_as : (c : Cause) → lies_in_frame (refusal.Cause c) ≡ is_of_frame c
+lies_as c = refl
 
 head_none : (b c : Bool) → (b || c) ≡ false → b ≡ false
 head_none true c e = absurd (true≢false e)
 head_none false c e = refl
 
-why_is : (c : Cause) (why : Refusal) → Some (refusal_of c) ≡ Some why → refusal_of c ≡ why
+why_is : (c : Cause) (why : Refusal) → Some (refusal.Cause c) ≡ Some why → refusal.Cause c ≡ why
 why_is c why e = cc
 
 circumstance : (why : Refusal) → IsTrue (is_circumstance why) → lies_in_frame why ≡ false

@@ -7,7 +7,8 @@ use Rattle.store_tables.specs.Questions.{IsFound, has_id}
 use Rattle.store_tables.specs.declared.row.InvocationRow.{InvocationRow}
 use Rattle.store_refusals.specs.Prepared.{Keeps}
 use Rattle.store_refusals.specs.declared.refusal.Refusal.{Refusal}
-use Rattle.store_refusals.specs.declared.refusal.Refusal.TheVariants.{UnknownInvocation}
+use Rattle.journal_model.specs.Cause.{Cause}
+use Rattle.store_refusals.specs.declared.refusal.Refusal.TheVariants as refusal
 use Rattle.store_refusals.proofs.Causes.{err_later, read_cause}
 use Rattle.store_invocations.proofs.Standing.{store_kept}
 use Rattle.store_steps.specs.Taken.{Takes}
@@ -69,7 +70,7 @@ returns-in-Ok-None-clause-prepared g c clean events store =
     let keeps : Keeps events old = store.keeps early (c.in-Ok-None.ensures.open clean) in
     let found : IsFound (λ r. r.invocations) (has_id c.args.id.now) old.now.trees None =
     subst (λ (o : Option InvocationRow). IsFound (λ r. r.invocations) (has_id c.args.id.now) old.now.trees o) c.in-Ok-None.field-0-is (c.in-Ok-None.ensures.found clean) in
-    never_missing events old keeps c.args.id.now found c.args.attempt c.args.frame (Err UnknownInvocation)
+    never_missing events old keeps c.args.id.now found c.args.attempt c.args.frame (Err (refusal.Cause Cause.UnknownInvocation))
 
 pub returns-in-Err-clause-prepared : goal.returns-in-Err-clause-prepared
 returns-in-Err-clause-prepared g c clean events store =
