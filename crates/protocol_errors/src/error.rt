@@ -2,7 +2,7 @@
 ghost use Rattle.std.specs.Prelude.{◌≡◌, ◌==◌, ℕ, Some, IfOk, IfSome, option_copied};
 ghost use Rattle.protocol_errors.specs.Code.{code_numbered, internal, suspended};
 ghost use Rattle.std.specs.Fmt.{WritesOnOk};
-ghost use Rattle.protocol_errors.specs.Error.{plain_error};
+ghost use Rattle.protocol_errors.specs.Error.{plain_error, mismatch_behaving};
 ghost use Rattle.protocol_errors.specs.Texts.{related_text};
 ghost use Rattle.protocol_errors.specs.declared.error.ErrorBehavior.{ErrorBehavior};
 
@@ -107,6 +107,14 @@ impl Error {
         self
     }
 
+    /// The error, upon which another attempt is made.
+    pub fn with_should_retry(mut self) -> Error
+        ensures { result ≡ record self { behavior = ErrorBehavior.Retry } }
+    {
+        self.behavior = ErrorBehavior::Retry;
+        self
+    }
+
     /// The error, upon which the invocation is paused.
     pub fn with_should_pause(mut self) -> Error
         ensures { result ≡ record self { behavior = ErrorBehavior.Pause } }
@@ -115,11 +123,14 @@ impl Error {
         self
     }
 
-    /// The error, upon which this becomes of the invocation.
-    pub fn with_behavior(mut self, behavior: ErrorBehavior) -> Error
-        ensures { result ≡ record self { behavior = behavior } }
+    /// The error, upon which this becomes of the invocation where a journal does not match. Any other error stays as it is: so no other
+    /// error can be made that ends an invocation.
+    pub fn with_mismatch_behavior(mut self, behavior: ErrorBehavior) -> Error
+        ensures { result ≡ mismatch_behaving behavior self }
     {
-        self.behavior = behavior;
+        if self.code.code() == codes::JOURNAL_MISMATCH.code() {
+            self.behavior = behavior;
+        }
         self
     }
 

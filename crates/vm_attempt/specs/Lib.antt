@@ -1,4 +1,5 @@
 pub mod Attempt
+pub mod Bodies
 pub mod Coding
 pub mod Output
 pub mod Typed

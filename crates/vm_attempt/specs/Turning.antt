@@ -13,6 +13,7 @@ use Rattle.vm_proposals.specs.Proposing.{ProposesRun}
 use Rattle.vm_core.specs.Outcomes.outcomes
 use Rattle.vm_core.specs.Outcomes.{CarriesOut, CallOutcome}
 use Rattle.vm_core.specs.declared.core_vm.CoreVM.{CoreVM}
+use Rattle.vm_attempt.specs.Bodies.{by_policy}
 use Rattle.vm_attempt.specs.Typed.{IsTypedOutcome}
 use Rattle.vm_attempt.specs.declared.attempt.Attempt.{Attempt}
 use Rattle.vm_attempt.specs.declared.run_outcome.RunOutcome.{RunOutcome}
@@ -43,11 +44,12 @@ module _ {H : Type 0} where
   TakesAnswer answer between turn after =
       ((turn ≡ Turn.Answered) × (after ≡ record between { answers = between.answers ++ answer ∷ [] })) ⊎ FinishesBy finishes.OutOfMemory between turn after
 
-  -- How the body of a run has ended is proposed to the machine, which fails with it where it is no outcome.
+  -- How the body of a run has ended is proposed to the machine, which fails with it where it is no outcome. What then becomes of the
+  -- invocation its policy alone says, and not its error.
   pub record RunsBody (ran : RunOutcome) (handle : ℕ) (between : Attempt H) (turn : Turn) (after : Attempt H) : Type 0 where
-    pub typed : IsTypedOutcome ran
+    pub typed : IsTypedOutcome (by_policy ran)
     pub proposed : Result (Unit {0}) Error
-    pub proposes : ProposesRun handle ran.result ran.policy between.vm.state proposed after.vm.state
+    pub proposes : ProposesRun handle (by_policy ran).result ran.policy between.vm.state proposed after.vm.state
     pub turn_is : turn ≡ ran_or_failed proposed
     pub others : after ≡ record between { vm = after.vm }
 

@@ -8,7 +8,7 @@ ghost use Rattle.vm_attempt.specs.Turning.{FinishesBy, TakesAnswer, RunsBody, Ta
 
 use crate::header::ContentType;
 use crate::output::{advance, first, join};
-use crate::run_outcome::RunOutcome;
+use crate::run_outcome::{RunOutcome, by_policy};
 use crate::turn::{Finish, Turn, ran_or_failed, turn_again};
 use crate::typed::{call_is_typed, outcome_is_typed};
 use bytes::Bytes;
@@ -138,6 +138,7 @@ impl<H: Handler> Attempt<H> {
     fn run_body(&mut self, handle: NotificationHandle, ran: RunOutcome) -> Turn
         ensures { RunsBody ran handle self.old result self.new }
     {
+        let ran = by_policy(ran);
         outcome_is_typed(&ran);
         let proposed = self
             .vm
@@ -213,7 +214,8 @@ impl<H: Handler> Attempt<H> {
     /// One turn: reads the input once it has come with the journal, or asks the handler and carries its call out.
     ///
     /// Where that is an await for which the body of a run is to be executed, the body has ended with the outcome that is given, and this is
-    /// proposed. In any other turn the outcome is let go of.
+    /// proposed. What becomes of an invocation whose body has failed its policy alone says, whatever its error asks for. In any other turn
+    /// the outcome is let go of.
     ///
     /// An attempt that is over answers the same again. What it has failed with is copied for each answer; where memory is refused for
     /// the copy, the answer says so.

@@ -1,4 +1,7 @@
 //! The end of a run's body, as a turn is given it.
+ghost use Rattle.std.specs.Prelude.{◌≡◌};
+ghost use Rattle.vm_attempt.specs.Bodies.{exit_by_policy, by_policy};
+
 use bytes::Bytes;
 use vm_refusals::{RetryPolicy, RunExitResult};
 
@@ -22,5 +25,32 @@ impl Default for RunOutcome {
             result: RunExitResult::Success(Bytes::new()),
             policy: RetryPolicy::Infinite,
         }
+    }
+}
+
+// The same end; an error of it says nothing of what becomes of its invocation.
+fn exit_by_policy(exit: RunExitResult) -> RunExitResult
+    ensures { result ≡ exit_by_policy exit }
+{
+    match exit {
+        RunExitResult::Success(bytes) => RunExitResult::Success(bytes),
+        RunExitResult::TerminalFailure(failure) => RunExitResult::TerminalFailure(failure),
+        RunExitResult::RetryableFailure {
+            attempt_duration,
+            error,
+        } => RunExitResult::RetryableFailure {
+            attempt_duration,
+            error: error.with_should_retry(),
+        },
+    }
+}
+
+/// The outcome of which the policy alone says what becomes of the invocation.
+pub(crate) fn by_policy(outcome: RunOutcome) -> RunOutcome
+    ensures { result ≡ by_policy outcome }
+{
+    RunOutcome {
+        result: exit_by_policy(outcome.result),
+        policy: outcome.policy,
     }
 }

@@ -11,7 +11,7 @@ use Rattle.vm_refusals.specs.Retrying.{AfterFailure, after_failure, FailsAsTermi
 use Rattle.vm_start.specs.Failure.{asked_behavior, failed_with}
 use Rattle.vm_types.specs.declared.options.JournalMismatchRetryBehavior.{JournalMismatchRetryBehavior}
 use Rattle.vm_attempt_laws.specs.Attempts.{Turn}
-use Rattle.vm_attempt_laws.specs.Bodies.{about, ending, NonEmptyValue, Outcome, Pause, pausing, Retry, run_told, RunExitResult, RunOutcome, with_delay}
+use Rattle.vm_attempt_laws.specs.Bodies.{about, ending, NonEmptyValue, Outcome, Pause, pausing, Retry, run_told, RunExitResult, RunOutcome, exit_by_policy, by_policy, with_delay}
 use Rattle.vm_attempt_laws.specs.Keeping.{FailsWith}
 use Rattle.vm_attempt_laws.specs.Machine.{MachineState, Written, Cause, ByFault, NoNumber, TooLong, TooDeep, NoReplay, NoMemory}
 use Rattle.vm_attempt_laws.specs.Running.{BodyCause, BodyFailsWhen, BodyToldAs, IsLong, Lacks, LacksMemory, Pauses, TriedAgain}
@@ -95,6 +95,12 @@ code_of_cause next version live call old new error sent by = by_cause next versi
 pub own_code : (next : Handler) (version : Version) (live : LiveAttempt) (call : Call) (old new : MachineState) (error : Error) (sent : List Sent) → FailsBy next version live call old new error sent → IsOwnCode error
 own_code next version live call old new error sent by = any_code by.cause error (code_of_cause next version live call old new error sent by)
 
+-- what becomes of the invocation changes no code
+policy_code : (exit : RunExitResult) (code : ℕ) → IsBodyCode (exit_by_policy exit) code → IsBodyCode exit code
+policy_code (RunExitResult.Success bytes) code is = is
+policy_code (RunExitResult.TerminalFailure failure) code is = is
+policy_code (RunExitResult.RetryableFailure duration error) code is = is
+
 -- what a body that fails its attempt may tell
 abbrev pub IsCode : RunOutcome → ℕ → Type 0
 IsCode ran code = (code ≡ internal) ⊎ ((code ≡ unsupported_feature) ⊎ IsBodyCode ran.result code)
@@ -108,10 +114,13 @@ body_code next live proposed version options ran vm error sent by = by_why by.ca
     by_told told own (inl same) = subst (λ (e : Error). IsCode ran e.code.0) (sym same) own
     by_told told own (inr long) = inl (ap (λ (e : Error). e.code.0) long.1)
 
-    of_body : (own told : Error) → told.code.0 ≡ own.code.0 → HasError own (ending ran.policy (tried_by live by.shows) ran.result) → IsBodyCode ran.result told.code.0
-    of_body own told same has = subst (λ (code : ℕ). IsBodyCode ran.result code) (sym same) (ended_code ran.policy (tried_by live by.shows) ran.result own has)
+    of_body : (own told : Error) → told.code.0 ≡ own.code.0 → HasError own (ending ran.policy (tried_by live by.shows) (by_policy ran).result) → IsBodyCode ran.result told.code.0
+    of_body own told same has =
+        subst (λ (code : ℕ). IsBodyCode ran.result code) (sym same)
+        (policy_code ran.result own.code.0 (ended_code ran.policy (tried_by live by.shows) (by_policy ran).result own has))
 
-    by_why : (why : BodyCause) → BodyFailsWhen version options ran (tried_by live by.shows) vm by.run why → BodyToldAs version options ran (tried_by live by.shows) vm by.run why error sent → IsCode ran error.code.0
+    by_why : (why : BodyCause) → BodyFailsWhen version options (by_policy ran) (tried_by live by.shows) vm by.run why
+        → BodyToldAs version options (by_policy ran) (tried_by live by.shows) vm by.run why error sent → IsCode ran error.code.0
     by_why (Lacks feature) when told = by_told told.0 (inr (inl (ap (λ (e : Error). e.code.0) told.1.plain))) told.2
     by_why (TriedAgain own delay) when told =
         by_told told.0 (inr (inr (of_body own told.0 (ap (λ (e : Error). e.code.0) told.1 ∙ failed_code version options.journal_mismatch_retry_behavior (about (run_told by.run) (with_delay delay own)))

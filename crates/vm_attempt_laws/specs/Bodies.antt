@@ -6,6 +6,7 @@ pub use Rattle.replay_laws.specs.Living.{reads_message, reads_messages, AreCache
 pub use Rattle.journal_model.specs.declared.value.NonEmptyValue.{NonEmptyValue}
 pub use Rattle.replay_laws.specs.Laws.{ReplaysStay, StaysReplayed, ReplaysStand, StandsReplayed, ReplaysTurn, TurnsReplayed}
 pub use Rattle.replay_laws.specs.Replaying.{asked_by, CanReplay, ComesAsAsked, IsBehind, IsReplayed}
+pub use Rattle.vm_attempt.specs.Bodies.{retried, exit_by_policy, by_policy}
 pub use Rattle.vm_attempt.specs.declared.run_outcome.RunOutcome.{RunOutcome}
 pub use Rattle.vm_proposals.specs.Failing.{name_of, run_told, with_delay, about, pausing}
 pub use Rattle.vm_proposals.specs.Proposing.{tried_before, proposal, proposal_message}

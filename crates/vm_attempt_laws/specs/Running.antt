@@ -14,7 +14,7 @@ use Rattle.vm_machine.specs.Admitting.{IsAbout}
 use Rattle.vm_machine.specs.PassedMachine.{Tells}
 use Rattle.vm_start.specs.Failure.{failed_with}
 use Rattle.run_laws.specs.Suspended.{left_of}
-use Rattle.vm_attempt_laws.specs.Bodies.{NonEmptyValue, Body, has_handle, bodies_of, Among, has_arrived, count_proposed, RunOutcome, RunExitResult, name_of, run_told, with_delay, about, pausing, Tried, inherits, proposal, proposal_message, ending, Outcome, Retry, Pause, feature_lacked, Run, run_at}
+use Rattle.vm_attempt_laws.specs.Bodies.{NonEmptyValue, Body, has_handle, bodies_of, Among, has_arrived, count_proposed, RunOutcome, by_policy, RunExitResult, name_of, run_told, with_delay, about, pausing, Tried, inherits, proposal, proposal_message, ending, Outcome, Retry, Pause, feature_lacked, Run, run_at}
 use Rattle.vm_attempt_laws.specs.Keeping.{FailsWith}
 use Rattle.vm_attempt_laws.specs.Machine.{are_any, MachineState, out_of_memory, told_error}
 use Rattle.vm_attempt_laws.specs.Sending.{Sent, Fails}
@@ -113,7 +113,8 @@ module _ (version : Version) (options : VMOptions) (ran : RunOutcome) (tried : T
   BodyToldAs LacksMemory error sent = error ≡ out_of_memory
   BodyToldAs cause error sent = (told : Error) × BodyTells cause told × FailsWith told vm.active.output error × (sent ≡ Fails (told_error error) ∷ [])
 
--- a body is to be executed first, of which this is kept, and has no outcome that is written
+-- a body is to be executed first, of which this is kept, and has no outcome that is written; what becomes of the invocation its policy alone
+-- says
 pub record FailsByBody (next : Handler) (live : LiveAttempt) (proposed : List (ℕ × NonEmptyValue)) (version : Version) (options : VMOptions) (ran : RunOutcome) (vm : MachineState) (error : Error) (sent : List Sent) : Type 0 where
   pub body : Body
   pub first : ExecutesFirst next live.start.given (arrivals_carried live.read) live.calls (requests_carried live.read ++ live.machine.written) proposed body
@@ -122,8 +123,8 @@ pub record FailsByBody (next : Handler) (live : LiveAttempt) (proposed : List (�
   pub completion : run.completion ≡ body.completion
   pub shows : ShowsStart live.start
   pub cause : BodyCause
-  pub when : BodyFailsWhen version options ran (tried_by live shows) vm run cause
-  pub told : BodyToldAs version options ran (tried_by live shows) vm run cause error sent
+  pub when : BodyFailsWhen version options (by_policy ran) (tried_by live shows) vm run cause
+  pub told : BodyToldAs version options (by_policy ran) (tried_by live shows) vm run cause error sent
 
 -- the code of the error by which a body has failed
 abbrev pub IsBodyCode : RunExitResult → ℕ → Type 0

@@ -5,7 +5,7 @@ ghost use Rattle.vm_start.specs.Failure.{asked_behavior, failed_with, name_told,
 
 use bytes::ByteStr;
 use protocol_controls::ErrorMessage;
-use protocol_errors::{CommandMetadata, Error, ErrorBehavior, codes};
+use protocol_errors::{CommandMetadata, Error, ErrorBehavior};
 use protocol_types::{Feature, Version};
 use std::alloc::{AllocError, Global};
 use std::time::Duration;
@@ -26,9 +26,8 @@ fn asked_behavior(asked: JournalMismatchRetryBehavior) -> ErrorBehavior
 pub fn fail_with(version: Version, asked: JournalMismatchRetryBehavior, error: Error) -> Error
     ensures { result ≡ failed_with (version_number version) asked error }
 {
-    let is_mismatch = error.code() == codes::JOURNAL_MISMATCH.code();
-    if is_mismatch && Feature::ErrorBehavior.is_in(version.number()) {
-        return error.with_behavior(asked_behavior(asked));
+    if Feature::ErrorBehavior.is_in(version.number()) {
+        return error.with_mismatch_behavior(asked_behavior(asked));
     }
     error
 }
