@@ -18,10 +18,10 @@ use Rattle.vm_waiting.specs.WaitsFor.{ids_over}
 use Rattle.vm_waiting.specs.declared.waits_for.WaitsFor.{WaitsFor}
 use Rattle.vm_progress.specs.Uncompleted.{lists_over, NamesIn, IsLast, run_of, IsLastRun, TellsAbout, TellsAwaited, TellsUncompleted}
 
-pub told_by : (invocation : Bytes) (tree : AwaitTree NotificationId) (error : UncompletedDoProgressDuringReplay) (told : Result Error AllocError)
-    → NamesIn invocation (lists_over tree) error → IfOk told (Tells journal_mismatch (Some (uncompleted_text error))) → IfOk told (TellsAwaited invocation tree)
-told_by invocation tree error (Ok told) names tells = record { error = error; names = names; tells = tells }
-told_by invocation tree error (Err refused) names tells = tt
+pub told_by : (invocation : Bytes) (table : Table) (tree : AwaitTree NotificationId) (error : UncompletedDoProgressDuringReplay) (told : Result Error AllocError)
+    → NamesIn invocation table (lists_over tree) error → IfOk told (Tells journal_mismatch (Some (uncompleted_text error))) → IfOk told (TellsAwaited invocation table tree)
+told_by invocation table tree error (Ok told) names tells = record { error = error; names = names; tells = tells }
+told_by invocation table tree error (Err refused) names tells = tt
 
 -- ---- the run that it is about
 
@@ -44,20 +44,21 @@ module _ (table : Table) (waits : WaitsFor) (last : Option ℕ) (is_last : IsLas
     command_is = ap (λ (c : CommandMetadata). Some c) told ∙ ap (λ (found : Option Run). option_map run_told found) found ∙ sym (ap (λ (l : Option ℕ). option_map run_told (run_of table l)) is);
   }
 
-pub told_about : (invocation : Bytes) (slots : Slots) (runs : Runs) (waits : WaitsFor) (error told : Error) (command : CommandMetadata) → TellsAwaited invocation (ids_over slots waits) error
+pub told_about : (invocation : Bytes) (slots : Slots) (runs : Runs) (waits : WaitsFor) (error told : Error) (command : CommandMetadata) → TellsAwaited invocation runs.table (ids_over slots waits) error
     → IsLastRun runs.table waits (Some command) → told ≡ record error { related_command = Some command } → TellsUncompleted invocation slots runs waits told
 told_about invocation slots runs waits error told command tells last is = record { run = Some command; last = last; tells = record { plain = error; causes = tells; about = is } }
 
-pub told_of_none : (invocation : Bytes) (slots : Slots) (runs : Runs) (waits : WaitsFor) (error : Error) → TellsAwaited invocation (ids_over slots waits) error → IsLastRun runs.table waits None
+pub told_of_none : (invocation : Bytes) (slots : Slots) (runs : Runs) (waits : WaitsFor) (error : Error) → TellsAwaited invocation runs.table (ids_over slots waits) error → IsLastRun runs.table waits None
     → TellsUncompleted invocation slots runs waits error
 told_of_none invocation slots runs waits error tells last = record { run = None; last = last; tells = tells }
 
 -- ---- its code
 
-about_some : (invocation : Bytes) (tree : AwaitTree NotificationId) (run : Option CommandMetadata) (told : Error) → TellsAbout run (TellsAwaited invocation tree) told → told.code.0 ≡ journal_mismatch
-about_some invocation tree None told tells = ap (λ (e : Error). e.code.0) tells.tells.plain
-about_some invocation tree (Some command) told tells = ap (λ (e : Error). e.code.0) tells.about ∙ ap (λ (e : Error). e.code.0) tells.causes.tells.plain
+about_some : (invocation : Bytes) (table : Table) (tree : AwaitTree NotificationId) (run : Option CommandMetadata) (told : Error) → TellsAbout run (TellsAwaited invocation table tree) told
+    → told.code.0 ≡ journal_mismatch
+about_some invocation table tree None told tells = ap (λ (e : Error). e.code.0) tells.tells.plain
+about_some invocation table tree (Some command) told tells = ap (λ (e : Error). e.code.0) tells.about ∙ ap (λ (e : Error). e.code.0) tells.causes.tells.plain
 
 -- it is a mismatch, whichever run it is about
 pub uncompleted_code : (invocation : Bytes) (slots : Slots) (runs : Runs) (waits : WaitsFor) (told : Error) → TellsUncompleted invocation slots runs waits told → told.code.0 ≡ journal_mismatch
-uncompleted_code invocation slots runs waits told uncompleted = about_some invocation _ uncompleted.run told uncompleted.tells
+uncompleted_code invocation slots runs waits told uncompleted = about_some invocation runs.table _ uncompleted.run told uncompleted.tells

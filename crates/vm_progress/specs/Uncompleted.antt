@@ -1,6 +1,7 @@
 -- What is told of an await that stays asleep although the journal goes on behind it.
 use Rattle.std.specs.Prelude.{◌≡◌, ◌≤◌, ℕ, max, ◌==◌, nat_lt, Bool, true, false, ◌&&◌, if◌then◌else◌, List, [], ◌∷◌, ◌++◌, map, Option, Some, None, is_some, option_map, IsPermutation, IsSortedBy}
 use Rattle.std.specs.List.{flat_map}
+use Rattle.std.specs.Map.{values_of}
 use Rattle.journal_model.specs.Awakeable.{awakeable_id}
 use Rattle.journal_model.specs.AwaitTree.{AwaitTree}
 use Rattle.journal_model.specs.Future.{tree_of}
@@ -14,7 +15,7 @@ use Rattle.protocol_errors.specs.Code.{journal_mismatch}
 use Rattle.protocol_errors.specs.Texts.{uncompleted_text}
 use Rattle.protocol_errors.specs.declared.error.Error.{Error}
 use Rattle.protocol_errors.specs.declared.metadata.NotificationMetadata.{NotificationMetadata}
-use Rattle.protocol_errors.specs.declared.metadata.NotificationMetadata.TheVariants.{Cancellation, Awakeable}
+use Rattle.protocol_errors.specs.declared.metadata.NotificationMetadata.TheVariants.{RelatedToCommand, Cancellation, Awakeable}
 use Rattle.protocol_errors.specs.declared.uncompleted.AwaitedId.{AwaitedId}
 use Rattle.protocol_errors.specs.declared.uncompleted.AwaitedId.TheVariants.{CompletionId, SignalId, SignalName}
 use Rattle.protocol_errors.specs.declared.uncompleted.UncompletedDoProgressDuringReplay.{UncompletedDoProgressDuringReplay}
@@ -52,11 +53,18 @@ known_of invocation signal =
     if signal == 1 then (SignalId signal, Cancellation) ∷ []
     else (if nat_lt 16 signal then (SignalId signal, Awakeable (awakeable_id invocation signal)) ∷ [] else [])
 
--- an error over these ids, each as often as it stands there, in order, and over what is known of the signals
-pub record NamesIn (invocation : Bytes) (lists : SuspensionMessageV6) (error : UncompletedDoProgressDuringReplay) : Type 0 where
+-- of the completion of a run whose outcome was not proposed its command is known
+abbrev pub known_run : Run → AwaitedId × NotificationMetadata
+known_run run = (CompletionId run.completion, RelatedToCommand (run_told run))
+
+abbrev pub known_runs : Table → List (AwaitedId × NotificationMetadata)
+known_runs table = map known_run (values_of table)
+
+-- an error over these ids, each as often as it stands there, in order, and over what is known of runs and of the signals
+pub record NamesIn (invocation : Bytes) (table : Table) (lists : SuspensionMessageV6) (error : UncompletedDoProgressDuringReplay) : Type 0 where
   pub awaited : IsPermutation (ids_in lists) error.awaited.items
   pub in_order : IsSortedBy comes_before error.awaited.items
-  pub known : error.known.items ≡ flat_map (known_of invocation) lists.waiting_signals
+  pub known : error.known.items ≡ known_runs table ++ flat_map (known_of invocation) lists.waiting_signals
 
 -- ---- the run
 
@@ -97,17 +105,17 @@ TellsAbout (Some command) Causes told = IsAbout command Causes told
 -- ---- the machine
 
 -- what is told of the error over the ids of this tree, about no command
-pub record TellsAwaited (invocation : Bytes) (tree : AwaitTree NotificationId) (told : Error) : Type 0 where
+pub record TellsAwaited (invocation : Bytes) (table : Table) (tree : AwaitTree NotificationId) (told : Error) : Type 0 where
   pub error : UncompletedDoProgressDuringReplay
-  pub names : NamesIn invocation (lists_over tree) error
+  pub names : NamesIn invocation table (lists_over tree) error
   pub tells : Tells journal_mismatch (Some (uncompleted_text error)) told
 
--- It is told of the ids that are waited for, about the run of the last handle whose outcome was not proposed; where there is none, about no
--- command. A handle that stands for nothing is left out.
+-- It is told of the ids that are waited for, that of a run by its command, about the run of the last handle whose outcome was not proposed;
+-- where there is none, about no command. A handle that stands for nothing is left out.
 pub record TellsUncompleted (invocation : Bytes) (slots : Slots) (runs : Runs) (waits : WaitsFor) (told : Error) : Type 0 where
   pub run : Option CommandMetadata
   pub last : IsLastRun runs.table waits run
-  pub tells : TellsAbout run (TellsAwaited invocation (ids_over slots waits)) told
+  pub tells : TellsAbout run (TellsAwaited invocation runs.table (ids_over slots waits)) told
 
 -- the machine fails with the ids that are waited for
 abbrev pub IsUncompleted : WaitsFor → (old : MachineState) → Error → (new : MachineState) → Type 0

@@ -1,10 +1,10 @@
 // The ids that an await waits for, and what is known of them.
-ghost use Rattle.std.specs.Prelude.{◌≡◌, ◌++◌, map, IfOk, OnOk};
+ghost use Rattle.std.specs.Prelude.{◌≡◌, ◌++◌, ◌∷◌, [], map, IfOk, OnOk};
 ghost use Rattle.std.specs.List.{flat_map};
 ghost use Rattle.journal_model.specs.Awakeable.{awakeable_id};
 ghost use Rattle.vm_awaits.specs.Views.{slots_of};
 ghost use Rattle.vm_waiting.specs.WaitsFor.{ids_over};
-ghost use Rattle.vm_progress.specs.Uncompleted.{lists_over, started_id, known_of, ids_in};
+ghost use Rattle.vm_progress.specs.Uncompleted.{lists_over, started_id, known_of, known_run, known_runs, ids_in};
 
 use bytes::{ByteStr, Bytes};
 use protocol_errors::{AwaitedId, NotificationMetadata};
@@ -12,6 +12,8 @@ use protocol_messages::to_suspension_v6;
 use protocol_records::{StartMessage, SuspensionMessage, SuspensionMessageV6};
 use std::alloc::{AllocError, Global};
 use vm_awaits::AsyncResultsState;
+use vm_proposals::run_told;
+use vm_runs::{Run, RunState};
 use vm_types::awakeable_id;
 use vm_waiting::WaitsFor;
 
@@ -120,15 +122,39 @@ fn push_known(
     Ok(())
 }
 
-/// What is known of signals.
-pub(crate) fn known_signals(
-    alloc: Global,
-    start: &Option<StartMessage>,
-    signals: &[u32],
-) -> Result<KnownIds, AllocError>
-    ensures { IfOk result (λ known. known.items ≡ flat_map (known_of (started_id start.now)) signals.now) }
+// The command of a run is what is known of its completion.
+fn push_run(known: &mut KnownIds, run: &Run) -> Result<(), AllocError>
+    ensures { OnOk result (known.new.items ≡ known.old.items ++ known_run run.now ∷ []) }
+{
+    let command = run_told(run)?;
+    known.push((
+        AwaitedId::CompletionId(run.completion),
+        NotificationMetadata::RelatedToCommand(command),
+    ))?;
+    Ok(())
+}
+
+// What is known of the runs whose outcomes were not proposed.
+fn known_runs(alloc: Global, runs: &RunState) -> Result<KnownIds, AllocError>
+    ensures { IfOk result (λ known. known.items ≡ known_runs runs.now.table) }
 {
     let mut known = Vec::new(alloc);
+    for run in runs.unproposed().values() {
+        push_run(&mut known, run)?;
+    }
+    Ok(known)
+}
+
+/// What is known of runs and of signals.
+pub(crate) fn known_ids(
+    alloc: Global,
+    start: &Option<StartMessage>,
+    runs: &RunState,
+    signals: &[u32],
+) -> Result<KnownIds, AllocError>
+    ensures { IfOk result (λ known. known.items ≡ known_runs runs.now.table ++ flat_map (known_of (started_id start.now)) signals.now) }
+{
+    let mut known = known_runs(alloc, runs)?;
     for signal in signals {
         push_known(alloc, start, &mut known, *signal)?;
     }

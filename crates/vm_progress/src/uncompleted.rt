@@ -4,7 +4,7 @@ ghost use Rattle.vm_awaits.specs.Views.{slots_of};
 ghost use Rattle.vm_waiting.specs.WaitsFor.{ids_over};
 ghost use Rattle.vm_progress.specs.Uncompleted.{started_id, lists_over, NamesIn, TellsAwaited, TellsUncompleted, IsUncompleted};
 
-use crate::lists::{ids_in, known_signals, lists_of};
+use crate::lists::{ids_in, known_ids, lists_of};
 use crate::unfinished::last_command;
 use protocol_errors::{Error, UncompletedDoProgressDuringReplay};
 use protocol_records::{StartMessage, SuspensionMessageV6};
@@ -18,12 +18,13 @@ use vm_waiting::WaitsFor;
 fn naming(
     alloc: Global,
     start: &Option<StartMessage>,
+    runs: &RunState,
     lists: &SuspensionMessageV6,
 ) -> Result<UncompletedDoProgressDuringReplay, AllocError>
-    ensures { IfOk result (NamesIn (started_id start.now) lists.now) }
+    ensures { IfOk result (NamesIn (started_id start.now) runs.now.table lists.now) }
 {
     let ids = ids_in(alloc, lists)?;
-    let known = known_signals(alloc, start, lists.waiting_signals.as_slice())?;
+    let known = known_ids(alloc, start, runs, lists.waiting_signals.as_slice())?;
     Ok(UncompletedDoProgressDuringReplay::new(ids, known))
 }
 
@@ -32,12 +33,13 @@ fn naming_waits(
     alloc: Global,
     start: &Option<StartMessage>,
     results: &AsyncResultsState,
+    runs: &RunState,
     waits: &WaitsFor,
 ) -> Result<UncompletedDoProgressDuringReplay, AllocError>
-    ensures { IfOk result (NamesIn (started_id start.now) (lists_over (ids_over (slots_of results.now) waits.now))) }
+    ensures { IfOk result (NamesIn (started_id start.now) runs.now.table (lists_over (ids_over (slots_of results.now) waits.now))) }
 {
     let lists = lists_of(alloc, results, waits)?;
-    let error = naming(alloc, start, &lists);
+    let error = naming(alloc, start, runs, &lists);
     drop(lists);
     error
 }
@@ -47,11 +49,12 @@ fn told_of_ids(
     alloc: Global,
     start: &Option<StartMessage>,
     results: &AsyncResultsState,
+    runs: &RunState,
     waits: &WaitsFor,
 ) -> Result<Error, AllocError>
-    ensures { IfOk result (TellsAwaited (started_id start.now) (ids_over (slots_of results.now) waits.now)) }
+    ensures { IfOk result (TellsAwaited (started_id start.now) runs.now.table (ids_over (slots_of results.now) waits.now)) }
 {
-    let error = naming_waits(alloc, start, results, waits)?;
+    let error = naming_waits(alloc, start, results, runs, waits)?;
     let told = about_nothing(alloc, &error);
     drop(error);
     told
@@ -67,7 +70,7 @@ fn uncompleted_cause(
 ) -> Result<Error, AllocError>
     ensures { IfOk result (TellsUncompleted (started_id start.now) (slots_of results.now) runs.now waits.now) }
 {
-    let error = told_of_ids(alloc, start, results, waits)?;
+    let error = told_of_ids(alloc, start, results, runs, waits)?;
     match last_command(runs, waits) {
         Ok(Some(command)) => Ok(error.with_related_command_metadata(command)),
         Ok(None) => Ok(error),

@@ -11,7 +11,6 @@ use Rattle.protocol_types.specs.Feature.{first_version}
 use Rattle.protocol_types.specs.declared.feature.Feature.{Feature}
 use Rattle.protocol_types.specs.declared.feature.Feature.TheVariants as features
 use Rattle.protocol_types.specs.declared.message_type.MessageType.TheVariants.{RunCommand}
-use Rattle.vm_context.specs.Journal.{name_told}
 use Rattle.vm_machine.specs.PassedMachine.{Tells}
 use Rattle.vm_machine.specs.Steps.{FailsBy}
 use Rattle.vm_machine.specs.declared.machine_state.MachineState.{MachineState}
@@ -21,7 +20,7 @@ use Rattle.vm_runs.specs.declared.run.Run.{Run}
 abbrev pub LacksMemory : (old : MachineState) → Error → (new : MachineState) → Type 0
 LacksMemory old answer new = FailsBy (λ told. ⊥) old answer new
 
--- a handle of no run, or of one whose outcome was proposed
+-- a handle of no run, or of one whose outcome was proposed, or taken
 abbrev pub unknown_run_error : Error
 unknown_run_error = plain_error internal (codes "The outcome of a run is proposed for a handle of no run")
 
@@ -34,9 +33,9 @@ name_of _ = codes "pause"
 abbrev pub IsUnsupported : Feature → (old : MachineState) → Error → (new : MachineState) → Type 0
 IsUnsupported feature old answer new = FailsBy (Tells unsupported_feature (Some (feature_text (name_of feature) old.version (first_version feature)))) old answer new
 
--- the command of a run, as an error names it: an empty name is told as none
+-- the command of a run, as an error names it: by its name, also where that is empty
 abbrev pub run_told : Run → CommandMetadata
-run_told run = record { index = run.command_index; ty = RunCommand; name = name_told run.command_name }
+run_told run = record { index = run.command_index; ty = RunCommand; name = Some run.command_name }
 
 -- the error of a body that is tried again: its delay is replaced, by one or by none
 abbrev pub with_delay : Option Duration → Error → Error

@@ -53,16 +53,11 @@ pub(crate) fn fail_unsupported(vm: &mut MachineState, feature: Feature) -> Error
 pub fn run_told(run: &Run) -> Result<CommandMetadata, AllocError>
     ensures { IfOk result (λ told. told ≡ run_told run.now) }
 {
-    let name = if run.command_name.is_empty() {
-        None
-    } else {
-        Some(run.command_name.clone()?)
-    };
-    Ok(CommandMetadata {
-        index: run.command_index,
-        ty: MessageType::RunCommand,
-        name,
-    })
+    Ok(CommandMetadata::new_named(
+        run.command_name.clone()?,
+        run.command_index,
+        MessageType::RunCommand,
+    ))
 }
 
 /// The error with this delay, or with none, in place of one that it tells.

@@ -103,6 +103,13 @@ impl RunState {
         run_of(&self.table, handle)
     }
 
+    /// The runs whose outcomes were not proposed, by their handles.
+    pub fn unproposed(&self) -> &BTreeMap<u32, Run>
+        ensures { result.now.entries ≡ self.now.table }
+    {
+        &self.table
+    }
+
     /// Whether a body of what is awaited is being executed.
     pub fn any_executing_in_this_set(&self, awaited: &UnresolvedFuture) -> bool
         ensures any { result ≡ list_any (λ body. has_handle body.handle (tree_of awaited.now)) (bodies_in true self.now.table) }
