@@ -2,6 +2,7 @@ pub mod Lists
 pub mod Progress
 pub mod Fresh
 pub mod Steps
+pub mod Untaken
 pub mod Tracked
 pub mod Standing
 pub mod Calling

@@ -4,8 +4,10 @@ use Rattle.std.specs.List.{list_all, list_any}
 use Rattle.std.specs.Ordering.{nat_cmp}
 use Rattle.std.specs.BTreeMap.{is_at}
 use Rattle.std.specs.Str.{is_utf8}
+use Rattle.attempt_model.specs.Results.{slot_of}
 use Rattle.journal_model.specs.AwaitTree.{Single}
 use Rattle.journal_model.specs.Future.{tree_of}
+use Rattle.journal_model.specs.History.{stands_for}
 use Rattle.journal_model.specs.declared.future.UnresolvedFuture.{UnresolvedFuture}
 use Rattle.journal_model.specs.declared.notification.NotificationId.TheVariants.{CompletionId}
 use Rattle.attempt_laws.proofs.Coming.{all-back}
@@ -14,6 +16,7 @@ use Rattle.body_laws.specs.Standing.{StandsWithBodies, RepliesWithBodies, Execut
 use Rattle.body_laws.proofs.Calling.{calls_simulate}
 use Rattle.body_laws.proofs.Standing.{with_steps, with_machine}
 use Rattle.body_laws.proofs.Steps.{bodies-below}
+use Rattle.body_laws.proofs.Untaken.{body-stands}
 use Rattle.vm_commands.proofs.Comparing.{compares_reflexively}
 use Rattle.vm_outcomes.specs.Runs.{KeepsBodiesOf}
 use Rattle.vm_progress.specs.Executing.{LooksForRun, run_for, is_executing_for}
@@ -95,6 +98,8 @@ pub record ExecutesSo (next : Handler) (version : Version) (options : VMOptions)
   pub lives : (value : NonEmptyValue) → IsReplayed next
       (after_turn live (outcome_frame live.start.given.version body.completion value ∷ []) live.calls whole) (proposed ++ (body.completion, value) ∷ []) (proposing live.start.given.version out body value)
   pub short : body.completion < 2 ^ 32
+  -- its outcome was not taken
+  pub stands : slot_of whole.slots handle ≡ Some (CompletionId body.completion)
   -- what is kept of it, before it was handed out and then
   pub run : Run
   pub kept : run_at vm.runs.table body.handle ≡ Some run
@@ -247,6 +252,14 @@ module _ (next : Handler) (version : Version) (options : VMOptions) (is_closed :
           low : body.completion < next_completion n.at.stands.steps → body.completion < 2 ^ 32
           low below = let is = n.at.stands.completions in let few = n.numbers.completions in omega (arith, below, is, few)
 
+      -- its handle stands for its completion still
+      body_slot : (handle : ℕ) → body.handle ≡ handle → slot_of whole.slots handle ≡ Some (CompletionId body.completion)
+      body_slot handle same_handle =
+          subst (λ (h : ℕ). slot_of whole.slots h ≡ Some (CompletionId body.completion)) same_handle
+          (b.waits.stands.tables.handles body.handle
+          ∙ ap (λ (p : Progress). stands_for p.steps body.handle) (sym b.waits.stands.going)
+          ∙ body-stands next live.start.given (arrivals_carried live.read) live.calls body (subst (λ (p : Progress). Among body (bodies_of p.steps)) (sym b.waits.stands.going) b.called) b.not_come)
+
       -- the run that is found is that of the body
       run_found : KeepsBodies new (handing_out (record e { machine = whole }) body) → (run : Run) → run_at new.table body.handle ≡ Some run → run.completion ≡ body.completion
       run_found keeps run found = of_stand (stands-found body.handle new.table run found)
@@ -302,6 +315,7 @@ module _ (next : Handler) (version : Version) (options : VMOptions) (is_closed :
               keeps = hands.1;
               lives = λ value. lives (outcome_frame live.start.given.version body.completion value ∷ []) value;
               short = completion_short whole same body new says;
+              stands = body_slot whole same body new says handle hands.0;
               run = was.run;
               kept = was.kept;
               found = was.found;

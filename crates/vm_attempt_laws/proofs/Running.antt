@@ -1,5 +1,5 @@
 -- A turn that executes the body of a run: its outcome is proposed, or it fails the attempt.
-use Rattle.std.proofs.Common.{append-nil, ◌≡◌, inl, inr, ◌∙◌, ℕ, ◌≤◌, ◌^◌, ◌==◌, if◌then◌else◌, Bool, true, false, List, [], ◌∷◌, ◌++◌, map, length, Option, Some, None, Result, Ok, Err, IfOk, refl, sym, ap, subst}
+use Rattle.std.proofs.Common.{append-nil, ◌≡◌, inl, inr, ◌∙◌, ℕ, ◌≤◌, ◌^◌, ◌==◌, if◌then◌else◌, Bool, true, false, List, [], ◌∷◌, ◌++◌, map, length, Option, Some, None, option_and_then, Result, Ok, Err, IfOk, refl, sym, ap, subst}
 use Rattle.std.specs.declared.alloc.AllocError.{AllocError}
 use Rattle.protocol_errors.specs.Texts.{feature_text}
 use Rattle.protocol_stream.specs.ErrorText.{too_long_text}
@@ -10,14 +10,18 @@ use Rattle.protocol_types.specs.Feature.{first_version}
 use Rattle.protocol_types.specs.declared.feature.Feature.{Feature}
 use Rattle.body_laws.specs.Bodies.{proposing}
 use Rattle.vm_attempt.proofs.Typing.{outcome_typed}
+use Rattle.vm_awaits.specs.Children.{completion_in}
+use Rattle.vm_awaits.specs.Views.{AsyncResults, slots_of}
 use Rattle.vm_calls.specs.Active.{has_left}
 use Rattle.vm_machine.specs.Admitting.{IsAbout}
 use Rattle.vm_machine.specs.Failing.{MachineFails}
 use Rattle.vm_machine.specs.PassedMachine.{Tells as TellsPlain}
 use Rattle.vm_proposals.specs.Failing.{LacksMemory as LacksHere, IsUnsupported}
-use Rattle.vm_proposals.specs.Proposing.{WritesProposal, UnwrittenCauses, SettlesProposal, let_go, GoesOnAs, EndsRun, tried_at_start, is_processing, ProposesIf, ProposesWhere}
-use Rattle.vm_refusals.specs.Ending.{as_ending}
-use Rattle.vm_refusals.specs.Retrying.{Tried, inherits}
+use Rattle.vm_proposals.specs.Proposing.{WritesProposal, UnwrittenCauses, SettlesProposal, let_go, GoesOnAs, open_run, EndsRun, tried_at_start, is_processing, ProposesIf, ProposesWhere}
+use Rattle.std.specs.Duration.{as_nanos}
+use Rattle.vm_refusals.specs.Ending.{as_ending, ending_by}
+use Rattle.vm_refusals.specs.Retrying.{Tried, inherits, AfterFailure, TriedAgain as TriesAgain, FailsAsTerminal, Pauses as PausesThen, after_failure, one_more}
+use Rattle.vm_refusals.specs.declared.retries.RetryPolicy.{RetryPolicy}
 use Rattle.protocol_records.specs.declared.start.StartMessage.{StartMessage}
 use Rattle.vm_refusals.specs.declared.ending.BodyEnd.{BodyEnd}
 use Rattle.vm_runs.specs.Keeping.{copy_of, Proposes as ProposesRunOf}
@@ -28,7 +32,7 @@ use Rattle.vm_start.specs.Phases.{kept_error}
 use Rattle.vm_types.specs.declared.options.JournalMismatchRetryBehavior.{JournalMismatchRetryBehavior}
 use Rattle.vm_output_laws.specs.Turning.{ProposalSends}
 use Rattle.vm_attempt_laws.specs.Attempts.{RunsBody, ran_or_failed, Attempt, Turn}
-use Rattle.vm_attempt_laws.specs.Bodies.{NonEmptyValue, Body, Executor, KeepsBodies, Runs, Run, run_at, run_told, with_delay, about, pausing, name_of, tried_before, proposal, proposal_message, ending, feature_lacked, IsReplayed, outcome_frame, RunOutcome}
+use Rattle.vm_attempt_laws.specs.Bodies.{NonEmptyValue, Body, Executor, KeepsBodies, Runs, Run, run_at, run_told, with_delay, about, pausing, name_of, tried_before, proposal, proposal_message, ending, feature_lacked, IsReplayed, outcome_frame, RunOutcome, retried, exit_by_policy, by_policy, RunExitResult, Outcome}
 use Rattle.vm_attempt_laws.specs.Keeping.{FailsWith}
 use Rattle.vm_attempt_laws.specs.Machine.phases
 use Rattle.vm_attempt_laws.specs.Machine.{Active, are_any, CoreVM, Executes, IsDriven, MachineState, Phase, Sees, told_error, with_frame, Written}
@@ -37,7 +41,7 @@ use Rattle.vm_attempt_laws.specs.Running.{BodyCause, Lacks, TriedAgain, Pauses, 
 use Rattle.vm_attempt_laws.specs.Sending.{AllFit, Fails, frame_meant, Proposes, Sent, sent_stream}
 use Rattle.vm_attempt_laws.specs.Serving.{HasRead, HasBodies, kind_where, machine_failed, Serves}
 use Rattle.vm_attempt_laws.specs.Turning.{OutcomeIs, tried_by, FailsForBody, RunsOne, TurnKeeps}
-use Rattle.vm_attempt_laws.specs.Words.{after_turn, Error, Handler, internal, Invocation, journal_mismatch, LiveAttempt, Machine, unsupported_feature, Version, version_number, VMOptions}
+use Rattle.vm_attempt_laws.specs.Words.{after_turn, Error, Handler, internal, Invocation, journal_mismatch, LiveAttempt, Machine, NotificationId, unsupported_feature, Version, version_number, VMOptions}
 use Rattle.vm_attempt_laws.proofs.Alone.{FailsAlone, failed_same, fails_alone, ToldBy}
 use Rattle.vm_attempt_laws.proofs.Executing.{WithBodies, ExecutesSo, executes_so}
 use Rattle.vm_attempt_laws.proofs.Going.{OnlyTurns, serves_on}
@@ -63,17 +67,32 @@ seen_with given active m output opened s =
 frame_behind : (frame : List ℕ) (old new : Written) → old.is_closed ≡ false → new ≡ with_frame frame old → new ≡ record old { bytes = old.bytes ++ frame }
 frame_behind frame old new opened is = is ∙ ap (λ (closed : Bool). if closed then old else record old { bytes = old.bytes ++ frame }) opened
 
+-- an outcome says nothing of what becomes of the invocation
+outcome_of_failure : (error : Error) (after : AfterFailure) (value : NonEmptyValue) → ending_by (retried error) after ≡ Outcome value → ending_by error after ≡ Outcome value
+outcome_of_failure error (TriesAgain interval) value e = cc
+outcome_of_failure error FailsAsTerminal value e = e
+outcome_of_failure error PausesThen value e = cc
+
+outcome_same : (policy : RetryPolicy) (tried : Tried) (exit : RunExitResult) (value : NonEmptyValue) → ending policy tried (exit_by_policy exit) ≡ Outcome value → ending policy tried exit ≡ Outcome value
+outcome_same policy tried (RunExitResult.Success bytes) value e = e
+outcome_same policy tried (RunExitResult.TerminalFailure failure) value e = e
+outcome_same policy tried (RunExitResult.RetryableFailure duration error) value e = outcome_of_failure error (after_failure policy (one_more (as_nanos duration) tried)) value e
+
 module _ {H : Type 0} (function : H → Handler) (next : Handler) (version : Version) (options : VMOptions) (is_closed : Bool) (live : LiveAttempt) (before : Attempt H)
-    (proposed : List (ℕ × NonEmptyValue)) (ran : RunOutcome) (b : HasBodies next live proposed before)
+    (proposed : List (ℕ × NonEmptyValue)) (given : RunOutcome) (b : HasBodies next live proposed before)
     (s : Serves function next version options live is_closed before) (r : HasRead function next version options live before)
     (n : Now next version options is_closed live before.vm.state) (w : WithBodies next version options is_closed live before.vm.state n proposed b.executor)
     (vm : CoreVM) (turn : Turn) (after : Attempt H) (handle : ℕ) (x : Executes live.start.given live.machine (call_of next live n.at) before.vm.state handle vm.state)
-    (p : RunsBody ran handle (record before { vm = vm }) turn after) where
+    (p : RunsBody given handle (record before { vm = vm }) turn after) where
   abbrev mid : MachineState
   mid = vm.state
 
+  -- what is proposed says nothing of what becomes of the invocation
+  abbrev ran : RunOutcome
+  ran = by_policy given
+
   abbrev Keeps : Turn → Type 0
-  Keeps some = TurnKeeps function next version options is_closed live before proposed ran some after
+  Keeps some = TurnKeeps function next version options is_closed live before proposed given some after
 
   -- ---- the machine that has handed the body out
 
@@ -123,7 +142,7 @@ module _ {H : Type 0} (function : H → Handler) (next : Handler) (version : Ver
   here_alone cause error fails = alone cause error (fails_alone cause mid error after.vm.state x.driven.phase x.driven.sees.opened x.driven.written fails)
 
   for_body : (error : Error) (sent : List Sent) (why : BodyCause) → BodyFailsWhen version options ran (tried_by live r.shows) before.vm.state one.run why → ToldHere why error sent
-      → FailsForBody function next version options is_closed live before proposed ran error sent
+      → FailsForBody function next version options is_closed live before proposed given error sent
   for_body error sent why when told = record { body = one.body; first = one.first; run = one.run; kept = one.kept; completion = one.completion; shows = r.shows; cause = why; when = when; told = told }
 
   -- for this cause, of which each error tells so
@@ -131,7 +150,7 @@ module _ {H : Type 0} (function : H → Handler) (next : Handler) (version : Ver
       (tells : (told : Error) → cause ≡ Ok told → BodyTells version options ran (tried_by live r.shows) before.vm.state one.run why (failed_with (version_number version) options.journal_mismatch_retry_behavior told))
       (told_as : (told : Error) (sent : List Sent) → BodyTells version options ran (tried_by live r.shows) before.vm.state one.run why told → FailsWith told before.vm.state.active.output error → sent ≡ Fails (told_error error) ∷ [] → ToldHere why error sent) where
     by_cause : (some : Result Error AllocError) → cause ≡ some → ToldBy version options.journal_mismatch_retry_behavior before.vm.state.active.output some error fails.coming
-        → FailsForBody function next version options is_closed live before proposed ran error fails.coming
+        → FailsForBody function next version options is_closed live before proposed given error fails.coming
     by_cause (Ok told) is (inl one_told) =
         for_body error fails.coming why when (told_as (failed_with (version_number version) options.journal_mismatch_retry_behavior told) fails.coming (tells told is) one_told.0 one_told.1)
     by_cause (Ok told) is (inr lacks) = for_body error fails.coming LacksMemory tt lacks
@@ -276,13 +295,13 @@ module _ {H : Type 0} (function : H → Handler) (next : Handler) (version : Ver
         ap (λ (m : MachineState). m.active.output.bytes) is ∙ sends.written.bytes ∙ ap (λ (v : Version). mid.active.output.bytes ++ sent_stream v sent) of_written
         ∙ ap (λ (o : Written). o.bytes ++ sent_stream version sent) x.unwritten
 
-    ran_one : RunsOne function next version options is_closed live before proposed ran sent after
+    ran_one : RunsOne function next version options is_closed live before proposed given sent after
     ran_one = record {
       body = one.body;
       first = one.first;
       value = value;
       shows = r.shows;
-      outcome = outcome;
+      outcome = outcome_same ran.policy (tried_by live r.shows) given.result value outcome;
       sends = refl;
       machine = x.machine;
       goes_on = record { bodies = bodies_now; serves = serves; written = x.written ∙ sym (append-nil live.machine.written) };
@@ -342,6 +361,13 @@ module _ {H : Type 0} (function : H → Handler) (next : Handler) (version : Ver
     of_run (Err error) is (inl (inr l)) = lacks error is l.1
     of_run (Err error) is (inr l) = lacks error is l
 
+  -- the run is open: what is awaited of it was not taken
+  is_open : open_run (slots_of mid.active.results) mid.runs.table handle ≡ Some (running one.run)
+  is_open =
+      ap (λ (results : AsyncResults). open_run results.slots mid.runs.table handle) x.driven.sees.results
+      ∙ ap (λ (slot : Option NotificationId). option_and_then (λ completion. run_at mid.runs.table handle) (completion_in slot)) one.stands
+      ∙ one.found
+
   lacks_of : (feature : Option Feature) → feature_lacked (version_number mid.version) ran.policy ran.result ≡ feature → LacksFeature feature
   lacks_of feature is = ap (λ (v : Version). feature_lacked (version_number v) ran.policy ran.result) (sym of_version) ∙ is
 
@@ -351,7 +377,7 @@ module _ {H : Type 0} (function : H → Handler) (next : Handler) (version : Ver
   by_lacked (Some feature) is (Err error) result goes = unsupported feature error result (lacks_of (Some feature) is) goes
   by_lacked None is result same goes =
       of_run (lacks_of None is) result same
-      (subst (λ (found : Option Run). EndsRun handle found ran.result ran.policy mid result after.vm.state) one.found
+      (subst (λ (found : Option Run). EndsRun handle found ran.result ran.policy mid result after.vm.state) is_open
       (subst (λ (processing : Bool). ProposesIf processing handle ran.result ran.policy mid result after.vm.state) processing goes))
 
   pub ran_body : Keeps turn

@@ -9,6 +9,7 @@ use Rattle.protocol_stream.specs.Frame.{spelled}
 use Rattle.protocol_stream.specs.declared.encoder.EncodingError.{EncodingError}
 use Rattle.protocol_types.specs.Version.{version_number}
 use Rattle.protocol_types.specs.declared.feature.Feature.{Feature}
+use Rattle.vm_awaits.specs.Views.{slots_of}
 use Rattle.vm_context.specs.Output.{Written}
 use Rattle.vm_feeding.specs.Passed.{MachineState}
 use Rattle.vm_refusals.specs.declared.retries.RetryPolicy.{RetryPolicy}
@@ -16,12 +17,11 @@ use Rattle.vm_refusals.specs.declared.runs.RunExitResult.{RunExitResult}
 use Rattle.vm_refusals.specs.declared.runs.RunHandle.{RunHandle}
 use Rattle.vm_refusals.specs.Ending.{feature_lacked}
 use Rattle.vm_refusals.specs.declared.ending.BodyEnd.{BodyEnd}
-use Rattle.vm_runs.specs.Runs.{run_at}
 use Rattle.vm_runs.specs.declared.run.Run.{Run}
 use Rattle.vm_start.specs.Phases.{kept_error}
 use Rattle.vm_proposals.specs.Calling.{CallsRun}
 use Rattle.vm_proposals.specs.Failing.{run_told}
-use Rattle.vm_proposals.specs.Proposing.{is_processing, let_go, proposal, proposal_message, WritesProposal, SettlesProposal, LetsGo, ProposesValue, GoesOnAs, EndsKnown, EndsRun, ProposesIf, ProposesWhere, ProposesRun}
+use Rattle.vm_proposals.specs.Proposing.{is_processing, let_go, proposal, proposal_message, WritesProposal, SettlesProposal, LetsGo, ProposesValue, GoesOnAs, EndsKnown, open_run, EndsRun, ProposesIf, ProposesWhere, ProposesRun}
 use Rattle.vm_core_laws.proofs.Keeping.{Stands, moved, like_again, output_like, failed}
 use Rattle.vm_core_laws.proofs.Making.{commands_stand}
 use Rattle.vm_core_laws.proofs.Waiting.{frame_keeps}
@@ -76,7 +76,7 @@ module _ (handle : ℕ) (exit : RunExitResult) (policy : RetryPolicy) (old : Mac
   run_ended (Some run) (Err told) new (inr lacks) stands = failed lacks.cause old told new lacks.fails
 
   proposed_if : (processing : Bool) (result : Result (Unit {0}) Error) (new : MachineState) → ProposesIf processing handle exit policy old result new → Stands old → Stands new
-  proposed_if true result new is stands = run_ended (run_at old.runs.table handle) result new is stands
+  proposed_if true result new is stands = run_ended (open_run (slots_of old.active.results) old.runs.table handle) result new is stands
   proposed_if false result new is stands = moved old new is.1 stands
 
   proposed_where : (kept : Option Error) (lacked : Option Feature) (result : Result (Unit {0}) Error) (new : MachineState) → ProposesWhere kept lacked handle exit policy old result new → Stands old → Stands new

@@ -1,7 +1,8 @@
 -- What becomes of the end of a run's body, in any phase of the machine.
-use Rattle.std.specs.Prelude.{◌≡◌, ◌<◌, ◌≤◌, ◌⊎◌, ◌*◌, ◌^◌, ℕ, Bool, true, false, not, length, Option, Some, None, Result, Ok, Err, IfOk}
+use Rattle.std.specs.Prelude.{◌≡◌, ◌<◌, ◌≤◌, ◌⊎◌, ◌*◌, ◌^◌, ℕ, Bool, true, false, not, length, Option, Some, None, option_and_then, Result, Ok, Err, IfOk}
 use Rattle.std.specs.declared.alloc.AllocError.{AllocError}
 use Rattle.journal_model.specs.declared.value.NonEmptyValue.{NonEmptyValue}
+use Rattle.attempt_model.specs.Results.{Slots, slot_of}
 use Rattle.protocol_controls.specs.ProposeRunCompletion.{propose_run_completion_parts}
 use Rattle.protocol_controls.specs.declared.propose_run_completion.ProposeRunCompletionMessage.{ProposeRunCompletionMessage}
 use Rattle.protocol_differences.specs.Passed.{CommandMetadata}
@@ -19,6 +20,8 @@ use Rattle.protocol_types.specs.Version.{version_number}
 use Rattle.protocol_types.specs.declared.feature.Feature.{Feature}
 use Rattle.protocol_types.specs.declared.message_type.MessageType.TheVariants as messages
 use Rattle.protocol_types.specs.declared.version.Version.{Version}
+use Rattle.vm_awaits.specs.Children.{completion_in}
+use Rattle.vm_awaits.specs.Views.{slots_of}
 use Rattle.vm_context.specs.Output.{Written, with_frame}
 use Rattle.vm_machine.specs.Admitting.{IsAbout}
 use Rattle.vm_machine.specs.Failing.{MachineFails}
@@ -30,7 +33,7 @@ use Rattle.vm_refusals.specs.Ending.{as_ending, ending, feature_lacked, makes_fa
 use Rattle.vm_refusals.specs.Retrying.{Tried, inherits}
 use Rattle.vm_refusals.specs.declared.ending.BodyEnd.{BodyEnd}
 use Rattle.vm_runs.specs.Keeping.{copy_of, Proposes}
-use Rattle.vm_runs.specs.Runs.{after_proposal, run_at}
+use Rattle.vm_runs.specs.Runs.{Table, after_proposal, run_at}
 use Rattle.vm_runs.specs.declared.run.Run.{Run}
 use Rattle.vm_start.specs.Failing.{IsCopy}
 use Rattle.vm_start.specs.Phases.{kept_error}
@@ -120,7 +123,11 @@ EndsKnown handle completion command exit policy old (Ok done) new = EndsAs handl
 EndsKnown handle completion command exit policy old (Err answer) new =
     EndsAs handle completion command exit policy old (Err answer) new ⊎ ((makes_failure policy (tried_before old) exit ≡ true) × LacksMemory old answer new)
 
--- a proposal of a handle of no run fails the machine; else the run's body has ended, or memory is refused for its name
+-- the run of a handle that is open: its outcome was not proposed, nor was one taken, so that the handle stands for its completion
+abbrev pub open_run : Slots → Table → ℕ → Option Run
+open_run slots table handle = option_and_then (λ completion. run_at table handle) (completion_in (slot_of slots handle))
+
+-- a proposal of a handle of no open run fails the machine; else the run's body has ended, or memory is refused for its name
 abbrev pub EndsRun : (handle : ℕ) → Option Run → RunExitResult → RetryPolicy → (old : MachineState) → Result (Unit {0}) Error → (new : MachineState) → Type 0
 EndsRun handle None exit policy old (Ok done) new = ⊥
 EndsRun handle None exit policy old (Err answer) new = MachineFails (Ok unknown_run_error) old answer new
@@ -135,7 +142,7 @@ is_processing phases.Active is_replaying = not is_replaying
 is_processing _ is_replaying = false
 
 abbrev pub ProposesIf : (processing : Bool) → (handle : ℕ) → RunExitResult → RetryPolicy → (old : MachineState) → Result (Unit {0}) Error → (new : MachineState) → Type 0
-ProposesIf true handle exit policy old result new = EndsRun handle (run_at old.runs.table handle) exit policy old result new
+ProposesIf true handle exit policy old result new = EndsRun handle (open_run (slots_of old.active.results) old.runs.table handle) exit policy old result new
 ProposesIf false handle exit policy old result new = (result ≡ Ok tt) × (new ≡ old)
 
 abbrev pub ProposesWhere : (kept : Option Error) → (lacked : Option Feature) → (handle : ℕ) → RunExitResult → RetryPolicy → (old : MachineState) → Result (Unit {0}) Error → (new : MachineState) → Type 0

@@ -1,10 +1,12 @@
 // What an attempt at the body of a run has ended with is proposed.
 ghost use Rattle.std.specs.Prelude.{◌≡◌, IfOk, OnOk, OnErr};
+ghost use Rattle.std.specs.Option.{option_copied};
+ghost use Rattle.vm_awaits.specs.Views.{slots_of};
 ghost use Rattle.vm_refusals.specs.Retrying.{tried};
 ghost use Rattle.vm_runs.specs.Keeping.{copy_of, Proposes};
 ghost use Rattle.vm_runs.specs.Runs.{after_proposal, run_at};
 ghost use Rattle.protocol_types.specs.Version.{version_number};
-ghost use Rattle.vm_proposals.specs.Proposing.{is_processing, tried_at_start, proposal, WritesProposal, UnwrittenCauses, SettlesProposal, ProposesValue, GoesOnAs, EndsKnown, EndsRun, ProposesIf, ProposesWhere, ProposesRun};
+ghost use Rattle.vm_proposals.specs.Proposing.{is_processing, tried_at_start, proposal, WritesProposal, UnwrittenCauses, SettlesProposal, ProposesValue, GoesOnAs, EndsKnown, open_run, EndsRun, ProposesIf, ProposesWhere, ProposesRun};
 
 use crate::failing::{fail_for_memory, fail_unsupported, run_told, unknown_run, with_delay};
 use journal_model::{NonEmptyValue, NotificationHandle};
@@ -16,12 +18,13 @@ use protocol_stream::EncodingError;
 use protocol_types::{Feature, Version};
 use std::alloc::{AllocError, Global};
 use std::time::Duration;
+use vm_awaits::AsyncResultsState;
 use vm_context::Output;
 use vm_machine::{MachineState, Phase, about_nothing, again};
 use vm_refusals::{
     BodyEnd, EntryRetryInfo, RetryPolicy, RunExitResult, end_of_body, feature_lacked, inherited,
 };
-use vm_runs::RunState;
+use vm_runs::{Run, RunState};
 
 // How often the runs of an attempt were tried before it, as its start has told.
 fn tried_at_start(start: &Option<StartMessage>) -> EntryRetryInfo
@@ -197,6 +200,20 @@ fn end_known(
     }
 }
 
+// The run of a handle, if its outcome was not proposed, nor one taken.
+fn open_run<'a>(
+    results: &AsyncResultsState,
+    runs: &'a RunState,
+    handle: NotificationHandle,
+) -> Option<&'a Run>
+    ensures { option_copied result ≡ open_run (slots_of results.now) runs.now.table handle }
+{
+    match results.completion_of(handle) {
+        Some(_) => runs.get_run_info(handle),
+        None => None,
+    }
+}
+
 // Ends the body of a run, while commands are made.
 fn end_run(
     vm: &mut MachineState,
@@ -204,9 +221,9 @@ fn end_run(
     exit: RunExitResult,
     policy: &RetryPolicy,
 ) -> Result<(), Error>
-    ensures { EndsRun handle (run_at vm.old.runs.table handle) exit policy.now vm.old result vm.new }
+    ensures { EndsRun handle (open_run (slots_of vm.old.active.results) vm.old.runs.table handle) exit policy.now vm.old result vm.new }
 {
-    let Some(run) = vm.runs.get_run_info(handle) else {
+    let Some(run) = open_run(&vm.active.results, &vm.runs, handle) else {
         drop(exit);
         return Err(vm.fail(Ok(unknown_run())));
     };
@@ -252,7 +269,7 @@ fn propose_unrefused(
 /// run is tried again or the invocation pauses. The error is about the run.
 ///
 /// What the version lacks is refused in any phase. Else a proposal is let go of while no commands are made: the run was recorded then, or
-/// the attempt is over. One for a handle of no run is an error of the host.
+/// the attempt is over. One for a handle of no run is an error of the host, and so is one for a run whose outcome was taken.
 pub fn propose_run_completion(
     vm: &mut MachineState,
     handle: NotificationHandle,
