@@ -11,7 +11,7 @@ use Rattle.due_laws.specs.Handing.{IsEndOf}
 use Rattle.store_refusals.specs.declared.refusal.Refusal.{Refusal}
 use Rattle.store_live.specs.declared.attempt.LiveAttempt.{LiveAttempt}
 use Rattle.store_live.specs.Input.{InputKept, after_bytes, handed_out}
-use Rattle.store_live.specs.Attempts.{Attempts, Changes, after_hand_out, attempt_of, bytes_out}
+use Rattle.store_live.specs.Attempts.{Attempts, Changes, after_close, after_hand_out, attempt_of, bytes_out}
 use Rattle.store_live_laws.specs.Agrees.{Agrees}
 use Rattle.store_calls.specs.Standing.{Standing}
 use Rattle.journal_store.specs.Stored.{Stored, stored}
@@ -62,6 +62,11 @@ few_given most bytes (Some attempt) out =
     let count : length bytes ≡ min most (length attempt.input.rest) = ap (λ (given : Bytes). length given) out ∙ length-take most attempt.input.rest in
     omega (arith, count)
 
+-- closing an input keeps what was read of it
+closed_rest : (o : Option LiveAttempt) → rest_kept (option_map after_close o) ≡ rest_kept o
+closed_rest None = refl
+closed_rest (Some attempt) = refl
+
 -- what is refused gives nothing
 pub none_given : (Q : Refusal → Type 0) (r : Result Bytes Refusal) → IsErrAnd r Q → bytes_given r ≡ []
 none_given Q (Ok bytes) it = absurd it
@@ -81,3 +86,8 @@ module _ {S : Type 0} (g : Ghosts S) (id : Text) (old : Stored S) (b : Held S) (
       subst (λ (given : Bytes). AreOfOneFrame (input_pieces s.events id) given (rest_kept (attempt_of after.attempts id))) (sym out)
       (subst (λ (o : Option LiveAttempt). AreOfOneFrame (input_pieces s.events id) (bytes_out most (attempt_of mid.attempts id)) (rest_kept o)) (sym changed.own)
       (handed_of_frame s.events id most (attempt_of mid.attempts id) (agrees clean s is)))
+
+  pub gives_closed : (after : Attempts) → Changes id after_close mid.attempts after.attempts → GivesOneFrame g id (Ok []) old (stored b after)
+  gives_closed after changed clean s is =
+      subst (λ (kept : Bytes). AreOfOneFrame (input_pieces s.events id) [] kept) (sym (ap rest_kept changed.own ∙ closed_rest (attempt_of mid.attempts id)))
+      (kept_of_frame s.events id (attempt_of mid.attempts id) (agrees clean s is))

@@ -1,5 +1,5 @@
 // What is done to a live attempt. The database is asked for the next frame of its input, and to tell why an attempt is not live.
-ghost use Rattle.std.specs.Prelude.{◌≡◌, ◌≤◌, true, length, List, None, IfErr, IfOk, OnErr};
+ghost use Rattle.std.specs.Prelude.{◌≡◌, ◌≤◌, true, length, List, [], Ok, None, IfErr, IfOk, OnErr};
 ghost use Rattle.journal_model.specs.Event.{Event};
 ghost use Rattle.store_tables.specs.Looks.{Looks};
 ghost use Rattle.store_invocations.specs.Rows.{IsStoreOf};
@@ -142,6 +142,7 @@ impl<S: Alter + Drop> Store<S> {
     /// No more is handed to the attempt. All of its input was: one row at most is read to tell.
     pub fn close_input(&mut self, id: &ByteStr, attempt: u32) -> Result<(), Refusal>
         ensures does { Leads S.Store (ClosesInput id.now attempt result) self.old self.new }
+        ensures frame { GivesOneFrame S.Store id.now (Ok []) self.old self.new }
         ensures waits { KeepsOutputs self.old.live.attempts self.new.live.attempts }
         ensures kept { IsKept (state S.Store self.old.connection) (state S.Store self.new.connection) }
         ensures cause { IfErr result (TellsWhy S.Store self.old self.new) }
