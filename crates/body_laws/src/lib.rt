@@ -1,8 +1,8 @@
 //! The body of a run is the host's own code: a handler's call `Run` leaves it to be executed once, and what it comes to is recorded as the
 //! run's outcome. An executor is the machine of an attempt with such bodies beside it: those that are left to execute, those that are being
 //! executed, and the outcomes that are to be acknowledged. These laws say that it answers as the run of its handler does, executes no body
-//! twice, and waits for none that it could execute; what a body comes to by its retries is defined here too. Each function does nothing,
-//! and its contract is the law. Worked rows are computed in `proofs/BodyRows.antt` and `proofs/RetryRows.antt`.
+//! twice, and waits for none that it could execute. Each function does nothing, and its contract is the law. Worked rows are computed in
+//! `proofs/BodyRows.antt`.
 #![tactic(auto)]
 
 ghost use Rattle.body_laws.specs.Laws.{AttemptsFollowWithBodies, BodiesAreRequested, BodiesBegin, BodiesRead, CallsSimulate, ClosedTurnsProgress, OthersAreRefused, OutcomesAreProposed, OutcomesCome, ProposesOnce, SuspensionsLeaveNone, TurnsTell};

@@ -136,7 +136,8 @@ impl<'a> FlatTree<'a> {
     }
 
     /// Tells all leaves of an id what has come. One that was completed before keeps what it came to. It answers how many nodes were
-    /// visited.
+    /// visited on the way up from the leaves. The pass over all nodes that finds the leaves is not counted: there is one in each delivery to
+    /// a tree of few nodes, in the first one to any tree, and in each where there is no memory for the map.
     pub fn deliver(&mut self, id: &NotificationId, state: AwaitState) -> u128
         ensures heard { self.new ≡ delivered id.now (state_meant state) self.old }
         ensures visits { result ≤ ways_for id.now self.old }
