@@ -1,7 +1,7 @@
-//! How an attempt at the body of a run ends: `ok:HEX`, `fail:CODE:TEXT`, `metadata`, a failure that has some, and `retry:CODE:TEXT:MILLIS`,
-//! an error behind so long. And how the run is tried again: `infinite`, `none`, `fixed INTERVAL ATTEMPTS DURATION THEN` and
-//! `exponential FIRST NUMERATOR/DENOMINATOR ATTEMPTS MOST DURATION THEN`. Lengths are in milliseconds, `-` is none, and `THEN` is `fails`
-//! or `pauses`.
+//! How an attempt at the body of a run ends: `ok:HEX`, `fail:CODE:TEXT`, `metadata`, a failure that has some, `retry:CODE:TEXT:MILLIS`, an
+//! error behind so long, and `pause:CODE:TEXT:MILLIS`, one that asks for a pause. And how the run is tried again: `infinite`, `none`,
+//! `fixed INTERVAL ATTEMPTS DURATION THEN` and `exponential FIRST NUMERATOR/DENOMINATOR ATTEMPTS MOST DURATION THEN`. Lengths are in
+//! milliseconds, `-` is none, and `THEN` is `fails` or `pauses`.
 use crate::operands::{byte_str, bytes, failure};
 use invocation_vm::{
     Error, Factor, InvocationErrorCode, OnMaxAttempts, RetryPolicy, RunExitResult, Sequence,
@@ -97,6 +97,10 @@ pub fn exit(alloc: Global, word: &str) -> Option<RunExitResult> {
         ["retry", code, message, took] => Some(RunExitResult::RetryableFailure {
             attempt_duration: millis(*took)?,
             error: error(alloc, *code, *message)?,
+        }),
+        ["pause", code, message, took] => Some(RunExitResult::RetryableFailure {
+            attempt_duration: millis(*took)?,
+            error: error(alloc, *code, *message)?.with_should_pause(),
         }),
         _ => None,
     }

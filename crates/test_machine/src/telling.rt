@@ -33,11 +33,12 @@ fn taken<V: VM>(alloc: Global, vm: &mut V, handle: &str) -> Option<String> {
     }
 }
 
-fn behavior(word: &str) -> ErrorBehavior {
-    match word {
-        "pause" => ErrorBehavior::Pause,
-        "fail" => ErrorBehavior::Fail,
-        _ => ErrorBehavior::Retry,
+// The error, with what it asks for; the end of the invocation is asked for by one of a journal that does not match alone.
+fn asking(error: Error, then: &str) -> Error {
+    match then {
+        "pause" => error.with_should_pause(),
+        "fail" => error.with_mismatch_behavior(ErrorBehavior::Fail),
+        _ => error.with_should_retry(),
     }
 }
 
@@ -46,8 +47,8 @@ fn tell<V: VM>(alloc: Global, vm: &mut V, operands: &[&str]) -> Option<String> {
         return None;
     };
     let code = InvocationErrorCode::from(number(*code)?);
-    let error = Error::new(code, ByteStr::from_static("failed")).with_behavior(behavior(*then));
-    vm.notify_error(error, relationship(*related));
+    let error = Error::new(code, ByteStr::from_static("failed"));
+    vm.notify_error(asking(error, *then), relationship(*related));
     debug(alloc, vm.state())
 }
 
