@@ -40,7 +40,7 @@ abbrev IdBelow : ℕ → NotificationId → Type 0
 IdBelow n (CompletionId m) = m < n
 IdBelow n _ = Unit {0}
 
-abbrev AllBelow : ℕ → List NotificationId → Type 0
+abbrev pub AllBelow : ℕ → List NotificationId → Type 0
 AllBelow n [] = Unit {0}
 AllBelow n (id ∷ ids) = IdBelow n id × AllBelow n ids
 
@@ -76,7 +76,7 @@ call-below n signal (Call.Attach target) = (below-next n, tt)
 call-below n signal (Call.GetOutput target) = (below-next n, tt)
 call-below n signal _ = tt
 
-ids-below : (steps : List Step) → AllBelow (next_completion steps) (ids_created steps)
+pub ids-below : (steps : List Step) → AllBelow (next_completion steps) (ids_created steps)
 ids-below [] = tt
 ids-below (step ∷ earlier) =
     below-append (next_completion earlier + completions_of step.call) (ids_created earlier) (ids_of (next_completion earlier) (next_signal earlier) step.call)
@@ -88,11 +88,10 @@ get-below n [] k id below e = cc
 get-below n (x ∷ xs) zero id below e = let same : x ≡ id = cc in subst (IdBelow n) same below.0
 get-below n (x ∷ xs) (suc k) id below e = get-below n xs k id below.1 e
 
--- nothing was taken of a completion that was not made
-last_taken-none : (n : ℕ) (ids : List NotificationId) → AllBelow n ids → (some : List Step) → last_taken ids (CompletionId n) some ≡ None
-last_taken-none n ids below [] = refl
-last_taken-none n ids below (one ∷ earlier) =
-    ap (λ (b : Bool). if b then value_taken one.answer else last_taken ids (CompletionId n) earlier) (no (handle_taken one.call one.answer)) ∙ last_taken-none n ids below earlier
+-- no handle stands for a completion that was not made
+pub not_taken : (n : ℕ) (ids : List NotificationId) → AllBelow n ids → (o : Option ℕ) → taken_is (CompletionId n) (option_and_then (id_of_handle ids) o) ≡ false
+not_taken n ids below None = refl
+not_taken n ids below (Some handle) = not-it (id_of_handle ids handle) (λ id e. by_handle handle (handle == 1) (nat_lt handle 17) id e)
   where
     not-it : (o : Option NotificationId) → ((id : NotificationId) → o ≡ Some id → IdBelow n id) → taken_is (CompletionId n) o ≡ false
     not-it None h = refl
@@ -114,9 +113,11 @@ last_taken-none n ids below (one ∷ earlier) =
     by_handle handle false true id e = cc
     by_handle handle false false id e = get-below n ids (handle - 17) id below e
 
-    no : (o : Option ℕ) → taken_is (CompletionId n) (option_and_then (id_of_handle ids) o) ≡ false
-    no None = refl
-    no (Some handle) = not-it (id_of_handle ids handle) (λ id e. by_handle handle (handle == 1) (nat_lt handle 17) id e)
+-- so nothing was taken of it
+last_taken-none : (n : ℕ) (ids : List NotificationId) → AllBelow n ids → (some : List Step) → last_taken ids (CompletionId n) some ≡ None
+last_taken-none n ids below [] = refl
+last_taken-none n ids below (one ∷ earlier) =
+    ap (λ (b : Bool). if b then value_taken one.answer else last_taken ids (CompletionId n) earlier) (not_taken n ids below (handle_taken one.call one.answer)) ∙ last_taken-none n ids below earlier
 
 map-append : {A B : Type 0} (f : A → B) (xs ys : List A) → map f (xs ++ ys) ≡ map f xs ++ map f ys
 map-append f [] ys = refl
