@@ -6,5 +6,6 @@ pub mod Telling
 pub mod LiveAttempts
 pub mod InputRows
 pub mod Once
+pub mod AskedOnce
 pub mod Results
 pub mod CompletionRows

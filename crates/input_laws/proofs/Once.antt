@@ -27,6 +27,9 @@ pub asked-append : (xs ys : List Request) → numbers_asked (xs ++ ys) ≡ numbe
 asked-append [] ys = refl
 asked-append (x ∷ xs) ys = ap (λ (rest : List ℕ). completions_asked x ++ rest) (asked-append xs ys) ∙ sym (append_assoc (completions_asked x) (numbers_asked xs) (numbers_asked ys))
 
+pub count_asked : (n : ℕ) (requests more : List Request) → count_of n (numbers_asked (requests ++ more)) ≡ count_of n (numbers_asked requests) + count_of n (numbers_asked more)
+count_asked n requests more = ap (count_of n) (asked-append requests more) ∙ count-append n (numbers_asked requests) (numbers_asked more)
+
 come-append : (xs ys : List Arrival) → numbers_come (xs ++ ys) ≡ numbers_come xs ++ numbers_come ys
 come-append [] ys = refl
 come-append (x ∷ xs) ys = ap (λ (rest : List ℕ). number_of x.id ++ rest) (come-append xs ys) ∙ sym (append_assoc (number_of x.id) (numbers_come xs) (numbers_come ys))
@@ -138,16 +141,13 @@ once_more : (requests more : List Request) (arrivals later : List Arrival) → A
     → ((n : ℕ) → count_of n (numbers_come arrivals) + count_of n (numbers_come later) ≤ count_of n (numbers_asked requests) + count_of n (numbers_asked more))
     → AreOnce (requests ++ more) (arrivals ++ later)
 once_more requests more arrivals later once asks comes = record {
-  asked = λ n. subst (λ (k : ℕ). k ≤ 1) (sym (asked_sum n)) (asks n);
+  asked = λ n. subst (λ (k : ℕ). k ≤ 1) (sym (count_asked n requests more)) (asks n);
   come = λ n.
-      let a = asked_sum n in
+      let a = count_asked n requests more in
       let c = ap (count_of n) (come-append arrivals later) ∙ count-append n (numbers_come arrivals) (numbers_come later) in
       let low = comes n in
       omega arith;
 }
-  where
-    asked_sum : (n : ℕ) → count_of n (numbers_asked (requests ++ more)) ≡ count_of n (numbers_asked requests) + count_of n (numbers_asked more)
-    asked_sum n = ap (count_of n) (asked-append requests more) ∙ count-append n (numbers_asked requests) (numbers_asked more)
 
 -- arrivals alone
 once_come : (requests : List Request) (arrivals later : List Arrival) → AreOnce requests arrivals

@@ -1,20 +1,21 @@
 -- What the arrivals of an invocation are, by what was asked for.
-use Rattle.std.proofs.Common.{ℕ, zero, suc, ◌+◌, ◌≤◌, ◌==◌, max, arith, ◌≡◌, refl, sym, ap, subst, ◌∙◌, ◌⊎◌, inl, inr, Bool, true, false, ◌||◌, if◌then◌else◌, List, [], ◌∷◌, ◌++◌, append-nil, append_assoc, length, length-append, Some}
-use Rattle.std.specs.List.{list_any, list_all, find}
+use Rattle.std.proofs.Common.{ℕ, zero, suc, ◌+◌, ◌≤◌, ◌==◌, max, arith, ◌≡◌, refl, sym, ap, subst, ◌∙◌, Bool, true, false, if◌then◌else◌, List, [], ◌∷◌, ◌++◌, append_assoc, length, length-append}
+use Rattle.std.specs.List.{list_any, list_all}
 use Rattle.std.proofs.lemmas.Bool.{eqb-true, eq-eqb}
 use Rattle.journal_model.specs.declared.notification.NotificationId.TheVariants.{CompletionId}
 use Rattle.journal_model.specs.declared.notification.NotificationResult.{NotificationResult}
 use Rattle.journal_model.specs.Notification.{Arrival}
 use Rattle.journal_model.specs.Request.{Request, completions_asked}
 use Rattle.journal_model.specs.Delivery.{results_for}
-use Rattle.journal_model.specs.Journal.{asks_for, sleep_in, sleeps_in}
+use Rattle.journal_model.specs.Journal.{asks_for, sleep_in}
 use Rattle.journal_model.specs.Cause.{greatest, do_ascend, is_outcome, is_invocation_id, may_complete}
 use Rattle.journal_model.specs.Run.{run_requests}
 use Rattle.journal_model.proofs.Continuing.{run_requests-beginning}
-use Rattle.journal_laws.proofs.Leaving.{or-true, or-true_left, and-true}
+use Rattle.journal_laws.proofs.Leaving.{or-true_left, and-true}
 use Rattle.run_laws.proofs.Ascending.{ascends, run_rises}
 use Rattle.input_laws.specs.Once.{count_of, numbers_asked, numbers_come, ComeWhenAsked}
-use Rattle.input_laws.proofs.Once.{count-append, asked-append, ascend-above, ascend-once, below-greatest, asked-any, asked-some, numbers_of, numbers-append, slept_one, slept_asked}
+use Rattle.input_laws.proofs.Once.{count-append, ascend-above, ascend-once, below-greatest}
+use Rattle.input_laws.proofs.AskedOnce.{kind_first}
 use Rattle.input_laws.proofs.Results.{count-results}
 use Rattle.attempt_model.specs.Attempts.{gives_id}
 use Rattle.attempt_laws.proofs.Tables.{results-append}
@@ -22,61 +23,9 @@ use Rattle.attempt_laws.proofs.Coming.{gives, any-append, given-asked, all-front
 use Rattle.live_laws.specs.Asking.{GiveIds}
 use Rattle.live_laws.specs.MachineLaws.{ArrivalsComeAsAsked}
 
--- ---- what gives an invocation id asks for it
+-- ---- what gives an invocation id
 
-pub gives_count : (n : ℕ) (requests : List Request) → gives n requests ≡ true → 1 ≤ count_of n (numbers_asked requests)
-gives_count n requests e = asked-some n requests (given-asked n requests e)
-
-gives_one : (n : ℕ) (request : Request) → gives_id n request ≡ true → 1 ≤ count_of n (completions_asked request)
-gives_one n request e = subst (λ (ns : List ℕ). 1 ≤ count_of n ns) (append-nil (completions_asked request)) (gives_count n (request ∷ []) (or-true_left (gives_id n request) false e))
-
-pub count_asked : (n : ℕ) (requests more : List Request) → count_of n (numbers_asked (requests ++ more)) ≡ count_of n (numbers_asked requests) + count_of n (numbers_asked more)
-count_asked n requests more = ap (count_of n) (asked-append requests more) ∙ count-append n (numbers_asked requests) (numbers_asked more)
-
--- what is asked for once, by the first of these requests, is given by one of the first
-gives_first : (n : ℕ) (requests rest : List Request) → count_of n (numbers_asked (requests ++ rest)) ≤ 1 → list_any (asks_for n) requests ≡ true → gives n (requests ++ rest) ≡ true
-    → gives n requests ≡ true
-gives_first n requests rest once asks e = by_either (or-true (gives n requests) (gives n rest) (sym (any-append (gives_id n) requests rest) ∙ e))
-  where
-    by_either : (gives n requests ≡ true) ⊎ (gives n rest ≡ true) → gives n requests ≡ true
-    by_either (inl f) = f
-    by_either (inr f) =
-        let a = count_asked n requests rest in
-        let b = asked-some n requests asks in
-        let c = gives_count n rest f in
-        absurd (omega (arith, once, a, b, c))
-
--- the request that is found for a completion that is asked for once is the one that gives it
-pub found_gives : (n : ℕ) (requests : List Request) (request : Request) → count_of n (numbers_asked requests) ≤ 1 → find (asks_for n) requests ≡ Some request → gives n requests ≡ true
-    → gives_id n request ≡ true
-found_gives n [] request once e g = cc
-found_gives n (first ∷ requests) request once e g =
-    by_test (asks_for n first) refl e (or-true (gives_id n first) (gives n requests) g) (found_gives n requests request)
-  where
-    sum : count_of n (completions_asked first ++ numbers_asked requests) ≡ count_of n (completions_asked first) + count_of n (numbers_asked requests)
-    sum = count-append n (completions_asked first) (numbers_asked requests)
-
-    asks_one : (asks_for n first || false) ≡ true → asks_for n first ≡ true
-    asks_one e = by_either (or-true (asks_for n first) false e)
-      where
-        by_either : (asks_for n first ≡ true) ⊎ (false ≡ true) → asks_for n first ≡ true
-        by_either (inl h) = h
-        by_either (inr h) = cc
-
-    by_test : (b : Bool) → asks_for n first ≡ b → (if b then Some first else find (asks_for n) requests) ≡ Some request → (gives_id n first ≡ true) ⊎ (gives n requests ≡ true)
-        → (count_of n (numbers_asked requests) ≤ 1 → find (asks_for n) requests ≡ Some request → gives n requests ≡ true → gives_id n request ≡ true) → gives_id n request ≡ true
-    by_test true f e (inl g) later = let same : first ≡ request = cc in ap (gives_id n) (sym same) ∙ g
-    by_test true f e (inr g) later =
-        let a = sum in
-        let b = asked-any n (completions_asked first) f in
-        let c = gives_count n requests g in
-        absurd (omega (arith, once, a, b, c))
-    by_test false f e (inl g) later =
-        let wrong : false ≡ true = sym f ∙ asks_one (given-asked n (first ∷ []) (or-true_left (gives_id n first) false g)) in
-        cc
-    by_test false f e (inr g) later = later (let a = sum in omega (arith, once, a)) e g
-
--- so what completes it is an invocation id
+-- what completes it is an invocation id
 pub given_completes : (n : ℕ) (request : Request) (result : NotificationResult) → gives_id n request ≡ true → may_complete request n result ≡ true → is_invocation_id result ≡ true
 given_completes n (Request.CallService call m r name) result g may = by_test (n == m) refl may
   where
@@ -89,37 +38,10 @@ given_completes n (Request.CallService call m r name) result g may = by_test (n 
 given_completes n (Request.OneWayCall call time m name) result g may = may
 given_completes n _ result g may = cc
 
--- and no sleep asks for it
-pub sleeps_apart : (n : ℕ) (requests : List Request) → gives n requests ≡ true → count_of n (numbers_of (sleeps_in requests)) + 1 ≤ count_of n (numbers_asked requests)
-sleeps_apart n [] e = cc
-sleeps_apart n (request ∷ requests) e = by_either (or-true (gives_id n request) (gives n requests) e) (sleeps_apart n requests)
-  where
-    slept : count_of n (numbers_of (sleep_in request ++ sleeps_in requests)) ≡ count_of n (numbers_of (sleep_in request)) + count_of n (numbers_of (sleeps_in requests))
-    slept = numbers-append n (sleep_in request) (sleeps_in requests)
-
-    asked : count_of n (completions_asked request ++ numbers_asked requests) ≡ count_of n (completions_asked request) + count_of n (numbers_asked requests)
-    asked = count-append n (completions_asked request) (numbers_asked requests)
-
-    no_sleep : (request : Request) → gives_id n request ≡ true → sleep_in request ≡ []
-    no_sleep (Request.Sleep moment m name) f = cc
-    no_sleep _ f = refl
-
-    by_either : (gives_id n request ≡ true) ⊎ (gives n requests ≡ true)
-        → (gives n requests ≡ true → count_of n (numbers_of (sleeps_in requests)) + 1 ≤ count_of n (numbers_asked requests))
-        → count_of n (numbers_of (sleep_in request ++ sleeps_in requests)) + 1 ≤ count_of n (completions_asked request ++ numbers_asked requests)
-    by_either (inl f) later =
-        let a = slept in
-        let b = asked in
-        let none : count_of n (numbers_of (sleep_in request)) ≡ 0 = ap (λ (sleeps : List (ℕ × ℕ)). count_of n (numbers_of sleeps)) (no_sleep request f) in
-        let own = gives_one n request f in
-        let rest = slept_asked n requests in
-        omega (arith, a, b, none, own, rest)
-    by_either (inr f) later =
-        let a = slept in
-        let b = asked in
-        let own = slept_one n request in
-        let rest = later f in
-        omega (arith, a, b, own, rest)
+-- and it is no sleep
+pub gives_no_sleep : (n : ℕ) (request : Request) → gives_id n request ≡ true → sleep_in request ≡ []
+gives_no_sleep n (Request.Sleep moment m name) f = cc
+gives_no_sleep n _ f = refl
 
 -- ---- results by their number
 
@@ -185,7 +107,7 @@ come_as_asked next given requests arrivals made begins come give keys known = re
             let (others, h) = run_requests-beginning next given arrivals made (begins.calls + made) (omega arith) in
             let whole : requests ++ (rest ++ more) ≡ run_requests next given arrivals (begins.calls + made) =
             sym (append_assoc requests rest more) ∙ ap (λ (some : List Request). some ++ more) f ∙ g in
-            gives_first n requests (rest ++ more)
+            kind_first n (gives_id n) (given-asked n) requests (rest ++ more)
             (subst (λ (some : List Request). count_of n (numbers_asked some) ≤ 1) (sym whole)
             (asks_once n 0 (run_requests next given arrivals (begins.calls + made)) (run_rises next given arrivals (begins.calls + made)).ascend))
             asks

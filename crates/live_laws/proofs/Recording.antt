@@ -18,13 +18,14 @@ use Rattle.journal_laws.proofs.Leaving.{or-true}
 use Rattle.input_laws.proofs.Events.{added_by, entries_first, requests_now, arrivals_now, no_request, one_request}
 use Rattle.input_laws.proofs.LiveAttempts.{own_hold}
 use Rattle.input_laws.specs.Once.{count_of, numbers_asked, AreOnce}
-use Rattle.input_laws.proofs.Once.{read_asked, arrivals_arrived, slept_few, recorded_once}
+use Rattle.input_laws.proofs.Once.{count_asked, read_asked, arrivals_arrived, slept_few, recorded_once}
+use Rattle.input_laws.proofs.AskedOnce.{kind_count, found_kind, kind_slept}
 use Rattle.attempt_model.specs.Attempts.{gives_id}
 use Rattle.attempt_laws.proofs.Tables.{results-append}
-use Rattle.attempt_laws.proofs.Coming.{gives, any-append, all-both}
+use Rattle.attempt_laws.proofs.Coming.{gives, any-append, given-asked, all-both}
 use Rattle.live_laws.specs.Asking.{GiveIds}
 use Rattle.live_laws.specs.MachineLaws.{RecordsGiveIds}
-use Rattle.live_laws.proofs.Asking.{gives_count, count_asked, found_gives, given_completes, sleeps_apart, none_come}
+use Rattle.live_laws.proofs.Asking.{given_completes, gives_no_sleep, none_come}
 
 -- nothing but invocation ids for this number is among the arrivals of these entries
 abbrev FitEntries : ℕ → List Entry → Type 0
@@ -36,7 +37,7 @@ fits_none n entries e = ap (list_all is_invocation_id) e
 -- ---- one completion
 
 -- the request of an open completion
-asking_open : (entries : List Entry) (n : ℕ) (request : Request) → open_request entries n ≡ Some request → find (asks_for n) (requests_in entries) ≡ Some request
+pub asking_open : (entries : List Entry) (n : ℕ) (request : Request) → open_request entries n ≡ Some request → find (asks_for n) (requests_in entries) ≡ Some request
 asking_open entries n request e = by_awaited (is_awaited entries n) e
   where
     by_awaited : (b : Bool) → (if b then request_asking entries n else None) ≡ Some request → find (asks_for n) (requests_in entries) ≡ Some request
@@ -51,7 +52,7 @@ completed_fits entries k result once opened kind given = by_open (open_request e
     by_open : (o : Option Request) → open_request entries k ≡ o → is_some o ≡ true → refuses_kind o k result ≡ false → is_invocation_id result ≡ true
     by_open None e f g = cc
     by_open (Some request) e f g =
-        given_completes k request result (found_gives k (requests_in entries) request once (asking_open entries k request e) given) (not-false (may_complete request k result) g)
+        given_completes k request result (found_kind k (gives_id k) (given-asked k) (requests_in entries) request once (asking_open entries k request e) given) (not-false (may_complete request k result) g)
 
 -- a run's outcome gives none
 run_apart : (entries : List Entry) (k : ℕ) → count_of k (numbers_asked (requests_in entries)) ≤ 1 → is_run (open_request entries k) ≡ true → gives k (requests_in entries) ≡ true → ⊥
@@ -60,7 +61,7 @@ run_apart entries k once runs given = by_open (open_request entries k) refl runs
     by_open : (o : Option Request) → open_request entries k ≡ o → is_run o ≡ true → ⊥
     by_open None e f = cc
     by_open (Some (Request.Run m name)) e f =
-        let wrong : false ≡ true = found_gives k (requests_in entries) (Request.Run m name) once (asking_open entries k (Request.Run m name) e) given in
+        let wrong : false ≡ true = found_kind k (gives_id k) (given-asked k) (requests_in entries) (Request.Run m name) once (asking_open entries k (Request.Run m name) e) given in
         cc
     by_open (Some _) e f = cc
 
@@ -92,7 +93,7 @@ read_fits state n requests request once e = by_either (or-true (gives n requests
     by_either (inl f) =
         none_come n (read_answer state request)
         (let a = count_asked n requests (request ∷ []) in
-        let b = gives_count n requests f in
+        let b = kind_count n (gives_id n) (given-asked n) requests f in
         let c : count_of n (numbers_asked (request ∷ [])) ≡ count_of n (completions_asked request) = ap (count_of n) (append-nil (completions_asked request)) in
         let d = read_asked n state request in
         omega (arith, once, a, b, c, d))
@@ -140,7 +141,7 @@ module _ (events : List Event) (id : Text) where
       (ap (λ (arrivals : List Arrival). results_for arrivals (CompletionId n)) (arrivals_arrived (slept (entries_of events id) moment))
       ∙ none_come n (slept (entries_of events id) moment)
       (let a = slept_few (entries_of events id) moment n in
-      let b = sleeps_apart n (recorded_requests events id) (gives_before (Event.Tick moment) old (no_request events id (Event.Tick moment) refl) n e) in
+      let b = kind_slept n (gives_id n) (given-asked n) (gives_no_sleep n) (recorded_requests events id) (gives_before (Event.Tick moment) old (no_request events id (Event.Tick moment) refl) n e) in
       let c = once.asked n in
       omega (arith, a, b, c)))
   adds_fit (Event.Take other attempt (Frame.Command request)) causes old adds n once now e =
@@ -186,7 +187,7 @@ module _ (events : List Event) (id : Text) where
       by_either (inr f) =
           ap (list_all is_invocation_id) (none_come n (recorded_arrivals events id)
           (let a = count_asked n (recorded_requests events id) (requests_in (added_by events id event)) in
-          let b = gives_count n (requests_in (added_by events id event)) f in
+          let b = kind_count n (gives_id n) (given-asked n) (requests_in (added_by events id event)) f in
           let c : count_of n (numbers_asked (recorded_requests events id ++ requests_in (added_by events id event))) ≤ 1 =
           subst (λ (requests : List Request). count_of n (numbers_asked requests) ≤ 1) (requests_now event events id old) (now.asked n) in
           let d = once.come n in

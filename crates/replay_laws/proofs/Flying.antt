@@ -14,16 +14,17 @@ use Rattle.journal_laws.proofs.Leaving.{or-true, or-true_left, or-true_right}
 use Rattle.run_laws.proofs.Ascending.{run_rises}
 use Rattle.input_laws.proofs.Events.{added_by, requests_now, arrivals_now, no_request, all_requests, nothing_added}
 use Rattle.input_laws.specs.Once.{count_of, numbers_asked}
-use Rattle.input_laws.proofs.Once.{recorded_once}
+use Rattle.input_laws.proofs.Once.{count_asked, recorded_once}
+use Rattle.input_laws.proofs.AskedOnce.{kind_first, found_kind}
 use Rattle.input_laws.proofs.Results.{recorded_when_asked}
 use Rattle.live_laws.specs.Sending.{request_sent, requests_sent, PassesOn}
-use Rattle.live_laws.proofs.Asking.{asks_once, count_asked}
+use Rattle.live_laws.proofs.Asking.{asks_once}
 use Rattle.body_laws.specs.Standing.{has_arrived, count_proposed}
 use Rattle.body_laws.proofs.Lists.{one_if, one-same, one-at-most, proposed-append}
 use Rattle.body_laws.proofs.Standing.{arrived-once}
 use Rattle.replay_laws.specs.Outcomes.{asks_run, runs, TakesOutcome}
 use Rattle.replay_laws.specs.Flying.{outcomes_in, ComeBehind, OutcomesStand, OutcomesBegin, OutcomesStay, OutcomesAreNew, OthersFollow, OutcomesAreOpen}
-use Rattle.replay_laws.proofs.Outcomes.{runs-asked, runs_first, found_runs, outcomes_are_taken}
+use Rattle.replay_laws.proofs.Outcomes.{runs-asked, outcomes_are_taken}
 
 -- ---- lists of frames
 
@@ -74,7 +75,7 @@ begins_once next given arrivals requests begins n =
 pub come_runs : (events : List Event) (id : Text) (n : ℕ) (more : List Request) → IsAccepted events → count_of n (numbers_asked (recorded_requests events id ++ more)) ≤ 1
     → runs n (recorded_requests events id ++ more) ≡ true → has_arrived (recorded_arrivals events id) n ≡ true → runs n (recorded_requests events id) ≡ true
 come_runs events id n more accepted once e come =
-    runs_first n (recorded_requests events id) more once ((recorded_when_asked events id accepted).asked n (arrived-once (recorded_arrivals events id) n come)) e
+    kind_first n (asks_run n) (runs-asked n) (recorded_requests events id) more once ((recorded_when_asked events id accepted).asked n (arrived-once (recorded_arrivals events id) n come)) e
 
 arrived-either : (arrivals more : List Arrival) (n : ℕ) → has_arrived (arrivals ++ more) n ≡ true → (has_arrived arrivals n ≡ true) ⊎ (has_arrived more n ≡ true)
 arrived-either arrivals more n e = or-true (has_arrived arrivals n) (has_arrived more n) (sym (list_any-append (completes n) arrivals more) ∙ e)
@@ -292,7 +293,7 @@ pub outcomes_are_open : OutcomesAreOpen
 outcomes_are_open events id journal proposed coming n value told accepted stand =
     let here : runs n (recorded_requests events id) ≡ true = stand.behind.0 in
     let (request, found) = find_some n (recorded_requests events id) (runs-asked n (recorded_requests events id) here) in
-    let is : asks_run n request ≡ true = found_runs n (recorded_requests events id) request ((recorded_once events id accepted).asked n) found here in
+    let is : asks_run n request ≡ true = found_kind n (asks_run n) (runs-asked n) (recorded_requests events id) request ((recorded_once events id accepted).asked n) found here in
     let waits : is_awaited (entries_of events id) n ≡ true = ap not (stand.unrecorded n one) in
     ap (λ (b : Bool). is_run (if b then request_asking (entries_of events id) n else None)) waits ∙ ap is_run found ∙ run_is n request is
   where

@@ -17,10 +17,10 @@ use Rattle.journal_model.proofs.Extension.{run-same}
 use Rattle.input_laws.specs.Message.{InputMessage, CarriesInput, CarriesRequest, CarriesArrival, CarriesOutcome, piece_of, arrivals_carried, requests_carried}
 use Rattle.input_laws.proofs.Telling.{arrivals_carried-append}
 use Rattle.input_laws.proofs.News.{requests_carried-append}
-use Rattle.attempt_model.specs.Machine.{Machine, machine_at_start}
+use Rattle.input_laws.proofs.AskedOnce.{kind_first}
+use Rattle.attempt_model.specs.Machine.{Machine}
 use Rattle.attempt_model.specs.Attempts.{with_entry}
 use Rattle.attempt_laws.proofs.Tables.{results-append}
-use Rattle.live_laws.specs.Beginning.{AttemptStart}
 use Rattle.live_laws.specs.Reading.{with_messages, IsMachineAt}
 use Rattle.live_laws.proofs.Reading.{messages-written}
 use Rattle.live_laws.specs.Asking.{are_by_text}
@@ -33,10 +33,10 @@ use Rattle.body_laws.proofs.Standing.{with_machine, body_reads, body_comes, arri
 use Rattle.body_laws.proofs.Steps.{requested-run}
 use Rattle.replay_laws.specs.Outcomes.{asks_run, runs}
 use Rattle.replay_laws.specs.Living.{reads_messages, AreCached}
-use Rattle.replay_laws.proofs.Outcomes.{runs_first}
+use Rattle.replay_laws.proofs.Outcomes.{runs-asked}
 use Rattle.replay_laws.specs.Replaying.{IsOfJournal, IsBehind, ComesAsAsked, asked_by, IsReplayed}
-use Rattle.replay_laws.specs.Laws.{ReplaysBegin, StaysReplayed, ReplaysStay}
-use Rattle.replay_laws.proofs.Standing.{at, behind_none, asked_once, none_unread, all_arrivals}
+use Rattle.replay_laws.specs.Laws.{ReplaysBegin, ReplaysStay}
+use Rattle.replay_laws.proofs.Standing.{at, behind_none, asked_once, none_unread}
 
 -- ---- the begin
 
@@ -282,7 +282,7 @@ module _ (next : Handler) (live : LiveAttempt) (proposed : List (ℕ × NonEmpty
   -- and where something has come for it, by then
   run_first : (n : ℕ) → runs n (asked_by live) ≡ true → has_arrived (arrivals_carried (live.read ++ live.unread)) n ≡ true → runs n x.comes.first ≡ true
   run_first n e' come =
-      runs_first n x.comes.first x.comes.more (asked_once next live proposed e x n)
+      kind_first n (asks_run n) (runs-asked n) x.comes.first x.comes.more (asked_once next live proposed e x n)
       (x.comes.come.asked n (arrived-once (arrivals_carried (live.read ++ live.unread)) n come)) (ap (runs n) x.comes.parts ∙ e')
 
   -- what it reads is of no body that is to be executed
