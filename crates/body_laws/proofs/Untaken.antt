@@ -9,7 +9,6 @@ use Rattle.journal_model.specs.declared.notification.NotificationId.TheVariants.
 use Rattle.journal_model.specs.declared.notification.NotificationResult.{NotificationResult}
 use Rattle.journal_model.specs.Notification.{same_id, Arrival, cancel_id}
 use Rattle.journal_model.specs.Value.{as_taken}
-use Rattle.journal_model.specs.AwaitTree.{AwaitTree}
 use Rattle.journal_model.specs.declared.call.Call.{Call}
 use Rattle.journal_model.specs.declared.call.Answer.{Answer}
 use Rattle.journal_model.specs.declared.options.RunOptions.{RunOptions}
@@ -193,9 +192,9 @@ module _ (options : RunOptions) (steps : List Step) (arrivals : List Arrival) (u
 
 -- ---- one more step
 
-high-open : (arrivals : List Arrival) (steps : List Step) (handle : ℕ) → IsOpen arrivals steps handle → 17 ≤ handle
-high-open arrivals steps handle (inl a) = let high = (created steps a.body a.called).high in let is = a.is in omega (arith, high, is)
-high-open arrivals steps handle (inr beyond) = omega (arith, beyond)
+high-free : (arrivals : List Arrival) (steps : List Step) (handle : ℕ) → IsOpen arrivals steps handle → 17 ≤ handle
+high-free arrivals steps handle (inl a) = let high = (created steps a.body a.called).high in let is = a.is in omega (arith, high, is)
+high-free arrivals steps handle (inr beyond) = omega (arith, beyond)
 
 both-false : (a b : Bool) → a ≡ false → b ≡ false → (a || b) ≡ false
 both-false true b e f = cc
@@ -203,19 +202,19 @@ both-false false b e f = f
 
 module _ (steps : List Step) (arrivals : List Arrival) (untaken : NoneTaken arrivals steps) (step : Step)
     (misses : (handle : ℕ) → IsOpen arrivals steps handle → takes_handle handle step ≡ false) where
-  was-open : (handle : ℕ) → IsOpen arrivals (step ∷ steps) handle → IsOpen arrivals steps handle
-  was-open handle (inl a) = elim (among-split a.body (bodies_of steps) (bodies_of_call (next_handle steps) (next_completion steps) step.call) a.called) [
+  was-free : (handle : ℕ) → IsOpen arrivals (step ∷ steps) handle → IsOpen arrivals steps handle
+  was-free handle (inl a) = elim (among-split a.body (bodies_of steps) (bodies_of_call (next_handle steps) (next_completion steps) step.call) a.called) [
     | inl b ↦ inl (record { body = a.body; called = b; not_come = a.not_come; is = a.is })
     | inr b ↦ inr (let at = (call-handle (next_handle steps) (next_completion steps) 0 step.call a.body b).0 in let is = a.is in omega (arith, at, is))
   ]
-  was-open handle (inr beyond) =
+  was-free handle (inr beyond) =
       let more : length (ids_created steps ++ ids_of (next_completion steps) (next_signal steps) step.call) ≡ length (ids_created steps) + length (ids_of (next_completion steps) (next_signal steps) step.call) =
       length-append (ids_created steps) (ids_of (next_completion steps) (next_signal steps) step.call) in
       inr (omega (arith, beyond, more))
 
   steps-on : NoneTaken arrivals (step ∷ steps)
-  steps-on handle open =
-      both-false (takes_handle handle step) (list_any (takes_handle handle) steps) (misses handle (was-open handle open)) (untaken handle (was-open handle open))
+  steps-on handle free =
+      both-false (takes_handle handle step) (list_any (takes_handle handle) steps) (misses handle (was-free handle free)) (untaken handle (was-free handle free))
 
 module _ (given : Invocation) (steps : List Step) (arrivals : List Arrival) (call : Call) (untaken : NoneTaken arrivals steps) (requested : AreRequested steps) (own : AllOwn steps) where
   woken : (some : Call) (handle : ℕ) → handle_is handle (handle_taken some Answer.Woken) ≡ false
@@ -229,33 +228,33 @@ module _ (given : Invocation) (steps : List Step) (arrivals : List Arrival) (cal
   cancelled _ handle high = refl
 
   answered : (some : Call) (handle : ℕ) → IsOpen arrivals steps handle → handle_is handle (handle_taken some (answer_to given steps arrivals some)) ≡ false
-  answered (Call.Take taken) handle open = by_front (front_of_handle given.options steps arrivals taken) refl
+  answered (Call.Take taken) handle free = by_front (front_of_handle given.options steps arrivals taken) refl
     where
       by_test : (r : NotificationResult) → front_of_handle given.options steps arrivals taken ≡ Some r → (b : Bool) → (taken == handle) ≡ b → b ≡ false
       by_test r e true f =
           let same : taken ≡ handle = eqb-true taken handle f in
           let none : front_of_handle given.options steps arrivals taken ≡ None =
-          subst (λ (h : ℕ). front_of_handle given.options steps arrivals h ≡ None) (sym same) (none-in-front given.options steps arrivals untaken requested own handle open) in
+          subst (λ (h : ℕ). front_of_handle given.options steps arrivals h ≡ None) (sym same) (none-in-front given.options steps arrivals untaken requested own handle free) in
           cc
       by_test r e false f = refl
 
       by_front : (o : Option NotificationResult) → front_of_handle given.options steps arrivals taken ≡ o → handle_is handle (handle_taken (Call.Take taken) (Answer.Taken (option_map as_taken o))) ≡ false
       by_front None e = refl
       by_front (Some r) e = by_test r e (taken == handle) refl
-  answered (Call.Await tree) handle open = refl
-  answered _ handle open = refl
+  answered (Call.Await tree) handle free = refl
+  answered _ handle free = refl
 
   none-outcome : (outcome : AwaitOutcome) → NoneTaken arrivals (after_await steps call outcome).steps
   none-outcome (WaitsFor left) = untaken
-  none-outcome (WokenAt place) = steps-on steps arrivals untaken (record { call = call; answer = Answer.Woken; requests = []; place = place }) (λ handle open. woken call handle)
+  none-outcome (WokenAt place) = steps-on steps arrivals untaken (record { call = call; answer = Answer.Woken; requests = []; place = place }) (λ handle free. woken call handle)
   none-outcome (CancelledAt place requests) =
       steps-on steps arrivals untaken (record { call = call; answer = Answer.Cancelled; requests = requests; place = place })
-      (λ handle open. cancelled call handle (high-open arrivals steps handle open))
+      (λ handle free. cancelled call handle (high-free arrivals steps handle free))
 
   none-kind : (kind : Kind) → NoneTaken arrivals (carried_out given steps arrivals call kind).steps
   none-kind (Awaits tree) = none-outcome (await_outcome given.options steps arrivals tree)
   none-kind Ends = untaken
-  none-kind Answers = steps-on steps arrivals untaken (answered_step given steps arrivals call) (λ handle open. answered call handle open)
+  none-kind Answers = steps-on steps arrivals untaken (answered_step given steps arrivals call) (λ handle free. answered call handle free)
 
   none-call : (o : Option Refusal) → NoneTaken arrivals (unless_refused given steps arrivals call o).steps
   none-call (Some refusal) = untaken
@@ -270,7 +269,7 @@ none-continued handler given arrivals progress GoesOn untaken requested own =
 none-continued handler given arrivals progress _ untaken requested own = untaken
 
 none-taken : (handler : Handler) (given : Invocation) (arrivals : List Arrival) (made : ℕ) → NoneTaken arrivals (run handler given arrivals made).steps
-none-taken handler given arrivals zero = λ handle open. refl
+none-taken handler given arrivals zero = λ handle free. refl
 none-taken handler given arrivals (suc made) =
     none-continued handler given arrivals (run handler given arrivals made) (run handler given arrivals made).ending (none-taken handler given arrivals made)
     (requested-run handler given arrivals made) (own-run handler given arrivals made)

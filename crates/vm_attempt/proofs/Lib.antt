@@ -3,5 +3,6 @@ pub mod Carried
 mod Lists
 pub mod Numbers
 mod Stopped
+mod Rows
 pub mod Pieces
 pub mod Typing
