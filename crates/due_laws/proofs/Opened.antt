@@ -1,4 +1,4 @@
--- Whether an invocation is open behind an event, and that the invocation of a live attempt is.
+-- Whether an invocation is open behind an event, that the invocation of a live attempt is, and that one which is not known has none.
 use Rattle.std.proofs.Common.{ℕ, ◌≡◌, refl, sym, ap, ◌∙◌, true≢false, Bool, true, false, ◌&&◌, ◌||◌, not, if◌then◌else◌, List, [], ◌∷◌, filter, filter_map, Option, Some, None, is_some, option_map, unwrap_or, bytes_eq}
 use Rattle.std.specs.List.{list_any, cons_option}
 use Rattle.std.proofs.lemmas.Slice.Eq.{bytes_eq-Decides}
@@ -50,6 +50,7 @@ open_other event events id old other =
 
 -- ---- the invocation of a live attempt
 
+-- a frame that does not end its attempt does not close the invocation
 not_closing : (version : ℕ) (frame : Frame) → ends_attempt frame ≡ false → closes version frame ≡ false
 not_closing version Frame.End e = cc
 not_closing version (Frame.Error code message behavior delay) e = cc
@@ -84,6 +85,7 @@ unknown_closed : (o : Option NewInvocation) (frames : List Frame) → is_some o 
 unknown_closed None frames e f = true≢false (sym f)
 unknown_closed (Some new) frames e f = true≢false e
 
+-- by one step, from the invocation as it was before
 live_open_step : (event : Event) (earlier : List Event) (id : Text) (n : ℕ) → invoked_by event ≡ None → causes_of earlier event ≡ []
     → (live_attempt earlier id ≡ Some n → is_open earlier id ≡ true) → live_attempt (event ∷ earlier) id ≡ Some n → is_open (event ∷ earlier) id ≡ true
 live_open_step event earlier id n e accepted before = by_tests (begins_attempt id event) refl (is_of id event && ends_live event) refl
@@ -111,3 +113,11 @@ live_open (Event.Invoke new ∷ earlier) id n accepted e =
         ap (λ (b : Bool). opened (if b then Some new else invocation_begun earlier id) (filter_map frame_of (if b then Event.Invoke new ∷ filter (is_of id) earlier else filter (is_of id) earlier))) f
         ∙ before
 live_open (event ∷ earlier) id n accepted e = live_open_step event earlier id n refl accepted.0 (live_open earlier id n accepted.1) e
+
+-- an invocation that is not known has no live attempt
+pub unknown_dead : (events : List Event) (id : Text) → IsAccepted events → is_some (invocation_begun events id) ≡ false → live_attempt events id ≡ None
+unknown_dead events id accepted unknown = by_live (live_attempt events id) refl
+  where
+    by_live : (o : Option ℕ) → live_attempt events id ≡ o → o ≡ None
+    by_live None e = refl
+    by_live (Some n) e = absurd (unknown_closed (invocation_begun events id) (frames_of events id) unknown (live_open events id n accepted e))

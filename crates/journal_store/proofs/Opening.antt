@@ -15,7 +15,7 @@ use Rattle.store_tables.specs.Records.{Holds, no_records}
 use Rattle.store_model.proofs.Keeping.{kept_at_first}
 use Rattle.store_invocations.specs.Rows.{IsStoreOf}
 use Rattle.store_live.specs.Attempts.{ByInvocation}
-use Rattle.store_live_laws.proofs.Opened.{live_open, unknown_dead}
+use Rattle.due_laws.proofs.Opened.{live_open, unknown_dead}
 use Rattle.journal_store.specs.Stands.{Stands}
 use Rattle.journal_store.proofs.Standing.{unwritten}
 use Rattle.journal_store.proofs.Quiet.{none_written}

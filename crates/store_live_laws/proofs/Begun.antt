@@ -4,12 +4,13 @@ use Rattle.journal_model.specs.Notification.{Text}
 use Rattle.journal_model.specs.Event.{Event}
 use Rattle.journal_model.specs.Attempt.{attempts_begun, live_attempt, is_input_closed}
 use Rattle.journal_laws.proofs.ObjectState.{begin_when_new, begun_before}
+use Rattle.input_laws.proofs.Events.{itself}
+use Rattle.due_laws.proofs.Opened.{and_false, unknown_dead}
 use Rattle.store_live.specs.Input.{InputKept}
 use Rattle.store_live_laws.specs.Memory.{IsInputOf}
 use Rattle.store_live_laws.proofs.Reading.{input_agrees}
 use Rattle.store_live_laws.specs.Agrees.{AgreesInvoked, AgreesBegun}
 use Rattle.store_live_laws.proofs.Growing.{version_same}
-use Rattle.store_live_laws.proofs.Opened.{itself, and_false, unknown_dead}
 
 pub invoked : AgreesInvoked
 invoked events new accepted e =

@@ -7,7 +7,6 @@ pub mod Reading
 pub mod Awake
 pub mod NextSleep
 pub mod Growing
-pub mod Opened
 pub mod Steps
 pub mod Begun
 pub mod Left

@@ -7,6 +7,8 @@ use Rattle.journal_model.specs.Journal.{is_of, is_tick, begins, invocation_begun
 use Rattle.journal_model.specs.Attempt.{begins_attempt, ends_live, live_attempt, closes_input, acknowledged, bytes_asked}
 use Rattle.journal_model.specs.Cause.{IsAccepted}
 use Rattle.journal_laws.proofs.ObjectState.{begun_before}
+use Rattle.input_laws.proofs.Events.{itself}
+use Rattle.due_laws.proofs.Opened.{and_false}
 use Rattle.protocol_types.specs.Feature.{has_feature}
 use Rattle.protocol_types.specs.declared.feature.Feature.TheVariants.{Acknowledgement}
 use Rattle.store_model.proofs.Same.{same_begun}
@@ -17,7 +19,6 @@ use Rattle.store_live_laws.specs.Memory.{IsInputOf}
 use Rattle.store_live_laws.proofs.Reading.{input_agrees}
 use Rattle.store_live_laws.specs.Agrees.{Agrees, AgreesAtFirst, AgreesElsewhere, AgreesRecorded, AgreesAcknowledged, AgreesAsBefore, AgreesRead, AgreesHandedOut, AgreesClosed, AgreesEnded, AgreesStopped, IsKeptLive, does_record}
 use Rattle.store_live_laws.proofs.Growing.{live_now, goes_on}
-use Rattle.store_live_laws.proofs.Opened.{itself, and_false}
 
 pub at_first : AgreesAtFirst
 at_first id = refl
