@@ -47,6 +47,21 @@ with_machine version steps arrivals proposed e m stand = record {
   cached_alone = stand.cached_alone;
 }
 
+-- before the first call there is none
+pub no_bodies : (version : ℕ) (arrivals : List Arrival) (m : Machine) → BodiesStand version [] arrivals [] (executor_over m)
+no_bodies version arrivals m = record {
+  once = λ n. omega arith;
+  none_above = λ n high. omega arith;
+  called = λ body a. absurd a;
+  not_come = λ body a. absurd a;
+  ascending = tt;
+  executing_called = λ body a. absurd a;
+  proposed_called = λ n value a. absurd a;
+  kept = λ body a. absurd a;
+  cached = λ is n value a. absurd a;
+  cached_alone = λ n value g. cc;
+}
+
 pub begins_with : (handler : Handler) (given : Invocation) (start : StartState) (journal : List Request) (arrivals : List Arrival)
     → IsShown given.start journal start → StandsWithBodies handler given journal arrivals 0 [] (executor_over (machine_at_start start (map Some journal) arrivals))
 begins_with handler given start journal arrivals shows = by_stands (begins handler given start journal arrivals shows)
@@ -55,18 +70,8 @@ begins_with handler given start journal arrivals shows = by_stands (begins handl
         → StandsWithBodies handler given journal arrivals 0 [] (executor_over (machine_at_start start (map Some journal) arrivals))
     by_stands stands = record {
       stands = stands;
-      bodies = with_steps given.version [] stands.steps arrivals [] (executor_over (machine_at_start start (map Some journal) arrivals)) (steps-same (run handler given arrivals 0) [] stands.steps refl stands.going) (record {
-        once = λ n. omega arith;
-        none_above = λ n high. omega arith;
-        called = λ body a. absurd a;
-        not_come = λ body a. absurd a;
-        ascending = tt;
-        executing_called = λ body a. absurd a;
-        proposed_called = λ n value a. absurd a;
-        kept = λ body a. absurd a;
-        cached = λ is n value a. absurd a;
-        cached_alone = λ n value g. cc;
-      });
+      bodies = with_steps given.version [] stands.steps arrivals [] (executor_over (machine_at_start start (map Some journal) arrivals)) (steps-same (run handler given arrivals 0) [] stands.steps refl stands.going)
+          (no_bodies given.version arrivals (machine_at_start start (map Some journal) arrivals));
     }
 
 -- ---- one more arrival

@@ -1,5 +1,5 @@
 -- The live attempt with the bodies of its runs: it begins, takes in what comes, and reads.
-use Rattle.std.proofs.Common.{◌≡◌, refl, sym, ap, ap₂, ◌∙◌, subst, ℕ, ◌+◌, ◌≤◌, arith, ◌⊎◌, inl, inr, Bool, true, false, ◌||◌, List, [], ◌∷◌, ◌++◌, append-nil, take, map, None, eq-eqb}
+use Rattle.std.proofs.Common.{◌≡◌, refl, sym, ap, ap₂, ◌∙◌, subst, ℕ, ◌≤◌, ◌⊎◌, inl, inr, Bool, true, false, ◌||◌, List, [], ◌∷◌, ◌++◌, append-nil, take, map, None, eq-eqb}
 use Rattle.std.specs.List.{AllByRecursion}
 use Rattle.std.proofs.lemmas.List.Folds.{list_any-append}
 use Rattle.journal_model.specs.declared.options.RunOptions.{RunOptions}
@@ -15,15 +15,17 @@ use Rattle.input_laws.specs.Message.{InputMessage, arrivals_carried, requests_ca
 use Rattle.input_laws.proofs.Telling.{arrivals_carried-append, entries_arrivals}
 use Rattle.input_laws.proofs.News.{requests_carried-append}
 use Rattle.input_laws.specs.Once.{count_of, numbers_asked}
+use Rattle.attempt_model.specs.Machine.{machine_at_start}
 use Rattle.live_laws.specs.Sending.{requests_sent, PassesOn}
 use Rattle.live_laws.specs.Begun.{IsProposed}
 use Rattle.live_laws.specs.MachineTurn.{HasPosition}
+use Rattle.live_laws.specs.Beginning.{start_after}
 use Rattle.live_laws.specs.Living.{LiveAttempt, HasReadJournal, handed_bytes}
 use Rattle.live_laws.proofs.LiveMachines.{machine_begins, machine_stays, position}
 use Rattle.live_laws.proofs.Going.{later_none, none_unread}
 use Rattle.body_laws.specs.Bodies.{Body, Executor, bodies_of}
 use Rattle.body_laws.specs.Standing.{Among, has_arrived}
-use Rattle.body_laws.proofs.Standing.{arrived-before}
+use Rattle.body_laws.proofs.Standing.{no_bodies, arrived-before}
 use Rattle.body_laws.proofs.Steps.{requested-run}
 use Rattle.replay_laws.specs.Outcomes.{asks_run, runs}
 use Rattle.replay_laws.specs.Flying.{OutcomesStand}
@@ -47,18 +49,7 @@ executor_begins next options fallback_seed id now events new accepted begun hold
   is_live = machine_begins next options fallback_seed id now events new accepted begun holds;
   machine = refl;
   idle = refl;
-  bodies = record {
-    once = λ n. omega arith;
-    none_above = λ n high. omega arith;
-    called = λ body a. absurd a;
-    not_come = λ body a. absurd a;
-    ascending = tt;
-    executing_called = λ body a. absurd a;
-    proposed_called = λ n value a. absurd a;
-    kept = λ body a. absurd a;
-    cached = λ is n value a. absurd a;
-    cached_alone = λ n value g. cc;
-  };
+  bodies = no_bodies (start_after options fallback_seed events id now new).given.version [] (machine_at_start (start_after options fallback_seed events id now new).shown [] []);
   asked = inl refl;
   texts = refl;
   outcomes = subst (λ (arrivals : List Arrival). OutcomesStand (Event.Begin id now ∷ events) id arrivals [] []) (sym (journal_arrivals events id)) (outcomes_begin events id now accepted);

@@ -18,7 +18,7 @@ use Rattle.input_laws.specs.Message.{InputMessage, CarriesInput, CarriesRequest,
 use Rattle.input_laws.proofs.Telling.{arrivals_carried-append}
 use Rattle.input_laws.proofs.News.{requests_carried-append}
 use Rattle.input_laws.proofs.AskedOnce.{kind_first}
-use Rattle.attempt_model.specs.Machine.{Machine}
+use Rattle.attempt_model.specs.Machine.{Machine, machine_at_start}
 use Rattle.attempt_model.specs.Attempts.{with_entry}
 use Rattle.attempt_laws.proofs.Tables.{results-append}
 use Rattle.live_laws.specs.Reading.{with_messages, IsMachineAt}
@@ -29,7 +29,7 @@ use Rattle.body_laws.specs.Bodies.{Body, Executor, reads_arrival, reads_outcome,
 use Rattle.body_laws.specs.Standing.{Among, has_arrived, count_bodies, count_proposed, BodiesStand}
 use Rattle.body_laws.specs.Laws.{is_early}
 use Rattle.body_laws.proofs.Lists.{count-among}
-use Rattle.body_laws.proofs.Standing.{with_machine, body_reads, body_comes, arrived-before, arrived-once}
+use Rattle.body_laws.proofs.Standing.{no_bodies, with_machine, body_reads, body_comes, arrived-before, arrived-once}
 use Rattle.body_laws.proofs.Steps.{requested-run}
 use Rattle.replay_laws.specs.Outcomes.{asks_run, runs}
 use Rattle.replay_laws.specs.Living.{reads_messages, AreCached}
@@ -53,18 +53,7 @@ replay_begins next start can comes = record {
   stands = inl (record { none_asked = refl; reads = refl });
   machine = refl;
   idle = refl;
-  bodies = record {
-    once = λ n. omega arith;
-    none_above = λ n high. omega arith;
-    called = λ body a. absurd a;
-    not_come = λ body a. absurd a;
-    ascending = tt;
-    executing_called = λ body a. absurd a;
-    proposed_called = λ n value a. absurd a;
-    kept = λ body a. absurd a;
-    cached = λ is n value a. absurd a;
-    cached_alone = λ n value g. cc;
-  };
+  bodies = no_bodies start.given.version [] (machine_at_start start.shown [] []);
   asked = inl refl;
   texts = refl;
 }
