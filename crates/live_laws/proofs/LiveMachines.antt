@@ -59,15 +59,9 @@ begun_as next options fallback_seed id event events start old going b =
       of_run = b.of_run;
     }
 
-module _ (next : Handler) (options : RunOptions) (fallback_seed : ℕ) (id : Text) (events : List Event) (live : LiveAttempt) (l : IsLiveMachine next options fallback_seed id events live) where
-  pub position : HasPosition next live.start.given live.start.shown live.read live.unread live.calls live.machine
-  position = machine_position next live.start.given live.start.shown live.read live.unread live.calls live.machine l.machine
-
-  pub is_live : IsLive next live.start.given id events live.coming live.held live.read live.unread live.calls position.left live.machine.written
-  is_live = record { input = l.reads; position = position.position; asked = l.asked }
-
-  -- more messages that carry no request
-  machine_more : (more : List InputMessage) → requests_carried more ≡ [] → IsMachineAt next live.start.given live.start.shown live.read live.unread live.calls live.machine
+-- more messages that carry no request leave its machine where it is
+module _ (next : Handler) (live : LiveAttempt) where
+  pub machine_more : (more : List InputMessage) → requests_carried more ≡ [] → IsMachineAt next live.start.given live.start.shown live.read live.unread live.calls live.machine
       → IsMachineAt next live.start.given live.start.shown live.read (live.unread ++ more) live.calls live.machine
   machine_more more none (inl only) = inl only
   machine_more more none (inr at) = inr (record {
@@ -77,13 +71,22 @@ module _ (next : Handler) (options : RunOptions) (fallback_seed : ℕ) (id : Tex
     stands = at.stands;
   })
 
-  holds_on : (unread : List InputMessage) (coming : List Frame) → HoldsStart live → HoldsStart (record live { unread = unread; coming = coming })
+-- what holds its start frame does so with more behind it
+module _ (live : LiveAttempt) where
+  pub holds_on : (unread : List InputMessage) (coming : List Frame) → HoldsStart live → HoldsStart (record live { unread = unread; coming = coming })
   holds_on unread coming (start_unread a b c d) = start_unread a b c d
   holds_on unread coming (start_read a) = start_read a
 
-  holds_more : (bytes : Bytes) → HoldsStart live → HoldsStart (handed_bytes live bytes)
+  pub holds_more : (bytes : Bytes) → HoldsStart live → HoldsStart (handed_bytes live bytes)
   holds_more bytes (start_unread a b c d) = start_unread (ap (λ (some : Bytes). some ++ bytes) a ∙ append_assoc live.start.frame live.held bytes) b c d
   holds_more bytes (start_read a) = start_read (ap (λ (some : Bytes). some ++ bytes) a)
+
+module _ (next : Handler) (options : RunOptions) (fallback_seed : ℕ) (id : Text) (events : List Event) (live : LiveAttempt) (l : IsLiveMachine next options fallback_seed id events live) where
+  pub position : HasPosition next live.start.given live.start.shown live.read live.unread live.calls live.machine
+  position = machine_position next live.start.given live.start.shown live.read live.unread live.calls live.machine l.machine
+
+  pub is_live : IsLive next live.start.given id events live.coming live.held live.read live.unread live.calls position.left live.machine.written
+  is_live = record { input = l.reads; position = position.position; asked = l.asked }
 
   machine_on : (event : Event) (coming : List Frame) → IsAccepted events → begins id event ≡ false → begins_attempt id event ≡ false → bytes_asked id event ≡ None → PassesOn id event live.coming coming
       → (more : List InputMessage) × AllByRecursion (IsBroughtBy (entries_of (event ∷ events) id) id event) more
@@ -100,9 +103,9 @@ module _ (next : Handler) (options : RunOptions) (fallback_seed : ℕ) (id : Tex
           messages =
               subst (λ (all : List InputMessage). HasInput (event ∷ events) id coming live.proposed live.start.new live.start.journal all) (append_assoc live.read live.unread new.messages)
               (input_on events id event live.coming coming live.proposed live.start.new live.start.journal (live.read ++ live.unread) new.messages old going passes brought l.messages);
-          holds = holds_on (live.unread ++ new.messages) coming l.holds;
+          holds = holds_on live (live.unread ++ new.messages) coming l.holds;
           reads = now.input;
-          machine = machine_more new.messages new.none l.machine;
+          machine = machine_more next live new.messages new.none l.machine;
           asked = now.asked;
         },
       )
@@ -114,7 +117,7 @@ module _ (next : Handler) (options : RunOptions) (fallback_seed : ℕ) (id : Tex
         messages =
             subst (λ (all : List InputMessage). HasInput (Event.HandOut id attempt most ∷ events) id live.coming live.proposed live.start.new live.start.journal all) (append-nil (live.read ++ live.unread))
             (input_on events id (Event.HandOut id attempt most) live.coming live.coming live.proposed live.start.new live.start.journal (live.read ++ live.unread) [] refl refl refl tt l.messages);
-        holds = holds_more (take most (input_left events id)) l.holds;
+        holds = holds_more live (take most (input_left events id)) l.holds;
         reads = now.input;
         machine = l.machine;
         asked = now.asked;

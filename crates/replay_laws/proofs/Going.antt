@@ -24,9 +24,10 @@ use Rattle.body_laws.proofs.Lists.{outcome, among-left, among-right}
 use Rattle.replay_laws.specs.Flying.{outcomes_in, OutcomesStand}
 use Rattle.replay_laws.specs.Living.{IsLiveExecutor, outcome_frame}
 use Rattle.replay_laws.proofs.Flying.{outcomes_are_new, others_follow}
-use Rattle.replay_laws.proofs.LiveBodies.{begins_coming, body_requested, journal_come}
+use Rattle.replay_laws.proofs.Asked.{journal_come}
+use Rattle.replay_laws.proofs.LiveBodies.{begins_coming, body_requested}
 use Rattle.replay_laws.specs.Replaying.{asked_by, IsReplayed}
-use Rattle.replay_laws.specs.Laws.{LivesOn, LivesStay}
+use Rattle.replay_laws.specs.Laws.{LivesStay}
 
 -- frames without an outcome propose none that is acknowledged
 proposals-none : (frames : List Frame) → outcomes_in frames ≡ [] → proposals_in frames ≡ []
@@ -125,7 +126,7 @@ module _ (next : Handler) (options : RunOptions) (fallback_seed : ℕ) (id : Tex
     unknown = by_test (has_arrived (arrivals_carried live.start.journal) body.completion) refl
       where
         by_test : (t : Bool) → has_arrived (arrivals_carried live.start.journal) body.completion ≡ t → t ≡ false
-        by_test true come = let wrong : false ≡ true = sym not_come ∙ journal_come next options fallback_seed id events live proposed e accepted x journal body.completion come in cc
+        by_test true come = let wrong : false ≡ true = sym not_come ∙ journal_come live journal body.completion come in cc
         by_test false come = refl
 
     told-on : (n : ℕ) (other : NonEmptyValue) (t : Bool) → acknowledges live.start.given.version ≡ t

@@ -1,5 +1,6 @@
 pub mod Outcomes
 pub mod Flying
+pub mod Asked
 pub mod LiveBodies
 pub mod Standing
 pub mod Reading

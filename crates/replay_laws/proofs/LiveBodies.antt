@@ -1,18 +1,17 @@
 -- The live attempt with the bodies of its runs: it begins, takes in what comes, and reads.
-use Rattle.std.proofs.Common.{◌≡◌, refl, sym, ap, ap₂, ◌∙◌, subst, ℕ, ◌≤◌, ◌⊎◌, inl, inr, Bool, true, false, ◌||◌, List, [], ◌∷◌, ◌++◌, append-nil, take, map, None, eq-eqb}
+use Rattle.std.proofs.Common.{◌≡◌, refl, sym, ap, ◌∙◌, subst, ℕ, ◌≤◌, inl, inr, true, false, List, [], ◌∷◌, ◌++◌, append-nil, take, map, None}
 use Rattle.std.specs.List.{AllByRecursion}
-use Rattle.std.proofs.lemmas.List.Folds.{list_any-append}
 use Rattle.journal_model.specs.declared.options.RunOptions.{RunOptions}
 use Rattle.journal_model.specs.declared.value.NonEmptyValue.{NonEmptyValue}
 use Rattle.journal_model.specs.Notification.{Text, Arrival}
 use Rattle.journal_model.specs.Request.{Request}
-use Rattle.journal_model.specs.Run.{Handler, run, run_requests, BeginsRun}
+use Rattle.journal_model.specs.Run.{Handler, run, BeginsRun}
 use Rattle.journal_model.specs.Event.{Event, Frame}
 use Rattle.journal_model.specs.Journal.{completion, begins, entries_of, recorded_requests, recorded_arrivals}
 use Rattle.journal_model.specs.Attempt.{begins_attempt, bytes_asked, input_left}
 use Rattle.journal_model.specs.Cause.{IsAccepted}
 use Rattle.input_laws.specs.Message.{InputMessage, arrivals_carried, requests_carried, IsBroughtBy, message_of}
-use Rattle.input_laws.proofs.Telling.{arrivals_carried-append, entries_arrivals}
+use Rattle.input_laws.proofs.Telling.{entries_arrivals}
 use Rattle.input_laws.proofs.News.{requests_carried-append}
 use Rattle.input_laws.specs.Once.{count_of, numbers_asked}
 use Rattle.attempt_model.specs.Machine.{machine_at_start}
@@ -20,16 +19,16 @@ use Rattle.live_laws.specs.Sending.{requests_sent, PassesOn}
 use Rattle.live_laws.specs.Begun.{IsProposed}
 use Rattle.live_laws.specs.MachineTurn.{HasPosition}
 use Rattle.live_laws.specs.Beginning.{start_after}
-use Rattle.live_laws.specs.Living.{LiveAttempt, HasReadJournal, handed_bytes}
+use Rattle.live_laws.specs.Living.{LiveAttempt, handed_bytes}
 use Rattle.live_laws.proofs.LiveMachines.{machine_begins, machine_stays, position}
 use Rattle.live_laws.proofs.Going.{later_none, none_unread}
 use Rattle.body_laws.specs.Bodies.{Body, Executor, bodies_of}
-use Rattle.body_laws.specs.Standing.{Among, has_arrived}
-use Rattle.body_laws.proofs.Standing.{no_bodies, arrived-before}
-use Rattle.body_laws.proofs.Steps.{requested-run}
-use Rattle.replay_laws.specs.Outcomes.{asks_run, runs}
+use Rattle.body_laws.specs.Standing.{Among}
+use Rattle.body_laws.proofs.Standing.{no_bodies}
+use Rattle.replay_laws.specs.Outcomes.{runs}
 use Rattle.replay_laws.specs.Flying.{OutcomesStand}
 use Rattle.replay_laws.specs.Living.{IsLiveExecutor, ExecutorsBegin, ExecutorsStayLive}
+use Rattle.replay_laws.proofs.Asked.{begins_asking, body_asked, journal_read}
 use Rattle.replay_laws.proofs.Flying.{outcomes_begin, outcomes_stay, begins_once}
 
 -- ---- the begin
@@ -56,21 +55,6 @@ executor_begins next options fallback_seed id now events new accepted begun hold
   told = λ n value p. absurd (none_proposed (n, value) p);
 }
 
--- ---- what it has read
-
-some-run : (n : ℕ) (name : List ℕ) (requests : List Request) → Among (Request.Run n name) requests → runs n requests ≡ true
-some-run n name [] a = absurd a
-some-run n name (request ∷ requests) (inl e) = ap (λ (some : Request). asks_run n some || runs n requests) (sym e) ∙ ap (λ (b : Bool). b || runs n requests) (eq-eqb n n refl)
-some-run n name (request ∷ requests) (inr a) = or-right (asks_run n request) (runs n requests) (some-run n name requests a)
-  where
-    or-right : (a b : Bool) → b ≡ true → (a || b) ≡ true
-    or-right true b e = refl
-    or-right false b e = e
-
-or-first : (a b : Bool) → a ≡ true → (a || b) ≡ true
-or-first true b e = refl
-or-first false b e = cc
-
 module _ (next : Handler) (options : RunOptions) (fallback_seed : ℕ) (id : Text) (events : List Event) (live : LiveAttempt) (proposed : List (ℕ × NonEmptyValue)) (e : Executor) (accepted : IsAccepted events)
     (x : IsLiveExecutor next options fallback_seed id events live proposed e) where
   pub at : HasPosition next live.start.given live.start.shown live.read live.unread live.calls live.machine
@@ -85,29 +69,9 @@ module _ (next : Handler) (options : RunOptions) (fallback_seed : ℕ) (id : Tex
 
   -- what is recorded and what is on its way begins the run, over what it has read or over its journal
   pub begins_coming : (arrivals : List Arrival) × BeginsRun next live.start.given arrivals (recorded_requests events id ++ requests_sent live.coming)
-  begins_coming = by_replay at.position.replays
-    where
-      by_replay : ((at.left ≡ []) × (requests_carried live.unread ≡ [])) ⊎ (live.machine.written ≡ []) → (arrivals : List Arrival) × BeginsRun next live.start.given arrivals (recorded_requests events id ++ requests_sent live.coming)
-      by_replay (inl (none, all)) = (
-        arrivals_carried live.read,
-        record {
-          calls = live.calls;
-          beginning = (
-            [],
-            append-nil (recorded_requests events id ++ requests_sent live.coming) ∙ x.is_live.asked
-                ∙ ap (λ (some : List Request). some ++ live.machine.written)
-                (requests_carried-append live.read live.unread ∙ ap (λ (some : List Request). requests_carried live.read ++ some) all ∙ append-nil (requests_carried live.read))
-                ∙ sym at.position.requests
-                ∙ ap (λ (some : List Request). run_requests next live.start.given (arrivals_carried live.read) live.calls ++ some) none
-                ∙ append-nil (run_requests next live.start.given (arrivals_carried live.read) live.calls),
-          );
-        },
-      )
-      by_replay (inr none) = (
-        arrivals_carried live.start.journal,
-        subst (λ (requests : List Request). BeginsRun next live.start.given (arrivals_carried live.start.journal) requests)
-            (sym (x.is_live.asked ∙ ap₂ (λ (some written : List Request). some ++ written) input_requests none ∙ append-nil (requests_carried live.start.journal))) x.is_live.begun.of_run,
-      )
+  begins_coming =
+      let (arrivals, begins) = begins_asking next live at x.is_live.begun.of_run input_requests in
+      (arrivals, subst (λ (requests : List Request). BeginsRun next live.start.given arrivals requests) (sym x.is_live.asked) begins)
 
   pub whole : (n : ℕ) → count_of n (numbers_asked (recorded_requests events id ++ requests_sent live.coming)) ≤ 1
   whole n = let (arrivals, begins) = begins_coming in begins_once next live.start.given arrivals (recorded_requests events id ++ requests_sent live.coming) begins n
@@ -166,37 +130,12 @@ module _ (next : Handler) (options : RunOptions) (fallback_seed : ℕ) (id : Tex
 
   -- ---- what it has read
 
-  -- one that has called a run has read its journal
-  journal_read : (body : Body) → Among body (bodies_of (run next live.start.given (arrivals_carried live.read) live.calls).steps) → HasReadJournal live
-  journal_read body a = by_asked x.asked
-    where
-      by_asked : (live.calls ≡ 0) ⊎ HasReadJournal live → HasReadJournal live
-      by_asked (inl zero) = absurd (subst (λ (calls : ℕ). Among body (bodies_of (run next live.start.given (arrivals_carried live.read) calls).steps)) zero a)
-      by_asked (inr r) = r
-
-  pub journal_come : HasReadJournal live → (n : ℕ) → has_arrived (arrivals_carried live.start.journal) n ≡ true → has_arrived (arrivals_carried live.read) n ≡ true
-  journal_come r n come =
-      ap (λ (arrivals : List Arrival). has_arrived arrivals n) (ap arrivals_carried r.parts ∙ arrivals_carried-append live.start.journal r.later)
-      ∙ arrived-before (arrivals_carried live.start.journal) (arrivals_carried r.later) n come
-
   -- a run whose body it has is requested, in what is recorded or on its way
   pub body_requested : (body : Body) → Among body (bodies_of (run next live.start.given (arrivals_carried live.read) live.calls).steps)
       → runs body.completion (recorded_requests events id ++ requests_sent live.coming) ≡ true
   body_requested body a =
-      let (name, r) = requested-run next live.start.given (arrivals_carried live.read) live.calls body a in
-      ap (runs body.completion) asked_all
-      ∙ list_any-append (asks_run body.completion) (run_requests next live.start.given (arrivals_carried live.read) live.calls) at.left
-      ∙ or-first (runs body.completion (run_requests next live.start.given (arrivals_carried live.read) live.calls)) (runs body.completion at.left)
-      (some-run body.completion name (run_requests next live.start.given (arrivals_carried live.read) live.calls) r)
-    where
-      asked_all : recorded_requests events id ++ requests_sent live.coming ≡ run_requests next live.start.given (arrivals_carried live.read) live.calls ++ at.left
-      asked_all =
-          x.is_live.asked
-          ∙ ap (λ (some : List Request). some ++ live.machine.written)
-          (requests_carried-append live.read live.unread
-          ∙ ap (λ (some : List Request). requests_carried live.read ++ some) (none_unread next options fallback_seed id events live x.is_live (journal_read body a))
-          ∙ append-nil (requests_carried live.read))
-          ∙ sym at.position.requests
+      ap (runs body.completion) x.is_live.asked
+      ∙ body_asked next live at (none_unread next options fallback_seed id events live x.is_live (journal_read next live x.asked body a)) body a
 
 pub executor_stays : ExecutorsStayLive
 executor_stays next options fallback_seed id events live proposed e accepted x = record {

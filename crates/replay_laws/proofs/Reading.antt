@@ -9,11 +9,12 @@ use Rattle.journal_model.specs.Notification.{Bytes, Arrival}
 use Rattle.journal_model.specs.Value.{result_of_value}
 use Rattle.journal_model.specs.Request.{Request}
 use Rattle.journal_model.specs.Delivery.{results_for}
-use Rattle.journal_model.specs.Run.{Handler, Progress, GoesOn, Waits, run, run_requests}
+use Rattle.journal_model.specs.Run.{Handler, Progress, GoesOn, Waits, run}
 use Rattle.journal_model.specs.Event.{Frame}
 use Rattle.journal_model.specs.Journal.{Recorded, completes, completion}
 use Rattle.journal_model.specs.Attempt.{Piece, input_bytes}
 use Rattle.journal_model.proofs.Extension.{run-same}
+use Rattle.journal_laws.proofs.Leaving.{or-true_left}
 use Rattle.input_laws.specs.Message.{InputMessage, CarriesInput, CarriesRequest, CarriesArrival, CarriesOutcome, piece_of, arrivals_carried, requests_carried}
 use Rattle.input_laws.proofs.Telling.{arrivals_carried-append}
 use Rattle.input_laws.proofs.News.{requests_carried-append}
@@ -21,19 +22,20 @@ use Rattle.input_laws.proofs.AskedOnce.{kind_first}
 use Rattle.attempt_model.specs.Machine.{Machine, machine_at_start}
 use Rattle.attempt_model.specs.Attempts.{with_entry}
 use Rattle.attempt_laws.proofs.Tables.{results-append}
-use Rattle.live_laws.specs.Reading.{with_messages, IsMachineAt}
+use Rattle.live_laws.specs.Reading.{with_messages}
 use Rattle.live_laws.proofs.Reading.{messages-written}
+use Rattle.live_laws.proofs.LiveMachines.{machine_more, holds_on, holds_more}
 use Rattle.live_laws.specs.Asking.{are_by_text}
-use Rattle.live_laws.specs.Living.{LiveAttempt, HoldsStart, start_unread, start_read, HasReadJournal, handed_bytes, after_reading}
+use Rattle.live_laws.specs.Living.{LiveAttempt, start_unread, start_read, handed_bytes, after_reading}
 use Rattle.body_laws.specs.Bodies.{Body, Executor, reads_arrival, reads_outcome, bodies_of, acknowledges}
 use Rattle.body_laws.specs.Standing.{Among, has_arrived, count_bodies, count_proposed, BodiesStand}
 use Rattle.body_laws.specs.Laws.{is_early}
 use Rattle.body_laws.proofs.Lists.{count-among}
 use Rattle.body_laws.proofs.Standing.{no_bodies, with_machine, body_reads, body_comes, arrived-before, arrived-once}
-use Rattle.body_laws.proofs.Steps.{requested-run}
 use Rattle.replay_laws.specs.Outcomes.{asks_run, runs}
 use Rattle.replay_laws.specs.Living.{reads_messages, AreCached}
 use Rattle.replay_laws.proofs.Outcomes.{runs-asked}
+use Rattle.replay_laws.proofs.Asked.{body_asked, journal_read, journal_come}
 use Rattle.replay_laws.specs.Replaying.{IsOfJournal, IsBehind, ComesAsAsked, asked_by, IsReplayed}
 use Rattle.replay_laws.specs.Laws.{ReplaysBegin, ReplaysStay}
 use Rattle.replay_laws.proofs.Standing.{at, behind_none, asked_once, none_unread}
@@ -60,19 +62,6 @@ replay_begins next start can comes = record {
 
 -- ---- lists
 
-some-run : (n : ℕ) (name : List ℕ) (requests : List Request) → Among (Request.Run n name) requests → runs n requests ≡ true
-some-run n name [] a = absurd a
-some-run n name (request ∷ requests) (inl e) = ap (λ (some : Request). asks_run n some || runs n requests) (sym e) ∙ ap (λ (b : Bool). b || runs n requests) (eq-eqb n n refl)
-some-run n name (request ∷ requests) (inr a) = or-right (asks_run n request) (runs n requests) (some-run n name requests a)
-  where
-    or-right : (a b : Bool) → b ≡ true → (a || b) ≡ true
-    or-right true b e = refl
-    or-right false b e = e
-
-or-first : (a b : Bool) → a ≡ true → (a || b) ≡ true
-or-first true b e = refl
-or-first false b e = cc
-
 none-any : {A : Type 0} (p : A → Bool) (xs : List A) → ((y : A) → Among y xs → p y ≡ true → ⊥) → list_any p xs ≡ false
 none-any p [] none = refl
 none-any {A} p (y ∷ xs) none = by_test (p y) refl (none-any p xs (λ z a. none z (inr a)))
@@ -90,7 +79,7 @@ all_both P [] ys a = (tt, a)
 all_both P (x ∷ xs) ys a = let (b, c) = all_both P xs ys a.1 in ((a.0, b), c)
 
 arrived-there : (first rest : List Arrival) (arrival : Arrival) (n : ℕ) → completes n arrival ≡ true → has_arrived (first ++ arrival ∷ rest) n ≡ true
-arrived-there first rest arrival n e = list_any-append (completes n) first (arrival ∷ rest) ∙ behind (has_arrived first n) (or-first (completes n arrival) (has_arrived rest n) e)
+arrived-there first rest arrival n e = list_any-append (completes n) first (arrival ∷ rest) ∙ behind (has_arrived first n) (or-true_left (completes n arrival) (has_arrived rest n) e)
   where
     behind : (a : Bool) {b : Bool} → b ≡ true → (a || b) ≡ true
     behind true f = refl
@@ -143,24 +132,6 @@ reads-executing e (CarriesOutcome number value ∷ messages) = reads-executing (
 module _ (next : Handler) (live : LiveAttempt) (proposed : List (ℕ × NonEmptyValue)) (e : Executor) (x : IsReplayed next live proposed e) where
   -- ---- more that is to come
 
-  machine_more : (more : List InputMessage) → requests_carried more ≡ [] → IsMachineAt next live.start.given live.start.shown live.read live.unread live.calls live.machine
-      → IsMachineAt next live.start.given live.start.shown live.read (live.unread ++ more) live.calls live.machine
-  machine_more more none (inl only) = inl only
-  machine_more more none (inr at) = inr (record {
-    all_read =
-        requests_carried-append live.unread more ∙ ap (λ (requests : List Request). requests_carried live.unread ++ requests) none
-        ∙ append-nil (requests_carried live.unread) ∙ at.all_read;
-    stands = at.stands;
-  })
-
-  holds_on : (unread : List InputMessage) (coming : List Frame) → HoldsStart live → HoldsStart (record live { unread = unread; coming = coming })
-  holds_on unread coming (start_unread a b c d) = start_unread a b c d
-  holds_on unread coming (start_read a) = start_read a
-
-  holds_more : (bytes : Bytes) → HoldsStart live → HoldsStart (handed_bytes live bytes)
-  holds_more bytes (start_unread a b c d) = start_unread (ap (λ (some : Bytes). some ++ bytes) a ∙ append_assoc live.start.frame live.held bytes) b c d
-  holds_more bytes (start_read a) = start_read (ap (λ (some : Bytes). some ++ bytes) a)
-
   brings : (more : List InputMessage) (coming : List Frame) → AllByRecursion (IsBehind live.start.given.version proposed) more
       → ComesAsAsked (arrivals_carried live.start.journal) proposed (asked_by live) (arrivals_carried (live.read ++ (live.unread ++ more)))
       → IsReplayed next (record live { unread = live.unread ++ more; coming = coming }) proposed e
@@ -174,12 +145,12 @@ module _ (next : Handler) (live : LiveAttempt) (proposed : List (ℕ × NonEmpty
     comes =
         subst (λ (asked : List Request). ComesAsAsked (arrivals_carried live.start.journal) proposed asked (arrivals_carried (live.read ++ (live.unread ++ more)))) (ap (λ (some : List Request). some ++ live.machine.written) (sym same))
         comes;
-    holds = holds_on (live.unread ++ more) coming x.holds;
+    holds = holds_on live (live.unread ++ more) coming x.holds;
     rest = x.rest ++ input_bytes (map piece_of more);
     bytes =
         sym (append_assoc live.held x.rest (input_bytes (map piece_of more))) ∙ ap (λ (some : Bytes). some ++ input_bytes (map piece_of more)) x.bytes
         ∙ sym (ap input_bytes (map_append live.unread more) ∙ bytes-append (map piece_of live.unread) (map piece_of more));
-    stands = machine_more more none x.stands;
+    stands = machine_more next live more none x.stands;
     machine = x.machine;
     idle = x.idle;
     bodies = x.bodies;
@@ -202,7 +173,7 @@ module _ (next : Handler) (live : LiveAttempt) (proposed : List (ℕ × NonEmpty
     parts = x.parts;
     later_are = x.later_are;
     comes = x.comes;
-    holds = holds_more bytes x.holds;
+    holds = holds_more live bytes x.holds;
     rest = rest;
     bytes = parts;
     stands = x.stands;
@@ -238,35 +209,9 @@ module _ (next : Handler) (live : LiveAttempt) (proposed : List (ℕ × NonEmpty
       run-same next live.start.given (arrivals_carried live.read) more live.calls
       (λ tree waits. (let wrong : GoesOn ≡ Waits tree = sym (at next live proposed e x).position.going ∙ waits in cc))
 
-  -- one that has called a run has read its journal
-  journal_read : (body : Body) → Among body (bodies_of (run next live.start.given (arrivals_carried live.read) live.calls).steps) → HasReadJournal live
-  journal_read body a = by_asked x.asked
-    where
-      by_asked : (live.calls ≡ 0) ⊎ HasReadJournal live → HasReadJournal live
-      by_asked (inl zero) = absurd (subst (λ (calls : ℕ). Among body (bodies_of (run next live.start.given (arrivals_carried live.read) calls).steps)) zero a)
-      by_asked (inr r) = r
-
-  pub journal_come : HasReadJournal live → (n : ℕ) → has_arrived (arrivals_carried live.start.journal) n ≡ true → has_arrived (arrivals_carried live.read) n ≡ true
-  journal_come r n come =
-      ap (λ (arrivals : List Arrival). has_arrived arrivals n) (ap arrivals_carried r.parts ∙ arrivals_carried-append live.start.journal r.later)
-      ∙ arrived-before (arrivals_carried live.start.journal) (arrivals_carried r.later) n come
-
   -- a run whose body it has is asked for
-  pub body_requested : (body : Body) → Among body (bodies_of (run next live.start.given (arrivals_carried live.read) live.calls).steps) → runs body.completion (asked_by live) ≡ true
-  body_requested body a =
-      let (name, r) = requested-run next live.start.given (arrivals_carried live.read) live.calls body a in
-      ap (runs body.completion) asked_all
-      ∙ list_any-append (asks_run body.completion) (run_requests next live.start.given (arrivals_carried live.read) live.calls) (at next live proposed e x).left
-      ∙ or-first (runs body.completion (run_requests next live.start.given (arrivals_carried live.read) live.calls)) (runs body.completion (at next live proposed e x).left)
-      (some-run body.completion name (run_requests next live.start.given (arrivals_carried live.read) live.calls) r)
-    where
-      asked_all : asked_by live ≡ run_requests next live.start.given (arrivals_carried live.read) live.calls ++ (at next live proposed e x).left
-      asked_all =
-          ap (λ (some : List Request). some ++ live.machine.written)
-          (requests_carried-append live.read live.unread
-          ∙ ap (λ (some : List Request). requests_carried live.read ++ some) (none_unread next live proposed e x (journal_read body a))
-          ∙ append-nil (requests_carried live.read))
-          ∙ sym (at next live proposed e x).position.requests
+  body_requested : (body : Body) → Among body (bodies_of (run next live.start.given (arrivals_carried live.read) live.calls).steps) → runs body.completion (asked_by live) ≡ true
+  body_requested body a = body_asked next live (at next live proposed e x) (none_unread next live proposed e x (journal_read next live x.asked body a)) body a
 
   -- and where something has come for it, by then
   run_first : (n : ℕ) → runs n (asked_by live) ≡ true → has_arrived (arrivals_carried (live.read ++ live.unread)) n ≡ true → runs n x.comes.first ≡ true
@@ -289,7 +234,7 @@ module _ (next : Handler) (live : LiveAttempt) (proposed : List (ℕ × NonEmpty
               → (has_arrived (arrivals_carried live.start.journal) body.completion ≡ true) ⊎ (1 ≤ count_proposed body.completion proposed) → ⊥
           by_own called (inl journal) =
               let before : has_arrived (arrivals_carried live.read ++ more) body.completion ≡ true =
-              arrived-before (arrivals_carried live.read) more body.completion (journal_come (journal_read body called) body.completion journal) in
+              arrived-before (arrivals_carried live.read) more body.completion (journal_come live (journal_read next live x.asked body called) body.completion journal) in
               let wrong : false ≡ true = sym (stand.not_come body a) ∙ before in
               cc
           by_own called (inr there) =
@@ -309,7 +254,7 @@ module _ (next : Handler) (live : LiveAttempt) (proposed : List (ℕ × NonEmpty
           ap length (results-append first (completion n (result_of_value value) ∷ rest) (CompletionId n)) ∙ length-append (results_for first (CompletionId n)) (results_for (completion n (result_of_value value) ∷ rest) (CompletionId n)) in
           let before : 1 ≤ length (results_for first (CompletionId n)) = arrived-once first n come in
           let own : 1 ≤ length (results_for (completion n (result_of_value value) ∷ rest) (CompletionId n)) =
-          arrived-once (completion n (result_of_value value) ∷ rest) n (or-first (n == n) (has_arrived rest n) (eq-eqb n n refl)) in
+          arrived-once (completion n (result_of_value value) ∷ rest) n (or-true_left (n == n) (has_arrived rest n) (eq-eqb n n refl)) in
           absurd (omega (arith, few, split, before, own))
       by_test false come = refl
 

@@ -1,5 +1,5 @@
 -- Where an attempt that replays has read its journal, its machine stands in the run, and what it was fed fits and is of its kind.
-use Rattle.std.proofs.Common.{◌≡◌, refl, sym, ap, ap₂, ◌∙◌, subst, ℕ, ◌≤◌, true, ◌⊎◌, inl, inr, List, [], ◌∷◌, ◌++◌, append_assoc, append-nil}
+use Rattle.std.proofs.Common.{◌≡◌, refl, sym, ap, ◌∙◌, subst, ℕ, ◌≤◌, true, ◌⊎◌, inl, inr, List, [], ◌∷◌, ◌++◌, append_assoc, append-nil}
 use Rattle.std.specs.List.{AllByRecursion, list_all}
 use Rattle.std.specs.Str.{is_utf8}
 use Rattle.std.proofs.lemmas.List.{append_cancel_left}
@@ -25,6 +25,7 @@ use Rattle.live_laws.specs.Asking.{GiveIds, keys_are_text, are_by_text, AsksByTe
 use Rattle.live_laws.specs.Living.{LiveAttempt, HasReadJournal}
 use Rattle.live_laws.proofs.Asking.{fewer_come, fewer_give, come_as_asked}
 use Rattle.body_laws.specs.Bodies.{Executor}
+use Rattle.replay_laws.proofs.Asked.{begins_asking}
 use Rattle.replay_laws.proofs.Flying.{begins_once}
 use Rattle.replay_laws.specs.Replaying.{IsBehind, asked_by, IsReplayed}
 use Rattle.replay_laws.specs.Laws.{StandsReplayed, ReplaysStand}
@@ -50,29 +51,7 @@ module _ (next : Handler) (live : LiveAttempt) (proposed : List (ℕ × NonEmpty
 
   -- what is asked for begins the run, over what it has read or over its journal
   pub begins_asked : (arrivals : List Arrival) × BeginsRun next live.start.given arrivals (asked_by live)
-  begins_asked = by_replay at.position.replays
-    where
-      by_replay : ((at.left ≡ []) × (requests_carried live.unread ≡ [])) ⊎ (live.machine.written ≡ []) → (arrivals : List Arrival) × BeginsRun next live.start.given arrivals (asked_by live)
-      by_replay (inl (none, all)) = (
-        arrivals_carried live.read,
-        record {
-          calls = live.calls;
-          beginning = (
-            [],
-            append-nil (requests_carried (live.read ++ live.unread) ++ live.machine.written)
-                ∙ ap (λ (some : List Request). some ++ live.machine.written)
-                (requests_carried-append live.read live.unread ∙ ap (λ (some : List Request). requests_carried live.read ++ some) all ∙ append-nil (requests_carried live.read))
-                ∙ sym at.position.requests
-                ∙ ap (λ (some : List Request). run_requests next live.start.given (arrivals_carried live.read) live.calls ++ some) none
-                ∙ append-nil (run_requests next live.start.given (arrivals_carried live.read) live.calls),
-          );
-        },
-      )
-      by_replay (inr none) = (
-        arrivals_carried live.start.journal,
-        subst (λ (requests : List Request). BeginsRun next live.start.given (arrivals_carried live.start.journal) requests)
-            (sym (ap₂ (λ (some written : List Request). some ++ written) input_requests none ∙ append-nil (requests_carried live.start.journal))) x.start.of_run,
-      )
+  begins_asked = begins_asking next live at x.start.of_run input_requests
 
   -- so each completion is asked for once
   pub asked_once : (n : ℕ) → count_of n (numbers_asked (x.comes.first ++ x.comes.more)) ≤ 1
