@@ -1,5 +1,5 @@
 -- The ids that are due are those that have the flag, in byte order, without those that have a live attempt.
-use Rattle.std.proofs.Common.{◌≡◌, refl, sym, ap, ap₂, subst, ◌∙◌, T, true≢false, not, Bool, true, false, ◌&&◌, ◌||◌, if◌then◌else◌, List, [], ◌∷◌, map, filter, filter_map, Option, Some, None, is_some, bytes_eq, Ordering, Less, Equal, Greater, is_lt}
+use Rattle.std.proofs.Common.{◌≡◌, refl, sym, ap, ap₂, subst, ◌∙◌, T, true≢false, not, Bool, true, false, ◌&&◌, ◌||◌, if◌then◌else◌, List, [], ◌∷◌, map, filter, filter_map, Option, Some, None, is_some, bytes_eq, Less, Equal, is_lt}
 use Rattle.std.specs.List.{list_any, find as found}
 use Rattle.std.specs.Cmp.Lexicographic.{nat_list_cmp_total}
 use Rattle.std.specs.FinMap.Entries.{find, where_key, is_sorted, below_all, find-put, find-where_key, is_sorted-put, is_sorted-where_key, same_entries}
@@ -12,6 +12,7 @@ use Rattle.journal_model.specs.declared.invocation.NewInvocation.{NewInvocation}
 use Rattle.journal_model.specs.Event.{Event}
 use Rattle.journal_model.specs.Journal.{invoked_by, invocation_begun, closes, frames_of, version_of, is_open}
 use Rattle.journal_model.specs.Attempt.{is_none, live_attempt, arrivals_not_handed, suspension_of, is_woken, is_due, ids_in_order}
+use Rattle.journal_laws.proofs.Keys.{first_holds, both_hold, is_less, below_less}
 use Rattle.journal_laws.proofs.Applying.{same_bytes}
 use Rattle.due_laws.specs.Awake.{not_heard, is_awake_kept}
 use Rattle.due_laws.specs.Listing.{ids_begun, DoRise, DueListed, DueTells, AwakeFound}
@@ -58,30 +59,6 @@ find_in_order q (new ∷ news) =
 in_order_sorted : (news : List NewInvocation) → T (is_sorted bytes_cmp (ids_in_order news))
 in_order_sorted [] = tt
 in_order_sorted (new ∷ news) = is_sorted-put bytes_cmp nat_list_cmp_total new.id [] (ids_in_order news) (in_order_sorted news)
-
-first_holds : (a b : Bool) → T (a && b) → T a
-first_holds true b h = tt
-first_holds false b h = absurd h
-
-second_holds : (a b : Bool) → T (a && b) → T b
-second_holds true b h = h
-second_holds false b h = absurd h
-
-both_hold : (a b : Bool) → T a → T b → T (a && b)
-both_hold true b h k = k
-both_hold false b h k = h
-
-is_less : (o : Ordering) → T (is_lt o) → o ≡ Less
-is_less Less h = refl
-is_less Equal h = absurd h
-is_less Greater h = absurd h
-
-below_less : (x y : Bytes) (es : StateMap) → bytes_cmp x y ≡ Less → T (below_all bytes_cmp y es) → T (below_all bytes_cmp x es)
-below_less x y [] p h = tt
-below_less x y (e ∷ es) p h =
-    let less : bytes_cmp y e.0 ≡ Less = is_less (bytes_cmp y e.0) (first_holds (is_lt (bytes_cmp y e.0)) (below_all bytes_cmp y es) h) in
-    both_hold (is_lt (bytes_cmp x e.0)) (below_all bytes_cmp x es) (subst (λ (o : Ordering). T (is_lt o)) (sym (nat_list_cmp_total.trans x y e.0 p less)) tt)
-    (below_less x y es p (second_holds (is_lt (bytes_cmp y e.0)) (below_all bytes_cmp y es) h))
 
 rise_sorted : (ids : List Text) → DoRise ids → T (is_sorted bytes_cmp (as_map ids))
 rise_sorted [] h = tt

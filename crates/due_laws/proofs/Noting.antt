@@ -133,7 +133,7 @@ still_begins : (event : Event) (id : Text) → is_still event ≡ true → begin
 still_begins (Event.Begin other now) id e = cc
 still_begins _ id e = refl
 
-still_adds : (start : StateMap) (entries : List Entry) (event : Event) → is_still event ≡ true → entries_of_event start entries event ≡ []
+pub still_adds : (start : StateMap) (entries : List Entry) (event : Event) → is_still event ≡ true → entries_of_event start entries event ≡ []
 still_adds start entries (Event.HandOut id attempt most) e = refl
 still_adds start entries (Event.CloseInput id attempt) e = refl
 still_adds start entries (Event.Stop id attempt) e = refl

@@ -8,6 +8,7 @@ pub mod Leaving
 pub mod Pruning
 pub mod Isolation
 pub mod Refusing
+pub mod Keys
 pub mod Applying
 pub mod ObjectState
 pub mod Asking

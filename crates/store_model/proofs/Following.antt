@@ -25,7 +25,8 @@ use Rattle.store_tables.specs.declared.row.Closing.TheVariants.{Ended, Failed}
 use Rattle.due_laws.specs.Noted.{or_kept, heard_of, is_awake_kept, Noted, noted_of}
 use Rattle.store_model.specs.Places.{handed_place, handed_of}
 use Rattle.store_model.specs.Progress.{first_of, or_last, last_of, number_or_zero, payload_of_suspension, way_closed, output_payload, last_output, progress_of}
-use Rattle.store_model.proofs.Same.{both_same, is_still, opened, closed_by, error_of, same_progress, nothing_added}
+use Rattle.due_laws.specs.Awake.{is_still}
+use Rattle.store_model.proofs.Same.{both_same, opened, closed_by, error_of, same_progress, nothing_added}
 use Rattle.store_model.specs.Steps.{noted_into, grown, answers_at_once, payload_or, after_command, after_begin, suspended_or, after_frame, after_event, ProgressFollows, ProgressTicks}
 
 -- a progress by what it is read off

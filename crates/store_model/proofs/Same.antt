@@ -5,31 +5,22 @@ use Rattle.journal_model.specs.Notification.{Text}
 use Rattle.journal_model.specs.State.{StateMap}
 use Rattle.journal_model.specs.declared.invocation.NewInvocation.{NewInvocation}
 use Rattle.journal_model.specs.Event.{Frame, Event}
-use Rattle.journal_model.specs.Journal.{Entry, Closing as Closed, is_of, is_tick, begins, invocation_begun, starting_state, closes, closing_frame, frame_of, frames_of, is_open, closing_of, requests_in, entries_of, entries_from, entries_of_event, entries_added, arrivals_in}
+use Rattle.journal_model.specs.Journal.{Entry, Closing as Closed, is_of, is_tick, begins, invocation_begun, starting_state, closes, closing_frame, frame_of, frames_of, is_open, closing_of, requests_in, entries_of, entries_from, entries_added, arrivals_in}
 use Rattle.journal_model.specs.Attempt.{begins_attempt, attempts_begun, suspension_in, suspension_of, is_woken}
 use Rattle.journal_model.specs.Start.{is_some_entry, moment_begun, begun_since_entry, attempts_since_entry}
 use Rattle.journal_model.specs.Cause.{last_completion}
 use Rattle.journal_laws.proofs.ObjectState.{begun_before}
 use Rattle.store_tables.specs.declared.row.LastError.{LastError}
 use Rattle.due_laws.specs.Noted.{heard_in, heard_of, or_zero}
+use Rattle.due_laws.specs.Awake.{is_quiet, is_still}
+use Rattle.due_laws.proofs.Noting.{still_adds}
 use Rattle.store_model.specs.Places.{handed_in, handed_of}
 use Rattle.store_model.specs.Progress.{first_of, number_or_zero, payload_of_suspension, way_closed, error_in, last_error_of, last_output, progress_of}
 
--- frames, and events, by which nothing is told of an invocation
-abbrev pub is_quiet : Option Frame → Bool
-is_quiet None = true
-is_quiet (Some Frame.AwaitingOn) = true
-is_quiet (Some Frame.Broken) = true
-is_quiet (Some Frame.TooDeep) = true
-is_quiet (Some Frame.NotAccepted) = true
-is_quiet (Some _) = false
-
-abbrev pub is_still : Event → Bool
-is_still (Event.HandOut id attempt most) = true
-is_still (Event.CloseInput id attempt) = true
-is_still (Event.Stop id attempt) = true
-is_still (Event.Take id attempt frame) = is_quiet (Some frame)
-is_still _ = false
+-- no frame, or one by which nothing is told of an invocation
+abbrev none_or_quiet : Option Frame → Bool
+none_or_quiet None = true
+none_or_quiet (Some frame) = is_quiet frame
 
 abbrev pub Leaves : Event → Text → Type 0
 Leaves event id = (is_of id event ≡ false) ⊎ (is_still event ≡ true)
@@ -74,7 +65,7 @@ no_moment (Event.Begin other now) id (inl e) = rw e refl
 no_moment (Event.Begin other now) id (inr e) = cc
 no_moment event id h = both_same (is_of id event) []
 
-still_frame : (event : Event) → is_still event ≡ true → is_quiet (frame_of event) ≡ true
+still_frame : (event : Event) → is_still event ≡ true → none_or_quiet (frame_of event) ≡ true
 still_frame (Event.Take other attempt frame) e = e
 still_frame _ e = refl
 
@@ -88,7 +79,7 @@ start_same : (event : Event) (events : List Event) (id : Text) → begins id eve
 start_same event events id e = rw e refl
 
 -- what quiet frames do not change stays
-frames_alike : {A : Type 0} (read : List Frame → A) → ((frame : Option Frame) → is_quiet frame ≡ true → (frames : List Frame) → read (cons_option frame frames) ≡ read frames)
+frames_alike : {A : Type 0} (read : List Frame → A) → ((frame : Option Frame) → none_or_quiet frame ≡ true → (frames : List Frame) → read (cons_option frame frames) ≡ read frames)
     → (event : Event) (events : List Event) (id : Text) → Leaves event id → read (frames_of (event ∷ events) id) ≡ read (frames_of events id)
 frames_alike read alike event events id (inl e) =
     ap (λ (b : Bool). read (filter_map frame_of (if b then event ∷ filter (is_of id) events else filter (is_of id) events))) e
@@ -104,7 +95,7 @@ version_in o = unwrap_or (option_map (λ (new : NewInvocation). new.version) o) 
 abbrev pub opened : Option NewInvocation → List Frame → Bool
 opened o frames = is_some o && not (list_any (closes (version_in o)) frames)
 
-opened-quiet : (o : Option NewInvocation) (frame : Option Frame) → is_quiet frame ≡ true → (frames : List Frame) → opened o (cons_option frame frames) ≡ opened o frames
+opened-quiet : (o : Option NewInvocation) (frame : Option Frame) → none_or_quiet frame ≡ true → (frames : List Frame) → opened o (cons_option frame frames) ≡ opened o frames
 opened-quiet o None e frames = refl
 opened-quiet o (Some Frame.AwaitingOn) e frames = refl
 opened-quiet o (Some Frame.Broken) e frames = refl
@@ -115,7 +106,7 @@ opened-quiet o (Some _) e frames = cc
 abbrev pub closed_by : Option NewInvocation → List Frame → Option Closed
 closed_by o frames = option_and_then closing_frame (find (closes (version_in o)) frames)
 
-closed-quiet : (o : Option NewInvocation) (frame : Option Frame) → is_quiet frame ≡ true → (frames : List Frame) → closed_by o (cons_option frame frames) ≡ closed_by o frames
+closed-quiet : (o : Option NewInvocation) (frame : Option Frame) → none_or_quiet frame ≡ true → (frames : List Frame) → closed_by o (cons_option frame frames) ≡ closed_by o frames
 closed-quiet o None e frames = refl
 closed-quiet o (Some Frame.AwaitingOn) e frames = refl
 closed-quiet o (Some Frame.Broken) e frames = refl
@@ -126,7 +117,7 @@ closed-quiet o (Some _) e frames = cc
 abbrev pub error_of : List Frame → Option LastError
 error_of frames = first_of (filter_map error_in frames)
 
-error-quiet : (frame : Option Frame) → is_quiet frame ≡ true → (frames : List Frame) → error_of (cons_option frame frames) ≡ error_of frames
+error-quiet : (frame : Option Frame) → none_or_quiet frame ≡ true → (frames : List Frame) → error_of (cons_option frame frames) ≡ error_of frames
 error-quiet None e frames = refl
 error-quiet (Some Frame.AwaitingOn) e frames = refl
 error-quiet (Some Frame.Broken) e frames = refl
@@ -198,17 +189,6 @@ module _ (events : List Event) (event : Event) (id : Text) (leaves : Leaves even
     }
 
 -- ---- which events add nothing
-
-still_adds : (start : StateMap) (entries : List Entry) (event : Event) → is_still event ≡ true → entries_of_event start entries event ≡ []
-still_adds start entries (Event.HandOut id attempt most) e = refl
-still_adds start entries (Event.CloseInput id attempt) e = refl
-still_adds start entries (Event.Stop id attempt) e = refl
-still_adds start entries (Event.Take id attempt Frame.AwaitingOn) e = refl
-still_adds start entries (Event.Take id attempt Frame.Broken) e = refl
-still_adds start entries (Event.Take id attempt Frame.TooDeep) e = refl
-still_adds start entries (Event.Take id attempt Frame.NotAccepted) e = refl
-still_adds start entries (Event.Take id attempt _) e = cc
-still_adds start entries _ e = cc
 
 pub foreign_adds : (start : StateMap) (events : List Event) (event : Event) (id : Text) (entries : List Entry) → is_of id event ≡ false → is_tick event ≡ false
     → entries_added start events id event entries ≡ []

@@ -1,7 +1,6 @@
 -- An accepted event makes of the kept state of objects the state after it.
 use Rattle.std.proofs.Common.{◌≡◌, refl, sym, ap, ap₂, subst, ◌∙◌, T, Bool, true, false, ◌&&◌, not, if◌then◌else◌, List, [], ◌∷◌, ◌++◌, append-nil, map, filter, Option, Some, None, bytes_eq, IsPermutation, Ordering, Less, Equal, Greater, is_eq, is_lt}
 use Rattle.std.specs.Ordering.{eq_by_cmp}
-use Rattle.std.specs.Cmp.Lexicographic.{nat_list_cmp_total}
 use Rattle.std.specs.FinMap.Entries.{is_sorted, below_all, by_order}
 use Rattle.std.proofs.lemmas.List.Elements.{filter-append}
 use Rattle.std.proofs.lemmas.List.Sorted.{IsPermutation-refl, IsPermutation-trans, IsPermutation-cons, IsPermutation-to_front, IsPermutation-map, IsPermutation-append_left, IsPermutation-append_comm}
@@ -13,6 +12,7 @@ use Rattle.journal_model.specs.Request.{Request}
 use Rattle.journal_model.specs.State.{StateMap, bytes_cmp, with_value, without_key, state_change, state_after}
 use Rattle.journal_model.specs.Event.{Event}
 use Rattle.journal_model.specs.Journal.{is_text, object_of, frame_of, request_of_frame, requests_for, object_state}
+use Rattle.journal_laws.proofs.Keys.{first_holds, second_holds, is_less, below_less}
 use Rattle.journal_laws.proofs.Applying.{same_bytes, state_change-ordered, state_after-ordered}
 use Rattle.store_tables.specs.Records.{is_at_key, is_of_object}
 use Rattle.store_tables.specs.declared.row.StateRow.{StateRow}
@@ -22,30 +22,6 @@ use Rattle.store_model.proofs.Lists.{filter_swap}
 use Rattle.store_model.proofs.Writing.{states_changed, states_after, states_written}
 
 -- ---- keys in order
-
-pub first_holds : (a b : Bool) → T (a && b) → T a
-first_holds true b h = tt
-first_holds false b h = absurd h
-
-pub second_holds : (a b : Bool) → T (a && b) → T b
-second_holds true b h = h
-second_holds false b h = absurd h
-
-both_hold : (a b : Bool) → T a → T b → T (a && b)
-both_hold true b h k = k
-both_hold false b h k = h
-
-pub is_less : (o : Ordering) → T (is_lt o) → o ≡ Less
-is_less Less h = refl
-is_less Equal h = absurd h
-is_less Greater h = absurd h
-
-below_less : (x y : Bytes) (es : StateMap) → bytes_cmp x y ≡ Less → T (below_all bytes_cmp y es) → T (below_all bytes_cmp x es)
-below_less x y [] p h = tt
-below_less x y (e ∷ es) p h =
-    let less : bytes_cmp y e.0 ≡ Less = is_less (bytes_cmp y e.0) (first_holds (is_lt (bytes_cmp y e.0)) (below_all bytes_cmp y es) h) in
-    both_hold (is_lt (bytes_cmp x e.0)) (below_all bytes_cmp x es) (subst (λ (o : Ordering). T (is_lt o)) (sym (nat_list_cmp_total.trans x y e.0 p less)) tt)
-    (below_less x y es p (second_holds (is_lt (bytes_cmp y e.0)) (below_all bytes_cmp y es) h))
 
 -- a key that is below all others is none of them
 others_stay : (key : Bytes) (es : StateMap) → T (below_all bytes_cmp key es) → without_key es key ≡ es
