@@ -1,21 +1,20 @@
 -- Where every frame that was taken is of the run, what is recorded follows the run.
-use Rattle.std.proofs.Common.{◌≡◌, refl, sym, ap, ap₂, subst, ◌∙◌, ℕ, Bool, true, false, ◌&&◌, ◌||◌, if◌then◌else◌, List, [], ◌∷◌, ◌++◌, append-nil, drop, Option, Some, None, true≢false, bytes_eq, filter, filter_map, option_and_then}
-use Rattle.std.specs.List.{find}
+use Rattle.std.proofs.Common.{◌≡◌, refl, sym, ap, ap₂, subst, ◌∙◌, ℕ, Bool, true, false, ◌||◌, if◌then◌else◌, List, [], ◌∷◌, ◌++◌, append-nil, drop, Option, Some, bytes_eq}
 use Rattle.std.proofs.lemmas.List.{take-append-drop}
 use Rattle.std.proofs.lemmas.Slice.Eq.{bytes_eq-Decides}
 use Rattle.journal_model.specs.Notification.{Text, Arrival}
 use Rattle.journal_model.specs.Request.{Request, answer_of}
 use Rattle.journal_model.specs.declared.value.NonEmptyValue.{NonEmptyValue}
 use Rattle.journal_model.specs.Event.{Event, Frame}
-use Rattle.journal_model.specs.Journal.{Entry, is_of, is_tick, begins, version_of, closes, frame_of, frames_of, is_open, requests_in, arrivals_in, recorded_requests, recorded_arrivals, recorded_answer, answer_at_close, Closing, closing_frame, closing_of}
+use Rattle.journal_model.specs.Journal.{Entry, is_of, begins, is_open, requests_in, arrivals_in, recorded_requests, recorded_arrivals, recorded_answer, answer_at_close, Closing, closing_of}
 use Rattle.journal_model.specs.Attempt.{arrivals_within, input_pieces, bytes_handed}
 use Rattle.journal_model.specs.Cause.{causes_of, IsAccepted}
 use Rattle.journal_model.specs.Run.{Handler, Invocation, Ended, BeginsRun}
 use Rattle.journal_model.specs.Headline.{IsWholeRun, IsRunAnswer, arrivals_handed}
-use Rattle.journal_laws.proofs.ObjectState.{open_when_accepted}
 use Rattle.run_laws.specs.Taken.{TakesOfRun, AllOfRun}
 use Rattle.run_laws.proofs.Extending.{begins-more, ended-more}
-use Rattle.input_laws.proofs.Events.{added_by, requests_now, arrivals_now, no_request, one_request, nothing_added, entries_first, not_begun, no_frames, closing_now, open_unclosed, frames_other, frames_own, is_end, not_by_end}
+use Rattle.run_laws.proofs.Closing.{no_end, requests_stay, arrivals_stay, closing_stays, none_added, no_end_by, first_unclosed, open_before}
+use Rattle.input_laws.proofs.Events.{added_by, requests_now, arrivals_now, no_request, one_request, nothing_added, entries_first}
 
 module _ (next : Handler) (given : Invocation) (id : Text) where
   -- what was handed out is a beginning of what is recorded
@@ -94,36 +93,11 @@ module _ (next : Handler) (given : Invocation) (id : Text) where
 
   answered_still : (event : Event) (events : List Event) → begins id event ≡ false → is_of id event ≡ false → IsAnswered events → IsAnswered (event ∷ events)
   answered_still event events e f before closing =
-      let closing_same : closing_of (event ∷ events) id ≡ closing_of events id = closing_now event events id e
-      ∙ ap (λ (frames : List Frame). option_and_then closing_frame (find (closes (version_of events id)) frames)) (frames_other event events id f) in
-      let nothing : added_by events id event ≡ [] = nothing_added events id event f (no_tick (is_tick event) (is_open events id) refl (sym closing_same ∙ closing)) in
-      let requests_same : recorded_requests (event ∷ events) id ≡ recorded_requests events id =
-      requests_now event events id e ∙ ap (λ (added : List Entry). recorded_requests events id ++ requests_in added) nothing ∙ append-nil (recorded_requests events id) in
-      let arrivals_same : recorded_arrivals (event ∷ events) id ≡ recorded_arrivals events id =
-      arrivals_now event events id e ∙ ap (λ (added : List Entry). recorded_arrivals events id ++ arrivals_in added) nothing ∙ append-nil (recorded_arrivals events id) in
-      subst (λ (arrivals : List Arrival). IsRunAnswer next given arrivals (recorded_answer (event ∷ events) id)) (sym arrivals_same)
-      (subst (λ (answer : Option NonEmptyValue). IsRunAnswer next given (recorded_arrivals events id) answer) (sym (ap₂ answer_at_close requests_same closing_same))
+      let closing_same = closing_stays event events id e f in
+      let nothing = none_added event events id f (sym closing_same ∙ closing) in
+      subst (λ (arrivals : List Arrival). IsRunAnswer next given arrivals (recorded_answer (event ∷ events) id)) (sym (arrivals_stay event events id e nothing))
+      (subst (λ (answer : Option NonEmptyValue). IsRunAnswer next given (recorded_arrivals events id) answer) (sym (ap₂ answer_at_close (requests_stay event events id e nothing) closing_same))
       (before (sym closing_same ∙ closing)))
-    where
-      closed : (o : Bool) → is_open events id ≡ o → closing_of events id ≡ Some Closing.ByEnd → o ≡ false
-      closed false e f = refl
-      closed true e f =
-          absurd (none_some (sym (ap (λ (o : Option Frame). option_and_then closing_frame o) (open_unclosed events id e)) ∙ f))
-        where
-          none_some : ◌≡◌ {A = Option Closing} None (Some Closing.ByEnd) → ⊥
-          none_some e = cc
-
-      no_tick : (t o : Bool) → is_open events id ≡ o → closing_of events id ≡ Some Closing.ByEnd → (t && o) ≡ false
-      no_tick true o e f = closed o e f
-      no_tick false o e f = refl
-
-  -- an event of the invocation other than its end does not close it by the end
-  other_frame : (event : Event) (events : List Event) → causes_of events event ≡ [] → begins id event ≡ false → is_of id event ≡ true → is_open events id ≡ true
-      → is_end (frame_of event) ≡ false → IsAnswered (event ∷ events)
-  other_frame event events causes e f opened not_end closing =
-      absurd (not_by_end (version_of events id) (frame_of event) (frames_of events id) not_end (open_unclosed events id opened)
-      (sym (closing_now event events id e
-      ∙ ap (λ (frames : List Frame). option_and_then closing_frame (find (closes (version_of events id)) frames)) (frames_own event events id f)) ∙ closing))
 
   -- the run has ended over what was handed out, and so over all that is recorded
   ended_now : (other : Text) (attempt : ℕ) (events : List Event) → other ≡ id
@@ -135,15 +109,11 @@ module _ (next : Handler) (given : Invocation) (id : Text) where
       subst (λ (arrivals : List Arrival). IsWholeRun next given arrivals (recorded_requests events id) (λ ending. ending ≡ Ended)) (sym e)
       (ended-more next given (arrivals_handed events id) rest (recorded_requests events id) whole) in
       let nothing : added_by events id event ≡ [] = both (bytes_eq other id || false) in
-      let requests_same : recorded_requests (event ∷ events) id ≡ recorded_requests events id =
-      requests_now event events id refl ∙ ap (λ (added : List Entry). recorded_requests events id ++ requests_in added) nothing ∙ append-nil (recorded_requests events id) in
-      let arrivals_same : recorded_arrivals (event ∷ events) id ≡ recorded_arrivals events id =
-      arrivals_now event events id refl ∙ ap (λ (added : List Entry). recorded_arrivals events id ++ arrivals_in added) nothing ∙ append-nil (recorded_arrivals events id) in
-      subst (λ (arrivals : List Arrival). IsRunAnswer next given arrivals (recorded_answer (event ∷ events) id)) (sym arrivals_same)
+      subst (λ (arrivals : List Arrival). IsRunAnswer next given arrivals (recorded_answer (event ∷ events) id)) (sym (arrivals_stay event events id refl nothing))
       (record {
         calls = over_all.calls;
         over = over_all.over;
-        same = ap (λ (o : Option Closing). answer_at_close (recorded_requests (event ∷ events) id) o) closing ∙ ap answer_of (requests_same ∙ over_all.exactly);
+        same = ap (λ (o : Option Closing). answer_at_close (recorded_requests (event ∷ events) id) o) closing ∙ ap answer_of (requests_stay event events id refl nothing ∙ over_all.exactly);
       })
     where
       both : (b : Bool) → ◌≡◌ {A = List Entry} (if b then [] else []) []
@@ -153,8 +123,8 @@ module _ (next : Handler) (given : Invocation) (id : Text) where
   answered_step : (event : Event) (events : List Event) → causes_of events event ≡ [] → begins id event ≡ false → is_of id event ≡ true → is_open events id ≡ true
       → TakesOfRun next given id events event → IsAnswered (event ∷ events)
   answered_step (Event.Take other attempt Frame.End) events causes e f opened of_run = ended_now other attempt events ((bytes_eq-Decides other id).0 f) (of_run ((bytes_eq-Decides other id).0 f))
-  answered_step (Event.Take other attempt frame) events causes e f opened of_run = other_frame (Event.Take other attempt frame) events causes e f opened refl
-  answered_step event events causes e f opened of_run = other_frame event events causes e f opened refl
+  answered_step (Event.Take other attempt frame) events causes e f opened of_run = λ closing. absurd (no_end_by (Event.Take other attempt frame) events id e f opened refl closing)
+  answered_step event events causes e f opened of_run = λ closing. absurd (no_end_by event events id e f opened refl closing)
 
   IsAnswered-start : IsAnswered []
   IsAnswered-start closing = cc
@@ -162,30 +132,10 @@ module _ (next : Handler) (given : Invocation) (id : Text) where
   pub answered_next : (event : Event) (events : List Event) → IsAccepted (event ∷ events) → TakesOfRun next given id events event → IsAnswered events → IsAnswered (event ∷ events)
   answered_next event events accepted of_run before = by_begin (begins id event) refl (is_of id event) refl before
     where
-      none_closed : begins id event ≡ true → closing_of (event ∷ events) id ≡ None
-      none_closed e = by_event event e (no_frames events accepted.1 id (not_begun event events id accepted e))
-        where
-          by_event : (event : Event) → begins id event ≡ true → frames_of events id ≡ [] → closing_of (event ∷ events) id ≡ None
-          by_event (Event.Invoke new) e none =
-              ap (λ (frames : List Frame). option_and_then closing_frame (find (closes (version_of (Event.Invoke new ∷ events) id)) frames)) (skipped (bytes_eq new.id id) ∙ none)
-            where
-              skipped : (b : Bool) → filter_map frame_of (if b then Event.Invoke new ∷ filter (is_of id) events else filter (is_of id) events) ≡ frames_of events id
-              skipped true = refl
-              skipped false = refl
-          by_event event e none = absurd (true≢false (sym e))
-
       by_begin : (a : Bool) → begins id event ≡ a → (b : Bool) → is_of id event ≡ b → IsAnswered events → IsAnswered (event ∷ events)
-      by_begin true e b f before = λ closing. absurd (none_some (sym (none_closed e) ∙ closing))
-        where
-          none_some : ◌≡◌ {A = Option Closing} None (Some Closing.ByEnd) → ⊥
-          none_some e = cc
+      by_begin true e b f before = λ closing. absurd (no_end (sym (first_unclosed event events id accepted e) ∙ closing))
       by_begin false e false f before = answered_still event events e f before
-      by_begin false e true f before =
-          answered_step event events accepted.0 e f (opened event e f accepted.0) of_run
-        where
-          opened : (event : Event) → begins id event ≡ false → is_of id event ≡ true → causes_of events event ≡ [] → is_open events id ≡ true
-          opened (Event.Invoke new) e f causes = absurd (true≢false (sym f ∙ e))
-          opened event e f causes = open_when_accepted events event id refl f causes
+      by_begin false e true f before = answered_step event events accepted.0 e f (open_before event events id e f accepted.0) of_run
 
   pub all-answered : (events : List Event) → IsAccepted events → AllOfRun next given id events → IsAnswered events
   all-answered [] accepted of_run = IsAnswered-start

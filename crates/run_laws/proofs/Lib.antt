@@ -13,6 +13,7 @@ pub mod Awaits
 pub mod SuspensionRows
 pub mod States
 pub mod StateRows
+pub mod Closing
 pub mod Following
 pub mod Whole
 pub mod Due

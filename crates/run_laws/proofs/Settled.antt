@@ -13,7 +13,8 @@ use Rattle.run_laws.proofs.WaitingRuns.{stopped_same}
 use Rattle.run_laws.specs.Held.{Holds}
 use Rattle.run_laws.specs.Suspended.{WaitsAll}
 use Rattle.run_laws.specs.Settled.{IsSettled, SettledRecordTheSame}
-use Rattle.run_laws.proofs.Ended.{has_ended, open_not_ended, ended_whole}
+use Rattle.run_laws.proofs.Closing.{open_not_ended}
+use Rattle.run_laws.proofs.Ended.{has_ended, ended_whole}
 
 -- how an invocation is closed whose run is over in this way
 abbrev closing_told : Ending → Option Closing

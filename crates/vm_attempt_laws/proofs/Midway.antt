@@ -84,19 +84,6 @@ passes_on same_header given m _ = inl refl
 
 -- ---- how far it has come
 
--- no request was put
-pub none_put : (given : Invocation) (m : Machine) (call : Call) (vm : MachineState) → HasPut given m call vm
-none_put given m call vm = record {
-  front = [];
-  behind = requests_passed_on given m call;
-  parts = refl;
-  put = record { left = m.left; written = m.written };
-  puts = refl;
-  more = [];
-  written = sym (append-nil m.written);
-  fit = tt;
-}
-
 pub no_front : (xs ys : List Request) → xs ++ ys ≡ [] → xs ≡ []
 no_front [] ys e = refl
 no_front (x ∷ xs) ys e = cc

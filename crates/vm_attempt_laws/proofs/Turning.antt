@@ -10,6 +10,7 @@ use Rattle.vm_waiting.specs.WaitsFor.{waits_as}
 use Rattle.vm_waiting.specs.declared.waits_for.WaitsFor.{WaitsFor}
 use Rattle.vm_waiting.specs.declared.waits_for.WaitsFor.TheVariants.{Future, Child}
 use Rattle.run_laws.proofs.Awaits.{awaits_tell, children_tell}
+use Rattle.vm_outcomes.proofs.Failing.{none_put}
 use Rattle.vm_attempt_laws.specs.Bodies.{Executor, IsReplayed, KeepsBodies, NonEmptyValue, outcomes_in, RunOutcome}
 use Rattle.vm_attempt_laws.specs.Serving.{HasNumbers, HasRead, HasBodies, Serves, finished, machine_failed}
 use Rattle.vm_attempt_laws.proofs.Notes.{answers_kept, waits_more}
@@ -28,7 +29,6 @@ use Rattle.vm_attempt_laws.proofs.Failing.{fails_so}
 use Rattle.vm_attempt_laws.proofs.Now.{Now, call_of, reply_at}
 use Rattle.vm_attempt_laws.proofs.Stored.{sent_of_store}
 use Rattle.vm_attempt_laws.proofs.Texts.{reply_text}
-use Rattle.vm_attempt_laws.proofs.Midway.{none_put}
 use Rattle.vm_attempt_laws.proofs.Sending.{SendsFor, AnswersSo, answers_so, IsTold, is_told, waits_send, suspends_send, ends_send}
 
 -- an attempt that waits goes on with so many calls

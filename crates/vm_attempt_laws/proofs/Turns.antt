@@ -1,5 +1,6 @@
 -- A turn of an attempt, wherever it stands.
 use Rattle.std.proofs.Common.{◌≡◌, ◌⊎◌, inl, inr, ◌∙◌, ℕ, suc, Bool, true, false, List, [], ◌++◌, append-nil, Option, Some, None, Result, Ok, refl, sym, ap, subst}
+use Rattle.vm_outcomes.proofs.Failing.{none_put}
 use Rattle.vm_attempt_laws.specs.Bodies.{ReplaysStand, ReplaysTurn, NonEmptyValue, RunOutcome}
 use Rattle.vm_attempt_laws.specs.Serving.{HasNumbers, kind_where, HasNotRead, HasRead, HasBodies, Serves, finished, machine_failed}
 use Rattle.vm_attempt_laws.proofs.Executing.{WithBodies, with_bodies}
@@ -7,7 +8,6 @@ use Rattle.vm_attempt_laws.proofs.Running.{ran_body}
 use Rattle.vm_attempt_laws.proofs.Bodies.{bodies_stay}
 use Rattle.vm_attempt_laws.proofs.Driven.{begins_driven, messages_written, numbers_begin}
 use Rattle.vm_attempt_laws.proofs.Messages.{read_input}
-use Rattle.vm_attempt_laws.proofs.Midway.{none_put}
 use Rattle.vm_attempt_laws.proofs.Notes.{no_turn}
 use Rattle.vm_attempt_laws.proofs.Over.{waits_same}
 use Rattle.vm_attempt_laws.proofs.Phases.{stage}
