@@ -27,6 +27,6 @@ pub use open::NotOpened;
 pub use store::Store;
 pub use store_calls::BegunAttempt;
 pub use store_invocations::{EntryKind, RecordedEntry};
-pub use store_refusals::Refusal;
+pub use store_refusals::{Cause, Refusal};
 pub use store_steps::FrameReply;
 pub use store_tables::{LastError, StateRow};

@@ -17,6 +17,7 @@ use crate::word::{
 };
 use bstr::ByteSlice;
 use bytes::{ByteStr, Bytes};
+use journal_model::SignalKey;
 use std::alloc::{AllocError, Global};
 
 /// A line that is understood. `id` names an invocation, `attempt` one of its attempts.
