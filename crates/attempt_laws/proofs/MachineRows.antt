@@ -6,7 +6,8 @@ use Rattle.journal_model.specs.declared.notification.NotificationResult.{Notific
 use Rattle.journal_model.specs.Notification.{Bytes, Arrival}
 use Rattle.journal_model.specs.declared.notification.NotificationResult.TheVariants.{Void}
 use Rattle.journal_model.specs.AwaitTree.{Single, Combined, no_trees, and_trees, AllSucceededOrFirstFailed}
-use Rattle.journal_model.specs.Request.{Request, SignalKey, SignalValue}
+use Rattle.journal_model.specs.Request.{Request, SignalValue}
+use Rattle.journal_model.specs.declared.notification.SignalKey.{SignalKey}
 use Rattle.journal_model.specs.State.{StartState}
 use Rattle.journal_model.specs.declared.call.Call.{Call}
 use Rattle.journal_model.specs.declared.call.Answer.{Answer}

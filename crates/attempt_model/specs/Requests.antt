@@ -3,7 +3,8 @@ use Rattle.std.specs.Prelude.{ℕ, suc, Bool, if◌then◌else◌, List, [], ◌
 use Rattle.journal_model.specs.Notification.{Bytes, Text}
 use Rattle.journal_model.specs.declared.call.Call.{Call}
 use Rattle.journal_model.specs.declared.call.Answer.{Answer}
-use Rattle.journal_model.specs.Request.{Request, SignalKey, SignalValue}
+use Rattle.journal_model.specs.Request.{Request, SignalValue}
+use Rattle.journal_model.specs.declared.notification.SignalKey.{SignalKey}
 use Rattle.journal_model.specs.Refusal.{milliseconds}
 use Rattle.journal_model.specs.Awakeable.{awakeable_id}
 use Rattle.journal_model.specs.State.{StartState, knows_key, knows_all_keys, known_value, known_keys}

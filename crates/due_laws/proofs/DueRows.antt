@@ -4,7 +4,8 @@ use Rattle.std.proofs.Common.{◌≡◌, refl, ℕ, Bool, true, false, List, [],
 use Rattle.journal_model.specs.declared.notification.NotificationId.TheVariants.{CompletionId, SignalName}
 use Rattle.journal_model.specs.declared.notification.NotificationResult.{NotificationResult}
 use Rattle.journal_model.specs.declared.value.NonEmptyValue.{NonEmptyValue}
-use Rattle.journal_model.specs.Request.{Request, SignalKey}
+use Rattle.journal_model.specs.Request.{Request}
+use Rattle.journal_model.specs.declared.notification.SignalKey.{SignalKey}
 use Rattle.journal_model.specs.AwaitTree.{Single, Combined, no_trees, and_trees, AllCompleted}
 use Rattle.journal_model.specs.declared.invocation.NewInvocation.{NewInvocation}
 use Rattle.journal_model.specs.declared.invocation.StateMode.{StateMode}

@@ -6,7 +6,8 @@ use Rattle.journal_model.specs.Notification.{Text, Arrival}
 use Rattle.journal_model.specs.Event.{Event, Frame, Suspension}
 use Rattle.journal_model.specs.Journal.{begins, is_of, is_open, invocation_begun, starting_state, arrivals_in, recorded_arrivals}
 use Rattle.journal_model.specs.Attempt.{Piece, begins_attempt, bytes_asked, handed_after, ends_live, live_attempt, is_live, input_pieces, input_bytes, bytes_handed, arrivals_within, arrivals_not_handed, suspension_in, or_before, suspension_of, is_woken, is_none}
-use Rattle.journal_model.specs.Cause.{Cause, own_tests, causes_of, IsAccepted}
+use Rattle.journal_model.specs.Cause.{own_tests, causes_of, IsAccepted}
+use Rattle.journal_model.specs.declared.cause.Cause.{Cause}
 use Rattle.journal_laws.proofs.ObjectState.{holds-head, not-false}
 use Rattle.input_laws.specs.Reading.{arrivals_among}
 use Rattle.input_laws.proofs.Events.{added_by, not_begun, arrivals_now}

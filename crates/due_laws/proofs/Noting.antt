@@ -10,7 +10,8 @@ use Rattle.journal_model.specs.declared.invocation.NewInvocation.{NewInvocation}
 use Rattle.journal_model.specs.Event.{Behavior, Frame, Event, Suspension}
 use Rattle.journal_model.specs.Journal.{Entry, Arrived, completion, id_of_signal, is_of, is_tick, invoked_by, begins, invocation_begun, version_of, closes, frame_of, frames_of, is_open, starting_state, requests_in, arrivals_in, read_answer, slept, entries_of, entries_of_event, recorded_arrivals}
 use Rattle.journal_model.specs.Attempt.{begins_attempt, ends_live, live_attempt, suspension_in, or_before, suspension_of, is_woken}
-use Rattle.journal_model.specs.Cause.{Cause, is_of_frame, causes_of, IsAccepted, added_by as left_by, stop_of, stops_of}
+use Rattle.journal_model.specs.Cause.{is_of_frame, causes_of, IsAccepted, added_by as left_by, stop_of, stops_of}
+use Rattle.journal_model.specs.declared.cause.Cause.{Cause}
 use Rattle.journal_laws.proofs.ObjectState.{begun_before, open_when_accepted}
 use Rattle.input_laws.proofs.Events.{added_by, begun_same, entries_first, arrivals_now, nothing_added, not_begun, unborn_open, no_frames}
 use Rattle.input_laws.proofs.Handed.{other_begins}

@@ -2,7 +2,7 @@
 use Rattle.std.proofs.Common.{◌≡◌, refl, sym, ap, subst, ◌∙◌, ℕ, arith, Bool, true, false, ◌++◌, append_assoc, length, length-append, map, if◌then◌else◌, List, [], ◌∷◌, Option, Some, None, inl, inr}
 use Rattle.std.proofs.lemmas.List.{map-append}
 use Rattle.journal_model.specs.Notification.{Text}
-use Rattle.journal_model.specs.Request.{SignalKey}
+use Rattle.journal_model.specs.declared.notification.SignalKey.{SignalKey}
 use Rattle.journal_model.specs.declared.invocation.NewInvocation.{NewInvocation}
 use Rattle.journal_model.specs.declared.notification.NotificationResult.{NotificationResult}
 use Rattle.journal_model.specs.Run.{Handler}

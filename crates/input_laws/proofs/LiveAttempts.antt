@@ -4,7 +4,8 @@ use Rattle.journal_model.specs.Notification.{Text}
 use Rattle.journal_model.specs.Event.{Event, Frame}
 use Rattle.journal_model.specs.Journal.{is_of, invocation_begun, is_open}
 use Rattle.journal_model.specs.Attempt.{begins_attempt, ends_live, live_attempt, is_live, closes_input, is_input_closed}
-use Rattle.journal_model.specs.Cause.{Cause, Tests, those_that_hold, own_tests, causes_of, IsAccepted}
+use Rattle.journal_model.specs.Cause.{Tests, those_that_hold, own_tests, causes_of, IsAccepted}
+use Rattle.journal_model.specs.declared.cause.Cause.{Cause}
 use Rattle.journal_laws.proofs.ObjectState.{holds-head, holds-tail, not-false, open_when_accepted, begun_before}
 use Rattle.input_laws.proofs.Events.{unborn_open}
 use Rattle.input_laws.proofs.Handed.{other_begins}

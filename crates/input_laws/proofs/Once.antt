@@ -8,10 +8,12 @@ use Rattle.journal_model.specs.declared.notification.NotificationId.TheVariants.
 use Rattle.journal_model.specs.declared.notification.NotificationResult.TheVariants.{Void}
 use Rattle.journal_model.specs.Notification.{Text, Arrival, same_id}
 use Rattle.journal_model.specs.State.{StateMap, state_after}
-use Rattle.journal_model.specs.Request.{Request, SignalKey, completions_asked}
+use Rattle.journal_model.specs.Request.{Request, completions_asked}
+use Rattle.journal_model.specs.declared.notification.SignalKey.{SignalKey}
 use Rattle.journal_model.specs.Event.{Event, Frame}
 use Rattle.journal_model.specs.Journal.{Entry, Recorded, Arrived, completion, begins, is_of, is_tick, is_open, invocation_begun, starting_state, requests_in, arrivals_in, completes, is_awaited, asks_for, request_asking, open_request, sleep_in, sleeps_in, by_moment, sorted_by_moment, can_be_due, is_over, slept, read_answer, entries_of_event, entries_of, recorded_requests, recorded_arrivals}
-use Rattle.journal_model.specs.Cause.{Cause, do_ascend, greatest, last_completion, is_run, own_tests, causes_of, IsAccepted}
+use Rattle.journal_model.specs.Cause.{do_ascend, greatest, last_completion, is_run, own_tests, causes_of, IsAccepted}
+use Rattle.journal_model.specs.declared.cause.Cause.{Cause}
 use Rattle.journal_model.specs.Value.{result_of_value}
 use Rattle.journal_laws.proofs.ObjectState.{tail_of, holds-head, holds-tail, not-false}
 use Rattle.journal_laws.proofs.Leaving.{and-true}

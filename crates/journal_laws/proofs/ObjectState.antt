@@ -8,7 +8,8 @@ use Rattle.journal_model.specs.State.{StateMap, state_after}
 use Rattle.journal_model.specs.declared.invocation.NewInvocation.{NewInvocation}
 use Rattle.journal_model.specs.Event.{Frame, Event}
 use Rattle.journal_model.specs.Journal.{Entry, Recorded, Arrived, invocation_of, is_text, is_of, is_tick, invoked_by, invocation_begun, closes, frame_of, frames_of, is_open, is_busy, request_of_frame, object_of, requests_for, object_state, starting_state, requests_in, slept, read_answer, entries_of_event, entries_added, entries_from, entries_of, recorded_requests}
-use Rattle.journal_model.specs.Cause.{Cause, Tests, those_that_hold, open_tests, own_tests, causes_of, IsAccepted}
+use Rattle.journal_model.specs.Cause.{Tests, those_that_hold, open_tests, own_tests, causes_of, IsAccepted}
+use Rattle.journal_model.specs.declared.cause.Cause.{Cause}
 use Rattle.journal_laws.proofs.Applying.{state_after-append}
 
 -- no cause holds of tests none of which holds

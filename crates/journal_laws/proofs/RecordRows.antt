@@ -8,7 +8,8 @@ use Rattle.journal_model.specs.declared.notification.NotificationResult.{Notific
 use Rattle.journal_model.specs.declared.value.NonEmptyValue.{NonEmptyValue}
 use Rattle.journal_model.specs.Notification.{Text}
 use Rattle.journal_model.specs.AwaitTree.{AwaitTree, Single, Combined, no_trees, and_trees, FirstCompleted, AllCompleted}
-use Rattle.journal_model.specs.Request.{Request, SignalKey}
+use Rattle.journal_model.specs.Request.{Request}
+use Rattle.journal_model.specs.declared.notification.SignalKey.{SignalKey}
 use Rattle.journal_model.specs.declared.invocation.NewInvocation.{NewInvocation}
 use Rattle.journal_model.specs.declared.invocation.StateMode.{StateMode}
 use Rattle.journal_model.specs.Event.{Suspension, ForTree, ForAny, Frame, Event, Fail, Retry}
@@ -16,7 +17,8 @@ use Rattle.journal_model.specs.Journal.{Entry, Recorded, Arrived, entries_of, ob
 use Rattle.journal_model.specs.Attempt.{due, completions_of_tick, is_due, input_pieces, input_bytes, input_left, live_attempt}
 use Rattle.journal_model.specs.Start.{start_payload}
 use Rattle.journal_model.specs.Spelling.{request_payload}
-use Rattle.journal_model.specs.Cause.{ObjectBusy, EmptyName, InvocationClosed, CompletionNotOpen, WrongKind, ReservedSignal, AttemptNotLive, UnsupportedVersion, BrokenPayload, BadCompletion, InputNotClosed, InputRemains, InputAlreadyClosed, KeyNotText, RunNotOpen, causes_of, after_all, after_open}
+use Rattle.journal_model.specs.Cause.{causes_of, after_all, after_open}
+use Rattle.journal_model.specs.declared.cause.Cause.TheVariants.{ObjectBusy, EmptyName, InvocationClosed, CompletionNotOpen, WrongKind, ReservedSignal, AttemptNotLive, UnsupportedVersion, BrokenPayload, BadCompletion, InputNotClosed, InputRemains, InputAlreadyClosed, KeyNotText, RunNotOpen}
 
 abbrev new_of : Text → Text → ℕ → NewInvocation
 new_of id object version = record { id = id; object = object; input = []; headers = []; version = version; seed = 1; state = StateMode.Whole }

@@ -10,7 +10,8 @@ use Rattle.journal_model.specs.Event.{Event, Frame}
 use Rattle.journal_model.specs.Journal.{Entry, invocation_of, invoked_by, invocation_begun, is_open, object_state, requests_in, open_request, entries_of, entries_of_event}
 use Rattle.journal_model.specs.Attempt.{Piece, live_attempt, is_live, input_bytes, input_left}
 use Rattle.journal_model.specs.Start.{attempts_since_entry, start_payload, start_payload_for, start_payload_of, since_first}
-use Rattle.journal_model.specs.Cause.{Cause, Tests, those_that_hold, open_tests, live_tests, frame_tests, adding_tests, entry_tests, own_tests, causes_of, is_empty, is_too_long, is_run, is_reserved, refuses_kind, may_signal, do_ascend, keys_of, last_completion}
+use Rattle.journal_model.specs.Cause.{Tests, those_that_hold, open_tests, live_tests, frame_tests, adding_tests, entry_tests, own_tests, causes_of, is_empty, is_too_long, is_run, is_reserved, refuses_kind, may_signal, do_ascend, keys_of, last_completion}
+use Rattle.journal_model.specs.declared.cause.Cause.{Cause}
 use Rattle.journal_laws.proofs.Isolation.{IsToldAlike}
 
 abbrev pub first_cause : List Cause → Option Cause

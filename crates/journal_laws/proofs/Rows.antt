@@ -9,7 +9,8 @@ use Rattle.journal_model.specs.Notification.{Bytes, Text, Arrival}
 use Rattle.journal_model.specs.AwaitTree.{AwaitTree, Single, Combined, no_trees, and_trees, FirstCompleted, AllCompleted}
 use Rattle.journal_model.specs.declared.options.ImplicitCancellationOption.TheVariants.{Enabled}
 use Rattle.journal_model.specs.declared.options.SignalDelivery.TheVariants.{Queued}
-use Rattle.journal_model.specs.Request.{Request, SignalKey, SignalValue}
+use Rattle.journal_model.specs.Request.{Request, SignalValue}
+use Rattle.journal_model.specs.declared.notification.SignalKey.{SignalKey}
 use Rattle.journal_model.specs.State.{StateMap}
 use Rattle.journal_model.specs.declared.call.Call.{Call}
 use Rattle.journal_model.specs.declared.call.Answer.{Answer}

@@ -5,7 +5,8 @@ use Rattle.journal_model.specs.declared.notification.NotificationResult.{Notific
 use Rattle.journal_model.specs.declared.value.NonEmptyValue.{NonEmptyValue}
 use Rattle.journal_model.specs.Notification.{Bytes, Text, Arrival}
 use Rattle.journal_model.specs.AwaitTree.{Single, Combined, no_trees, and_trees, Unknown, FirstCompleted, AllCompleted, FirstSucceededOrAllFailed, AllSucceededOrFirstFailed}
-use Rattle.journal_model.specs.Request.{Request, SignalKey, SignalValue}
+use Rattle.journal_model.specs.Request.{Request, SignalValue}
+use Rattle.journal_model.specs.declared.notification.SignalKey.{SignalKey}
 use Rattle.journal_model.specs.Refusal.{UnsupportedAtLeast}
 use Rattle.journal_model.specs.Run.{Handler, Invocation, RefusedCall, run}
 use Rattle.journal_model.specs.Waiting.{pruned, suspended_tree}

@@ -7,7 +7,8 @@ use Rattle.journal_model.specs.Notification.{Text}
 use Rattle.journal_model.specs.declared.invocation.NewInvocation.{NewInvocation}
 use Rattle.journal_model.specs.Event.{Event}
 use Rattle.journal_model.specs.Journal.{invocation_begun, is_open}
-use Rattle.journal_model.specs.Cause.{Tests, UnknownInvocation, InvocationClosed, own_tests, those_that_hold, causes_of}
+use Rattle.journal_model.specs.Cause.{Tests, own_tests, those_that_hold, causes_of}
+use Rattle.journal_model.specs.declared.cause.Cause.TheVariants.{UnknownInvocation, InvocationClosed}
 use Rattle.protocol_types.specs.Version.{version_number}
 use Rattle.store_tables.specs.Looks.{HasWritten}
 use Rattle.store_refusals.specs.declared.refusal.Refusal.{Refusal}

@@ -7,7 +7,7 @@ use Rattle.sqlite.proofs.StateLemmas.{survives_then, survives_weaker}
 use Rattle.journal_model.specs.Notification.{Bytes, Text}
 use Rattle.journal_model.specs.declared.notification.NotificationResult.{NotificationResult}
 use Rattle.journal_model.specs.Spelling.{frame_bytes}
-use Rattle.journal_model.specs.Request.{SignalKey}
+use Rattle.journal_model.specs.declared.notification.SignalKey.{SignalKey}
 use Rattle.journal_model.specs.Event.{Event}
 use Rattle.journal_model.specs.Journal.{invocation_begun, is_of}
 use Rattle.journal_model.specs.Attempt.{attempts_begun, live_attempt}

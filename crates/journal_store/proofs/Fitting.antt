@@ -7,7 +7,9 @@ use Rattle.journal_model.specs.Notification.{Text}
 use Rattle.journal_model.specs.Event.{Event}
 use Rattle.journal_model.specs.declared.invocation.NewInvocation.{NewInvocation}
 use Rattle.journal_model.specs.Journal.{Entry, adds_to, begins, entries_of, entries_of_event, invocation_begun, invoked_by, is_open, open_request, starting_state}
-use Rattle.journal_model.specs.Cause.{Cause, CompletionNotOpen, IsAccepted, NumbersUsedUp, PayloadTooLong, ReservedSignal, Tests, WrongKind, adding_tests, causes_of, entry_payload, entry_tests, frame_tests, is_empty, is_reserved, is_too_long, live_tests, may_signal, open_tests, places_used_up, refuses_kind, those_that_hold, tick_uses_up}
+use Rattle.journal_model.specs.Cause.{IsAccepted, Tests, adding_tests, causes_of, entry_payload, entry_tests, frame_tests, is_empty, is_reserved, is_too_long, live_tests, may_signal, open_tests, places_used_up, refuses_kind, those_that_hold, tick_uses_up}
+use Rattle.journal_model.specs.declared.cause.Cause.{Cause}
+use Rattle.journal_model.specs.declared.cause.Cause.TheVariants.{CompletionNotOpen, NumbersUsedUp, PayloadTooLong, ReservedSignal, WrongKind}
 use Rattle.input_laws.proofs.Events.{added_by, entries_first, entries_now}
 use Rattle.store_invocations.proofs.Opened.{begun_named}
 

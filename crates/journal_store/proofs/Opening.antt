@@ -9,7 +9,8 @@ use Rattle.journal_model.specs.declared.invocation.NewInvocation.{NewInvocation}
 use Rattle.journal_model.specs.Event.{Event}
 use Rattle.journal_model.specs.Journal.{invocation_begun, invoked_by, is_open, object_of}
 use Rattle.journal_model.specs.Attempt.{is_live, live_attempt}
-use Rattle.journal_model.specs.Cause.{UnknownInvocation, InvocationClosed, AttemptNotLive, after_open, causes_of, stop_of, stops_of, IsAccepted}
+use Rattle.journal_model.specs.Cause.{after_open, causes_of, stop_of, stops_of, IsAccepted}
+use Rattle.journal_model.specs.declared.cause.Cause.TheVariants.{UnknownInvocation, InvocationClosed, AttemptNotLive}
 use Rattle.journal_laws.proofs.ObjectState.{begin_when_new}
 use Rattle.store_tables.specs.Records.{Holds, no_records}
 use Rattle.store_model.proofs.Keeping.{kept_at_first}

@@ -6,7 +6,9 @@ use Rattle.journal_model.specs.Notification.{Text}
 use Rattle.journal_model.specs.Event.{Event}
 use Rattle.journal_model.specs.Journal.{object_of}
 use Rattle.journal_model.specs.Attempt.{is_live, input_left}
-use Rattle.journal_model.specs.Cause.{Cause, InputAlreadyClosed, InputRemains, is_empty, those_that_hold, causes_of}
+use Rattle.journal_model.specs.Cause.{is_empty, those_that_hold, causes_of}
+use Rattle.journal_model.specs.declared.cause.Cause.{Cause}
+use Rattle.journal_model.specs.declared.cause.Cause.TheVariants.{InputAlreadyClosed, InputRemains}
 use Rattle.store_model.specs.Writes.{state_writes}
 use Rattle.store_refusals.specs.declared.refusal.Refusal.{Refusal}
 use Rattle.store_refusals.specs.declared.refusal.Refusal.TheVariants as refusal

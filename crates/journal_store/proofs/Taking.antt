@@ -9,7 +9,9 @@ use Rattle.journal_model.specs.Notification.{Bytes, Text}
 use Rattle.journal_model.specs.Event.{Event, Frame}
 use Rattle.journal_model.specs.Journal.{ends_attempt, version_of}
 use Rattle.journal_model.specs.Attempt.{acknowledged, is_live}
-use Rattle.journal_model.specs.Cause.{Cause, FrameNotAccepted, causes_of, those_that_hold, adding_tests, IsAccepted}
+use Rattle.journal_model.specs.Cause.{causes_of, those_that_hold, adding_tests, IsAccepted}
+use Rattle.journal_model.specs.declared.cause.Cause.{Cause}
+use Rattle.journal_model.specs.declared.cause.Cause.TheVariants.{FrameNotAccepted}
 use Rattle.protocol_stream.specs.declared.frame.TheConstants.{HEADER_LEN}
 use Rattle.protocol_types.specs.Version.{version_number}
 use Rattle.protocol_stream.specs.Item.{Item, unknown, message, item_at}

@@ -8,11 +8,13 @@ use Rattle.journal_model.specs.declared.notification.NotificationResult.{Notific
 use Rattle.journal_model.specs.Notification.{Text, Arrival}
 use Rattle.journal_model.specs.Value.{result_of_value}
 use Rattle.journal_model.specs.State.{StateMap, state_after}
-use Rattle.journal_model.specs.Request.{Request, SignalKey, completions_asked}
+use Rattle.journal_model.specs.Request.{Request, completions_asked}
+use Rattle.journal_model.specs.declared.notification.SignalKey.{SignalKey}
 use Rattle.journal_model.specs.Delivery.{results_for}
 use Rattle.journal_model.specs.Event.{Event, Frame}
 use Rattle.journal_model.specs.Journal.{Entry, Recorded, Arrived, completion, begins, is_open, adds_to, invocation_begun, starting_state, requests_in, arrivals_in, is_awaited, asks_for, request_asking, open_request, slept, read_answer, entries_of_event, entries_of, recorded_requests, recorded_arrivals}
-use Rattle.journal_model.specs.Cause.{Cause, is_invocation_id, may_complete, refuses_kind, is_run, those_that_hold, own_tests, causes_of, IsAccepted}
+use Rattle.journal_model.specs.Cause.{is_invocation_id, may_complete, refuses_kind, is_run, those_that_hold, own_tests, causes_of, IsAccepted}
+use Rattle.journal_model.specs.declared.cause.Cause.{Cause}
 use Rattle.journal_laws.proofs.ObjectState.{tail_of, holds-head, holds-tail, not-false}
 use Rattle.journal_laws.proofs.Leaving.{or-true}
 use Rattle.input_laws.proofs.Events.{added_by, entries_first, requests_now, arrivals_now, no_request, one_request}

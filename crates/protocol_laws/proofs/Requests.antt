@@ -4,7 +4,8 @@ use Rattle.protocol_wire.specs.Parts as parts
 use Rattle.journal_model.specs.Spelling as model
 use Rattle.journal_model.specs.declared.value.NonEmptyValue.{NonEmptyValue}
 use Rattle.journal_model.specs.declared.call.AttachInvocationTarget.{AttachInvocationTarget}
-use Rattle.journal_model.specs.Request.{Request, SignalKey, SignalValue}
+use Rattle.journal_model.specs.Request.{Request, SignalValue}
+use Rattle.journal_model.specs.declared.notification.SignalKey.{SignalKey}
 use Rattle.protocol_calls.specs.SendSignalCommand as send_signal
 use Rattle.protocol_stream.proofs.Spellings.{plain_number-is, plain_bytes-is, optional_bytes-is, AreSpelled, spelled-cons, spelled-last}
 use Rattle.protocol_stream.proofs.RecordSpellings.{value_spelling, failure_spelling, one_record, asked, sleeps_spelled, outputs_spelled}

@@ -5,7 +5,8 @@ use Rattle.journal_model.specs.declared.value.NonEmptyValue.{NonEmptyValue}
 use Rattle.journal_model.specs.declared.value.TerminalFailure.{TerminalFailure}
 use Rattle.journal_model.specs.declared.call.Header.{Header}
 use Rattle.journal_model.specs.declared.call.AttachInvocationTarget.{AttachInvocationTarget}
-use Rattle.journal_model.specs.Request.{Request, CallRecord, SignalKey, SignalValue}
+use Rattle.journal_model.specs.Request.{Request, CallRecord, SignalValue}
+use Rattle.journal_model.specs.declared.notification.SignalKey.{SignalKey}
 use Rattle.protocol_stream.specs.Records.{header_record, header_told, pair_record, pair_told, failure_record, result_record}
 use Rattle.protocol_laws.specs.Records.{promise_completion, call_record, one_way_call_record, signal_id, signal_result, awakeable_result, target_record}
 use Rattle.protocol_laws.specs.Requests.{failure_put_out, value_put_out, completion_told, signal_key_told, signal_value_told, awakeable_told, target_told, call_told, one_way_call_told}

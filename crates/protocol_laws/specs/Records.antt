@@ -7,7 +7,8 @@ use Rattle.journal_model.specs.declared.notification.NotificationResult.{Notific
 use Rattle.journal_model.specs.declared.notification.NotificationResult.TheVariants as model_results
 use Rattle.journal_model.specs.declared.value.NonEmptyValue.{NonEmptyValue}
 use Rattle.journal_model.specs.declared.call.AttachInvocationTarget.{AttachInvocationTarget}
-use Rattle.journal_model.specs.Request.{CallRecord, SignalKey, SignalValue}
+use Rattle.journal_model.specs.Request.{CallRecord, SignalValue}
+use Rattle.journal_model.specs.declared.notification.SignalKey.{SignalKey}
 use Rattle.protocol_records.specs.declared.void.Void.{Void}
 use Rattle.protocol_records.specs.declared.state_keys.StateKeys.{StateKeys}
 use Rattle.protocol_stream.specs.Records.{header_record, value_record, failure_record, arrived_failure_record}

@@ -5,7 +5,8 @@ use Rattle.journal_model.specs.Notification.{Bytes}
 use Rattle.journal_model.specs.declared.value.NonEmptyValue.{NonEmptyValue}
 use Rattle.journal_model.specs.declared.value.TerminalFailure.{TerminalFailure}
 use Rattle.journal_model.specs.declared.call.AttachInvocationTarget.{AttachInvocationTarget}
-use Rattle.journal_model.specs.Request.{Request, CallRecord, SignalKey, SignalValue}
+use Rattle.journal_model.specs.Request.{Request, CallRecord, SignalValue}
+use Rattle.journal_model.specs.declared.notification.SignalKey.{SignalKey}
 use Rattle.protocol_records.specs.declared.failure.Failure.{Failure as FailureRecord}
 use Rattle.protocol_records.specs.declared.value.Value.{Value}
 use Rattle.protocol_records.specs.declared.state_keys.StateKeys.{StateKeys}

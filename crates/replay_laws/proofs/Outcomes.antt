@@ -6,7 +6,8 @@ use Rattle.journal_model.specs.declared.notification.NotificationResult.{Notific
 use Rattle.journal_model.specs.Notification.{Text, Arrival}
 use Rattle.journal_model.specs.Value.{result_of_value}
 use Rattle.journal_model.specs.State.{StateMap, state_after}
-use Rattle.journal_model.specs.Request.{Request, SignalKey, completions_asked}
+use Rattle.journal_model.specs.Request.{Request, completions_asked}
+use Rattle.journal_model.specs.declared.notification.SignalKey.{SignalKey}
 use Rattle.journal_model.specs.Event.{Event, Frame}
 use Rattle.journal_model.specs.Journal.{Entry, completion, begins, adds_to, starting_state, requests_in, arrivals_in, asks_for, open_request, slept, sleep_in, read_answer, entries_of_event, entries_of, recorded_requests, recorded_arrivals}
 use Rattle.journal_model.specs.Cause.{may_complete, refuses_kind, own_tests, causes_of}

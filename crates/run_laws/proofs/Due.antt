@@ -9,7 +9,8 @@ use Rattle.journal_model.specs.Run.{Handler, Invocation}
 use Rattle.journal_model.specs.Event.{Event, Frame, Suspension}
 use Rattle.journal_model.specs.Journal.{begins, is_of, is_open, invocation_begun, requests_in, recorded_requests, recorded_arrivals}
 use Rattle.journal_model.specs.Attempt.{begins_attempt, bytes_asked, ends_live, live_attempt, is_live, input_pieces, bytes_handed, arrivals_within, arrivals_not_handed, suspension_in, or_before, suspension_of, is_woken, is_none, is_due}
-use Rattle.journal_model.specs.Cause.{Cause, own_tests, causes_of, IsAccepted}
+use Rattle.journal_model.specs.Cause.{own_tests, causes_of, IsAccepted}
+use Rattle.journal_model.specs.declared.cause.Cause.{Cause}
 use Rattle.journal_model.specs.Headline.{GoesPast, NeverLate, WakesExactly, AwaitsIds, arrivals_handed}
 use Rattle.journal_laws.proofs.ObjectState.{holds-head, not-false, open_when_accepted, begun_before}
 use Rattle.journal_laws.proofs.Leaving.{and-true}

@@ -11,7 +11,8 @@ use Rattle.journal_model.specs.Request.{Request}
 use Rattle.journal_model.specs.State.{StateMap, bytes_cmp, state_change, state_after, IsOrdered}
 use Rattle.journal_model.specs.Event.{Event, Frame}
 use Rattle.journal_model.specs.Journal.{is_text, object_of, invocation_begun, is_open, requests_for, object_state, starting_state}
-use Rattle.journal_model.specs.Cause.{Cause, Tests, keys_of, own_tests, causes_of}
+use Rattle.journal_model.specs.Cause.{Tests, keys_of, own_tests, causes_of}
+use Rattle.journal_model.specs.declared.cause.Cause.{Cause}
 use Rattle.journal_laws.proofs.Applying.{state_after-ordered}
 use Rattle.journal_laws.proofs.ObjectState.{tail_of, holds-head, holds-tail, not-false}
 use Rattle.journal_laws.proofs.Leaving.{and-true}

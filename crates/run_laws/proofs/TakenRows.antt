@@ -5,7 +5,8 @@ use Rattle.journal_model.specs.declared.notification.NotificationResult.{Notific
 use Rattle.journal_model.specs.declared.value.NonEmptyValue.{NonEmptyValue}
 use Rattle.journal_model.specs.Notification.{Text}
 use Rattle.journal_model.specs.AwaitTree.{Single}
-use Rattle.journal_model.specs.Request.{Request, SignalKey, SignalValue}
+use Rattle.journal_model.specs.Request.{Request, SignalValue}
+use Rattle.journal_model.specs.declared.notification.SignalKey.{SignalKey}
 use Rattle.journal_model.specs.Event.{ForTree, Frame, Event}
 use Rattle.built_in_handlers.specs.Handlers
 use Rattle.run_laws.proofs.RunRows.{i1, new, given, sleep, output}

@@ -8,7 +8,8 @@ use Rattle.journal_model.specs.declared.notification.NotificationId.{Notificatio
 use Rattle.journal_model.specs.declared.notification.NotificationId.TheVariants.{CompletionId}
 use Rattle.journal_model.specs.declared.notification.NotificationResult.{NotificationResult}
 use Rattle.journal_model.specs.Notification.{Bytes, Text, Arrival}
-use Rattle.journal_model.specs.Request.{Request, SignalKey}
+use Rattle.journal_model.specs.Request.{Request}
+use Rattle.journal_model.specs.declared.notification.SignalKey.{SignalKey}
 use Rattle.journal_model.specs.State.{StateMap, value_at, state_keys, state_after}
 use Rattle.journal_model.specs.Value.{result_of_value}
 use Rattle.journal_model.specs.Delivery.{value_or_void}

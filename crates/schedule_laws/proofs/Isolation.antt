@@ -11,7 +11,8 @@ use Rattle.journal_model.specs.Journal.{view_of, invocation_of, invoked_by, entr
 use Rattle.journal_model.specs.Spelling.{frame_bytes}
 use Rattle.journal_model.specs.Start.{attempts_since_entry, since_first, start_payload, start_payload_for, start_payload_of}
 use Rattle.journal_model.specs.Attempt.{arrivals_within}
-use Rattle.journal_model.specs.Cause.{Cause, IsAccepted, causes_of}
+use Rattle.journal_model.specs.Cause.{IsAccepted, causes_of}
+use Rattle.journal_model.specs.declared.cause.Cause.{Cause}
 use Rattle.protocol_types.specs.declared.message_type.MessageType.{MessageType}
 use Rattle.store_refusals.specs.declared.refusal.Refusal.TheVariants as refusal
 use Rattle.store_refusals.specs.Refused.{first_of}

@@ -4,7 +4,7 @@ use Rattle.std.proofs.lemmas.Slice.Eq.{bytes_eq-Decides}
 use Rattle.journal_model.specs.declared.invocation.NewInvocation.{NewInvocation}
 use Rattle.journal_model.specs.declared.notification.NotificationResult.{NotificationResult}
 use Rattle.journal_model.specs.Notification.{Bytes, Text}
-use Rattle.journal_model.specs.Request.{SignalKey}
+use Rattle.journal_model.specs.declared.notification.SignalKey.{SignalKey}
 use Rattle.journal_model.specs.Event.{Event as ModelEvent}
 use Rattle.journal_model.specs.Journal.{is_of, invocation_begun, completion}
 use Rattle.journal_model.specs.Attempt.{live_attempt, is_input_closed, is_live}

@@ -8,7 +8,8 @@ use Rattle.journal_model.specs.Notification.{Text}
 use Rattle.journal_model.specs.Event.{Event, Frame}
 use Rattle.journal_model.specs.Journal.{is_of, invocation_begun, recorded_requests}
 use Rattle.journal_model.specs.Attempt.{live_attempt, is_input_closed}
-use Rattle.journal_model.specs.Cause.{Cause, causes_of, is_of_frame, IsAccepted}
+use Rattle.journal_model.specs.Cause.{causes_of, is_of_frame, IsAccepted}
+use Rattle.journal_model.specs.declared.cause.Cause.{Cause}
 use Rattle.journal_model.specs.Headline.{arrivals_handed}
 use Rattle.journal_model.specs.Run.{Handler}
 use Rattle.live_laws.specs.Sending.{SendsOfRun}

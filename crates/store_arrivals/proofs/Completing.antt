@@ -8,7 +8,8 @@ use Rattle.journal_model.specs.Request.{Request}
 use Rattle.journal_model.specs.Spelling.{completion_type}
 use Rattle.journal_model.specs.Journal.{Entry, is_awaited, open_request, request_asking}
 use Rattle.journal_model.specs.Attempt.{notification_type, type_of_completion}
-use Rattle.journal_model.specs.Cause.{Cause, Tests, those_that_hold, is_failure, is_invocation_id, is_outcome, is_void, refuses_kind}
+use Rattle.journal_model.specs.Cause.{Tests, those_that_hold, is_failure, is_invocation_id, is_outcome, is_void, refuses_kind}
+use Rattle.journal_model.specs.declared.cause.Cause.{Cause}
 use Rattle.protocol_types.specs.declared.message_type.MessageType.{MessageType}
 use Rattle.protocol_types.specs.declared.message_type.MessageType.TheVariants as types
 use Rattle.protocol_stream.specs.declared.command_facts.CompletedBy.TheVariants as by

@@ -2,7 +2,8 @@
 use Rattle.std.proofs.Common.{arith, ℕ, ◌+◌, ◌-◌, ◌^◌, ◌≤◌, ◌<◌, nat_lt, ◌≡◌, ap, ◌∙◌, inl, inr, true, false, List, [], ◌∷◌, ◌++◌, append_assoc, length, map}
 use Rattle.std.proofs.lemmas.Bool.{cases_Bool, lt-ltb, ltb-true}
 use Rattle.journal_model.specs.Notification.{Text}
-use Rattle.journal_model.specs.Cause.{Cause, those_that_hold}
+use Rattle.journal_model.specs.Cause.{those_that_hold}
+use Rattle.journal_model.specs.declared.cause.Cause.{Cause}
 use Rattle.store_tables.specs.declared.row.InvocationRow.{InvocationRow}
 use Rattle.store_tables.specs.declared.row.Progress.{Progress}
 use Rattle.store_tables.specs.declared.row.Write.{Write}

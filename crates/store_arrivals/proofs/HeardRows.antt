@@ -7,7 +7,8 @@ use Rattle.journal_model.specs.declared.notification.NotificationId.{Notificatio
 use Rattle.journal_model.specs.declared.notification.NotificationId.TheVariants.{CompletionId, SignalId, SignalName}
 use Rattle.journal_model.specs.declared.notification.NotificationResult.{NotificationResult}
 use Rattle.journal_model.specs.State.{StateMap, state_after}
-use Rattle.journal_model.specs.Request.{Request, SignalKey}
+use Rattle.journal_model.specs.Request.{Request}
+use Rattle.journal_model.specs.declared.notification.SignalKey.{SignalKey}
 use Rattle.journal_model.specs.Event.{Frame, Event}
 use Rattle.journal_model.specs.Journal.{Entry, Recorded, Arrived, adds_to, arrivals_in, completion, entries_added, entries_from, entries_of, entries_of_event, id_of_signal, is_over, read_answer, recorded_arrivals, requests_in, slept, sleeps_in, sorted_by_moment, starting_state}
 use Rattle.store_frames.specs.Read.{AreRead, IsReadIn, SignalKeyFits}

@@ -10,7 +10,8 @@ use Rattle.journal_model.specs.Spelling.{request_type, notification_payload}
 use Rattle.journal_model.specs.Event.{Frame, Event}
 use Rattle.journal_model.specs.Journal.{Entry, Arrived, completion, entries_of, object_of, open_request, is_open}
 use Rattle.journal_model.specs.Attempt.{notification_type, type_of_completion, is_live}
-use Rattle.journal_model.specs.Cause.{Cause, Tests, adding_tests, frame_tests, is_run, those_that_hold, IsAccepted, causes_of, live_tests, open_tests, own_tests}
+use Rattle.journal_model.specs.Cause.{Tests, adding_tests, frame_tests, is_run, those_that_hold, IsAccepted, causes_of, live_tests, open_tests, own_tests}
+use Rattle.journal_model.specs.declared.cause.Cause.{Cause}
 use Rattle.protocol_types.specs.declared.message_type.MessageType.TheVariants as types
 use Rattle.store_tables.specs.declared.row.InvocationRow.{InvocationRow}
 use Rattle.store_tables.specs.declared.row.Progress.{Progress}

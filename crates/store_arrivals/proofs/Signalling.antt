@@ -2,12 +2,13 @@
 use Rattle.std.proofs.Common.{ℕ, ◌+◌, ◌-◌, ◌^◌, nat_lt, arith, ◌≡◌, refl, sym, ap, subst, ◌∙◌, List, [], ◌∷◌, ◌++◌, length, Some, Result, Ok, Err}
 use Rattle.journal_model.specs.Notification.{Text, Arrival}
 use Rattle.journal_model.specs.declared.notification.NotificationResult.{NotificationResult}
-use Rattle.journal_model.specs.Request.{SignalKey}
+use Rattle.journal_model.specs.declared.notification.SignalKey.{SignalKey}
 use Rattle.journal_model.specs.Event.{Event}
 use Rattle.journal_model.specs.Spelling.{notification_payload}
 use Rattle.journal_model.specs.Journal.{Entry, Arrived, entries_of, entries_of_event, id_of_signal, object_of, starting_state}
 use Rattle.journal_model.specs.Attempt.{notification_type}
-use Rattle.journal_model.specs.Cause.{Cause, Tests, IsAccepted, adding_tests, causes_of, entry_tests, is_too_long, open_tests, own_tests, those_that_hold}
+use Rattle.journal_model.specs.Cause.{Tests, IsAccepted, adding_tests, causes_of, entry_tests, is_too_long, open_tests, own_tests, those_that_hold}
+use Rattle.journal_model.specs.declared.cause.Cause.{Cause}
 use Rattle.store_tables.specs.declared.row.InvocationRow.{InvocationRow}
 use Rattle.store_tables.specs.declared.row.Progress.{Progress}
 use Rattle.store_tables.specs.declared.row.Write.{Write}

@@ -8,7 +8,7 @@ use Rattle.sqlite.specs.State.{State}
 use Rattle.store_frames.specs.declared.kept_fault.KeptFault.{KeptFault}
 use Rattle.store_frames.specs.declared.kept_fault.KeptFault.TheVariants.{OutOfMemory, Foreign}
 use Rattle.store_refusals.specs.declared.refusal.Refusal.{Refusal}
-use Rattle.journal_model.specs.Cause.{Cause}
+use Rattle.journal_model.specs.declared.cause.Cause.{Cause}
 use Rattle.store_refusals.specs.declared.refusal.Refusal.TheVariants as refusal
 use Rattle.store_refusals.specs.Causes.{IsUnasked, TellsCause}
 use Rattle.store_arrivals.specs.Asked.{type_for}

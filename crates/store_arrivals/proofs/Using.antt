@@ -8,7 +8,8 @@ use Rattle.journal_model.specs.Notification.{Text, Arrival}
 use Rattle.journal_model.specs.declared.invocation.NewInvocation.{NewInvocation}
 use Rattle.journal_model.specs.Event.{Event}
 use Rattle.journal_model.specs.Journal.{Arrived, invoked_by, invocation_begun, is_open, is_over, requests_in, sleeps_in, sorted_by_moment, slept, entries_of}
-use Rattle.journal_model.specs.Cause.{Cause, IsAccepted, causes_of, places_used_up, those_that_hold, tick_uses_up}
+use Rattle.journal_model.specs.Cause.{IsAccepted, causes_of, places_used_up, those_that_hold, tick_uses_up}
+use Rattle.journal_model.specs.declared.cause.Cause.{Cause}
 use Rattle.store_tables.specs.Records.{FitsInvocation, Records}
 use Rattle.store_tables.specs.Questions.{has_id}
 use Rattle.store_tables.specs.declared.row.InvocationRow.{InvocationRow}

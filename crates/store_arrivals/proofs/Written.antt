@@ -7,7 +7,8 @@ use Rattle.journal_model.specs.Event.{Event}
 use Rattle.journal_model.specs.Spelling.{notification_payload}
 use Rattle.journal_model.specs.Journal.{Entry, Arrived, Recorded, arrivals_in, completion, entries_of, invocation_begun, is_open, object_of}
 use Rattle.journal_model.specs.Attempt.{notification_type}
-use Rattle.journal_model.specs.Cause.{Cause, Tests, IsAccepted, adding_tests, causes_of, open_tests, own_tests, those_that_hold, is_too_long}
+use Rattle.journal_model.specs.Cause.{Tests, IsAccepted, adding_tests, causes_of, open_tests, own_tests, those_that_hold, is_too_long}
+use Rattle.journal_model.specs.declared.cause.Cause.{Cause}
 use Rattle.store_tables.specs.declared.row.InvocationRow.{InvocationRow}
 use Rattle.store_tables.specs.declared.row.Progress.{Progress}
 use Rattle.store_tables.specs.declared.row.Write.{Write}

@@ -8,7 +8,8 @@ use Rattle.journal_model.specs.Event.{Frame, Event}
 use Rattle.journal_model.specs.Spelling.{notification_payload}
 use Rattle.journal_model.specs.Journal.{entries_of, is_open}
 use Rattle.journal_model.specs.Attempt.{is_live}
-use Rattle.journal_model.specs.Cause.{Cause, Tests, adding_tests, frame_tests}
+use Rattle.journal_model.specs.Cause.{Tests, adding_tests, frame_tests}
+use Rattle.journal_model.specs.declared.cause.Cause.{Cause}
 use Rattle.protocol_types.specs.declared.message_type.MessageType.{MessageType}
 use Rattle.store_tables.specs.declared.row.InvocationRow.{InvocationRow}
 use Rattle.store_tables.specs.declared.row.EntryRow.{EntryRow}

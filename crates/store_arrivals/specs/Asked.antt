@@ -7,7 +7,8 @@ use Rattle.journal_model.specs.declared.notification.NotificationResult.{Notific
 use Rattle.journal_model.specs.Request.{Request, completions_asked}
 use Rattle.journal_model.specs.Event.{Event}
 use Rattle.journal_model.specs.Journal.{entries_of, open_request}
-use Rattle.journal_model.specs.Cause.{Cause, Tests, refuses_kind}
+use Rattle.journal_model.specs.Cause.{Tests, refuses_kind}
+use Rattle.journal_model.specs.declared.cause.Cause.{Cause}
 use Rattle.protocol_types.specs.declared.message_type.MessageType.{MessageType}
 use Rattle.protocol_types.specs.declared.message_type.MessageType.TheVariants as types
 use Rattle.protocol_stream.specs.declared.command_facts.Completion.{Completion}

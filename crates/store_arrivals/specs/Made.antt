@@ -5,7 +5,8 @@ use Rattle.journal_model.specs.Notification.{Text}
 use Rattle.journal_model.specs.Event.{Event}
 use Rattle.journal_model.specs.Journal.{is_open, entries_of, recorded_arrivals}
 use Rattle.journal_model.specs.Attempt.{completions_of_tick}
-use Rattle.journal_model.specs.Cause.{Cause, Tests, IsAccepted, causes_of}
+use Rattle.journal_model.specs.Cause.{Tests, IsAccepted, causes_of}
+use Rattle.journal_model.specs.declared.cause.Cause.{Cause}
 use Rattle.store_tables.specs.Records.{Records, applied_all}
 use Rattle.store_tables.specs.declared.row.InvocationRow.{InvocationRow}
 use Rattle.store_tables.specs.declared.row.Progress.{Progress}

@@ -2,9 +2,10 @@
 use Rattle.std.specs.Prelude.{not, [], ◌∷◌}
 use Rattle.journal_model.specs.Notification.{Arrival, cancel_id}
 use Rattle.journal_model.specs.declared.notification.NotificationResult.{NotificationResult}
-use Rattle.journal_model.specs.Request.{SignalKey}
+use Rattle.journal_model.specs.declared.notification.SignalKey.{SignalKey}
 use Rattle.journal_model.specs.Journal.{id_of_signal}
-use Rattle.journal_model.specs.Cause.{Cause, Tests, is_reserved, may_signal}
+use Rattle.journal_model.specs.Cause.{Tests, is_reserved, may_signal}
+use Rattle.journal_model.specs.declared.cause.Cause.{Cause}
 
 -- what arrives by a signal, and by a cancellation
 abbrev pub signal_arrival : SignalKey → NotificationResult → Arrival

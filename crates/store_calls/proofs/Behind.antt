@@ -3,7 +3,8 @@ use Rattle.std.proofs.Common.{◌≡◌, refl, sym, ap, ap₂, subst, ◌∙◌,
 use Rattle.journal_model.specs.Notification.{Bytes, Text}
 use Rattle.journal_model.specs.Event.{Event, Frame}
 use Rattle.journal_model.specs.Journal.{entries_of, version_of}
-use Rattle.journal_model.specs.Cause.{Cause, causes_of, IsAccepted}
+use Rattle.journal_model.specs.Cause.{causes_of, IsAccepted}
+use Rattle.journal_model.specs.declared.cause.Cause.{Cause}
 use Rattle.protocol_wire.proofs.Extends.{Extends}
 use Rattle.protocol_stream.specs.Item.{Item, item_at}
 use Rattle.protocol_stream.proofs.Fronts.{item_at_extends}

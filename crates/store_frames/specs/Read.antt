@@ -1,6 +1,6 @@
 -- The frames that were taken are those of messages, and what came with other events fits.
 use Rattle.std.specs.Prelude.{◌≡◌, ◌<◌, ◌^◌, ℕ, List, [], ◌∷◌}
-use Rattle.journal_model.specs.Request.{SignalKey}
+use Rattle.journal_model.specs.declared.notification.SignalKey.{SignalKey}
 use Rattle.journal_model.specs.Event.{Frame, Event}
 use Rattle.journal_model.specs.Journal.{version_of}
 use Rattle.protocol_stream.specs.declared.decoder.RawMessage.{RawMessage}

@@ -5,7 +5,8 @@ use Rattle.sqlite.specs.State.{State}
 use Rattle.journal_model.specs.Notification.{Text}
 use Rattle.journal_model.specs.Event.{Event}
 use Rattle.journal_model.specs.Journal.{object_state}
-use Rattle.journal_model.specs.Cause.{Cause, those_that_hold, open_tests, own_tests}
+use Rattle.journal_model.specs.Cause.{those_that_hold, open_tests, own_tests}
+use Rattle.journal_model.specs.declared.cause.Cause.{Cause}
 use Rattle.sql_tables.specs.declared.read.ReadError.{ReadError}
 use Rattle.sql_tables.specs.declared.read.ReadError.TheVariants.{Refused, Foreign, OutOfMemory}
 use Rattle.store_tables.specs.Records.{is_of_object}

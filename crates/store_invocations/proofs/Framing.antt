@@ -2,7 +2,8 @@
 use Rattle.std.proofs.Common.{◌^◌, ◌≤◌, ◌≡◌, refl, sym, ap, ◌∙◌, inl, inr, true, false, [], length, Result, Ok, Err, ◌↔◌}
 use Rattle.std.proofs.lemmas.Bool.{cases_Bool, le-leb, leb-true}
 use Rattle.journal_model.specs.Notification.{Bytes}
-use Rattle.journal_model.specs.Cause.{Cause, those_that_hold, is_too_long}
+use Rattle.journal_model.specs.Cause.{those_that_hold, is_too_long}
+use Rattle.journal_model.specs.declared.cause.Cause.{Cause}
 use Rattle.protocol_stream.specs.declared.encoder.EncodingError.{EncodingError}
 use Rattle.protocol_stream.specs.declared.encoder.EncodingError.TheVariants as encoding
 use Rattle.store_refusals.specs.Refused.{encoding_refusal, IsRefused}

@@ -7,7 +7,8 @@ use Rattle.journal_model.specs.Spelling.{frame_bytes}
 use Rattle.journal_model.specs.Journal.{is_open}
 use Rattle.journal_model.specs.Attempt.{attempts_begun}
 use Rattle.journal_model.specs.Start.{start_payload}
-use Rattle.journal_model.specs.Cause.{Cause, IsAccepted, those_that_hold, own_tests}
+use Rattle.journal_model.specs.Cause.{IsAccepted, those_that_hold, own_tests}
+use Rattle.journal_model.specs.declared.cause.Cause.{Cause}
 use Rattle.protocol_types.specs.declared.message_type.MessageType.{MessageType}
 use Rattle.protocol_types.specs.Version.{version_number}
 use Rattle.store_tables.specs.declared.row.InvocationRow.{InvocationRow}

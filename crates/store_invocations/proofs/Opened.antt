@@ -6,7 +6,8 @@ use Rattle.journal_model.specs.Notification.{Text}
 use Rattle.journal_model.specs.declared.invocation.NewInvocation.{NewInvocation}
 use Rattle.journal_model.specs.Event.{Fail, Frame, Event}
 use Rattle.journal_model.specs.Journal.{closes, closing_frame, closing_of, frames_of, invocation_begun, is_open, version_of}
-use Rattle.journal_model.specs.Cause.{Cause, open_tests, those_that_hold}
+use Rattle.journal_model.specs.Cause.{open_tests, those_that_hold}
+use Rattle.journal_model.specs.declared.cause.Cause.{Cause}
 use Rattle.journal_laws.proofs.ObjectState.{find-passes, not-false}
 use Rattle.store_tables.specs.declared.row.InvocationRow.{InvocationRow}
 use Rattle.store_model.specs.Progress.{progress_of}

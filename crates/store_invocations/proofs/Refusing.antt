@@ -1,6 +1,7 @@
 -- The first test that holds, among tests in turn.
 use Rattle.std.proofs.Common.{◌≡◌, refl, sym, ap, subst, ◌∙◌, inl, inr, Bool, true, false, List, [], ◌∷◌, ◌++◌, Some, Result, Ok, Err, IsErrAnd}
-use Rattle.journal_model.specs.Cause.{Cause, Tests, those_that_hold}
+use Rattle.journal_model.specs.Cause.{Tests, those_that_hold}
+use Rattle.journal_model.specs.declared.cause.Cause.{Cause}
 use Rattle.store_refusals.specs.declared.refusal.Refusal.{Refusal}
 use Rattle.store_refusals.specs.declared.refusal.Refusal.TheVariants.{OutOfMemory}
 use Rattle.store_refusals.specs.declared.refusal.Refusal.TheVariants as refusal

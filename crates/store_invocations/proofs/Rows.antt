@@ -11,7 +11,8 @@ use Rattle.journal_model.specs.Spelling.{request_type, completion_type, request_
 use Rattle.journal_model.specs.Event.{Event}
 use Rattle.journal_model.specs.Journal.{Entry, Recorded, Arrived, request_asking, entries_of, invocation_begun, starting_state}
 use Rattle.journal_model.specs.Attempt.{notification_type, type_of_completion}
-use Rattle.journal_model.specs.Cause.{Cause, IsAccepted, those_that_hold}
+use Rattle.journal_model.specs.Cause.{IsAccepted, those_that_hold}
+use Rattle.journal_model.specs.declared.cause.Cause.{Cause}
 use Rattle.journal_laws.proofs.ObjectState.{no_entries}
 use Rattle.sql_tables.specs.declared.read.ReadError.{ReadError}
 use Rattle.sql_tables.specs.declared.read.ReadError.TheVariants.{Refused, Foreign, OutOfMemory}

@@ -5,7 +5,8 @@ use Rattle.journal_model.specs.declared.invocation.NewInvocation.{NewInvocation}
 use Rattle.journal_model.specs.Event.{Event}
 use Rattle.journal_model.specs.Spelling.{input_payload}
 use Rattle.journal_model.specs.Journal.{invocation_begun, is_busy}
-use Rattle.journal_model.specs.Cause.{Cause, Tests, is_empty, is_too_long}
+use Rattle.journal_model.specs.Cause.{Tests, is_empty, is_too_long}
+use Rattle.journal_model.specs.declared.cause.Cause.{Cause}
 use Rattle.protocol_types.specs.declared.version.Version.{Version}
 use Rattle.protocol_types.specs.Version.{is_unsupported}
 use Rattle.protocol_types.specs.declared.message_type.MessageType.TheVariants.{InputCommand}

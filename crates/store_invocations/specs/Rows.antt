@@ -5,7 +5,8 @@ use Rattle.journal_model.specs.Notification.{Bytes, Text}
 use Rattle.journal_model.specs.declared.invocation.NewInvocation.{NewInvocation}
 use Rattle.journal_model.specs.Event.{Event}
 use Rattle.journal_model.specs.Journal.{invocation_begun, is_open}
-use Rattle.journal_model.specs.Cause.{Cause, Tests, those_that_hold, is_too_long, IsAccepted}
+use Rattle.journal_model.specs.Cause.{Tests, those_that_hold, is_too_long, IsAccepted}
+use Rattle.journal_model.specs.declared.cause.Cause.{Cause}
 use Rattle.store_tables.specs.declared.row.InvocationRow.{InvocationRow}
 use Rattle.store_model.specs.Kept.{invocation_row}
 use Rattle.store_frames.specs.Read.{AreRead}

@@ -5,7 +5,9 @@ use Rattle.journal_model.specs.Notification.{Text}
 use Rattle.journal_model.specs.Event.{Event}
 use Rattle.journal_model.specs.Journal.{invocation_begun, is_open}
 use Rattle.journal_model.specs.Attempt.{is_live, is_input_closed, input_left}
-use Rattle.journal_model.specs.Cause.{Cause, UnknownInvocation, InvocationClosed, AttemptNotLive, InputRemains, InputAlreadyClosed, is_empty, those_that_hold, frame_tests, adding_tests}
+use Rattle.journal_model.specs.Cause.{is_empty, those_that_hold, frame_tests, adding_tests}
+use Rattle.journal_model.specs.declared.cause.Cause.{Cause}
+use Rattle.journal_model.specs.declared.cause.Cause.TheVariants.{UnknownInvocation, InvocationClosed, AttemptNotLive, InputRemains, InputAlreadyClosed}
 use Rattle.due_laws.proofs.Opened.{live_open}
 use Rattle.store_live_laws.specs.Agrees.{LiveIsTold, LiveIsOpen, CausesAreTold, IsFirstCause, StaleIsTold}
 

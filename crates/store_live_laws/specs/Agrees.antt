@@ -6,7 +6,9 @@ use Rattle.journal_model.specs.declared.invocation.NewInvocation.{NewInvocation}
 use Rattle.journal_model.specs.Event.{Frame, Event}
 use Rattle.journal_model.specs.Journal.{is_of, is_tick, version_of, invocation_begun, is_open, entries_of, recorded_arrivals, ends_attempt}
 use Rattle.journal_model.specs.Attempt.{attempts_begun, live_attempt, is_live, is_input_closed, input_left, acknowledged}
-use Rattle.journal_model.specs.Cause.{Cause, UnknownInvocation, InvocationClosed, AttemptNotLive, InputRemains, InputAlreadyClosed, is_empty, those_that_hold, causes_of, IsAccepted}
+use Rattle.journal_model.specs.Cause.{is_empty, those_that_hold, causes_of, IsAccepted}
+use Rattle.journal_model.specs.declared.cause.Cause.{Cause}
+use Rattle.journal_model.specs.declared.cause.Cause.TheVariants.{UnknownInvocation, InvocationClosed, AttemptNotLive, InputRemains, InputAlreadyClosed}
 use Rattle.protocol_types.specs.Feature.{has_feature}
 use Rattle.protocol_types.specs.Version.{version_number}
 use Rattle.protocol_types.specs.declared.feature.Feature.TheVariants.{Acknowledgement}

@@ -11,7 +11,8 @@ use Rattle.journal_model.specs.declared.notification.NotificationId.TheVariants.
 use Rattle.journal_model.specs.declared.notification.NotificationResult.{NotificationResult}
 use Rattle.journal_model.specs.declared.value.NonEmptyValue.{NonEmptyValue}
 use Rattle.journal_model.specs.declared.invocation.NewInvocation.{NewInvocation}
-use Rattle.journal_model.specs.Request.{Request, SignalKey, completions_asked}
+use Rattle.journal_model.specs.Request.{Request, completions_asked}
+use Rattle.journal_model.specs.declared.notification.SignalKey.{SignalKey}
 use Rattle.journal_model.specs.State.{StateMap, state_after, state_keys, value_at}
 use Rattle.journal_model.specs.Value.{result_of_value}
 use Rattle.journal_model.specs.Delivery.{value_or_void}

@@ -8,7 +8,8 @@ use Rattle.sqlite_keyed.proofs.ListLemmas.{all_weaker, none_from_any}
 use Rattle.journal_model.specs.Notification.{Text, Arrival}
 use Rattle.journal_model.specs.declared.notification.NotificationResult.{NotificationResult}
 use Rattle.journal_model.specs.declared.value.NonEmptyValue.{NonEmptyValue}
-use Rattle.journal_model.specs.Request.{Request, SignalKey, completions_asked}
+use Rattle.journal_model.specs.Request.{Request, completions_asked}
+use Rattle.journal_model.specs.declared.notification.SignalKey.{SignalKey}
 use Rattle.journal_model.specs.State.{StateMap}
 use Rattle.journal_model.specs.Event.{Frame, Event}
 use Rattle.journal_model.specs.Journal.{Entry, Recorded, Arrived, asks_for as is_asking, id_of_signal, requests_in, arrivals_in, completes, completion, is_awaited, request_asking, open_request, read_answer, sleep_in, sleeps_in, can_be_due, entries_of}

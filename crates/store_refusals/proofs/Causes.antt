@@ -10,7 +10,8 @@ use Rattle.sql_tables.proofs.Causes.{cause_before, cause_later}
 use Rattle.store_refusals.specs.declared.refusal.Refusal.{Refusal}
 use Rattle.store_refusals.specs.declared.refusal.Refusal.TheVariants.{OutOfMemory, StatementRefused}
 use Rattle.store_refusals.specs.declared.refusal.Refusal.TheVariants as refusal
-use Rattle.journal_model.specs.Cause.{Cause, Tests}
+use Rattle.journal_model.specs.Cause.{Tests}
+use Rattle.journal_model.specs.declared.cause.Cause.{Cause}
 use Rattle.protocol_stream.specs.declared.encoder.EncodingError.{EncodingError}
 use Rattle.protocol_stream.specs.declared.encoder.EncodingError.TheVariants as encoding
 use Rattle.store_refusals.specs.Refused.{encoding_refusal, reading_refusal, refusal_by}

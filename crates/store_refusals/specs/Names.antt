@@ -1,6 +1,6 @@
 -- The names of refusals, as they are printed.
 use Rattle.std.specs.Prelude.{ℕ, List, codes}
-use Rattle.journal_model.specs.Cause.{Cause}
+use Rattle.journal_model.specs.declared.cause.Cause.{Cause}
 use Rattle.store_refusals.specs.declared.refusal.Refusal.{Refusal}
 use Rattle.store_refusals.specs.declared.refusal.Refusal.TheVariants as refusal
 

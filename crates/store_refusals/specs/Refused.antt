@@ -4,7 +4,8 @@ use Rattle.protocol_stream.specs.declared.encoder.EncodingError.{EncodingError}
 use Rattle.protocol_stream.specs.declared.encoder.EncodingError.TheVariants as encoding
 use Rattle.sql_tables.specs.declared.read.ReadError.{ReadError}
 use Rattle.sql_tables.specs.declared.read.ReadError.TheVariants as reading
-use Rattle.journal_model.specs.Cause.{Cause, Tests}
+use Rattle.journal_model.specs.Cause.{Tests}
+use Rattle.journal_model.specs.declared.cause.Cause.{Cause}
 use Rattle.store_refusals.specs.declared.refusal.Refusal.{Refusal}
 use Rattle.store_refusals.specs.declared.refusal.Refusal.TheVariants as refusal
 

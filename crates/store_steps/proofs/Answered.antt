@@ -11,7 +11,9 @@ use Rattle.journal_model.specs.Spelling.{completion_type, notification_payload}
 use Rattle.journal_model.specs.Event.{Frame, Event}
 use Rattle.journal_model.specs.Journal.{Entry, Recorded, Arrived, asks_for, arrivals_in, completion, entries_of, object_of, read_answer, recorded_requests, requests_in, starting_state}
 use Rattle.journal_model.specs.Attempt.{notification_type, type_of_completion}
-use Rattle.journal_model.specs.Cause.{Cause, BadCompletion, KeyNotText, NumbersUsedUp, PayloadTooLong, do_ascend, greatest, is_too_long, last_completion, those_that_hold, causes_of, IsAccepted}
+use Rattle.journal_model.specs.Cause.{do_ascend, greatest, is_too_long, last_completion, those_that_hold, causes_of, IsAccepted}
+use Rattle.journal_model.specs.declared.cause.Cause.{Cause}
+use Rattle.journal_model.specs.declared.cause.Cause.TheVariants.{BadCompletion, KeyNotText, NumbersUsedUp, PayloadTooLong}
 use Rattle.journal_laws.proofs.ObjectState.{requests_in-append}
 use Rattle.protocol_types.specs.declared.message_type.MessageType.{MessageType}
 use Rattle.protocol_types.specs.declared.message_type.MessageType.TheVariants as types

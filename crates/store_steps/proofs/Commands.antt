@@ -8,7 +8,8 @@ use Rattle.journal_model.specs.Request.{Request, completions_asked}
 use Rattle.journal_model.specs.Spelling.{notification_payload}
 use Rattle.journal_model.specs.Event.{Frame, Event}
 use Rattle.journal_model.specs.Journal.{Recorded, Arrived, is_open, object_state, read_answer, recorded_requests, requests_in, starting_state, entries_of}
-use Rattle.journal_model.specs.Cause.{BadCompletion, KeyNotText, NumbersUsedUp, PayloadTooLong, Tests, IsAccepted, causes_of, do_ascend, entry_payload, is_too_long, last_completion, those_that_hold}
+use Rattle.journal_model.specs.Cause.{Tests, IsAccepted, causes_of, do_ascend, entry_payload, is_too_long, last_completion, those_that_hold}
+use Rattle.journal_model.specs.declared.cause.Cause.TheVariants.{BadCompletion, KeyNotText, NumbersUsedUp, PayloadTooLong}
 use Rattle.journal_laws.proofs.ObjectState.{accepted_followed}
 use Rattle.store_frames.specs.declared.frame.RecordedCommand.{RecordedCommand}
 use Rattle.store_frames.specs.declared.frame.StateUse.{StateUse}

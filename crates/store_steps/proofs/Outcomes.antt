@@ -7,7 +7,8 @@ use Rattle.journal_model.specs.Value.{result_of_value}
 use Rattle.journal_model.specs.Event.{Frame, Event}
 use Rattle.journal_model.specs.Journal.{version_of}
 use Rattle.journal_model.specs.Attempt.{acknowledged}
-use Rattle.journal_model.specs.Cause.{Cause, IsAccepted}
+use Rattle.journal_model.specs.Cause.{IsAccepted}
+use Rattle.journal_model.specs.declared.cause.Cause.{Cause}
 use Rattle.protocol_types.specs.Feature.{has_feature}
 use Rattle.protocol_types.specs.Version.{version_number}
 use Rattle.protocol_types.specs.declared.feature.Feature.TheVariants.{Acknowledgement}

@@ -7,7 +7,8 @@ use Rattle.journal_model.specs.Request.{Request, completions_asked}
 use Rattle.journal_model.specs.Event.{Frame, Event}
 use Rattle.journal_model.specs.Journal.{Entry, Recorded, Arrived, invocation_begun, is_open, starting_state, requests_in, entries_of}
 use Rattle.journal_model.specs.Attempt.{is_live, is_input_closed}
-use Rattle.journal_model.specs.Cause.{UnknownInvocation, InvocationClosed, AttemptNotLive, BadCompletion, KeyNotText, NumbersUsedUp, PayloadTooLong, Tests, those_that_hold, do_ascend, last_completion, frame_tests, adding_tests, entry_payload, is_too_long, causes_of}
+use Rattle.journal_model.specs.Cause.{Tests, those_that_hold, do_ascend, last_completion, frame_tests, adding_tests, entry_payload, is_too_long, causes_of}
+use Rattle.journal_model.specs.declared.cause.Cause.TheVariants.{UnknownInvocation, InvocationClosed, AttemptNotLive, BadCompletion, KeyNotText, NumbersUsedUp, PayloadTooLong}
 use Rattle.store_refusals.specs.Refused.{refusal_by}
 use Rattle.store_frames.specs.declared.frame.RecordedCommand.{RecordedCommand}
 use Rattle.store_frames.specs.declared.frame.AttemptFrame.{AttemptFrame}

@@ -5,7 +5,8 @@ use Rattle.journal_model.specs.Event.{Frame, Event}
 use Rattle.journal_model.specs.Journal.{version_of, entries_of, ends_attempt}
 use Rattle.journal_model.specs.Attempt.{acknowledged, is_live, is_input_closed, arrivals_not_handed, is_woken}
 use Rattle.due_laws.specs.Awake.{arrivals_heard}
-use Rattle.journal_model.specs.Cause.{Cause, is_of_frame}
+use Rattle.journal_model.specs.Cause.{is_of_frame}
+use Rattle.journal_model.specs.declared.cause.Cause.{Cause}
 use Rattle.store_frames.specs.Answer.{IsFrame}
 use Rattle.store_frames.specs.Read.{IsFrameRead}
 use Rattle.store_frames.specs.declared.frame.AttemptFrame.{AttemptFrame}

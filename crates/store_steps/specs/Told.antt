@@ -1,7 +1,8 @@
 -- Why a frame is refused, what is written of it and how it is answered, by what is kept of its invocation and of the frame.
 use Rattle.std.specs.Prelude.{ℕ, ◌+◌, ◌<◌, ◌-◌, ◌^◌, max, nat_lt, Bool, true, false, not, ◌&&◌, if◌then◌else◌, List, [], ◌∷◌, ◌++◌, map, Option, Some, None, option_to_list}
 use Rattle.journal_model.specs.Notification.{Bytes, Text}
-use Rattle.journal_model.specs.Cause.{BrokenPayload, NestedTooDeep, FrameNotAccepted, BadCompletion, KeyNotText, InputNotClosed, NumbersUsedUp, PayloadTooLong, Tests, do_ascend, greatest, is_too_long}
+use Rattle.journal_model.specs.Cause.{Tests, do_ascend, greatest, is_too_long}
+use Rattle.journal_model.specs.declared.cause.Cause.TheVariants.{BrokenPayload, NestedTooDeep, FrameNotAccepted, BadCompletion, KeyNotText, InputNotClosed, NumbersUsedUp, PayloadTooLong}
 use Rattle.journal_model.specs.Journal.{never}
 use Rattle.protocol_stream.specs.declared.command_facts.CommandFacts.{CommandFacts}
 use Rattle.protocol_stream.specs.CommandFacts.{facts_of, is_answer, is_moment}

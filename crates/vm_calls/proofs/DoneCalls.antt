@@ -5,7 +5,8 @@ use Rattle.journal_model.specs.declared.call.PayloadOptions.{PayloadOptions}
 use Rattle.journal_model.specs.declared.value.NonEmptyValue.{NonEmptyValue}
 use Rattle.journal_model.specs.Notification.{Text, Bytes}
 use Rattle.journal_model.specs.Refusal.{refusal_of}
-use Rattle.journal_model.specs.Request.{Request, SignalKey, SignalValue}
+use Rattle.journal_model.specs.Request.{Request, SignalValue}
+use Rattle.journal_model.specs.declared.notification.SignalKey.{SignalKey}
 use Rattle.journal_model.specs.Run.{Invocation, name_or_empty}
 use Rattle.attempt_model.specs.Machine.{Machine}
 use Rattle.protocol_records.specs.declared.output_command.OutputCommandResult.{OutputCommandResult}

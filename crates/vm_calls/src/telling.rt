@@ -1,6 +1,7 @@
 // The calls that tell something to the outside or to another invocation, and are answered at once.
 ghost use Rattle.std.specs.Prelude.{◌≡◌, [], Some, None};
-ghost use Rattle.journal_model.specs.Request.{Request, SignalKey, SignalValue};
+ghost use Rattle.journal_model.specs.Request.{Request, SignalValue};
+ghost use Rattle.journal_model.specs.declared.notification.SignalKey.{SignalKey};
 ghost use Rattle.protocol_laws.specs.Requests.{request_of_send_signal};
 ghost use Rattle.vm_calls.specs.Words.{Call, Answer, Invocation, Machine};
 ghost use Rattle.journal_model.specs.Refusal.{refusal_of};

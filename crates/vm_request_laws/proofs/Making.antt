@@ -12,7 +12,8 @@ use Rattle.journal_model.specs.declared.call.Moment.{Moment}
 use Rattle.journal_model.specs.declared.call.Target.{Target}
 use Rattle.journal_model.specs.declared.call.AttachInvocationTarget.{AttachInvocationTarget}
 use Rattle.journal_model.specs.declared.value.Value.{Value}
-use Rattle.journal_model.specs.Request.{Request, SignalKey, SignalValue}
+use Rattle.journal_model.specs.Request.{Request, SignalValue}
+use Rattle.journal_model.specs.declared.notification.SignalKey.{SignalKey}
 use Rattle.journal_model.specs.Refusal.{Refusal, milliseconds, first_refusal, moment_tests, target_tests, send_tests, refusal_of}
 use Rattle.journal_model.specs.declared.options.RunOptions.{RunOptions}
 use Rattle.journal_model.specs.State.{StartState, knows_key, knows_all_keys, known_value, known_keys}

@@ -10,7 +10,8 @@ use Rattle.journal_model.specs.declared.value.TerminalFailure.{TerminalFailure}
 use Rattle.journal_model.specs.declared.call.Header.{Header}
 use Rattle.journal_model.specs.declared.call.Target.{Target}
 use Rattle.journal_model.specs.declared.call.AttachInvocationTarget.{AttachInvocationTarget}
-use Rattle.journal_model.specs.Request.{SignalKey, SignalValue}
+use Rattle.journal_model.specs.Request.{SignalValue}
+use Rattle.journal_model.specs.declared.notification.SignalKey.{SignalKey}
 use Rattle.journal_model.specs.Run.{name_or_empty, call_record}
 use Rattle.protocol_records.specs.Header.{HeaderFits}
 use Rattle.protocol_records.specs.FailureMetadata.{FailureMetadataFits}

@@ -2,7 +2,8 @@
 use Rattle.std.specs.Prelude.{◌≡◌, Bool, List, [], ◌∷◌, ◌++◌, Option, Some, None, Result, Ok, Err}
 use Rattle.std.specs.List.{AllByRecursion}
 use Rattle.journal_model.specs.Notification.{Text, Arrival}
-use Rattle.journal_model.specs.Request.{Request, SignalKey, SignalValue}
+use Rattle.journal_model.specs.Request.{Request, SignalValue}
+use Rattle.journal_model.specs.declared.notification.SignalKey.{SignalKey}
 use Rattle.journal_model.specs.declared.value.Value.{Value}
 use Rattle.attempt_model.specs.Children.{Child, child_value, ChildrenState, AreIds, IsUnknown, IsNoId, ChildrenOutcome, AllKnown, FirstUnknown, OneIsNoId, children_outcome}
 use Rattle.attempt_model.specs.Requests.{PutState, put_all}

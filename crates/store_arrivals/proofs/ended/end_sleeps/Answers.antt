@@ -1,5 +1,5 @@
 use Rattle.std.proofs.Common.{refl, inr, length}
-use Rattle.journal_model.specs.Cause.{Cause}
+use Rattle.journal_model.specs.declared.cause.Cause.{Cause}
 use Rattle.store_invocations.proofs.Refusing.{first_of_one}
 use Rattle.store_arrivals.proofs.Ends.{ends_decided, has_no_places}
 use Rattle.store_arrivals.proofs.ended.end_sleeps.Goals as goal

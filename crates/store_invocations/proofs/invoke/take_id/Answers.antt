@@ -1,7 +1,8 @@
 use Rattle.std.proofs.Common.{◌≡◌, ◌∙◌, sym, ap, subst}
 use Rattle.std.proofs.Common.{is_some}
 use Rattle.journal_model.specs.Journal.{invocation_begun}
-use Rattle.journal_model.specs.Cause.{Cause, those_that_hold}
+use Rattle.journal_model.specs.Cause.{those_that_hold}
+use Rattle.journal_model.specs.declared.cause.Cause.{Cause}
 use Rattle.protocol_types.specs.Version.{version_number}
 use Rattle.protocol_types.proofs.Versions.{spoken_none, spoken_some}
 use Rattle.store_refusals.specs.Refused.{IsRefused}

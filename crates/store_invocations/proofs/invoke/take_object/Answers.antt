@@ -1,5 +1,6 @@
 use Rattle.std.proofs.Common.{◌∙◌, sym, subst}
-use Rattle.journal_model.specs.Cause.{Cause, those_that_hold}
+use Rattle.journal_model.specs.Cause.{those_that_hold}
+use Rattle.journal_model.specs.declared.cause.Cause.{Cause}
 use Rattle.store_refusals.specs.Refused.{IsRefused}
 use Rattle.store_invocations.specs.New.{object_tests}
 use Rattle.store_invocations.proofs.Beginning.{nameless_is}

@@ -1,7 +1,8 @@
 use Rattle.std.proofs.Common.{◌∙◌, sym, subst}
 use Rattle.std.proofs.Common.{◌∷◌, [], not, ◌&&◌, is_some}
 use Rattle.journal_model.specs.Journal.{invocation_begun, is_open}
-use Rattle.journal_model.specs.Cause.{Cause, open_tests, those_that_hold}
+use Rattle.journal_model.specs.Cause.{open_tests, those_that_hold}
+use Rattle.journal_model.specs.declared.cause.Cause.{Cause}
 use Rattle.store_refusals.specs.Refused.{IsRefused}
 use Rattle.store_invocations.specs.Rows.{IsOpenRow, known_tests}
 use Rattle.store_invocations.proofs.Opened.{closed_by, opened_by}

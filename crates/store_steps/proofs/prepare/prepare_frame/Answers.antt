@@ -7,7 +7,7 @@ use Rattle.store_tables.specs.Questions.{IsFound, has_id}
 use Rattle.store_tables.specs.declared.row.InvocationRow.{InvocationRow}
 use Rattle.store_refusals.specs.Prepared.{Keeps}
 use Rattle.store_refusals.specs.declared.refusal.Refusal.{Refusal}
-use Rattle.journal_model.specs.Cause.{Cause}
+use Rattle.journal_model.specs.declared.cause.Cause.{Cause}
 use Rattle.store_refusals.specs.declared.refusal.Refusal.TheVariants as refusal
 use Rattle.store_refusals.proofs.Causes.{err_later, read_cause}
 use Rattle.store_invocations.proofs.Standing.{store_kept}

@@ -1,6 +1,7 @@
 use Rattle.std.proofs.Common.{refl, ap, ◌∙◌, Some}
 use Rattle.journal_model.specs.Notification.{Text}
-use Rattle.journal_model.specs.Request.{Request, SignalKey, SignalValue}
+use Rattle.journal_model.specs.Request.{Request, SignalValue}
+use Rattle.journal_model.specs.declared.notification.SignalKey.{SignalKey}
 use Rattle.protocol_types.specs.declared.message_type.MessageType.TheVariants.{SendSignalCommand}
 use Rattle.vm_calls.specs.Active.{asking}
 use Rattle.vm_waiting.specs.Cancelling.{cancels}
