@@ -38,8 +38,7 @@ own-created : (steps : List Step) (call : Call) (body : Body) → Among body (bo
     → (17 ≤ body.handle) × (slice_get (ids_created steps ++ ids_of (next_completion steps) (next_signal steps) call) (body.handle - 17) ≡ Some (CompletionId body.completion))
 own-created steps (Call.Run name) body (inl e) =
     let handle : body.handle ≡ next_handle steps = ap (λ (one : Body). one.handle) e in
-    let completion : body.completion ≡ next_completion steps = ap (λ (one : Body). one.completion) e in
-    (
+    let completion : body.completion ≡ next_completion steps = ap (λ (one : Body). one.completion) e in (
       omega (arith, handle),
       get-back (ids_created steps) (CompletionId (next_completion steps) ∷ []) (body.handle - 17) 0 (omega (arith, handle)) ∙ ap (λ (n : ℕ). Some (CompletionId n)) (sym completion),
     )
