@@ -1,13 +1,13 @@
 //! The loop of a program: what is due goes on.
 use crate::reminder::Reminder;
 use crate::work::Work;
-use durable_schedule::{Alter, ByteStr, Outcome, Refusal, RunOutcome, Scheduler};
+use durable_schedule::{Alter, ByteStr, Outcome, EventRefusal, RunOutcome, Scheduler};
 
 /// Goes on with each invocation that is due at this moment, as far as it comes, and tells what came of each.
 pub fn go_on<S: Alter + Drop>(
     scheduler: &mut Scheduler<Work, S>,
     now: u64,
-) -> Result<Vec<(ByteStr, Outcome)>, Refusal> {
+) -> Result<Vec<(ByteStr, Outcome)>, EventRefusal> {
     // The handler of an invocation, and what its effects come to, by its id.
     let given = |_id: &ByteStr| (Work::Reminder(Reminder), RunOutcome::default());
     // Each attempt makes a hundred turns at most.

@@ -9,8 +9,8 @@ use Rattle.journal_model.specs.Notification.{Text}
 use Rattle.journal_model.specs.Run.{Handler}
 use Rattle.store_refusals.specs.declared.refusal.Refusal.TheVariants.{OutOfMemory}
 use Rattle.schedule_model.specs.Attempts.{RunOutcome}
-use Rattle.schedule_model.specs.declared.event.Refusal as own
-use Rattle.schedule_model.specs.declared.event.Refusal.TheVariants as refusal
+use Rattle.schedule_model.specs.declared.event.EventRefusal.{EventRefusal}
+use Rattle.schedule_model.specs.declared.event.EventRefusal.TheVariants as refusal
 use Rattle.scheduler.specs.declared.outcome.Outcome.{Outcome}
 use Rattle.scheduler.specs.declared.scheduler.Scheduler.{Scheduler}
 use Rattle.scheduler.specs.DueAttempts.{GoesOnEach, GoesOnWith, LooksUpDue, RunsDue, RunsNone, TellsMoment}
@@ -43,12 +43,12 @@ module _ {H S : Type 0} (g : Ghosts S) (function : H → Handler) (Gives : Text 
 
 module _ {H S : Type 0} (g : Ghosts S) (function : H → Handler) (now : ℕ) (a b c : Scheduler H S) (tick : TellsMoment g function now None a b) (ids : List Text) (due : LooksUpDue g (Ok ids) b c) (d : Scheduler H S) where
   -- all that are due are gone on with
-  pub runs_due : {V : Type 0} (items : V → List (Text × Outcome)) (Gives : Text → H × RunOutcome → Type 0) (most : ℕ) (result : Result V own.Refusal)
+  pub runs_due : {V : Type 0} (items : V → List (Text × Outcome)) (Gives : Text → H × RunOutcome → Type 0) (most : ℕ) (result : Result V EventRefusal)
       → IfOk result (λ outcomes. GoesOnEach g function Gives now most ids (items outcomes) c d) → IfOk result (λ outcomes. RunsDue g function Gives now most (items outcomes) a d)
   runs_due items Gives most (Ok outcomes) each = record { told = b; looked = c; ids = ids; tick = tick; due = due; each = each }
   runs_due items Gives most (Err why) each = tt
 
   -- or there is no memory for their outcomes
-  pub runs_none : {V : Type 0} (result : Result V own.Refusal) → IfErr result (λ why. (why ≡ refusal.Store OutOfMemory) × (d ≡ c)) → IfErr result (λ why. RunsNone g function now why a d)
+  pub runs_none : {V : Type 0} (result : Result V EventRefusal) → IfErr result (λ why. (why ≡ refusal.Store OutOfMemory) × (d ≡ c)) → IfErr result (λ why. RunsNone g function now why a d)
   runs_none (Ok outcomes) none = tt
   runs_none (Err why) (is, same) = inr (b, tick, inr (ids, is, subst (λ (s : Scheduler H S). LooksUpDue g (Ok ids) b s) (sym same) due))

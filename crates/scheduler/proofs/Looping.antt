@@ -15,8 +15,8 @@ use Rattle.schedule_model.specs.declared.event.Event.{Event}
 use Rattle.schedule_model.specs.declared.event.Event.TheVariants as event
 use Rattle.schedule_model.specs.declared.event.Reply.{Reply}
 use Rattle.schedule_model.specs.declared.event.Reply.TheVariants as reply
-use Rattle.schedule_model.specs.declared.event.Refusal as own
-use Rattle.schedule_model.specs.declared.event.Refusal.TheVariants as refusal
+use Rattle.schedule_model.specs.declared.event.EventRefusal.{EventRefusal}
+use Rattle.schedule_model.specs.declared.event.EventRefusal.TheVariants as refusal
 use Rattle.schedule_model.specs.Schedule.{AppliesAll, Does, Scheduled}
 use Rattle.scheduler.specs.declared.outcome.Outcome.{Outcome}
 use Rattle.scheduler.specs.declared.scheduler.Scheduler.{Scheduler}
@@ -37,8 +37,8 @@ module _ {H S : Type 0} (g : Ghosts S) (function : H → Handler) where
   ends told old = record { events = []; replies = []; asked = (refl, refl, refl); performs = refl }
 
   -- memory was refused for a copy
-  pub not_copied : (More : Rest H) (why : own.Refusal) (old : Scheduler H S) → why ≡ refusal.Store OutOfMemory → PerformsSome g function (IfCopied More) (Outcome.Refused why) old old
-  not_copied More why old is = record { events = []; replies = []; asked = inr (refl, refl, ap (λ (w : own.Refusal). Outcome.Refused w) is); performs = refl }
+  pub not_copied : (More : Rest H) (why : EventRefusal) (old : Scheduler H S) → why ≡ refusal.Store OutOfMemory → PerformsSome g function (IfCopied More) (Outcome.Refused why) old old
+  not_copied More why old is = record { events = []; replies = []; asked = inr (refl, refl, ap (λ (w : EventRefusal). Outcome.Refused w) is); performs = refl }
 
   -- or it was not
   pub copied : (More : Rest H) (told : Outcome) (a b : Scheduler H S) → PerformsSome g function More told a b → PerformsSome g function (IfCopied More) told a b
@@ -46,11 +46,11 @@ module _ {H S : Type 0} (g : Ghosts S) (function : H → Handler) where
 
   module _ (one : Event H) (Behind : Reply → Rest H) (answer : Reply) where
     -- nothing is behind one that is refused
-    pub refuses : (why : own.Refusal) (old new : Scheduler H S) → Performs g function one answer old new → refusal_in answer ≡ Some why → PerformsSome g function (Then one Behind) (Outcome.Refused why) old new
+    pub refuses : (why : EventRefusal) (old new : Scheduler H S) → Performs g function one answer old new → refusal_in answer ≡ Some why → PerformsSome g function (Then one Behind) (Outcome.Refused why) old new
     refuses why old new does is = record {
       events = one ∷ [];
       replies = answer ∷ [];
-      asked = (refl, subst (λ (o : Option own.Refusal). UnlessRefused o (Behind answer) [] [] (Outcome.Refused why)) (sym is) (refl, refl, refl));
+      asked = (refl, subst (λ (o : Option EventRefusal). UnlessRefused o (Behind answer) [] [] (Outcome.Refused why)) (sym is) (refl, refl, refl));
       performs = (new, does, refl);
     }
 
@@ -59,7 +59,7 @@ module _ {H S : Type 0} (g : Ghosts S) (function : H → Handler) where
     goes_then told a b c does none more = record {
       events = one ∷ more.events;
       replies = answer ∷ more.replies;
-      asked = (refl, subst (λ (o : Option own.Refusal). UnlessRefused o (Behind answer) more.events more.replies told) (sym none) more.asked);
+      asked = (refl, subst (λ (o : Option EventRefusal). UnlessRefused o (Behind answer) more.events more.replies told) (sym none) more.asked);
       performs = (b, does, more.performs);
     }
 
@@ -67,7 +67,7 @@ module _ {H S : Type 0} (g : Ghosts S) (function : H → Handler) where
 
   module _ (id : Text) (attempt : ℕ) (last : Outcome) (answer : Reply) (old new : Scheduler H S) (does : Performs g function (event.Move id attempt all_bytes) answer old new) where
     -- its output is refused, or moved
-    pub not_moved : (why : own.Refusal) → refusal_in answer ≡ Some why → PerformsSome g function (MovesAll id attempt last) (Outcome.Refused why) old new
+    pub not_moved : (why : EventRefusal) → refusal_in answer ≡ Some why → PerformsSome g function (MovesAll id attempt last) (Outcome.Refused why) old new
     not_moved why is = refuses (event.Move id attempt all_bytes) (λ reply. Ends last) answer why old new does is
 
     pub moved : refusal_in answer ≡ None → PerformsSome g function (MovesAll id attempt last) last old new
@@ -75,13 +75,13 @@ module _ {H S : Type 0} (g : Ghosts S) (function : H → Handler) where
 
   module _ (id : Text) (attempt : ℕ) (ran : RunOutcome) where
     -- a turn is refused
-    pub not_turned : (answer : Reply) (why : own.Refusal) (more : ℕ) (old new : Scheduler H S) → Performs g function (event.Turn id attempt ran) answer old new → refusal_in answer ≡ Some why
+    pub not_turned : (answer : Reply) (why : EventRefusal) (more : ℕ) (old new : Scheduler H S) → Performs g function (event.Turn id attempt ran) answer old new → refusal_in answer ≡ Some why
         → PerformsSome g function (MakesTurns id attempt ran (suc more)) (Outcome.Refused why) old new
     not_turned answer why more old new does is =
         copied (Then (event.Turn id attempt ran) (TurnLeads id attempt ran more)) (Outcome.Refused why) old new (refuses (event.Turn id attempt ran) (TurnLeads id attempt ran more) answer why old new does is)
 
     -- memory is refused for one
-    pub none_turned : (why : own.Refusal) (more : ℕ) (old : Scheduler H S) → why ≡ refusal.Store OutOfMemory → PerformsSome g function (MakesTurns id attempt ran (suc more)) (Outcome.Refused why) old old
+    pub none_turned : (why : EventRefusal) (more : ℕ) (old : Scheduler H S) → why ≡ refusal.Store OutOfMemory → PerformsSome g function (MakesTurns id attempt ran (suc more)) (Outcome.Refused why) old old
     none_turned why more old is = not_copied (Then (event.Turn id attempt ran) (TurnLeads id attempt ran more)) why old is
 
     -- behind the last one all is moved that was written
@@ -103,7 +103,7 @@ module _ {H S : Type 0} (g : Ghosts S) (function : H → Handler) where
 
     module _ (most : ℕ) where
       -- it is fed, or that is refused
-      pub not_fed : (answer : Reply) (why : own.Refusal) (old new : Scheduler H S) → Performs g function (event.Feed id attempt all_bytes) answer old new → refusal_in answer ≡ Some why
+      pub not_fed : (answer : Reply) (why : EventRefusal) (old new : Scheduler H S) → Performs g function (event.Feed id attempt all_bytes) answer old new → refusal_in answer ≡ Some why
           → PerformsSome g function (IsFed id attempt ran most) (Outcome.Refused why) old new
       not_fed answer why old new does is = refuses (event.Feed id attempt all_bytes) (λ reply. IsClosed id attempt ran most) answer why old new does is
 
@@ -112,7 +112,7 @@ module _ {H S : Type 0} (g : Ghosts S) (function : H → Handler) where
       fed_on answer told a b c does none more = goes_then (event.Feed id attempt all_bytes) (λ reply. IsClosed id attempt ran most) answer told a b c does none more
 
       -- no more comes than that, or that is refused
-      pub not_closed : (answer : Reply) (why : own.Refusal) (old new : Scheduler H S) → Performs g function (event.Close id attempt) answer old new → refusal_in answer ≡ Some why
+      pub not_closed : (answer : Reply) (why : EventRefusal) (old new : Scheduler H S) → Performs g function (event.Close id attempt) answer old new → refusal_in answer ≡ Some why
           → PerformsSome g function (IsClosed id attempt ran most) (Outcome.Refused why) old new
       not_closed answer why old new does is = refuses (event.Close id attempt) (λ reply. MakesTurns id attempt ran most) answer why old new does is
 
@@ -128,7 +128,7 @@ module _ {H S : Type 0} (g : Ghosts S) (function : H → Handler) where
 
     module _ (handler : H) (now : ℕ) where
       -- memory is refused for a copy of the id
-      pub none_begun : (why : own.Refusal) (old : Scheduler H S) → why ≡ refusal.Store OutOfMemory → PerformsSome g function (IsAttempt id most ran handler now) (Outcome.Refused why) old old
+      pub none_begun : (why : EventRefusal) (old : Scheduler H S) → why ≡ refusal.Store OutOfMemory → PerformsSome g function (IsAttempt id most ran handler now) (Outcome.Refused why) old old
       none_begun why old is = not_copied (Then (event.Begin id handler now) (IsNumbered id most ran)) why old is
 
       -- the begin is refused
@@ -136,7 +136,7 @@ module _ {H S : Type 0} (g : Ghosts S) (function : H → Handler) where
           → PerformsSome g function (IsAttempt id most ran handler now) (outcome_where (refusal_in answer)) old new
       not_begun answer old new does other = by_why (refusal_in answer) refl
         where
-          by_why : (why : Option own.Refusal) → refusal_in answer ≡ why → PerformsSome g function (IsAttempt id most ran handler now) (outcome_where why) old new
+          by_why : (why : Option EventRefusal) → refusal_in answer ≡ why → PerformsSome g function (IsAttempt id most ran handler now) (outcome_where why) old new
           by_why (Some why) is =
               copied (Then (event.Begin id handler now) (IsNumbered id most ran)) (Outcome.Refused why) old new
               (refuses (event.Begin id handler now) (IsNumbered id most ran) answer why old new does is)

@@ -10,8 +10,8 @@ use Rattle.journal_store.specs.Causes.{TellsWhy}
 use Rattle.journal_store.specs.Stands.{IsQuiet}
 use Rattle.schedule_model.specs.Attempts.{RunOutcome}
 use Rattle.schedule_model.specs.declared.event.Event.TheVariants as event
-use Rattle.schedule_model.specs.declared.event.Refusal as own
-use Rattle.schedule_model.specs.declared.event.Refusal.TheVariants as refusal
+use Rattle.schedule_model.specs.declared.event.EventRefusal.{EventRefusal}
+use Rattle.schedule_model.specs.declared.event.EventRefusal.TheVariants as refusal
 use Rattle.schedule_model.specs.declared.event.Reply.{Reply}
 use Rattle.scheduler.specs.declared.outcome.Outcome.{Outcome}
 use Rattle.scheduler.specs.declared.scheduler.Scheduler.{Scheduler}
@@ -29,7 +29,7 @@ module _ {H S : Type 0} (g : Ghosts S) where
 
 module _ {H S : Type 0} (g : Ghosts S) (function : H → Handler) where
   -- it is this moment, of which this is refused, if anything is
-  pub record TellsMoment (now : ℕ) (why : Option own.Refusal) (old new : Scheduler H S) : Type 0 where
+  pub record TellsMoment (now : ℕ) (why : Option EventRefusal) (old new : Scheduler H S) : Type 0 where
     pub answer : Reply
     pub refused : refusal_in answer ≡ why
     pub performs : Performs g function (event.Tick now) answer old new
@@ -58,10 +58,10 @@ module _ {H S : Type 0} (g : Ghosts S) (function : H → Handler) where
       pub each : GoesOnEach ids outcomes looked new
 
   -- Behind the tick the look is refused, or memory is for the outcomes.
-  abbrev pub FindsNone : own.Refusal → Scheduler H S → Scheduler H S → Type 0
+  abbrev pub FindsNone : EventRefusal → Scheduler H S → Scheduler H S → Type 0
   FindsNone why old new =
       ((cause : Refusal) × (why ≡ refusal.Store cause) × LooksUpDue g (Err cause) old new) ⊎ ((ids : List Text) × (why ≡ refusal.Store OutOfMemory) × LooksUpDue g (Ok ids) old new)
 
   -- None is gone on with: the tick is refused, or what follows it.
-  abbrev pub RunsNone : (now : ℕ) → own.Refusal → Scheduler H S → Scheduler H S → Type 0
+  abbrev pub RunsNone : (now : ℕ) → EventRefusal → Scheduler H S → Scheduler H S → Type 0
   RunsNone now why old new = TellsMoment now (Some why) old new ⊎ ((told : Scheduler H S) × TellsMoment now None old told × FindsNone why told new)

@@ -14,8 +14,8 @@ use Rattle.schedule_model.specs.declared.event.Event.{Event}
 use Rattle.schedule_model.specs.declared.event.Event.TheVariants as event
 use Rattle.schedule_model.specs.declared.event.Reply.{Reply}
 use Rattle.schedule_model.specs.declared.event.Reply.TheVariants as reply
-use Rattle.schedule_model.specs.declared.event.Refusal as own
-use Rattle.schedule_model.specs.declared.event.Refusal.TheVariants as refusal
+use Rattle.schedule_model.specs.declared.event.EventRefusal.{EventRefusal}
+use Rattle.schedule_model.specs.declared.event.EventRefusal.TheVariants as refusal
 use Rattle.schedule_model.specs.declared.held.HeldAttempt.{HeldAttempt}
 use Rattle.schedule_model.specs.Schedule.{AppliesAll, Scheduled}
 use Rattle.scheduler.specs.declared.outcome.Outcome.{Outcome}
@@ -39,7 +39,7 @@ module _ {H : Type 0} where
   Ends outcome events replies told = (events ≡ []) × (replies ≡ []) × (told ≡ outcome)
 
   -- behind one that is refused, or a part of which is, none, and that is told
-  abbrev pub UnlessRefused : Option own.Refusal → Rest H → Rest H
+  abbrev pub UnlessRefused : Option EventRefusal → Rest H → Rest H
   UnlessRefused (Some why) Behind events replies told = Ends (Outcome.Refused why) events replies told
   UnlessRefused None Behind events replies told = Behind events replies told
 

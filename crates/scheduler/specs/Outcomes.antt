@@ -4,19 +4,19 @@ use Rattle.schedule_model.specs.Attempts.turn
 use Rattle.schedule_model.specs.Attempts.{Turn}
 use Rattle.schedule_model.specs.declared.event.Reply.{Reply}
 use Rattle.schedule_model.specs.declared.event.Reply.TheVariants as reply
-use Rattle.schedule_model.specs.declared.event.Refusal as own
-use Rattle.schedule_model.specs.declared.event.Refusal.TheVariants as refusal
+use Rattle.schedule_model.specs.declared.event.EventRefusal.{EventRefusal}
+use Rattle.schedule_model.specs.declared.event.EventRefusal.TheVariants as refusal
 use Rattle.scheduler.specs.declared.outcome.Outcome.{Outcome}
 
 -- what was refused, if anything: the event, or what it would have done behind a part that was done
-abbrev pub refusal_in : Reply → Option own.Refusal
+abbrev pub refusal_in : Reply → Option EventRefusal
 refusal_in (reply.Fed bytes why) = option_map refusal.Store why
 refusal_in (reply.Moved bytes frames why) = option_map refusal.Store why
 refusal_in (reply.Refused why) = Some why
 refusal_in _ = None
 
 -- what is told where this was refused, or where nothing was and there is no attempt to go on with
-abbrev pub outcome_where : Option own.Refusal → Outcome
+abbrev pub outcome_where : Option EventRefusal → Outcome
 outcome_where (Some why) = Outcome.Refused why
 outcome_where None = Outcome.Unfinished
 

@@ -8,7 +8,7 @@ use crate::outcome::{Outcome, no_memory, refused};
 use crate::scheduler::Scheduler;
 use bytes::ByteStr;
 use journal_model::Handler;
-use schedule_model::{Refusal, RunOutcome};
+use schedule_model::{EventRefusal, RunOutcome};
 use sqlite::Alter;
 
 impl<H: Handler + Drop, S: Alter + Drop> Scheduler<H, S> {
@@ -19,10 +19,10 @@ impl<H: Handler + Drop, S: Alter + Drop> Scheduler<H, S> {
         now: u64,
         most: u32,
         given: F,
-    ) -> Result<Vec<(ByteStr, Outcome)>, Refusal>
+    ) -> Result<Vec<(ByteStr, Outcome)>, EventRefusal>
         requires { F.IsAlwaysCallable given }
         ensures ok { IfOk result (λ outcomes. GoesOnEach S.Store H.next_call (FnReturnsAt F.Fn given) now most ids.items outcomes.items self.old self.new) }
-        ensures err { IfErr result (λ why. (why ≡ Refusal.Store OutOfMemory) × (self.new ≡ self.old)) }
+        ensures err { IfErr result (λ why. (why ≡ EventRefusal.Store OutOfMemory) × (self.new ≡ self.old)) }
     {
         let Ok(mut outcomes) = Vec::with_capacity(self.alloc, ids.len()) else {
             drop(ids);
@@ -47,7 +47,7 @@ impl<H: Handler + Drop, S: Alter + Drop> Scheduler<H, S> {
         now: u64,
         most: u32,
         given: F,
-    ) -> Result<Vec<(ByteStr, Outcome)>, Refusal>
+    ) -> Result<Vec<(ByteStr, Outcome)>, EventRefusal>
         requires { F.IsAlwaysCallable given }
         ensures ok { IfOk result (λ outcomes. RunsDue S.Store H.next_call (FnReturnsAt F.Fn given) now most outcomes.items self.old self.new) }
         ensures err { IfErr result (λ why. RunsNone S.Store H.next_call now why self.old self.new) }
@@ -57,7 +57,7 @@ impl<H: Handler + Drop, S: Alter + Drop> Scheduler<H, S> {
         }
         match self.due() {
             Ok(ids) => self.go_on_with_each(ids, now, most, given),
-            Err(refusal) => Err(Refusal::Store(refusal)),
+            Err(refusal) => Err(EventRefusal::Store(refusal)),
         }
     }
 }

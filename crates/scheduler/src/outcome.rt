@@ -4,7 +4,7 @@ ghost use Rattle.store_refusals.specs.declared.refusal.Refusal.TheVariants.{OutO
 ghost use Rattle.scheduler.specs.Outcomes.{last_told, last_turn, outcome_where, refusal_in};
 
 use protocol_errors::Error;
-use schedule_model::{Refusal, Reply, RunOutcome, Turn};
+use schedule_model::{EventRefusal, Reply, RunOutcome, Turn};
 
 /// What going on with an invocation came to.
 #[derive(Debug, Drop)]
@@ -18,30 +18,30 @@ pub enum Outcome {
     /// It can go on, and was given no more turns, or no more of its input.
     Unfinished,
     /// An event was refused for this, and nothing was applied behind it.
-    Refused(Refusal),
+    Refused(EventRefusal),
 }
 
 /// Memory was refused.
-pub(crate) fn no_memory() -> Refusal
-    ensures { result ≡ Refusal.Store OutOfMemory }
+pub(crate) fn no_memory() -> EventRefusal
+    ensures { result ≡ EventRefusal.Store OutOfMemory }
 {
-    Refusal::Store(store_refusals::Refusal::OutOfMemory)
+    EventRefusal::Store(store_refusals::Refusal::OutOfMemory)
 }
 
 /// What was refused of an event, if anything.
-pub(crate) fn refusal_in(reply: &Reply) -> Option<Refusal>
+pub(crate) fn refusal_in(reply: &Reply) -> Option<EventRefusal>
     ensures { result ≡ refusal_in reply.now }
 {
     match reply {
-        Reply::Fed { refusal, .. } => refusal.map(Refusal::Store),
-        Reply::Moved { refusal, .. } => refusal.map(Refusal::Store),
+        Reply::Fed { refusal, .. } => refusal.map(EventRefusal::Store),
+        Reply::Moved { refusal, .. } => refusal.map(EventRefusal::Store),
         Reply::Refused(refusal) => Some(*refusal),
         _ => None,
     }
 }
 
 /// The same, of a reply that tells nothing else.
-pub(crate) fn refused(reply: Reply) -> Option<Refusal>
+pub(crate) fn refused(reply: Reply) -> Option<EventRefusal>
     ensures { result ≡ refusal_in reply }
 {
     let refusal = refusal_in(&reply);
@@ -50,7 +50,7 @@ pub(crate) fn refused(reply: Reply) -> Option<Refusal>
 }
 
 /// What is told where this was refused, or nothing was and nothing can be done.
-pub(crate) fn outcome_where(refusal: Option<Refusal>) -> Outcome
+pub(crate) fn outcome_where(refusal: Option<EventRefusal>) -> Outcome
     ensures { result ≡ outcome_where refusal }
 {
     match refusal {
