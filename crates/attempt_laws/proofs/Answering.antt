@@ -20,8 +20,8 @@ use Rattle.journal_model.proofs.Continuing.{run-next, after_call-answers, after_
 use Rattle.attempt_model.specs.Children.{Child, new_child, child_with_value, may_take}
 use Rattle.attempt_model.specs.Machine.{Machine, Reply, Answered, ToTake, ToLook, ToMake, work_of, next_slot, reply_to_make, reply_where_taken, reply_to_take, reply_to_end}
 use Rattle.attempt_model.specs.Requests.{answer_by, Commands, requests_by, PutState, put_all}
-use Rattle.attempt_model.specs.Results.{Ready, Slots, ready_after, first_of, slot_of, waiting_for, ready_without_first, slots_without, ready_after_all, are_keys_text}
-use Rattle.attempt_model.specs.Standing.{TablesStand, RequestsStand, Reached, here, ahead, cancelling, IsShown, children_of, is_id_if_known, Stands, AreOfKind, Fits, next_call, AnswersNext, RepliesAsRun, IsReflexive}
+use Rattle.attempt_model.specs.Results.{Ready, Slots, ready_after, first_waiting_result, slot_of, waiting_for, ready_without_first, slots_without, ready_after_all, are_keys_text}
+use Rattle.attempt_model.specs.Simulation.{TablesStand, RequestsStand, Reached, here, ahead, cancelling, IsShown, children_of, is_id_if_known, Stands, AreOfKind, Fits, next_call, AnswersNext, RepliesAsRun, IsReflexive}
 use Rattle.attempt_model.proofs.Requests.{Agrees, Puts, put, agree, none_left}
 use Rattle.attempt_laws.proofs.Children.{children-made, children-taken}
 use Rattle.attempt_laws.proofs.Making.{Creates, makes, knows}
@@ -170,10 +170,10 @@ module _ (same_header : Request → Request → Bool) (reflexive : IsReflexive s
 
       by_slot : (r : NotificationResult) → waiting_for m.slots m.ready handle ≡ Some r → (o : Option NotificationId) → slot_of m.slots handle ≡ o
           → Replies (reply_where_taken m handle r (are_keys_text r) (list_all (may_take (slot_of m.slots handle) (as_taken r)) m.children))
-      by_slot r f None slot = let wrong : None ≡ Some r = sym (ap (option_and_then (λ (id : NotificationId). first_of (m.ready id))) slot) ∙ f in cc
+      by_slot r f None slot = let wrong : None ≡ Some r = sym (ap (option_and_then (λ (id : NotificationId). first_waiting_result (m.ready id))) slot) ∙ f in cc
       by_slot r f (Some id) slot =
-          let first : first_of (m.ready id) ≡ Some r = sym (ap (option_and_then (λ (id : NotificationId). first_of (m.ready id))) slot) ∙ f in
-          let there : front given.options steps arrivals now.place id ≡ Some r = front-untaken given.options steps arrivals now.place id ∙ sym (ap first_of (now.tables.ready id)) ∙ first in
+          let first : first_waiting_result (m.ready id) ≡ Some r = sym (ap (option_and_then (λ (id : NotificationId). first_waiting_result (m.ready id))) slot) ∙ f in
+          let there : front given.options steps arrivals now.place id ≡ Some r = front-untaken given.options steps arrivals now.place id ∙ sym (ap first_waiting_result (now.tables.ready id)) ∙ first in
           let text : are_keys_text r ≡ true = keys_text id r (ap (λ (n : ℕ). front given.options steps arrivals n id) (sym at) ∙ there) in
           let ids : list_all (may_take (Some id) (as_taken r)) m.children ≡ true = ap (list_all (may_take (Some id) (as_taken r))) now.children
           ∙ takes-ids given.options steps arrivals now.place (tracked_children cancellation steps) id r there (λ n e. front_ids now.place now.tables.within n e) in

@@ -16,10 +16,10 @@ use Rattle.journal_model.specs.History.{Step, answers_of, requests_of, next_comp
 use Rattle.journal_model.specs.Delivery.{results_for, known_result, known_results}
 use Rattle.journal_model.specs.Await.{child_result, cancel_request, cancel_requests, AwaitOutcome, WaitsFor, WokenAt, CancelledAt, cancellation_outcome, outcome_from, await_outcome, is_cancelled_at, children_place, awake_place, awaited_ids}
 use Rattle.journal_model.specs.Journal.{asks_for}
-use Rattle.journal_model.specs.Run.{Handler, Invocation, Progress, Ending, GoesOn, Kind, Awaits, Ends, Answers, kind_of, requests_to, answered_step, after_await, carried_out, unless_refused, continued_by, run, run_requests, name_or_empty, IsBeginning}
+use Rattle.journal_model.specs.Run.{Handler, Invocation, Progress, Ending, GoesOn, Kind, Awaits, Ends, Answers, call_kind, requests_to, answered_step, after_await, carried_out, unless_refused, continued_by, run, run_requests, name_or_empty, IsBeginning}
 use Rattle.journal_model.proofs.Extension.{continued-steps}
 use Rattle.journal_model.proofs.Continuing.{run_requests-beginning}
-use Rattle.attempt_model.specs.Standing.{ComesOnce}
+use Rattle.attempt_model.specs.Simulation.{ComesOnce}
 use Rattle.attempt_laws.proofs.Tables.{results-append}
 use Rattle.attempt_laws.proofs.Following.{known-more}
 
@@ -183,7 +183,7 @@ module _ (given : Invocation) (steps : List Step) (arrivals : List Arrival) wher
 
   own-call : (call : Call) (o : Option Refusal) → AllOwn steps → AllOwn (unless_refused given steps arrivals call o).steps
   own-call call (Some refusal) own = own
-  own-call call None own = own-carried call (kind_of call) own
+  own-call call None own = own-carried call (call_kind call) own
 
 own-continued : (handler : Handler) (given : Invocation) (arrivals : List Arrival) (progress : Progress) (ending : Ending) → AllOwn progress.steps
     → AllOwn (continued_by handler given arrivals progress ending).steps

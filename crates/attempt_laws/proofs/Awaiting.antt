@@ -15,15 +15,15 @@ use Rattle.journal_model.specs.Refusal.{refusal_of}
 use Rattle.journal_model.specs.History.{Step, requests_of, place_of, next_completion, next_signal, stands_for}
 use Rattle.journal_model.specs.Delivery.{results_for, known_results, known_result, front, leaf_state}
 use Rattle.journal_model.specs.Await.{ends_awaits, awaited_tree, awaited_ids, is_awake_at, awake_place, is_cancelled_at, child_of, children_after, tracked_children, all_known_at, first_unknown, child_id, cancel_requests, children_place, AwaitOutcome, WaitsFor, WokenAt, CancelledAt, cancellation_outcome, outcome_from, await_outcome}
-use Rattle.journal_model.specs.Waiting.{pruned}
+use Rattle.journal_model.specs.PrunedTrees.{pruned}
 use Rattle.journal_model.specs.Run.{Handler, Invocation, Progress, Ending, GoesOn, Waits, Awaits, after_await, after_call, run, run_requests, is_going}
 use Rattle.journal_model.proofs.Continuing.{after_call-carried_out}
 use Rattle.attempt_laws.proofs.Answering as Answering
 use Rattle.attempt_model.specs.Children.{Child, cancel_requests_for, ChildrenOutcome, AllKnown, FirstUnknown, OneIsNoId, children_outcome}
 use Rattle.attempt_model.specs.Machine.{Machine, Reply, Answered, is_cancelled, reply_where_unknown, reply_where_asleep, reply_where_cancelled, reply_to_children, reply_where_awake, reply_to_await}
 use Rattle.attempt_model.specs.Requests.{Commands, PutState, put_all}
-use Rattle.attempt_model.specs.Results.{Ready, first_of, ready_without_first, Resolution, Awake, Asleep, resolution_of}
-use Rattle.attempt_model.specs.Standing.{TablesStand, RequestsStand, Reached, here, ahead, cancelling, IsShown, children_of, is_id_if_known, Stands, AreOfKind, Fits, next_call, AnswersNext, RepliesAsRun, IsReflexive}
+use Rattle.attempt_model.specs.Results.{Ready, first_waiting_result, ready_without_first, Resolution, Awake, Asleep, resolution_of}
+use Rattle.attempt_model.specs.Simulation.{TablesStand, RequestsStand, Reached, here, ahead, cancelling, IsShown, children_of, is_id_if_known, Stands, AreOfKind, Fits, next_call, AnswersNext, RepliesAsRun, IsReflexive}
 use Rattle.attempt_model.proofs.Requests.{Puts, put, agree}
 use Rattle.attempt_laws.proofs.Children.{cancels-same, TellsFrom, tells}
 use Rattle.attempt_laws.proofs.Making.{Creates}
@@ -185,7 +185,7 @@ module _ (same_header : Request → Request → Bool) (reflexive : IsReflexive s
             by_front (Some r) f c = ap is_some (front-stays given.options steps arrivals fits.queued once wakes q cancel_id r above high f)
 
         by_told : (t : ChildrenOutcome) → TellsFrom given.options steps arrivals m.slots tracked p t → Replies (reply_to_children same_header given (record m { queue = line; ready = waiting }) t)
-        by_told (AllKnown queue ready) t = by_first (first_of (ready cancel_id)) refl
+        by_told (AllKnown queue ready) t = by_first (first_waiting_result (ready cancel_id)) refl
           where
             t_high : t.place ≤ length arrivals
             t_high = t.stands.within
@@ -214,12 +214,12 @@ module _ (same_header : Request → Request → Bool) (reflexive : IsReflexive s
             same_asked : cancel_requests_for ready m.children ≡ asked
             same_asked = ap (cancel_requests_for ready) now.children ∙ cancels-same given.options steps arrivals t.place queue ready m.slots t.stands tracked
 
-            by_first : (o : Option NotificationResult) → first_of (ready cancel_id) ≡ o
+            by_first : (o : Option NotificationResult) → first_waiting_result (ready cancel_id) ≡ o
                 → Replies (reply_where_cancelled same_header given (record m { queue = queue; ready = ready }) (cancel_requests_for ready m.children)
                 (put_all same_header (cancel_requests_for ready m.children) (record { left = m.left; written = m.written })))
             by_first None f =
                 let there : is_some (front given.options steps arrivals t.place cancel_id) ≡ true = in_front_at t.place (omega (arith, low, t_low)) t_high in
-                let none : front given.options steps arrivals t.place cancel_id ≡ None = front-untaken given.options steps arrivals t.place cancel_id ∙ sym (ap first_of (t.stands.ready cancel_id)) ∙ f in
+                let none : front given.options steps arrivals t.place cancel_id ≡ None = front-untaken given.options steps arrivals t.place cancel_id ∙ sym (ap first_waiting_result (t.stands.ready cancel_id)) ∙ f in
                 let wrong : false ≡ true = sym (ap is_some none) ∙ there in
                 cc
             by_first (Some r) f =
@@ -282,7 +282,7 @@ module _ (same_header : Request → Request → Bool) (reflexive : IsReflexive s
     cancelled-is : (q : ℕ) (line : List Arrival) (waiting : Ready) → TablesStand given.options steps arrivals q line waiting m.slots
         → is_cancelled given (record m { queue = line; ready = waiting }) ≡ is_cancelled_at given.options steps arrivals q
     cancelled-is q line waiting stands = ap (λ (o : Option NotificationResult). ends_awaits cancellation && is_some o)
-        (ap first_of (stands.ready cancel_id) ∙ sym (front-untaken given.options steps arrivals q cancel_id))
+        (ap first_waiting_result (stands.ready cancel_id) ∙ sym (front-untaken given.options steps arrivals q cancel_id))
 
     -- no cancellation waits: the machine has looked at no more than the run, or the tree was asleep at all it has looked at
     asks : place_of steps ≤ now.place → ((q : ℕ) → place_of steps ≤ q → q < now.place → test q ≡ false) → (r : Resolution)

@@ -12,7 +12,7 @@ use Rattle.journal_model.specs.declared.options.ImplicitCancellationOption.TheVa
 use Rattle.journal_model.specs.History.{Step, next_signal, next_handle, stands_for, handle_taken}
 use Rattle.journal_model.specs.Delivery.{known_result, state_of_result}
 use Rattle.journal_model.specs.Await.{ends_awaits, awaited_tree, with_cancellation, child_of, children_after, child_result, cancel_request, cancel_requests}
-use Rattle.journal_model.specs.Run.{Invocation, Answers, kind_of, answer_to}
+use Rattle.journal_model.specs.Run.{Invocation, Answers, call_kind, answer_to}
 use Rattle.journal_laws.proofs.Leaving.{or-true_right, or-true_left}
 use Rattle.attempt_model.specs.Machine.{ToAwait, ToEnd, ToTake, ToLook, ToMake, work_of}
 use Rattle.attempt_model.specs.Requests.{answer_by}
@@ -34,7 +34,7 @@ pub inv-end : (call : Call) → work_of call ≡ ToEnd → call ≡ Call.End
 inv-end Call.End e = refl
 inv-end _ e = cc
 
-pub make-kind : (call : Call) → work_of call ≡ ToMake → kind_of call ≡ Answers
+pub make-kind : (call : Call) → work_of call ≡ ToMake → call_kind call ≡ Answers
 make-kind (Call.Await t) e = cc
 make-kind Call.End e = cc
 make-kind _ e = refl

@@ -19,8 +19,8 @@ use Rattle.journal_model.specs.Delivery.{taken_is, or_else}
 use Rattle.journal_model.specs.Await.{child_of, children_after, tracked_children, value_taken, last_taken, child_result, all_known_at, first_unknown, cancel_request, cancel_requests}
 use Rattle.journal_model.proofs.Handles.{id_of_handle-old}
 use Rattle.attempt_model.specs.Children.{Child, new_child, child_with_value, child_value, ChildrenState, AreIds, IsUnknown, IsNoId, with_child, children_state, cancel_requests_for, ChildrenOutcome, AllKnown, FirstUnknown, OneIsNoId, outcome_by, children_outcome}
-use Rattle.attempt_model.specs.Results.{Ready, Slots, ready_after, first_of}
-use Rattle.attempt_model.specs.Standing.{TablesStand, child_after, children_of, is_id_if_known}
+use Rattle.attempt_model.specs.Results.{Ready, Slots, ready_after, first_waiting_result}
+use Rattle.attempt_model.specs.Simulation.{TablesStand, child_after, children_of, is_id_if_known}
 use Rattle.attempt_laws.proofs.Making.{Creates}
 use Rattle.attempt_laws.proofs.Tables.{from_here, all_read, front-untaken, arrive}
 
@@ -199,7 +199,7 @@ module _ (options : RunOptions) (steps : List Step) (arrivals : List Arrival) wh
   module _ (place : ℕ) (line : List Arrival) (waiting : Ready) (table : Slots) (stands : TablesStand options steps arrivals place line waiting table) where
     value-same : (n : ℕ) → child_value waiting (child_after steps n) ≡ child_result options steps arrivals place n
     value-same n = ap (λ (o : Option NotificationResult). or_else (last_taken (ids_created steps) (CompletionId n) steps) (option_map as_taken o))
-        (ap first_of (stands.ready (CompletionId n)) ∙ sym (front-untaken options steps arrivals place (CompletionId n)))
+        (ap first_waiting_result (stands.ready (CompletionId n)) ∙ sym (front-untaken options steps arrivals place (CompletionId n)))
 
     -- what the machine knows of the children, by what the run knows of them
     abbrev state : List ℕ → ChildrenState

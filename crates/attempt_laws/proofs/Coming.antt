@@ -22,11 +22,11 @@ use Rattle.journal_model.specs.Delivery.{results_for, known_result, known_result
 use Rattle.journal_model.specs.Await.{child_of, children_after, tracked_children, AwaitOutcome, WaitsFor, WokenAt, CancelledAt, await_outcome}
 use Rattle.journal_model.specs.Cause.{is_invocation_id, keys_of}
 use Rattle.journal_model.specs.Journal.{asks_for}
-use Rattle.journal_model.specs.Run.{Handler, Invocation, Progress, Ending, GoesOn, Kind, Awaits, Ends, Answers, kind_of, requests_to, after_await, carried_out, unless_refused, continued_by, run, run_requests}
+use Rattle.journal_model.specs.Run.{Handler, Invocation, Progress, Ending, GoesOn, Kind, Awaits, Ends, Answers, call_kind, requests_to, after_await, carried_out, unless_refused, continued_by, run, run_requests}
 use Rattle.journal_laws.proofs.Leaving.{or-true_left, or-true_right}
 use Rattle.attempt_model.specs.Attempts.{gives_id, ComeAsAsked}
 use Rattle.attempt_model.specs.Results.{are_keys_text}
-use Rattle.attempt_model.specs.Standing.{is_id_if_known, AreOfKind}
+use Rattle.attempt_model.specs.Simulation.{is_id_if_known, AreOfKind}
 use Rattle.attempt_laws.proofs.Tables.{results-append}
 use Rattle.attempt_laws.proofs.CallKinds.{no_child}
 use Rattle.attempt_laws.proofs.Ids.{both-true, first-true, second-true, is_in}
@@ -53,7 +53,7 @@ AllOwn cancellation [] = Unit {0}
 AllOwn cancellation (step ∷ earlier) =
     ((n : ℕ) → is_in (child_of cancellation (next_completion earlier) step.call) n ≡ true → gives n step.requests ≡ true) × AllOwn cancellation earlier
 
-awaits-inv : (call : Call) (tree : AwaitTree ℕ) → kind_of call ≡ Awaits tree → call ≡ Call.Await tree
+awaits-inv : (call : Call) (tree : AwaitTree ℕ) → call_kind call ≡ Awaits tree → call ≡ Call.Await tree
 awaits-inv (Call.Await other) tree e = let same : other ≡ tree = cc in ap Call.Await same
 awaits-inv _ tree e = cc
 
@@ -69,14 +69,14 @@ module _ (given : Invocation) (steps : List Step) (arrivals : List Arrival) (can
   own-await call tree is (WokenAt place) all = (none call tree is [], all)
   own-await call tree is (CancelledAt place requests) all = (none call tree is requests, all)
 
-  own-carried : (call : Call) (kind : Kind) → kind_of call ≡ kind → AllOwn cancellation steps → AllOwn cancellation (carried_out given steps arrivals call kind).steps
+  own-carried : (call : Call) (kind : Kind) → call_kind call ≡ kind → AllOwn cancellation steps → AllOwn cancellation (carried_out given steps arrivals call kind).steps
   own-carried call (Awaits tree) e all = own-await call tree (awaits-inv call tree e) (await_outcome given.options steps arrivals tree) all
   own-carried call Ends e all = all
   own-carried call Answers e all = (own-child cancellation given steps call, all)
 
   own-call : (call : Call) (o : Option Refusal) → AllOwn cancellation steps → AllOwn cancellation (unless_refused given steps arrivals call o).steps
   own-call call (Some refusal) all = all
-  own-call call None all = own-carried call (kind_of call) refl all
+  own-call call None all = own-carried call (call_kind call) refl all
 
 own-continued : (cancellation : ImplicitCancellationOption) (handler : Handler) (given : Invocation) (arrivals : List Arrival) (progress : Progress) (ending : Ending) → AllOwn cancellation progress.steps
     → AllOwn cancellation (continued_by handler given arrivals progress ending).steps

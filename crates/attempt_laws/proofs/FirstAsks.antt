@@ -9,11 +9,11 @@ use Rattle.journal_model.specs.declared.options.RunOptions.{RunOptions}
 use Rattle.journal_model.specs.History.{Step, stands_for, place_of}
 use Rattle.journal_model.specs.Delivery.{front, or_else, first_found, leaf_state, state_of_result}
 use Rattle.journal_model.specs.Await.{is_awake_at, awaited_tree, awaited_ids}
-use Rattle.journal_model.specs.Waiting.{pruned, earlier_or_later}
+use Rattle.journal_model.specs.PrunedTrees.{pruned, earlier_or_later}
 use Rattle.journal_laws.proofs.Pruning.{pruned-awake, pruned-again}
 use Rattle.journal_laws.proofs.Leaving.{or-false}
 use Rattle.attempt_model.specs.Results.{Ready, Slots, ready_after, handle_state, Resolution, Awake, Asleep, resolution_of}
-use Rattle.attempt_model.specs.Standing.{TablesStand, ResolvesAsDefined}
+use Rattle.attempt_model.specs.Simulation.{TablesStand, ResolvesAsDefined}
 use Rattle.attempt_laws.proofs.Tables.{from_here, all_read, front_states, leaves_in_front, arrive}
 use Rattle.attempt_laws.proofs.Waking.{awake-map, pruned-map, least-some, least-none}
 

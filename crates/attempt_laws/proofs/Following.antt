@@ -15,7 +15,7 @@ use Rattle.journal_model.proofs.Extension.{run-more}
 use Rattle.attempt_model.specs.Attempts.{with_entries, Happening, Comes, Turns, AttemptState, Live, Over, attempt_with_arrival, attempt_after_reply, arrivals_after, attempt_after_turn, attempt_after, AnswersFirst, AgreesWithRun}
 use Rattle.attempt_model.specs.Machine.{Machine, machine_at_start, with_arrival, Mismatch, UncompletedInReplay, EndInReplay, KeysNotText, ChildNotId, Refused, Reply, Answered, AwaitsTree, AwaitsChild, Finished, FailedBy, reply_to}
 use Rattle.attempt_model.specs.Requests.{Commands}
-use Rattle.attempt_model.specs.Standing.{IsShown, Stands, ComesOnce, AreOfKind, Fits, next_call, RepliesAsRun, AreReflexive}
+use Rattle.attempt_model.specs.Simulation.{IsShown, Stands, ComesOnce, AreOfKind, Fits, next_call, RepliesAsRun, AreReflexive}
 use Rattle.attempt_laws.proofs.Tables.{results-append}
 use Rattle.attempt_laws.proofs.Simulating.{simulates}
 use Rattle.attempt_laws.proofs.Standing.{begins, goes_same, reads_on, fits_on}

@@ -12,7 +12,7 @@ use Rattle.journal_model.specs.History.{Step, ids_created}
 use Rattle.journal_model.specs.Delivery.{front, or_else}
 use Rattle.journal_model.specs.Await.{last_taken, child_result}
 use Rattle.attempt_model.specs.Children.{Child, new_child, child_with_value, is_id, may_take}
-use Rattle.attempt_model.specs.Standing.{child_after, is_id_if_known}
+use Rattle.attempt_model.specs.Simulation.{child_after, is_id_if_known}
 use Rattle.journal_model.proofs.Ids.{same_id-same}
 use Rattle.journal_laws.proofs.Leaving.{or-true_left, or-true_right}
 

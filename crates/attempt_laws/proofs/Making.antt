@@ -13,7 +13,7 @@ use Rattle.journal_model.specs.History.{Step, ids_of, ids_created, stands_for, t
 use Rattle.journal_model.specs.Delivery.{results_for, known_results, known_result, deliveries, taken_is, count_taken, passed_at_take}
 use Rattle.journal_model.proofs.Handles.{takes-more, id_of_handle-old, none-takes}
 use Rattle.attempt_model.specs.Results.{Ready, Slots, ready_after, slot_in, slot_of}
-use Rattle.attempt_model.specs.Standing.{passed_deliveries, only_last, kept_results, untaken_results, TablesStand}
+use Rattle.attempt_model.specs.Simulation.{passed_deliveries, only_last, kept_results, untaken_results, TablesStand}
 use Rattle.journal_model.proofs.Ids.{same_id-same}
 use Rattle.attempt_laws.proofs.Tables.{results-append, get-front, get-back, length-some, slot-some, slot-high, id-high}
 

@@ -6,13 +6,13 @@ use Rattle.journal_model.specs.declared.notification.NotificationResult.{Notific
 use Rattle.journal_model.specs.Notification.{Bytes, Text}
 use Rattle.journal_model.specs.declared.call.Call.{Call}
 use Rattle.journal_model.specs.Request.{Request}
-use Rattle.journal_model.specs.State.{StateMap, StartState, state_after, knows_key, knows_all_keys, known_value, known_keys, value_at, state_keys, decides_key, clears_all, IsOrdered}
+use Rattle.journal_model.specs.State.{StateMap, StartState, state_after, knows_key, knows_all_keys, known_value, known_keys, value_of_key, state_keys, decides_key, clears_all, IsOrdered}
 use Rattle.journal_model.specs.History.{Step, requests_of, next_completion}
 use Rattle.journal_model.specs.Delivery.{known_result, value_or_void}
 use Rattle.journal_model.specs.Run.{Invocation, requests_to, name_or_empty}
 use Rattle.journal_laws.proofs.Applying.{state_after-append, state_after-twice}
 use Rattle.attempt_model.specs.Requests.{Commands, read_value, read_keys, fresh_value, fresh_keys, requests_by}
-use Rattle.attempt_model.specs.Standing.{RequestsStand, IsShown, whole_state, same_state}
+use Rattle.attempt_model.specs.Simulation.{RequestsStand, IsShown, whole_state, same_state}
 use Rattle.attempt_model.proofs.Requests.{Agrees}
 
 -- behind the journal the state is that of the run
@@ -31,9 +31,9 @@ module _ (given shown : StartState) (journal done written : List Request) (is : 
       by_shows : IsShown given journal shown → fresh_value shown done n key name ≡ fresh_value given done n key name
       by_shows (same_state e) = ap (λ (start : StartState). fresh_value start done n key name) e
       by_shows (whole_state g s ordered e) =
-          ap (λ (b : Bool). if b || is_some (value_at shown.entries key) || list_any (decides_key key) done then Request.GetEagerState key (known_value shown done key) name else Request.GetLazyState key n name) s
-          ∙ ap (λ (entries : StateMap). Request.GetEagerState key (value_at entries key) name) (state-same ordered e)
-          ∙ sym (ap (λ (b : Bool). if b || is_some (value_at given.entries key) || list_any (decides_key key) done then Request.GetEagerState key (known_value given done key) name else Request.GetLazyState key n name) g)
+          ap (λ (b : Bool). if b || is_some (value_of_key shown.entries key) || list_any (decides_key key) done then Request.GetEagerState key (known_value shown done key) name else Request.GetLazyState key n name) s
+          ∙ ap (λ (entries : StateMap). Request.GetEagerState key (value_of_key entries key) name) (state-same ordered e)
+          ∙ sym (ap (λ (b : Bool). if b || is_some (value_of_key given.entries key) || list_any (decides_key key) done then Request.GetEagerState key (known_value given done key) name else Request.GetLazyState key n name) g)
 
   keys-same : (n : ℕ) (name : Text) → fresh_keys shown done n name ≡ fresh_keys given done n name
   keys-same n name = by_shows shows

@@ -11,7 +11,7 @@ use Rattle.attempt_laws.proofs.Answering as Answering
 use Rattle.attempt_laws.proofs.Awaiting as Awaiting
 use Rattle.attempt_model.specs.Machine.{Machine, Reply, Work, ToAwait, ToEnd, ToTake, ToLook, ToMake, work_of, reply_to_work, reply_unless_refused, reply_to, StopsMidway}
 use Rattle.attempt_model.specs.Requests.{Commands, PutState, put_all}
-use Rattle.attempt_model.specs.Standing.{Stands, AreOfKind, Fits, next_call, AnswersNext, RepliesAsRun, IsReflexive, AreReflexive}
+use Rattle.attempt_model.specs.Simulation.{Stands, AreOfKind, Fits, next_call, AnswersNext, RepliesAsRun, IsReflexive, AreReflexive}
 use Rattle.attempt_model.proofs.Requests.{Agrees, Puts, put, agree}
 use Rattle.attempt_laws.proofs.CallKinds.{inv-take, inv-look, inv-await, inv-end}
 

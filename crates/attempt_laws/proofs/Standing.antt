@@ -9,7 +9,7 @@ use Rattle.journal_model.specs.Run.{Handler, Invocation, Progress, GoesOn, run, 
 use Rattle.journal_model.proofs.Extension as Extension
 use Rattle.journal_model.proofs.Extension.{run-more, requests-more, is_awake_at-more, is_cancelled_at-more, all_known_at-more}
 use Rattle.attempt_model.specs.Machine.{Machine, machine_at_start, with_arrival}
-use Rattle.attempt_model.specs.Standing.{Reached, here, ahead, cancelling, IsShown, Stands, ComesOnce, Fits}
+use Rattle.attempt_model.specs.Simulation.{Reached, here, ahead, cancelling, IsShown, Stands, ComesOnce, Fits}
 use Rattle.attempt_laws.proofs.Tables.{within-more, comes, starts}
 
 -- the machine stands at the beginning

@@ -11,28 +11,28 @@ use Rattle.journal_model.specs.Options.{replaces}
 use Rattle.journal_model.specs.History.{Step, ids_created, stands_for, id_of_handle, WithinPlaces}
 use Rattle.journal_model.specs.Delivery.{results_for, known_results, deliveries, takes_of, passed_at_take, last_of, front, state_of_result}
 use Rattle.journal_model.proofs.Extension.{deliveries-more, passed_at_take-more}
-use Rattle.attempt_model.specs.Results.{Ready, Slots, ready_after, first_of, slot_in, slot_of, waiting_for, handle_state}
-use Rattle.attempt_model.specs.Standing.{passed_deliveries, only_last, kept_results, untaken_results, TablesStand}
+use Rattle.attempt_model.specs.Results.{Ready, Slots, ready_after, first_waiting_result, slot_in, slot_of, waiting_for, handle_state}
+use Rattle.attempt_model.specs.Simulation.{passed_deliveries, only_last, kept_results, untaken_results, TablesStand}
 
 -- the first of what waits to be taken is in front
-last-first : (results : List NotificationResult) → last_of results ≡ first_of (only_last results)
+last-first : (results : List NotificationResult) → last_of results ≡ first_waiting_result (only_last results)
 last-first [] = refl
 last-first (result ∷ []) = refl
 last-first (result ∷ next ∷ results) = last-first (next ∷ results)
 
-get-drop : (n : ℕ) (results : List NotificationResult) → slice_get results n ≡ first_of (drop n results)
+get-drop : (n : ℕ) (results : List NotificationResult) → slice_get results n ≡ first_waiting_result (drop n results)
 get-drop zero [] = refl
 get-drop zero (result ∷ results) = refl
 get-drop (suc n) [] = refl
 get-drop (suc n) (result ∷ results) = get-drop n results
 
 pub front-untaken : (options : RunOptions) (steps : List Step) (arrivals : List Arrival) (place : ℕ) (id : NotificationId)
-    → front options steps arrivals place id ≡ first_of (untaken_results options steps arrivals place id)
+    → front options steps arrivals place id ≡ first_waiting_result (untaken_results options steps arrivals place id)
 front-untaken options steps arrivals place id =
     by_cases (replaces options.signal_delivery id) (passed_at_take (ids_created steps) arrivals id steps) (takes_of steps id) (deliveries steps arrivals place id)
   where
     by_cases : (b : Bool) (p t : ℕ) (ds : List NotificationResult)
-        → (if b then last_of (drop p ds) else slice_get ds t) ≡ first_of (kept_results b (drop (if b then p else t) ds))
+        → (if b then last_of (drop p ds) else slice_get ds t) ≡ first_waiting_result (kept_results b (drop (if b then p else t) ds))
     by_cases true p t ds = last-first (drop p ds)
     by_cases false p t ds = get-drop t ds
 
@@ -206,11 +206,11 @@ pub in_front : (options : RunOptions) (steps : List Step) (arrivals : List Arriv
     → TablesStand options steps arrivals place line waiting table
     → (handle : ℕ) → waiting_for table waiting handle ≡ option_and_then (front options steps arrivals place) (stands_for steps handle)
 in_front options steps arrivals line waiting table place stands handle =
-    ap (option_and_then (λ id. first_of (waiting id))) (stands.handles handle) ∙ by_slot (stands_for steps handle)
+    ap (option_and_then (λ id. first_waiting_result (waiting id))) (stands.handles handle) ∙ by_slot (stands_for steps handle)
   where
-    by_slot : (o : Option NotificationId) → option_and_then (λ id. first_of (waiting id)) o ≡ option_and_then (front options steps arrivals place) o
+    by_slot : (o : Option NotificationId) → option_and_then (λ id. first_waiting_result (waiting id)) o ≡ option_and_then (front options steps arrivals place) o
     by_slot None = refl
-    by_slot (Some id) = ap first_of (stands.ready id) ∙ sym (front-untaken options steps arrivals place id)
+    by_slot (Some id) = ap first_waiting_result (stands.ready id) ∙ sym (front-untaken options steps arrivals place id)
 
 -- nothing has come, and no handle was made
 pub starts : (options : RunOptions) (arrivals : List Arrival) → TablesStand options [] arrivals 0 arrivals (λ id. []) []

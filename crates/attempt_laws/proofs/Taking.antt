@@ -9,8 +9,8 @@ use Rattle.journal_model.specs.declared.options.RunOptions.{RunOptions}
 use Rattle.journal_model.specs.Options.{replaces}
 use Rattle.journal_model.specs.History.{Step, ids_of, ids_created, stands_for, takes_handle, handle_is, handle_taken, id_of_handle, next_handle, next_completion, next_signal, IsBelow, TakesBelow}
 use Rattle.journal_model.specs.Delivery.{results_for, known_results, known_result, deliveries, taken_is, takes_of, count_taken, passed_at_take}
-use Rattle.attempt_model.specs.Results.{Ready, Slots, first_of, slot_in, slot_of, ready_without_first, slots_without}
-use Rattle.attempt_model.specs.Standing.{passed_deliveries, only_last, kept_results, TablesStand}
+use Rattle.attempt_model.specs.Results.{Ready, Slots, first_waiting_result, slot_in, slot_of, ready_without_first, slots_without}
+use Rattle.attempt_model.specs.Simulation.{passed_deliveries, only_last, kept_results, TablesStand}
 use Rattle.journal_model.proofs.Ids.{same_id-same}
 use Rattle.attempt_laws.proofs.Tables.{drop-next, drop-cons-length, slot-high}
 
@@ -49,7 +49,7 @@ within-taken false true ds m n r old rest is taken h =
 within-taken true false ds m n r old rest is taken h = h
 within-taken false false ds m n r old rest is taken h = omega arith
 
-first-rest : (results : List NotificationResult) (r : NotificationResult) → first_of results ≡ Some r → results ≡ r ∷ drop 1 results
+first-rest : (results : List NotificationResult) (r : NotificationResult) → first_waiting_result results ≡ Some r → results ≡ r ∷ drop 1 results
 first-rest [] r e = cc
 first-rest (x ∷ xs) r e = let same : x ≡ r = cc in ap (λ y. y ∷ xs) same
 
@@ -101,7 +101,7 @@ pub record TakesOf (steps : List Step) (step : Step) (handle : ℕ) : Type 0 whe
 module _ (options : RunOptions) (steps : List Step) (arrivals : List Arrival) (place : ℕ) (step : Step) (line : List Arrival) (waiting : Ready) (table : Slots)
     (handle : ℕ) (id : NotificationId) (r : NotificationResult)
     (at : step.place ≡ place) (takes : TakesOf steps step handle) (stands : TablesStand options steps arrivals place line waiting table)
-    (slot : slot_of table handle ≡ Some id) (first : first_of (waiting id) ≡ Some r) where
+    (slot : slot_of table handle ≡ Some id) (first : first_waiting_result (waiting id) ≡ Some r) where
   known : id_of_handle (ids_created steps) handle ≡ Some id
   known = known-id (handle == 1) (list_any (takes_handle handle) steps) _ id (sym (stands.handles handle) ∙ slot)
 

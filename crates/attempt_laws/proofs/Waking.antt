@@ -13,11 +13,11 @@ use Rattle.journal_model.specs.Options.{replaces}
 use Rattle.journal_model.specs.History.{Step, ids_created, stands_for}
 use Rattle.journal_model.specs.Delivery.{results_for, known_results, deliveries, takes_of, passed_at_take, last_of, front, or_else, first_found, leaf_state, state_of_result}
 use Rattle.journal_model.specs.Await.{least_from}
-use Rattle.journal_model.specs.Waiting.{lowered, pruned, pruned_children, earlier_or_later}
+use Rattle.journal_model.specs.PrunedTrees.{lowered, pruned, pruned_children, earlier_or_later}
 use Rattle.journal_laws.proofs.Pruning.{pruned-awake, pruned-again}
 use Rattle.journal_laws.proofs.Leaving.{or-false}
 use Rattle.attempt_model.specs.Results.{Ready, Slots, ready_after, handle_state, Resolution, Awake, Asleep, resolution_of}
-use Rattle.attempt_model.specs.Standing.{TablesStand}
+use Rattle.attempt_model.specs.Simulation.{TablesStand}
 use Rattle.attempt_laws.proofs.Tables.{from_here, all_read, front_states, leaves_in_front, results-append, arrive}
 
 -- trees with other leaves

@@ -9,7 +9,7 @@
 #![tactic(auto)]
 
 ghost use Rattle.attempt_model.specs.Attempts.{AttemptsFollow, KindsByAsking, OnceByAsking, ReadsJournal};
-ghost use Rattle.attempt_model.specs.Standing.{BeginsStanding, FirstAsksResolve, FitsOn, ReadsStanding, Simulates, StopsWithRun};
+ghost use Rattle.attempt_model.specs.Simulation.{BeginsStanding, FirstAsksResolve, FitsOn, ReadsStanding, Simulates, StopsWithRun};
 
 /// The machine stands to the run before its first call, and where one more arrival is read; more arrivals fit too.
 pub fn attempts_stand()

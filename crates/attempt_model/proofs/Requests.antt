@@ -6,7 +6,7 @@ use Rattle.journal_model.specs.History.{requests_of}
 use Rattle.journal_model.specs.Run.{Handler, Invocation, Progress, run, run_requests, is_going, IsBeginning}
 use Rattle.journal_model.proofs.Continuing.{run_requests-beginning, run-stopped}
 use Rattle.attempt_model.specs.Requests.{put_all}
-use Rattle.attempt_model.specs.Standing.{IsReflexive}
+use Rattle.attempt_model.specs.Simulation.{IsReflexive}
 
 append-cancel : {A : Type 0} (xs ys zs : List A) → xs ++ ys ≡ xs ++ zs → ys ≡ zs
 append-cancel [] ys zs e = e

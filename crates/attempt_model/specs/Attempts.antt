@@ -15,7 +15,7 @@ use Rattle.journal_model.specs.Run.{Handler, Invocation, Ending, RefusedCall, En
 use Rattle.attempt_model.specs.Machine.{Machine, machine_at_start, with_arrival, Fault, Refused, Reply, Answered, AwaitsTree, AwaitsChild, Finished, FailedBy, reply_to}
 use Rattle.attempt_model.specs.Results.{are_keys_text}
 use Rattle.journal_model.specs.Delivery.{results_for}
-use Rattle.attempt_model.specs.Standing.{IsShown, Stands, ComesOnce, AreOfKind, Fits, AreReflexive}
+use Rattle.attempt_model.specs.Simulation.{IsShown, Stands, ComesOnce, AreOfKind, Fits, AreReflexive}
 
 -- an entry of the journal is read: a request is to be matched, an arrival waits in line, wherever they stand among one another
 abbrev pub with_entry : Machine → Entry → Machine

@@ -9,7 +9,7 @@ use Rattle.journal_model.specs.declared.options.SignalDelivery.{SignalDelivery}
 use Rattle.journal_model.specs.declared.value.Value.{Value}
 use Rattle.journal_model.specs.Delivery.{or_else}
 use Rattle.journal_model.specs.Await.{cancel_request}
-use Rattle.attempt_model.specs.Results.{Ready, ready_after, first_of}
+use Rattle.attempt_model.specs.Results.{Ready, ready_after, first_waiting_result}
 
 -- a child, by the completion that gives its invocation id, with what was taken of it
 pub record Child : Type 0 where
@@ -26,7 +26,7 @@ child_with_value (Some id) value child = if same_id id (CompletionId child.compl
 
 -- what is known of a child: what was taken, or else what waits
 abbrev pub child_value : Ready → Child → Option Value
-child_value ready child = or_else child.taken (option_map as_taken (first_of (ready (CompletionId child.completion))))
+child_value ready child = or_else child.taken (option_map as_taken (first_waiting_result (ready (CompletionId child.completion))))
 
 abbrev pub is_id : Value → Bool
 is_id (Value.InvocationId id) = true

@@ -2,5 +2,5 @@ pub mod Results
 pub mod Children
 pub mod Requests
 pub mod Machine
-pub mod Standing
+pub mod Simulation
 pub mod Attempts

@@ -10,7 +10,7 @@ use Rattle.journal_model.specs.declared.options.SignalDelivery.{SignalDelivery}
 use Rattle.journal_model.specs.Options.{replaces}
 use Rattle.journal_model.specs.History.{cancel_handle}
 use Rattle.journal_model.specs.Delivery.{state_of_result}
-use Rattle.journal_model.specs.Waiting.{pruned}
+use Rattle.journal_model.specs.PrunedTrees.{pruned}
 
 -- what waits to be taken of each id, the first one first
 abbrev pub Ready : Type 0
@@ -28,9 +28,9 @@ ready_after delivery ready arrival id =
     else ready id
 
 -- the first that waits
-abbrev pub first_of : List NotificationResult → Option NotificationResult
-first_of [] = None
-first_of (result ∷ results) = Some result
+abbrev pub first_waiting_result : List NotificationResult → Option NotificationResult
+first_waiting_result [] = None
+first_waiting_result (result ∷ results) = Some result
 
 abbrev pub slot_in : Option (Option NotificationId) → Option NotificationId
 slot_in None = None
@@ -43,7 +43,7 @@ slot_of slots handle =
 
 -- the first notification that waits for a handle
 abbrev pub waiting_for : Slots → Ready → ℕ → Option NotificationResult
-waiting_for slots ready handle = option_and_then (λ id. first_of (ready id)) (slot_of slots handle)
+waiting_for slots ready handle = option_and_then (λ id. first_waiting_result (ready id)) (slot_of slots handle)
 
 abbrev pub handle_state : Slots → Ready → ℕ → AwaitState
 handle_state slots ready handle = state_of_result (waiting_for slots ready handle)

@@ -11,7 +11,7 @@ use Rattle.built_in_handlers.specs.Handlers.{output_taken}
 use Rattle.journal_laws.proofs.Rows.{whole, completed, ok_output}
 use Rattle.attempt_model.specs.Machine.{machine_at_start}
 use Rattle.body_laws.specs.Bodies.{Executor, executor_over, AwaitsTreeOf, Finishes}
-use Rattle.body_laws.specs.Executing.{Retried, Proposes, FailsAttempt, Happening, Comes, Acknowledges, Closes, Turns, Turn, RanBody, Waiting, Suspended, AttemptState, Live, Over, Misled, turn_of, turn_reply, attempt_after, proposed_by}
+use Rattle.body_laws.specs.AttemptExecution.{Retried, Proposes, FailsAttempt, Happening, Comes, Acknowledges, Closes, Turns, Turn, RanBody, Waiting, Suspended, AttemptState, Live, Over, Misled, turn_after_body, turn_reply, attempt_after, proposed_by}
 
 abbrev any_header : Call → Request → Request → Bool
 any_header call recorded request = true
@@ -41,7 +41,7 @@ plays handler given journal arrivals happened = attempt_after any_header handler
 
 -- what the next turn comes to
 abbrev next_turn : Handler → Invocation → AttemptState → Option Turn
-next_turn handler given (Live a) = Some (turn_of (Proposes z) a.is_closed (turn_reply any_header handler given a))
+next_turn handler given (Live a) = Some (turn_after_body (Proposes z) a.is_closed (turn_reply any_header handler given a))
 next_turn handler given _ = None
 
 abbrev written_by : AttemptState → List Request

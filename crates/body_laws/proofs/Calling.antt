@@ -14,16 +14,16 @@ use Rattle.journal_model.specs.Delivery.{results_for, known_results}
 use Rattle.journal_model.specs.Run.{Handler, Invocation, Progress, GoesOn, run}
 use Rattle.journal_model.proofs.Continuing.{run-next}
 use Rattle.attempt_model.specs.Machine.{Machine, Mismatch, UncompletedInReplay, EndInReplay, KeysNotText, ChildNotId, Refused, Reply, Answered, AwaitsTree, AwaitsChild, Finished, FailedBy, next_slot, reply_to}
-use Rattle.attempt_model.specs.Standing.{AreOfKind, Fits, AreReflexive, next_call, RepliesAsRun, AnswersNext, WaitsWithRun}
+use Rattle.attempt_model.specs.Simulation.{AreOfKind, Fits, AreReflexive, next_call, RepliesAsRun, AnswersNext, WaitsWithRun}
 use Rattle.attempt_laws.proofs.Simulating.{simulates}
 use Rattle.attempt_laws.proofs.Apart.{own-run, apart}
 use Rattle.body_laws.specs.Bodies.{Body, Executor, has_come, bodies_of_call, bodies_left, has_handle, body_awaited, without_body, handing_out, executes_or_awaits, reply_after, executor_reply, bodies_of, suspends, is_executing, AwaitsTreeOf}
-use Rattle.body_laws.specs.Standing.{Among, has_arrived, count_bodies, count_proposed, Ascends, WasExecuted, BodiesStand, StandsWithBodies, AnswersWithBodies, RepliesWithBodies, WaitsWithBodies}
+use Rattle.body_laws.specs.BodySimulation.{Among, has_arrived, count_bodies, count_proposed, Ascends, WasExecuted, BodiesStand, StandsWithBodies, AnswersWithBodies, RepliesWithBodies, WaitsWithBodies}
 use Rattle.body_laws.proofs.Lists.{among-left, among-right, among-split, find-some, find-none, among-kept, among-without, one_if, count-removed, count-append, count-among, ascends-without, ascends-append, least-found, any-false}
 use Rattle.body_laws.proofs.Fresh.{come-same}
 use Rattle.body_laws.proofs.Steps.{Adds, adds, call-completion, call-handle, call-ascends, bodies-handle, count-below, count-above, count-one}
 use Rattle.body_laws.proofs.Tracked.{ChildIn, child_in, child-apart}
-use Rattle.body_laws.proofs.Standing.{steps-same, with_steps, with_machine}
+use Rattle.body_laws.proofs.BodySimulation.{steps-same, with_steps, with_machine}
 
 -- ---- one step on, which leaves the body of its call to be executed where its outcome has not come
 

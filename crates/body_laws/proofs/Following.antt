@@ -12,15 +12,15 @@ use Rattle.journal_model.specs.History.{answers_of, requests_of}
 use Rattle.journal_model.specs.Journal.{completion}
 use Rattle.journal_model.specs.Run.{Handler, Invocation, Progress, run}
 use Rattle.attempt_model.specs.Machine.{machine_at_start, Mismatch, UncompletedInReplay, EndInReplay, KeysNotText, ChildNotId, Refused, Reply, Answered, AwaitsTree, AwaitsChild, Finished, FailedBy, reply_to}
-use Rattle.attempt_model.specs.Standing.{IsShown, ComesOnce, AreOfKind, Fits, next_call, AreReflexive}
+use Rattle.attempt_model.specs.Simulation.{IsShown, ComesOnce, AreOfKind, Fits, next_call, AreReflexive}
 use Rattle.attempt_laws.proofs.Standing.{goes_same, fits_on}
 use Rattle.attempt_laws.proofs.Following.{once-before}
 use Rattle.body_laws.specs.Bodies.{Body, Executor, executor_over, without_body, reads_arrival, reads_outcome, has_handle, body_awaited, ExecutorReply, Answers, Executes, AwaitsTreeOf, AwaitsChildOf, Finishes, Fails, executes_or_awaits, reply_after, executor_reply, suspends, is_executing, proposing}
-use Rattle.body_laws.specs.Executing.{BodyEnd, Proposes, FailsAttempt, Happening, Comes, Acknowledges, Closes, Turns, Attempting, AttemptState, Live, Over, Misled, attempt_with_arrival, attempt_told, attempt_acknowledged, attempt_closed, attempt_after_reply, waits_on, after_body, turn_reply, attempt_after_turn, attempt_after, arrivals_read, proposed_by, Suspended, Waiting, turn_of, turn_of_body}
-use Rattle.body_laws.specs.Standing.{count_proposed, StandsWithBodies, RepliesWithBodies}
+use Rattle.body_laws.specs.AttemptExecution.{BodyEnd, Proposes, FailsAttempt, Happening, Comes, Acknowledges, Closes, Turns, Attempting, AttemptState, Live, Over, Misled, attempt_with_arrival, attempt_told, attempt_acknowledged, attempt_closed, attempt_after_reply, waits_on, after_body, turn_reply, attempt_after_turn, attempt_after, arrivals_read, proposed_by, Suspended, Waiting, turn_after_body, turn_of_body}
+use Rattle.body_laws.specs.BodySimulation.{count_proposed, StandsWithBodies, RepliesWithBodies}
 use Rattle.body_laws.specs.Laws.{ComesAsCached, GoesOnWithBodies, OverAt, OverAs, AgreesWithBodies, MayCome, AllMayCome, TurnTells}
 use Rattle.body_laws.proofs.Progress.{none-left}
-use Rattle.body_laws.proofs.Standing.{begins_with, reads, comes, proposes}
+use Rattle.body_laws.proofs.BodySimulation.{begins_with, reads, comes, proposes}
 use Rattle.body_laws.proofs.Calling.{calls_simulate}
 
 -- what a reply makes of the bodies that are being executed
@@ -244,7 +244,7 @@ proposes_once handler given journal arrivals (Misled a) f n = absurd f
 module _ (same_header : Call → Request → Request → Bool) (reflexive : AreReflexive same_header) (handler : Handler) (given : Invocation) (journal : List Request) (arrivals : List Arrival)
     (a : Attempting) (end : BodyEnd) (fits : Fits handler given journal arrivals) (f : GoesOnWithBodies handler given journal arrivals a) (kinds : AreOfKind handler given arrivals f.first.calls) where
   abbrev Tells : ExecutorReply → Type 0
-  Tells reply = TurnTells handler given journal arrivals f.first.calls a.proposed a.is_closed (turn_of end a.is_closed reply) reply
+  Tells reply = TurnTells handler given journal arrivals f.first.calls a.proposed a.is_closed (turn_after_body end a.is_closed reply) reply
 
   tells : (reply : ExecutorReply) → RepliesWithBodies handler given journal arrivals f.first.calls a.proposed reply → Leaves a.executor.executing reply → Tells reply
   tells (Answers answer e) r l = r
@@ -271,11 +271,11 @@ module _ (same_header : Call → Request → Request → Bool) (reflexive : AreR
   tells (Finishes e) r l = r
   tells (Fails fault) r l = r
 
-  pub turns_tell : TurnTells handler given journal arrivals f.first.calls a.proposed a.is_closed (turn_of end a.is_closed (turn_reply same_header handler given a)) (turn_reply same_header handler given a)
+  pub turns_tell : TurnTells handler given journal arrivals f.first.calls a.proposed a.is_closed (turn_after_body end a.is_closed (turn_reply same_header handler given a)) (turn_reply same_header handler given a)
   turns_tell =
       let same : a.answers ≡ answers_of f.at.stands.steps = f.first.answered ∙ ap (λ (p : Progress). answers_of p.steps) f.at.stands.going in
       subst (λ (some : List Answer). TurnTells handler given journal arrivals f.first.calls a.proposed a.is_closed
-      (turn_of end a.is_closed (executor_reply same_header given a.executor (handler given.input some))) (executor_reply same_header given a.executor (handler given.input some))) (sym same)
+      (turn_after_body end a.is_closed (executor_reply same_header given a.executor (handler given.input some))) (executor_reply same_header given a.executor (handler given.input some))) (sym same)
       (tells (executor_reply same_header given a.executor (next_call handler given f.at.stands.steps))
       (calls_simulate same_header handler given journal arrivals f.first.calls a.proposed a.executor reflexive fits kinds f.at)
       (leaves a.executor (next_call handler given f.at.stands.steps) (reply_to same_header given a.executor.machine (next_call handler given f.at.stands.steps))))

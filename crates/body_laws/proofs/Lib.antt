@@ -4,7 +4,7 @@ pub mod Fresh
 pub mod Steps
 pub mod Untaken
 pub mod Tracked
-pub mod Standing
+pub mod BodySimulation
 pub mod Calling
 pub mod Following
 pub mod BodyRows

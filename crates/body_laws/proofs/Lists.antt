@@ -3,7 +3,7 @@ use Rattle.std.proofs.Common.{◌≡◌, refl, sym, ap, ap₂, ◌∙◌, subst,
 use Rattle.std.specs.List.{find, list_any}
 use Rattle.journal_model.specs.declared.value.NonEmptyValue.{NonEmptyValue}
 use Rattle.body_laws.specs.Bodies.{Body, is_body, without_body}
-use Rattle.body_laws.specs.Standing.{Among, count_bodies, count_proposed, Ascends}
+use Rattle.body_laws.specs.BodySimulation.{Among, count_bodies, count_proposed, Ascends}
 
 -- an outcome
 abbrev pub outcome : ℕ → NonEmptyValue → ℕ × NonEmptyValue

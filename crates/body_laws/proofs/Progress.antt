@@ -6,7 +6,7 @@ use Rattle.journal_model.specs.Request.{Request}
 use Rattle.journal_model.specs.Run.{Handler, Invocation}
 use Rattle.attempt_model.specs.Machine.{Reply, Answered, AwaitsTree, AwaitsChild, Finished, FailedBy, reply_to}
 use Rattle.body_laws.specs.Bodies.{Body, body_awaited, is_body, without_body, has_handle, AwaitsTreeOf, AwaitsChildOf, handing_out, executes_or_awaits, reply_after, suspends}
-use Rattle.body_laws.specs.Executing.{BodyEnd, Proposes, FailsAttempt, Attempting, AttemptState, Live, Over, Misled, attempt_after_reply, waits_on, after_body, attempt_after_turn, after_turns, is_over, count_made}
+use Rattle.body_laws.specs.AttemptExecution.{BodyEnd, Proposes, FailsAttempt, Attempting, AttemptState, Live, Over, Misled, attempt_after_reply, waits_on, after_body, attempt_after_turn, after_turns, is_attempt_over, count_made}
 use Rattle.body_laws.proofs.Lists.{is_body-refl}
 
 -- an attempt whose input is closed, between turns
@@ -79,11 +79,11 @@ module _ (same_header : Call → Request → Request → Bool) (handler : Handle
 
 pub closed_turns_progress : (same_header : Call → Request → Request → Bool) (handler : Handler) (given : Invocation) (a : Attempting) (ends : List BodyEnd) → a.is_closed ≡ true → a.executor.executing ≡ []
     → let after = after_turns same_header handler given (Live a) ends in
-    (is_over after ≡ true) ⊎ (count_made after ≡ length ends + count_made (Live a))
+    (is_attempt_over after ≡ true) ⊎ (count_made after ≡ length ends + count_made (Live a))
 closed_turns_progress same_header handler given a ends closed idle =
     by_state (after_turns same_header handler given (Live a) ends) (turns-progress same_header handler given a ends (record { closed = closed; idle = idle }))
   where
-    by_state : (state : AttemptState) → Progresses same_header handler given (length ends + count_made (Live a)) state → (is_over state ≡ true) ⊎ (count_made state ≡ length ends + count_made (Live a))
+    by_state : (state : AttemptState) → Progresses same_header handler given (length ends + count_made (Live a)) state → (is_attempt_over state ≡ true) ⊎ (count_made state ≡ length ends + count_made (Live a))
     by_state (Live b) p = inr p.1
     by_state (Over b reply) p = inl refl
     by_state (Misled b) p = inl refl

@@ -8,9 +8,9 @@ use Rattle.journal_model.specs.Request.{Request}
 use Rattle.journal_model.specs.Refusal.{Refusal, refusal_of}
 use Rattle.journal_model.specs.History.{Step, answers_of, requests_of, next_completion, next_handle, completions_of, ids_of, ids_created, next_signal}
 use Rattle.journal_model.specs.Await.{AwaitOutcome, WaitsFor, WokenAt, CancelledAt, await_outcome}
-use Rattle.journal_model.specs.Run.{Handler, Invocation, Progress, Ending, GoesOn, Waits, RefusedCall, Ended, Kind, Awaits, Ends, Answers, kind_of, answered_step, after_await, carried_out, unless_refused, after_call, continued_by, requests_to, run}
+use Rattle.journal_model.specs.Run.{Handler, Invocation, Progress, Ending, GoesOn, Waits, RefusedCall, Ended, Kind, Awaits, Ends, Answers, call_kind, answered_step, after_await, carried_out, unless_refused, after_call, continued_by, requests_to, run}
 use Rattle.body_laws.specs.Bodies.{Body, bodies_of_call, bodies_of}
-use Rattle.body_laws.specs.Standing.{Among, count_bodies, Ascends}
+use Rattle.body_laws.specs.BodySimulation.{Among, count_bodies, Ascends}
 use Rattle.body_laws.proofs.Lists.{among-left, among-right, among-split, one_if}
 
 -- the steps behind a call
@@ -32,7 +32,7 @@ module _ (given : Invocation) (steps : List Step) (arrivals : List Arrival) (cal
 
   by_refusal : (o : Option Refusal) → unless_refused given steps arrivals call o ≡ record { steps = new; ending = GoesOn } → Adds steps call new
   by_refusal (Some refusal) e = let wrong : RefusedCall refusal ≡ GoesOn = ap (λ (p : Progress). p.ending) e in cc
-  by_refusal None e = by_kind (kind_of call) e
+  by_refusal None e = by_kind (call_kind call) e
 
   pub adds : after_call given steps arrivals call ≡ record { steps = new; ending = GoesOn } → Adds steps call new
   adds e = by_refusal (refusal_of given.version call) e
@@ -78,7 +78,7 @@ count-one h c n _ = omega arith
 
 -- ---- the bodies of a run are requested
 
-no-await : (h n : ℕ) (call : Call) (tree : AwaitTree ℕ) → kind_of call ≡ Awaits tree → (body : Body) → Among body (bodies_of_call h n call) → ⊥
+no-await : (h n : ℕ) (call : Call) (tree : AwaitTree ℕ) → call_kind call ≡ Awaits tree → (body : Body) → Among body (bodies_of_call h n call) → ⊥
 no-await h n (Call.Run name) tree e body a = cc
 no-await h n _ tree e body a = a
 
@@ -111,19 +111,19 @@ module _ (given : Invocation) (steps : List Step) (arrivals : List Arrival) (cal
           → (name : List ℕ) × Among (Request.Run body.completion name) (requests_of (answered_step given steps arrivals call ∷ steps))
       new-request b = let (name, r) = requested-by given steps (next_handle steps) call body b in (name, among-right (Request.Run body.completion name) (requests_of steps) (requests_to given steps call) r)
 
-  requested-outcome : (tree : AwaitTree ℕ) → kind_of call ≡ Awaits tree → (outcome : AwaitOutcome) → AreRequested (after_await steps call outcome).steps
+  requested-outcome : (tree : AwaitTree ℕ) → call_kind call ≡ Awaits tree → (outcome : AwaitOutcome) → AreRequested (after_await steps call outcome).steps
   requested-outcome tree is (WaitsFor left) = all
   requested-outcome tree is (WokenAt place) = quiet-step (record { call = call; answer = Answer.Woken; requests = []; place = place }) (no-await (next_handle steps) (next_completion steps) call tree is)
   requested-outcome tree is (CancelledAt place requests) = quiet-step (record { call = call; answer = Answer.Cancelled; requests = requests; place = place }) (no-await (next_handle steps) (next_completion steps) call tree is)
 
-  requested-kind : (kind : Kind) → kind_of call ≡ kind → AreRequested (carried_out given steps arrivals call kind).steps
+  requested-kind : (kind : Kind) → call_kind call ≡ kind → AreRequested (carried_out given steps arrivals call kind).steps
   requested-kind (Awaits tree) is = requested-outcome tree is (await_outcome given.options steps arrivals tree)
   requested-kind Ends is = all
   requested-kind Answers is = own-step
 
   requested-call : (o : Option Refusal) → AreRequested (unless_refused given steps arrivals call o).steps
   requested-call (Some refusal) = all
-  requested-call None = requested-kind (kind_of call) refl
+  requested-call None = requested-kind (call_kind call) refl
 
 requested-continued : (handler : Handler) (given : Invocation) (arrivals : List Arrival) (progress : Progress) (ending : Ending) → AreRequested progress.steps
     → AreRequested (continued_by handler given arrivals progress ending).steps

@@ -18,9 +18,9 @@ use Rattle.attempt_model.specs.Children.{Child, child_value, ChildrenState, AreI
 use Rattle.attempt_model.specs.Machine.{Machine, Reply, Answered, AwaitsTree, AwaitsChild, Finished, FailedBy, Work, ToAwait, ToEnd, ToTake, ToLook, ToMake, work_of, reply_where_taken, reply_to_take, is_cancelled, reply_where_unknown, reply_where_asleep, reply_to_end, reply_to_make, reply_where_cancelled, reply_to_children, reply_where_awake, reply_to_await, reply_to_work, reply_unless_refused, reply_to}
 use Rattle.attempt_model.specs.Requests.{Commands, requests_by, PutState, put_all}
 use Rattle.attempt_model.specs.Results.{Ready, ready_after, waiting_for, Resolution, Awake, Asleep, resolution_of}
-use Rattle.attempt_model.specs.Standing.{child_after}
+use Rattle.attempt_model.specs.Simulation.{child_after}
 use Rattle.body_laws.specs.Bodies.{Body, bodies_of_call, bodies_of}
-use Rattle.body_laws.specs.Standing.{Among}
+use Rattle.body_laws.specs.BodySimulation.{Among}
 use Rattle.body_laws.proofs.Lists.{among-split}
 use Rattle.body_laws.proofs.Steps.{call-completion, bodies-below}
 

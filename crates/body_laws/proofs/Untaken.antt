@@ -19,11 +19,11 @@ use Rattle.journal_model.specs.Journal.{asks_for}
 use Rattle.journal_model.specs.History.{Step, answers_of, requests_of, place_of, next_completion, next_signal, next_handle, ids_of, ids_created, cancel_handle, handle_taken, handle_is, takes_handle, stands_for}
 use Rattle.journal_model.specs.Delivery.{results_for, known_results, deliveries, takes_of, passed_at_take, last_of, front}
 use Rattle.journal_model.specs.Await.{AwaitOutcome, WaitsFor, WokenAt, CancelledAt, await_outcome}
-use Rattle.journal_model.specs.Run.{Handler, Invocation, Progress, Ending, GoesOn, Kind, Awaits, Ends, Answers, kind_of, front_of_handle, answer_to, answered_step, after_await, carried_out, unless_refused, continued_by, run}
+use Rattle.journal_model.specs.Run.{Handler, Invocation, Progress, Ending, GoesOn, Kind, Awaits, Ends, Answers, call_kind, front_of_handle, answer_to, answered_step, after_await, carried_out, unless_refused, continued_by, run}
 use Rattle.attempt_laws.proofs.Tables.{get-front, get-back, results-append}
 use Rattle.attempt_laws.proofs.Apart.{AllOwn, own-run, apart}
 use Rattle.body_laws.specs.Bodies.{Body, bodies_of_call, bodies_of}
-use Rattle.body_laws.specs.Standing.{Among, has_arrived}
+use Rattle.body_laws.specs.BodySimulation.{Among, has_arrived}
 use Rattle.body_laws.proofs.Lists.{among-split}
 use Rattle.body_laws.proofs.Steps.{call-handle, bodies-handle, AreRequested, requested-run}
 
@@ -257,7 +257,7 @@ module _ (given : Invocation) (steps : List Step) (arrivals : List Arrival) (cal
 
   none-call : (o : Option Refusal) → NoneTaken arrivals (unless_refused given steps arrivals call o).steps
   none-call (Some refusal) = untaken
-  none-call None = none-kind (kind_of call)
+  none-call None = none-kind (call_kind call)
 
 -- ---- the run
 

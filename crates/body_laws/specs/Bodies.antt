@@ -16,7 +16,7 @@ use Rattle.journal_model.specs.History.{Step, next_completion, next_handle}
 use Rattle.journal_model.specs.Journal.{completes, completion}
 use Rattle.journal_model.specs.Run.{Invocation}
 use Rattle.attempt_model.specs.Machine.{Machine, with_arrival, next_slot, Fault, Reply, Answered, AwaitsTree, AwaitsChild, Finished, FailedBy, reply_to}
-use Rattle.attempt_model.specs.Results.{first_of}
+use Rattle.attempt_model.specs.Results.{first_waiting_result}
 
 -- the body of a run: the handle that its call was given, and the completion by which its outcome comes
 pub record Body : Type 0 where
@@ -67,7 +67,7 @@ after_acknowledgement e n = option_map (reads_outcome e n) (e.cached n)
 
 -- whether something has come for a completion, looked at or not
 abbrev pub has_come : Machine → ℕ → Bool
-has_come m n = list_any (completes n) m.queue || is_some (first_of (m.ready (CompletionId n)))
+has_come m n = list_any (completes n) m.queue || is_some (first_waiting_result (m.ready (CompletionId n)))
 
 -- the body of a call, by the next handle and completion, if it is one of a run
 abbrev pub bodies_of_call : (handle n : ℕ) → Call → List Body

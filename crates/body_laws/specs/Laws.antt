@@ -12,10 +12,10 @@ use Rattle.journal_model.specs.Journal.{completes, completion}
 use Rattle.journal_model.specs.Run.{Handler, Invocation, run_requests}
 use Rattle.attempt_model.specs.Machine.{machine_at_start}
 use Rattle.attempt_model.specs.Attempts.{AnswersFirst, EndedAs, RefusedAs}
-use Rattle.attempt_model.specs.Standing.{IsShown, ComesOnce, AreOfKind, Fits, next_call, AreReflexive, EndsWithRun}
+use Rattle.attempt_model.specs.Simulation.{IsShown, ComesOnce, AreOfKind, Fits, next_call, AreReflexive, EndsWithRun}
 use Rattle.body_laws.specs.Bodies.{Body, Executor, executor_over, reads_arrival, reads_outcome, after_acknowledgement, ExecutorReply, Answers, Executes, AwaitsTreeOf, AwaitsChildOf, Finishes, Fails, executor_reply, acknowledges, proposing, bodies_of, has_handle, suspends}
-use Rattle.body_laws.specs.Executing.{BodyEnd, Happening, Comes, Acknowledges, Attempting, AttemptState, Live, Over, Misled, Turn, Answered, RanBody, Waiting, Suspended, Ended, Failed, turn_of, turn_reply, attempt_after, after_turns, arrivals_read, proposed_by, is_over, count_made}
-use Rattle.body_laws.specs.Standing.{Among, count_proposed, StandsWithBodies, ExecutesBody, WaitsWithBodies, WaitsForChildWithBodies, AnswersWithBodies, RepliesWithBodies, has_arrived}
+use Rattle.body_laws.specs.AttemptExecution.{BodyEnd, Happening, Comes, Acknowledges, Attempting, AttemptState, Live, Over, Misled, Turn, Answered, RanBody, Waiting, Suspended, Ended, Failed, turn_after_body, turn_reply, attempt_after, after_turns, arrivals_read, proposed_by, is_attempt_over, count_made}
+use Rattle.body_laws.specs.BodySimulation.{Among, count_proposed, StandsWithBodies, ExecutesBody, WaitsWithBodies, WaitsForChildWithBodies, AnswersWithBodies, RepliesWithBodies, has_arrived}
 
 -- ---- one step
 
@@ -142,7 +142,7 @@ TurnTells handler given journal arrivals calls proposed is_closed _ _ = ⊥
 abbrev pub TurnsTell : Type 0
 TurnsTell = (same_header : Call → Request → Request → Bool) (handler : Handler) (given : Invocation) (journal : List Request) (arrivals : List Arrival) (a : Attempting) (end : BodyEnd)
     → AreReflexive same_header → Fits handler given journal arrivals → (f : GoesOnWithBodies handler given journal arrivals a) → AreOfKind handler given arrivals f.first.calls
-    → TurnTells handler given journal arrivals f.first.calls a.proposed a.is_closed (turn_of end a.is_closed (turn_reply same_header handler given a)) (turn_reply same_header handler given a)
+    → TurnTells handler given journal arrivals f.first.calls a.proposed a.is_closed (turn_after_body end a.is_closed (turn_reply same_header handler given a)) (turn_reply same_header handler given a)
 
 -- no attempt executes a run twice: of no completion are two outcomes proposed
 abbrev pub ProposesOnce : Type 0
@@ -153,4 +153,4 @@ ProposesOnce = (handler : Handler) (given : Invocation) (journal : List Request)
 abbrev pub ClosedTurnsProgress : Type 0
 ClosedTurnsProgress = (same_header : Call → Request → Request → Bool) (handler : Handler) (given : Invocation) (a : Attempting) (ends : List BodyEnd) → a.is_closed ≡ true → a.executor.executing ≡ []
     → let after = after_turns same_header handler given (Live a) ends in
-    (is_over after ≡ true) ⊎ (count_made after ≡ length ends + count_made (Live a))
+    (is_attempt_over after ≡ true) ⊎ (count_made after ≡ length ends + count_made (Live a))

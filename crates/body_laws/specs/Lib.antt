@@ -1,4 +1,4 @@
 pub mod Bodies
-pub mod Executing
-pub mod Standing
+pub mod AttemptExecution
+pub mod BodySimulation
 pub mod Laws

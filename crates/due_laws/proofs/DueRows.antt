@@ -21,13 +21,13 @@ abbrev id : List ℕ
 id = codes "nap"
 
 abbrev take : Frame → Event
-take frame = Event.Take id 1 frame
+take frame = Event.Move id 1 frame
 
 abbrev noted : Option ℕ → ℕ → Bool → Noted
 noted heard arrivals is_awake = record { heard = heard; arrivals = arrivals; is_awake = is_awake }
 
 abbrev closed : List Event
-closed = Event.CloseInput id 1 ∷ take (Frame.Command (Request.Sleep 5000 1 [])) ∷ Event.HandOut id 1 4096 ∷ Event.Begin id 1000 ∷ Event.Invoke nap ∷ []
+closed = Event.Close id 1 ∷ take (Frame.Command (Request.Sleep 5000 1 [])) ∷ Event.Feed id 1 4096 ∷ Event.Begin id 1000 ∷ Event.Invoke nap ∷ []
 
 abbrev suspended : List Event
 suspended = take (Frame.Suspend (Some (ForTree (Single (CompletionId 1))))) ∷ closed
@@ -67,18 +67,18 @@ of_nothing = refl
 
 -- an attempt that is handed one of two arrivals
 abbrev second : Frame → Event
-second frame = Event.Take id 2 frame
+second frame = Event.Move id 2 frame
 
 abbrev handed_one : List Event
 handed_one =
     second (Frame.Suspend (Some (ForTree (Combined AllCompleted (and_trees (Single (CompletionId 1)) (and_trees (Single (SignalName (codes "go"))) no_trees))))))
-    ∷ Event.CloseInput id 2 ∷ Event.HandOut id 2 4096 ∷ Event.Begin id 6000 ∷ Event.Tick 5000 ∷ suspended
+    ∷ Event.Close id 2 ∷ Event.Feed id 2 4096 ∷ Event.Begin id 6000 ∷ Event.Tick 5000 ∷ suspended
 
 at_one : noted_of handed_one id ≡ noted (Some 1) 1 false
 at_one = refl
 
 -- its end
-at_end : noted_of (Event.Take id 3 Frame.End ∷ Event.Begin id 7000 ∷ handed_one) id ≡ noted (Some 0) 1 false
+at_end : noted_of (Event.Move id 3 Frame.End ∷ Event.Begin id 7000 ∷ handed_one) id ≡ noted (Some 0) 1 false
 at_end = refl
 
 -- ---- an outcome that is acknowledged

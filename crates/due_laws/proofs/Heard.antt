@@ -9,7 +9,7 @@ use Rattle.journal_model.specs.Attempt.{Piece, begins_attempt, bytes_asked, hand
 use Rattle.journal_model.specs.Cause.{own_tests, causes_of, IsAccepted}
 use Rattle.journal_model.specs.declared.cause.Cause.{Cause}
 use Rattle.journal_laws.proofs.ObjectState.{holds-head, not-false}
-use Rattle.input_laws.specs.Reading.{arrivals_among}
+use Rattle.input_laws.specs.ArrivalsRead.{arrivals_among}
 use Rattle.input_laws.proofs.Events.{added_by, not_begun, arrivals_now}
 use Rattle.input_laws.proofs.Handed.{within-more, within-among, counted, no_input, first_input, brought, brought_filled, pieces_now, handed_now, handed_within}
 use Rattle.input_laws.proofs.LiveAttempts.{numbered, own_hold, none_live, live_now}
@@ -40,26 +40,26 @@ pub record Suspends (events : List Event) (event : Event) (id : Text) : Type 0 w
   pub asks : bytes_asked id event ≡ None
 
 suspends : (events : List Event) (event : Event) (id : Text) (s : Suspension) → suspension_in id event ≡ Some s → Suspends events event id
-suspends events (Event.Take other attempt (Frame.Suspend suspension)) id s e = by_id (bytes_eq other id) refl e
+suspends events (Event.Move other attempt (Frame.Suspend suspension)) id s e = by_id (bytes_eq other id) refl e
   where
-    by_id : (b : Bool) → bytes_eq other id ≡ b → (if b then suspension else None) ≡ Some s → Suspends events (Event.Take other attempt (Frame.Suspend suspension)) id
+    by_id : (b : Bool) → bytes_eq other id ≡ b → (if b then suspension else None) ≡ Some s → Suspends events (Event.Move other attempt (Frame.Suspend suspension)) id
     by_id true f e = record { ends = rw f refl; tells = rw f refl; asks = refl }
     by_id false f e = cc
 suspends events _ id s e = cc
 
 -- what an event tells of it is what it was handed
 pub tells : (events : List Event) (event : Event) (id : Text) → (heard_in events id event ≡ None) ⊎ (heard_in events id event ≡ Some (arrivals_heard events id))
-tells events (Event.Take other attempt (Frame.Suspend suspension)) id = by_id (bytes_eq other id)
+tells events (Event.Move other attempt (Frame.Suspend suspension)) id = by_id (bytes_eq other id)
   where
     by_id : (b : Bool) → ((if b then Some (arrivals_heard events id) else None) ≡ None) ⊎ ((if b then Some (arrivals_heard events id) else None) ≡ Some (arrivals_heard events id))
     by_id true = inr refl
     by_id false = inl refl
-tells events (Event.Take other attempt Frame.End) id = by_id (bytes_eq other id)
+tells events (Event.Move other attempt Frame.End) id = by_id (bytes_eq other id)
   where
     by_id : (b : Bool) → ((if b then Some (arrivals_heard events id) else None) ≡ None) ⊎ ((if b then Some (arrivals_heard events id) else None) ≡ Some (arrivals_heard events id))
     by_id true = inr refl
     by_id false = inl refl
-tells events (Event.Take other attempt frame) id = by_id (bytes_eq other id)
+tells events (Event.Move other attempt frame) id = by_id (bytes_eq other id)
   where
     by_id : (b : Bool) → (◌≡◌ {A = Option ℕ} (if b then None else None) None) ⊎ ((if b then None else None) ≡ Some (arrivals_heard events id))
     by_id true = inl refl
@@ -68,15 +68,15 @@ tells events _ id = inl refl
 
 -- ---- what is handed out is handed to a live attempt
 
-pub handed_live : (events : List Event) (id : Text) (attempt most : ℕ) → causes_of events (Event.HandOut id attempt most) ≡ [] → is_live events id attempt ≡ true
+pub handed_live : (events : List Event) (id : Text) (attempt most : ℕ) → causes_of events (Event.Feed id attempt most) ≡ [] → is_live events id attempt ≡ true
 handed_live events id attempt most causes =
     not-false (is_live events id attempt)
-    (holds-head (own_tests events (Event.HandOut id attempt most))
+    (holds-head (own_tests events (Event.Feed id attempt most))
     (own_hold (not (is_some (invocation_begun events id))) (is_some (invocation_begun events id) && not (is_open events id)) Cause.UnknownInvocation Cause.InvocationClosed
-    (own_tests events (Event.HandOut id attempt most)) causes))
+    (own_tests events (Event.Feed id attempt most)) causes))
 
 asks_live : (events : List Event) (event : Event) (id : Text) → causes_of events event ≡ [] → (bytes_asked id event ≡ None) ⊎ (is_some (live_attempt events id) ≡ true)
-asks_live events (Event.HandOut other attempt most) id causes = by_id (bytes_eq other id) refl
+asks_live events (Event.Feed other attempt most) id causes = by_id (bytes_eq other id) refl
   where
     by_id : (b : Bool) → bytes_eq other id ≡ b → ((if b then Some most else None) ≡ None) ⊎ (is_some (live_attempt events id) ≡ true)
     by_id true e =

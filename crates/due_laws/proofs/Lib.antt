@@ -2,9 +2,9 @@ pub mod Growing
 pub mod Heard
 pub mod Opened
 pub mod Noting
-pub mod Listing
+pub mod DueList
 pub mod Rows
-pub mod Handing
+pub mod InputParts
 pub mod Leaves
 pub mod Told
 pub mod DueRows

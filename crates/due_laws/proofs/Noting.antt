@@ -17,7 +17,7 @@ use Rattle.input_laws.proofs.Events.{added_by, begun_same, entries_first, arriva
 use Rattle.input_laws.proofs.Handed.{other_begins}
 use Rattle.input_laws.proofs.LiveAttempts.{numbered, taken_live, none_live, live_now}
 use Rattle.input_laws.proofs.Once.{arrivals_arrived}
-use Rattle.due_laws.specs.Awake.{arrivals_heard, heard_at, heard_in, or_kept, heard_of, or_zero, not_heard, is_awake_kept, noted_of, after_arrivals, answers_at_once, after_frame, is_still, NotedInvoked, NotedFollows, NotedTicks, NotedUnticked, NotedElsewhere, NotedStill, NotedRefused, NotedOpened, LiveIsAwake}
+use Rattle.due_laws.specs.Awake.{arrivals_heard, heard_at, heard_in, or_kept, heard_of, or_zero, not_heard, is_awake_kept, noted_of, after_arrivals, answers_at_once, noted_after_frame, is_still, NotedInvoked, NotedFollows, NotedTicks, NotedUnticked, NotedElsewhere, NotedStill, NotedRefused, NotedOpened, LiveIsAwake}
 use Rattle.due_laws.proofs.Growing.{awake_grows}
 use Rattle.due_laws.proofs.Heard.{heard_now, heard_anew, was_told, heard_is_within}
 use Rattle.due_laws.proofs.Opened.{opened, closes_in, open_own, open_other, live_open}
@@ -102,11 +102,11 @@ other_invokes (Event.Invoke new) id e = e
 other_invokes _ id e = refl
 
 other_tells : (events : List Event) (event : Event) (id : Text) → is_of id event ≡ false → heard_in events id event ≡ None
-other_tells events (Event.Take other attempt frame) id e = ap (λ (b : Bool). if b then heard_at events id frame else None) e
+other_tells events (Event.Move other attempt frame) id e = ap (λ (b : Bool). if b then heard_at events id frame else None) e
 other_tells events _ id e = refl
 
 other_waits : (event : Event) (id : Text) → is_of id event ≡ false → suspension_in id event ≡ None
-other_waits (Event.Take other attempt (Frame.Suspend suspension)) id e = ap (λ (b : Bool). if b then suspension else None) e
+other_waits (Event.Move other attempt (Frame.Suspend suspension)) id e = ap (λ (b : Bool). if b then suspension else None) e
 other_waits _ id e = refl
 
 pub noted_elsewhere : NotedElsewhere
@@ -117,13 +117,13 @@ noted_elsewhere events event id other tick =
     (ap arrivals_in (nothing_added events id event other (ap (λ (b : Bool). b && is_open events id) tick)))
 
 still_tells : (events : List Event) (event : Event) (id : Text) → is_still event ≡ true → heard_in events id event ≡ None
-still_tells events (Event.Take other attempt (Frame.Suspend suspension)) id e = cc
-still_tells events (Event.Take other attempt Frame.End) id e = cc
-still_tells events (Event.Take other attempt _) id e = both_same (bytes_eq other id) None
+still_tells events (Event.Move other attempt (Frame.Suspend suspension)) id e = cc
+still_tells events (Event.Move other attempt Frame.End) id e = cc
+still_tells events (Event.Move other attempt _) id e = both_same (bytes_eq other id) None
 still_tells events _ id e = refl
 
 still_waits : (event : Event) (id : Text) → is_still event ≡ true → suspension_in id event ≡ None
-still_waits (Event.Take other attempt (Frame.Suspend suspension)) id e = cc
+still_waits (Event.Move other attempt (Frame.Suspend suspension)) id e = cc
 still_waits _ id e = refl
 
 still_invokes : (event : Event) (id : Text) → is_still event ≡ true → begins id event ≡ false
@@ -135,25 +135,25 @@ still_begins (Event.Begin other now) id e = cc
 still_begins _ id e = refl
 
 pub still_adds : (start : StateMap) (entries : List Entry) (event : Event) → is_still event ≡ true → entries_of_event start entries event ≡ []
-still_adds start entries (Event.HandOut id attempt most) e = refl
-still_adds start entries (Event.CloseInput id attempt) e = refl
+still_adds start entries (Event.Feed id attempt most) e = refl
+still_adds start entries (Event.Close id attempt) e = refl
 still_adds start entries (Event.Stop id attempt) e = refl
-still_adds start entries (Event.Take id attempt Frame.AwaitingOn) e = refl
-still_adds start entries (Event.Take id attempt Frame.Broken) e = refl
-still_adds start entries (Event.Take id attempt Frame.TooDeep) e = refl
-still_adds start entries (Event.Take id attempt Frame.NotAccepted) e = refl
-still_adds start entries (Event.Take id attempt _) e = cc
+still_adds start entries (Event.Move id attempt Frame.AwaitingOn) e = refl
+still_adds start entries (Event.Move id attempt Frame.Broken) e = refl
+still_adds start entries (Event.Move id attempt Frame.TooDeep) e = refl
+still_adds start entries (Event.Move id attempt Frame.NotAccepted) e = refl
+still_adds start entries (Event.Move id attempt _) e = cc
 still_adds start entries _ e = cc
 
 still_opened : (o : Option NewInvocation) (event : Event) (frames : List Frame) → is_still event ≡ true → opened o (cons_option (frame_of event) frames) ≡ opened o frames
-still_opened o (Event.HandOut id attempt most) frames e = refl
-still_opened o (Event.CloseInput id attempt) frames e = refl
+still_opened o (Event.Feed id attempt most) frames e = refl
+still_opened o (Event.Close id attempt) frames e = refl
 still_opened o (Event.Stop id attempt) frames e = refl
-still_opened o (Event.Take id attempt Frame.AwaitingOn) frames e = refl
-still_opened o (Event.Take id attempt Frame.Broken) frames e = refl
-still_opened o (Event.Take id attempt Frame.TooDeep) frames e = refl
-still_opened o (Event.Take id attempt Frame.NotAccepted) frames e = refl
-still_opened o (Event.Take id attempt _) frames e = cc
+still_opened o (Event.Move id attempt Frame.AwaitingOn) frames e = refl
+still_opened o (Event.Move id attempt Frame.Broken) frames e = refl
+still_opened o (Event.Move id attempt Frame.TooDeep) frames e = refl
+still_opened o (Event.Move id attempt Frame.NotAccepted) frames e = refl
+still_opened o (Event.Move id attempt _) frames e = cc
 still_opened o _ frames e = cc
 
 still_open : (event : Event) (events : List Event) (id : Text) → is_still event ≡ true → is_open (event ∷ events) id ≡ is_open events id
@@ -176,7 +176,7 @@ noted_still events event id e =
 
 refused : (events : List Event) (event : Event) (id : Text) (causes : List Cause) → causes ≢ [] → noted_of (left_by event causes ++ events) id ≡ noted_of events id
 refused events event id [] h = absurd (h refl)
-refused events (Event.Take other attempt frame) id (cause ∷ causes) h = by_frame (is_of_frame cause)
+refused events (Event.Move other attempt frame) id (cause ∷ causes) h = by_frame (is_of_frame cause)
   where
     by_frame : (b : Bool) → noted_of ((if b then Event.Stop other attempt ∷ [] else []) ++ events) id ≡ noted_of events id
     by_frame true = noted_still events (Event.Stop other attempt) id refl
@@ -265,24 +265,24 @@ live_free events id accepted live = by_suspension (suspension_of events id) refl
     by_suspension None e = refl
     by_suspension (Some s) e = absurd (true≢false (sym live ∙ ap is_some (was_told events id s accepted e).dead))
 
-taken_free : (events : List Event) (other : Text) (attempt : ℕ) (frame : Frame) (id : Text) → IsAccepted (Event.Take other attempt frame ∷ events) → bytes_eq other id ≡ true
+taken_free : (events : List Event) (other : Text) (attempt : ℕ) (frame : Frame) (id : Text) → IsAccepted (Event.Move other attempt frame ∷ events) → bytes_eq other id ≡ true
     → suspension_of events id ≡ None
 taken_free events other attempt frame id accepted own =
     live_free events id accepted.1
     (subst (λ (x : Text). is_some (live_attempt events x) ≡ true) (same_text other id own) (numbered events other attempt (taken_live events other attempt frame accepted.0)))
 
 heard_ends : (events : List Event) (event : Event) (id : Text) (n : ℕ) → heard_in events id event ≡ Some n → (is_of id event && ends_live event) ≡ true
-heard_ends events (Event.Take other attempt (Frame.Suspend suspension)) id n e = by_id (bytes_eq other id) e
+heard_ends events (Event.Move other attempt (Frame.Suspend suspension)) id n e = by_id (bytes_eq other id) e
   where
     by_id : (b : Bool) → (if b then Some (arrivals_heard events id) else None) ≡ Some n → (b && true) ≡ true
     by_id true e = refl
     by_id false e = cc
-heard_ends events (Event.Take other attempt Frame.End) id n e = by_id (bytes_eq other id) e
+heard_ends events (Event.Move other attempt Frame.End) id n e = by_id (bytes_eq other id) e
   where
     by_id : (b : Bool) → (if b then Some (arrivals_heard events id) else None) ≡ Some n → (b && true) ≡ true
     by_id true e = refl
     by_id false e = cc
-heard_ends events (Event.Take other attempt frame) id n e =
+heard_ends events (Event.Move other attempt frame) id n e =
     absurd (nothing (sym (both_same {A = Option ℕ} (bytes_eq other id) None) ∙ e))
   where
     nothing : ◌≡◌ {A = Option ℕ} None (Some n) → ⊥
@@ -335,32 +335,32 @@ module _ (events : List Event) (event : Event) (id : Text) (accepted : IsAccepte
 
 -- a frame of an attempt, one of these
 module _ (events : List Event) (id : Text) (other : Text) (attempt : ℕ) (own : bytes_eq other id ≡ true) where
-  command_noted : (request : Request) → IsAccepted (Event.Take other attempt (Frame.Command request) ∷ events)
-      → noted_of (Event.Take other attempt (Frame.Command request) ∷ events) id ≡ after_frame events id (Frame.Command request) (noted_of events id)
+  command_noted : (request : Request) → IsAccepted (Event.Move other attempt (Frame.Command request) ∷ events)
+      → noted_of (Event.Move other attempt (Frame.Command request) ∷ events) id ≡ noted_after_frame events id (Frame.Command request) (noted_of events id)
   command_noted request accepted =
-      let event = Event.Take other attempt (Frame.Command request) in
+      let event = Event.Move other attempt (Frame.Command request) in
       let was = was_open events event id accepted own refl in
       goes_on events event id refl was (taken_free events other attempt (Frame.Command request) id accepted own) refl (both_same (bytes_eq other id) None) refl true
       (open_own event events id refl own was) (answers_at_once request)
       (ap (λ (added : List Entry). length (arrivals_in added)) (added_own events event id own)
       ∙ answers (state_after (requests_in (entries_of events id)) (starting_state events id)) request)
 
-  outcome_noted : (n : ℕ) (value : _) (is_acknowledged : Bool) → IsAccepted (Event.Take other attempt (Frame.RunOutcome n value is_acknowledged) ∷ events)
-      → noted_of (Event.Take other attempt (Frame.RunOutcome n value is_acknowledged) ∷ events) id
-      ≡ after_frame events id (Frame.RunOutcome n value is_acknowledged) (noted_of events id)
+  outcome_noted : (n : ℕ) (value : _) (is_acknowledged : Bool) → IsAccepted (Event.Move other attempt (Frame.RunOutcome n value is_acknowledged) ∷ events)
+      → noted_of (Event.Move other attempt (Frame.RunOutcome n value is_acknowledged) ∷ events) id
+      ≡ noted_after_frame events id (Frame.RunOutcome n value is_acknowledged) (noted_of events id)
   outcome_noted n value is_acknowledged accepted =
-      let event = Event.Take other attempt (Frame.RunOutcome n value is_acknowledged) in
+      let event = Event.Move other attempt (Frame.RunOutcome n value is_acknowledged) in
       let was = was_open events event id accepted own refl in
       goes_on events event id refl was (taken_free events other attempt (Frame.RunOutcome n value is_acknowledged) id accepted own) refl (both_same (bytes_eq other id) None) refl true
       (open_own event events id refl own was) 1
       (ap (λ (added : List Entry). length (arrivals_in added)) (added_own events event id own))
 
-  error_noted : (code : ℕ) (message : Text) (behavior : Behavior) (delay : Option ℕ) → IsAccepted (Event.Take other attempt (Frame.Error code message behavior delay) ∷ events)
-      → noted_of (Event.Take other attempt (Frame.Error code message behavior delay) ∷ events) id
-      ≡ after_frame events id (Frame.Error code message behavior delay) (noted_of events id)
+  error_noted : (code : ℕ) (message : Text) (behavior : Behavior) (delay : Option ℕ) → IsAccepted (Event.Move other attempt (Frame.Error code message behavior delay) ∷ events)
+      → noted_of (Event.Move other attempt (Frame.Error code message behavior delay) ∷ events) id
+      ≡ noted_after_frame events id (Frame.Error code message behavior delay) (noted_of events id)
   error_noted code message behavior delay accepted =
       let frame = Frame.Error code message behavior delay in
-      let event = Event.Take other attempt (Frame.Error code message behavior delay) in
+      let event = Event.Move other attempt (Frame.Error code message behavior delay) in
       let was = was_open events event id accepted own refl in
       let zero : length (recorded_arrivals events id) + 0 ≡ length (recorded_arrivals events id) = omega arith in
       goes_on events event id refl was (taken_free events other attempt (Frame.Error code message behavior delay) id accepted own) refl (both_same (bytes_eq other id) None) refl
@@ -372,10 +372,10 @@ module _ (events : List Event) (id : Text) (other : Text) (attempt : ℕ) (own :
       by_closes true = refl
       by_closes false = refl
 
-  end_noted : IsAccepted (Event.Take other attempt Frame.End ∷ events)
-      → noted_of (Event.Take other attempt Frame.End ∷ events) id ≡ after_frame events id Frame.End (noted_of events id)
+  end_noted : IsAccepted (Event.Move other attempt Frame.End ∷ events)
+      → noted_of (Event.Move other attempt Frame.End ∷ events) id ≡ noted_after_frame events id Frame.End (noted_of events id)
   end_noted accepted =
-      let event = Event.Take other attempt Frame.End in
+      let event = Event.Move other attempt Frame.End in
       let was = was_open events event id accepted own refl in
       let zero : length (recorded_arrivals events id) + 0 ≡ length (recorded_arrivals events id) = omega arith in
       noted_now events event id refl false (Some (arrivals_heard events id)) (suspension_of events id) [] (open_own event events id refl own was)
@@ -384,10 +384,10 @@ module _ (events : List Event) (id : Text) (other : Text) (attempt : ℕ) (own :
       (ap (λ (added : List Entry). arrivals_in added) (added_own events event id own))
       ∙ (λ i. record { heard = Some (arrivals_heard events id); arrivals = zero i; is_awake = false })
 
-  suspension_noted : (suspension : Option Suspension) → IsAccepted (Event.Take other attempt (Frame.Suspend suspension) ∷ events)
-      → noted_of (Event.Take other attempt (Frame.Suspend suspension) ∷ events) id ≡ after_frame events id (Frame.Suspend suspension) (noted_of events id)
+  suspension_noted : (suspension : Option Suspension) → IsAccepted (Event.Move other attempt (Frame.Suspend suspension) ∷ events)
+      → noted_of (Event.Move other attempt (Frame.Suspend suspension) ∷ events) id ≡ noted_after_frame events id (Frame.Suspend suspension) (noted_of events id)
   suspension_noted suspension accepted =
-      let event = Event.Take other attempt (Frame.Suspend suspension) in
+      let event = Event.Move other attempt (Frame.Suspend suspension) in
       let was = was_open events event id accepted own refl in
       let free = taken_free events other attempt (Frame.Suspend suspension) id accepted own in
       let zero : length (recorded_arrivals events id) + 0 ≡ length (recorded_arrivals events id) = omega arith in
@@ -403,16 +403,16 @@ module _ (events : List Event) (id : Text) (other : Text) (attempt : ℕ) (own :
       as_is None = refl
       as_is (Some s) = refl
 
-  frame_noted : (frame : Frame) → IsAccepted (Event.Take other attempt frame ∷ events) → noted_of (Event.Take other attempt frame ∷ events) id ≡ after_frame events id frame (noted_of events id)
+  frame_noted : (frame : Frame) → IsAccepted (Event.Move other attempt frame ∷ events) → noted_of (Event.Move other attempt frame ∷ events) id ≡ noted_after_frame events id frame (noted_of events id)
   frame_noted (Frame.Command request) accepted = command_noted request accepted
   frame_noted (Frame.RunOutcome n value is_acknowledged) accepted = outcome_noted n value is_acknowledged accepted
   frame_noted (Frame.Suspend suspension) accepted = suspension_noted suspension accepted
   frame_noted (Frame.Error code message behavior delay) accepted = error_noted code message behavior delay accepted
   frame_noted Frame.End accepted = end_noted accepted
-  frame_noted Frame.AwaitingOn accepted = noted_still events (Event.Take other attempt Frame.AwaitingOn) id refl
-  frame_noted Frame.Broken accepted = noted_still events (Event.Take other attempt Frame.Broken) id refl
-  frame_noted Frame.TooDeep accepted = noted_still events (Event.Take other attempt Frame.TooDeep) id refl
-  frame_noted Frame.NotAccepted accepted = noted_still events (Event.Take other attempt Frame.NotAccepted) id refl
+  frame_noted Frame.AwaitingOn accepted = noted_still events (Event.Move other attempt Frame.AwaitingOn) id refl
+  frame_noted Frame.Broken accepted = noted_still events (Event.Move other attempt Frame.Broken) id refl
+  frame_noted Frame.TooDeep accepted = noted_still events (Event.Move other attempt Frame.TooDeep) id refl
+  frame_noted Frame.NotAccepted accepted = noted_still events (Event.Move other attempt Frame.NotAccepted) id refl
 
 begun_now : (events : List Event) (other : Text) (now : ℕ) (id : Text) → IsAccepted (Event.Begin other now ∷ events) → bytes_eq other id ≡ true
     → noted_of (Event.Begin other now ∷ events) id ≡ record (noted_of events id) { heard = None; is_awake = true }
@@ -437,14 +437,14 @@ one_arrives events event id new accepted own fresh plain old going tells waits a
 pub noted_follows : NotedFollows
 noted_follows events (Event.Invoke new) id accepted own fresh = cc
 noted_follows events (Event.Tick now) id accepted own fresh = absurd (true≢false (sym own))
-noted_follows events (Event.Complete other n result) id accepted own fresh =
-    one_arrives events (Event.Complete other n result) id (completion n result) accepted own refl refl refl refl refl refl refl
+noted_follows events (Event.Result other n result) id accepted own fresh =
+    one_arrives events (Event.Result other n result) id (completion n result) accepted own refl refl refl refl refl refl refl
 noted_follows events (Event.Signal other key result) id accepted own fresh =
     one_arrives events (Event.Signal other key result) id (record { id = id_of_signal key; result = result }) accepted own refl refl refl refl refl refl refl
 noted_follows events (Event.Cancel other) id accepted own fresh =
     one_arrives events (Event.Cancel other) id (record { id = cancel_id; result = NotificationResult.Void }) accepted own refl refl refl refl refl refl refl
 noted_follows events (Event.Begin other now) id accepted own fresh = begun_now events other now id accepted own
-noted_follows events (Event.Take other attempt frame) id accepted own fresh = frame_noted events id other attempt own frame accepted
-noted_follows events (Event.HandOut other attempt most) id accepted own fresh = noted_still events (Event.HandOut other attempt most) id refl
-noted_follows events (Event.CloseInput other attempt) id accepted own fresh = noted_still events (Event.CloseInput other attempt) id refl
+noted_follows events (Event.Move other attempt frame) id accepted own fresh = frame_noted events id other attempt own frame accepted
+noted_follows events (Event.Feed other attempt most) id accepted own fresh = noted_still events (Event.Feed other attempt most) id refl
+noted_follows events (Event.Close other attempt) id accepted own fresh = noted_still events (Event.Close other attempt) id refl
 noted_follows events (Event.Stop other attempt) id accepted own fresh = noted_still events (Event.Stop other attempt) id refl

@@ -57,7 +57,7 @@ not_closing version (Frame.Error code message behavior delay) e = cc
 not_closing version _ e = refl
 
 opened_still : (o : Option NewInvocation) (event : Event) (frames : List Frame) → ends_live event ≡ false → opened o (cons_option (frame_of event) frames) ≡ opened o frames
-opened_still o (Event.Take other attempt frame) frames e =
+opened_still o (Event.Move other attempt frame) frames e =
     ap (λ (b : Bool). is_some o && not (b || list_any (closes (version_in o)) frames)) (not_closing (version_in o) frame e)
 opened_still o _ frames e = refl
 

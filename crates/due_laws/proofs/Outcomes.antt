@@ -12,7 +12,7 @@ use Rattle.journal_model.specs.Journal.{begins, version_of, completes, arrivals_
 use Rattle.journal_model.specs.Attempt.{begins_attempt, acknowledged}
 use Rattle.journal_model.specs.Cause.{IsAccepted}
 use Rattle.input_laws.proofs.Events.{added_by, arrivals_now}
-use Rattle.due_laws.specs.Rows.{with_outcome, outcomes_noted, noted_number, outcomes_unread, first_if, OutcomesAreRead}
+use Rattle.due_laws.specs.Rows.{with_outcome_noted, outcomes_noted, noted_number, outcomes_unread, first_if, OutcomesAreRead}
 use Rattle.due_laws.proofs.Rows.{never_again, noted_same, or_first, or_second, any_drop, acknowledges, same_numbers, rows_so_far, all_known_stays}
 
 numbers_same : (noted others : List ℕ) (arrivals : List Arrival) → ((n : ℕ) → list_any (completes n) arrivals ≡ true → list_any (λ m. m == n) others ≡ list_any (λ m. m == n) noted)
@@ -39,7 +39,7 @@ none_come noted arrivals h = numbers_same [] noted arrivals h ∙ no_numbers arr
 begun : (events : List Event) (event : Event) (id : Text) → begins id event ≡ false → begins_attempt id event ≡ true → (k : ℕ) → outcomes_unread (event ∷ events) id k ≡ []
 begun events event id old e k =
     ap (λ (noted : List ℕ). filter_map (λ (arrival : Arrival). noted_number noted arrival.id) (drop k (recorded_arrivals (event ∷ events) id)))
-    (ap (λ (c : Bool). if c then [] else with_outcome (acknowledged (version_of events id) id event) (outcomes_noted events id)) e)
+    (ap (λ (c : Bool). if c then [] else with_outcome_noted (acknowledged (version_of events id) id event) (outcomes_noted events id)) e)
     ∙ no_numbers (drop k (recorded_arrivals (event ∷ events) id))
 
 module _ (events : List Event) (event : Event) (id : Text) (accepted : IsAccepted (event ∷ events)) (old : begins id event ≡ false) (going : begins_attempt id event ≡ false) where
@@ -47,7 +47,7 @@ module _ (events : List Event) (event : Event) (id : Text) (accepted : IsAccepte
   numbers noted arrivals = filter_map (λ (arrival : Arrival). noted_number noted arrival.id) arrivals
 
   new_numbers : (o : Option ℕ) → acknowledged (version_of events id) id event ≡ o
-      → filter_map (λ (arrival : Arrival). noted_number (with_outcome o (outcomes_noted events id)) arrival.id) (arrivals_in (added_by events id event)) ≡ with_outcome o []
+      → filter_map (λ (arrival : Arrival). noted_number (with_outcome_noted o (outcomes_noted events id)) arrival.id) (arrivals_in (added_by events id event)) ≡ with_outcome_noted o []
   new_numbers None e =
       none_come (outcomes_noted events id) (arrivals_in (added_by events id event)) (λ n come. off n come (list_any (λ m. m == n) (outcomes_noted events id)) refl)
     where
@@ -60,16 +60,16 @@ module _ (events : List Event) (event : Event) (id : Text) (accepted : IsAccepte
       ∙ ap (λ (b : Bool). cons_option (if b || list_any (λ k. k == m) (outcomes_noted events id) then Some m else None) []) (eq-eqb m m refl)
 
   stays : (k : ℕ) → k ≤ length (recorded_arrivals events id)
-      → outcomes_unread (event ∷ events) id k ≡ outcomes_unread events id k ++ with_outcome (acknowledged (version_of events id) id event) []
+      → outcomes_unread (event ∷ events) id k ≡ outcomes_unread events id k ++ with_outcome_noted (acknowledged (version_of events id) id event) []
   stays k low =
       ap₂ (λ (noted : List ℕ) (arrivals : List Arrival). filter_map (λ (arrival : Arrival). noted_number noted arrival.id) (drop k arrivals))
       (all_known_stays events event id old going).noted (arrivals_now event events id old)
-      ∙ ap (filter_map (λ (arrival : Arrival). noted_number (with_outcome (acknowledged (version_of events id) id event) (outcomes_noted events id)) arrival.id))
+      ∙ ap (filter_map (λ (arrival : Arrival). noted_number (with_outcome_noted (acknowledged (version_of events id) id event) (outcomes_noted events id)) arrival.id))
       (drop-append-le k (recorded_arrivals events id) (arrivals_in (added_by events id event)) low)
-      ∙ filter_map-append (λ (arrival : Arrival). noted_number (with_outcome (acknowledged (version_of events id) id event) (outcomes_noted events id)) arrival.id)
+      ∙ filter_map-append (λ (arrival : Arrival). noted_number (with_outcome_noted (acknowledged (version_of events id) id event) (outcomes_noted events id)) arrival.id)
       (drop k (recorded_arrivals events id)) (arrivals_in (added_by events id event))
       ∙ ap₂ (λ (some more : List ℕ). some ++ more)
-      (numbers_same (outcomes_noted events id) (with_outcome (acknowledged (version_of events id) id event) (outcomes_noted events id)) (drop k (recorded_arrivals events id))
+      (numbers_same (outcomes_noted events id) (with_outcome_noted (acknowledged (version_of events id) id event) (outcomes_noted events id)) (drop k (recorded_arrivals events id))
       (λ n e.
       same_numbers events event id accepted old going (rows_so_far events id accepted.1) (acknowledged (version_of events id) id event) refl n
       (any_drop (completes n) k (recorded_arrivals events id) e)))
@@ -82,12 +82,12 @@ next_of (a ∷ arrivals) (suc k) arrival e =
     let one : suc k + 1 ≡ suc (k + 1) = omega arith in
     next_of arrivals k arrival e ∙ ap (λ (n : ℕ). arrival ∷ drop n (a ∷ arrivals)) (sym one)
 
-as_outcome : (o : Option ℕ) (rest : List ℕ) → cons_option o rest ≡ with_outcome o rest
+as_outcome : (o : Option ℕ) (rest : List ℕ) → cons_option o rest ≡ with_outcome_noted o rest
 as_outcome None rest = refl
 as_outcome (Some n) rest = refl
 
 read : (events : List Event) (id : Text) (k : ℕ) (arrival : Arrival) → slice_get (recorded_arrivals events id) k ≡ Some arrival
-    → outcomes_unread events id k ≡ with_outcome (noted_number (outcomes_noted events id) arrival.id) (outcomes_unread events id (k + 1))
+    → outcomes_unread events id k ≡ with_outcome_noted (noted_number (outcomes_noted events id) arrival.id) (outcomes_unread events id (k + 1))
 read events id k arrival e =
     ap (filter_map (λ (one : Arrival). noted_number (outcomes_noted events id) one.id)) (next_of (recorded_arrivals events id) k arrival e)
     ∙ as_outcome (noted_number (outcomes_noted events id) arrival.id) (outcomes_unread events id (k + 1))
@@ -117,7 +117,7 @@ told : (events : List Event) (id : Text) (k : ℕ) (arrival : Arrival) → slice
 told events id k arrival e = by_id arrival.id (read events id k arrival e)
   where
     by_first : (n : ℕ) (unread : List ℕ) → outcomes_unread events id k ≡ unread → (b : Bool) → list_any (λ m. m == n) (outcomes_noted events id) ≡ b
-        → unread ≡ with_outcome (if b then Some n else None) (outcomes_unread events id (k + 1)) → (if b then Some n else None) ≡ first_if (CompletionId n) unread
+        → unread ≡ with_outcome_noted (if b then Some n else None) (outcomes_unread events id (k + 1)) → (if b then Some n else None) ≡ first_if (CompletionId n) unread
     by_first n [] f true g h = cc
     by_first n (m ∷ rest) f true g h = let same : m ≡ n = cc in sym (ap (λ (b : Bool). if b then Some n else None) (eq-eqb m n same))
     by_first n [] f false g h = refl
@@ -130,7 +130,7 @@ told events id k arrival e = by_id arrival.id (read events id k arrival e)
             ∙ ap (λ (i : ℕ). list_any (λ l. l == i) (outcomes_noted events id)) same ∙ g))
         by_test false j = refl
 
-    by_id : (i : NotificationId) → outcomes_unread events id k ≡ with_outcome (noted_number (outcomes_noted events id) i) (outcomes_unread events id (k + 1))
+    by_id : (i : NotificationId) → outcomes_unread events id k ≡ with_outcome_noted (noted_number (outcomes_noted events id) i) (outcomes_unread events id (k + 1))
         → noted_number (outcomes_noted events id) i ≡ first_if i (outcomes_unread events id k)
     by_id (CompletionId n) h = by_first n (outcomes_unread events id k) refl (list_any (λ m. m == n) (outcomes_noted events id)) refl h
     by_id (SignalId n) h = refl

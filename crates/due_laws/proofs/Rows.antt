@@ -23,10 +23,10 @@ use Rattle.journal_model.specs.Cause.{IsAccepted}
 use Rattle.journal_laws.proofs.ObjectState.{requests_in-append, no_entries}
 use Rattle.input_laws.proofs.Events.{added_by, begun_same, start_same, entries_now, arrivals_now, arrivals_append, entries_first, not_begun}
 use Rattle.input_laws.proofs.Handed.{brought, pieces_now, first_input, begin_added, begun_is}
-use Rattle.input_laws.specs.Once.{count_of, number_of, numbers_come}
+use Rattle.input_laws.specs.Once.{count_of, completion_numbers_of, numbers_come}
 use Rattle.input_laws.proofs.Once.{count-append, recorded_once}
 use Rattle.input_laws.proofs.Results.{count-results, recorded_when_asked}
-use Rattle.due_laws.specs.Rows.{known_from, frames_known, arrivals_known_from, arrivals_known, with_outcome, outcomes_noted, noted_number, as_told, later_piece, PiecesAreRows, AllKnownStays}
+use Rattle.due_laws.specs.Rows.{known_from, frames_known, arrivals_known_from, arrivals_known, with_outcome_noted, outcomes_noted, noted_number, as_told, later_piece, PiecesAreRows, AllKnownStays}
 
 -- ---- a completion comes once, behind the request that asks for it
 
@@ -35,7 +35,7 @@ come_some n [] e = absurd (true≢false (sym e))
 come_some n (arrival ∷ arrivals) e = by_id arrival.id e (come_some n arrivals)
   where
     by_id : (i : NotificationId) → (same_id i (CompletionId n) || list_any (completes n) arrivals) ≡ true
-        → (list_any (completes n) arrivals ≡ true → 1 ≤ count_of n (numbers_come arrivals)) → 1 ≤ count_of n (number_of i ++ numbers_come arrivals)
+        → (list_any (completes n) arrivals ≡ true → 1 ≤ count_of n (numbers_come arrivals)) → 1 ≤ count_of n (completion_numbers_of i ++ numbers_come arrivals)
     by_id (CompletionId m) e later = by_test (m == n) e
       where
         by_test : (b : Bool) → (b || list_any (completes n) arrivals) ≡ true → 1 ≤ (if b then 1 else 0) + count_of n (numbers_come arrivals)
@@ -46,7 +46,7 @@ come_some n (arrival ∷ arrivals) e = by_id arrival.id e (come_some n arrivals)
 
 come_both : (xs ys : List Arrival) → numbers_come (xs ++ ys) ≡ numbers_come xs ++ numbers_come ys
 come_both [] ys = refl
-come_both (x ∷ xs) ys = ap (λ (rest : List ℕ). number_of x.id ++ rest) (come_both xs ys) ∙ sym (append_assoc (number_of x.id) (numbers_come xs) (numbers_come ys))
+come_both (x ∷ xs) ys = ap (λ (rest : List ℕ). completion_numbers_of x.id ++ rest) (come_both xs ys) ∙ sym (append_assoc (completion_numbers_of x.id) (numbers_come xs) (numbers_come ys))
 
 asked_of : (events : List Event) (id : Text) → IsAccepted events → (n : ℕ) → list_any (completes n) (recorded_arrivals events id) ≡ true
     → list_any (asks_for n) (recorded_requests events id) ≡ true
@@ -224,9 +224,9 @@ pub record Acknowledges (events : List Event) (event : Event) (id : Text) (n : �
   pub brings : arrivals_in (added_by events id event) ≡ completion n (result_of_value value) ∷ []
 
 pub acknowledges : (events : List Event) (event : Event) (id : Text) (n : ℕ) → acknowledged (version_of events id) id event ≡ Some n → Acknowledges events event id n
-acknowledges events (Event.Take other attempt (Frame.RunOutcome m value true)) id n e = by_tests (has_feature (version_of events id) Acknowledgement) (bytes_eq other id) refl e
+acknowledges events (Event.Move other attempt (Frame.RunOutcome m value true)) id n e = by_tests (has_feature (version_of events id) Acknowledgement) (bytes_eq other id) refl e
   where
-    by_tests : (a b : Bool) → bytes_eq other id ≡ b → (if a && b then Some m else None) ≡ Some n → Acknowledges events (Event.Take other attempt (Frame.RunOutcome m value true)) id n
+    by_tests : (a b : Bool) → bytes_eq other id ≡ b → (if a && b then Some m else None) ≡ Some n → Acknowledges events (Event.Move other attempt (Frame.RunOutcome m value true)) id n
     by_tests true true f e =
         let same : m ≡ n = cc in record {
           value = value;
@@ -257,10 +257,10 @@ module _ (events : List Event) (event : Event) (id : Text) (accepted : IsAccepte
       ap (λ (start : StateMap). arrivals_known_from start (event ∷ events) id) (start_same event events id old)
       ∙ ap (λ (c : Bool). if c then length (recorded_arrivals events id) else arrivals_known events id) e
 
-  noted_now : (o : Option ℕ) → begins_attempt id event ≡ false → acknowledged (version_of events id) id event ≡ o → outcomes_noted (event ∷ events) id ≡ with_outcome o (outcomes_noted events id)
+  noted_now : (o : Option ℕ) → begins_attempt id event ≡ false → acknowledged (version_of events id) id event ≡ o → outcomes_noted (event ∷ events) id ≡ with_outcome_noted o (outcomes_noted events id)
   noted_now o going e =
-      ap (λ (c : Bool). if c then [] else with_outcome (acknowledged (version_of events id) id event) (outcomes_noted events id)) going
-      ∙ ap (λ (p : Option ℕ). with_outcome p (outcomes_noted events id)) e
+      ap (λ (c : Bool). if c then [] else with_outcome_noted (acknowledged (version_of events id) id event) (outcomes_noted events id)) going
+      ∙ ap (λ (p : Option ℕ). with_outcome_noted p (outcomes_noted events id)) e
 
   -- a begin
   rows_begun : begins_attempt id event ≡ true → RowsSoFar (event ∷ events) id
@@ -281,7 +281,7 @@ module _ (events : List Event) (event : Event) (id : Text) (accepted : IsAccepte
         (sym (ap₂ (λ (n : ℕ) (entries : List Entry). drop n (arrivals_in entries)) (arrived_now true e) entries_are
         ∙ drop_all (length (recorded_arrivals events id)) (recorded_arrivals events id) (omega arith))));
     noted = λ n f.
-        absurd (true≢false (sym f ∙ ap (λ (c : Bool). list_any (λ m. m == n) (if c then [] else with_outcome (acknowledged (version_of events id) id event) (outcomes_noted events id))) e));
+        absurd (true≢false (sym f ∙ ap (λ (c : Bool). list_any (λ m. m == n) (if c then [] else with_outcome_noted (acknowledged (version_of events id) id event) (outcomes_noted events id))) e));
   }
 
   -- an event that begins nothing
@@ -293,7 +293,7 @@ module _ (events : List Event) (event : Event) (id : Text) (accepted : IsAccepte
     all_asked = asked_of events id accepted.1
 
     pub same_numbers : (o : Option ℕ) → acknowledged (version_of events id) id event ≡ o → (n : ℕ) → list_any (completes n) (recorded_arrivals events id) ≡ true
-        → list_any (λ m. m == n) (with_outcome o (outcomes_noted events id)) ≡ list_any (λ m. m == n) (outcomes_noted events id)
+        → list_any (λ m. m == n) (with_outcome_noted o (outcomes_noted events id)) ≡ list_any (λ m. m == n) (outcomes_noted events id)
     same_numbers None e n come = refl
     same_numbers (Some m) e n come = by_test (m == n) refl
       where
@@ -306,7 +306,7 @@ module _ (events : List Event) (event : Event) (id : Text) (accepted : IsAccepte
         by_test false f = refl
 
     new_pieces : (o : Option ℕ) → acknowledged (version_of events id) id event ≡ o
-        → map (later_piece (entries_of events id ++ added_by events id event) (with_outcome o (outcomes_noted events id))) (arrivals_in (added_by events id event))
+        → map (later_piece (entries_of events id ++ added_by events id event) (with_outcome_noted o (outcomes_noted events id))) (arrivals_in (added_by events id event))
         ≡ later_pieces (entries_of events id ++ added_by events id event) o (arrivals_in (added_by events id event))
     new_pieces None e =
         none_noted (entries_of events id ++ added_by events id event) (outcomes_noted events id) (arrivals_in (added_by events id event)) (λ n come. off n come (list_any (λ m. m == n) (outcomes_noted events id)) refl)
@@ -341,11 +341,11 @@ module _ (events : List Event) (event : Event) (id : Text) (accepted : IsAccepte
           ≡ map (later_piece (entries_of events id) (outcomes_noted events id)) (drop (arrivals_known events id) (recorded_arrivals events id)) ++ brought events event id old going =
           ap₂ (λ (entries : List Entry) (numbers : List ℕ). map (later_piece entries numbers) (drop (arrivals_known (event ∷ events) id) (recorded_arrivals (event ∷ events) id)))
           (entries_now event events id old) (noted_now (acknowledged (version_of events id) id event) going refl)
-          ∙ ap (map (later_piece (entries_of events id ++ added_by events id event) (with_outcome (acknowledged (version_of events id) id event) (outcomes_noted events id)))) dropped
-          ∙ map-append (later_piece (entries_of events id ++ added_by events id event) (with_outcome (acknowledged (version_of events id) id event) (outcomes_noted events id)))
+          ∙ ap (map (later_piece (entries_of events id ++ added_by events id event) (with_outcome_noted (acknowledged (version_of events id) id event) (outcomes_noted events id)))) dropped
+          ∙ map-append (later_piece (entries_of events id ++ added_by events id event) (with_outcome_noted (acknowledged (version_of events id) id event) (outcomes_noted events id)))
           (drop (arrivals_known events id) (recorded_arrivals events id)) (arrivals_in (added_by events id event))
           ∙ ap₂ (λ (some more : List Piece). some ++ more)
-          (later_same (entries_of events id) (added_by events id event) (outcomes_noted events id) (with_outcome (acknowledged (version_of events id) id event) (outcomes_noted events id))
+          (later_same (entries_of events id) (added_by events id event) (outcomes_noted events id) (with_outcome_noted (acknowledged (version_of events id) id event) (outcomes_noted events id))
           (drop (arrivals_known events id) (recorded_arrivals events id))
           (λ n e.
           let come = any_drop (completes n) (arrivals_known events id) (recorded_arrivals events id) e in
@@ -376,7 +376,7 @@ module _ (events : List Event) (event : Event) (id : Text) (accepted : IsAccepte
             → list_any (completes n) (recorded_arrivals events id ++ arrivals_in (added_by events id event)) ≡ true
         any_both n h = any_more n (recorded_arrivals events id) (arrivals_in (added_by events id event)) h
 
-        by_outcome : (n : ℕ) (o : Option ℕ) → acknowledged (version_of events id) id event ≡ o → list_any (λ m. m == n) (with_outcome o (outcomes_noted events id)) ≡ true
+        by_outcome : (n : ℕ) (o : Option ℕ) → acknowledged (version_of events id) id event ≡ o → list_any (λ m. m == n) (with_outcome_noted o (outcomes_noted events id)) ≡ true
             → (list_any (completes n) (recorded_arrivals events id) ≡ true) ⊎ (list_any (completes n) (arrivals_in (added_by events id event)) ≡ true)
         by_outcome n None e f = inl (before.noted n f)
         by_outcome n (Some m) e f = by_test (m == n) refl f
@@ -480,5 +480,5 @@ all_known_stays events event id old going = record {
   arrivals =
       ap (λ (start : StateMap). arrivals_known_from start (event ∷ events) id) (start_same event events id old)
       ∙ ap (λ (c : Bool). if c then length (recorded_arrivals events id) else arrivals_known events id) going;
-  noted = ap (λ (c : Bool). if c then [] else with_outcome (acknowledged (version_of events id) id event) (outcomes_noted events id)) going;
+  noted = ap (λ (c : Bool). if c then [] else with_outcome_noted (acknowledged (version_of events id) id event) (outcomes_noted events id)) going;
 }

@@ -7,23 +7,23 @@ use Rattle.journal_model.specs.Attempt.{attempts_begun, begins_attempt, ends_liv
 use Rattle.journal_model.specs.Journal.{is_of}
 use Rattle.journal_model.specs.Cause.{IsAccepted}
 use Rattle.input_laws.proofs.Events.{itself}
-use Rattle.due_laws.specs.Handing.{HandsPart, HandsChain}
-use Rattle.due_laws.specs.Told.{while_last, start_frame, handed_out, told, WasHanded, ChainIsHandedOut, ChainGoesOn}
-use Rattle.due_laws.proofs.Handing.{part_is_taken}
+use Rattle.due_laws.specs.InputParts.{HandsPart, HandsChain}
+use Rattle.due_laws.specs.Told.{while_last, start_frame, bytes_handed_out, bytes_told, WasHanded, ChainIsHandedOut, ChainGoesOn}
+use Rattle.due_laws.proofs.InputParts.{part_is_taken}
 use Rattle.due_laws.proofs.Heard.{handed_live}
 
 one_handed_out : (id : Text) (attempt : ℕ) (bytes : Bytes) (most : ℕ) (events : List Event) → HandsPart (input_left events id) most bytes
-    → handed_out (Event.HandOut id attempt (length bytes) ∷ events) id ≡ handed_out events id ++ bytes
+    → bytes_handed_out (Event.Feed id attempt (length bytes) ∷ events) id ≡ bytes_handed_out events id ++ bytes
 one_handed_out id attempt bytes most events part =
-    ap (λ (b : Bool). handed_out events id ++ (if b then take (length bytes) (input_left events id) else [])) (itself id)
-    ∙ ap (λ (some : Bytes). handed_out events id ++ some) (sym (part_is_taken (input_left events id) bytes most part))
+    ap (λ (b : Bool). bytes_handed_out events id ++ (if b then take (length bytes) (input_left events id) else [])) (itself id)
+    ∙ ap (λ (some : Bytes). bytes_handed_out events id ++ some) (sym (part_is_taken (input_left events id) bytes most part))
 
 pub chain_is_handed_out : ChainIsHandedOut
-chain_is_handed_out id attempt count [] old new chain = ap (λ (es : List Event). handed_out es id) chain.1 ∙ sym (append-nil (handed_out old id))
+chain_is_handed_out id attempt count [] old new chain = ap (λ (es : List Event). bytes_handed_out es id) chain.1 ∙ sym (append-nil (bytes_handed_out old id))
 chain_is_handed_out id attempt count (bytes ∷ parts) old new chain =
-    chain_is_handed_out id attempt (count - length bytes) parts (Event.HandOut id attempt (length bytes) ∷ old) new chain.1
+    chain_is_handed_out id attempt (count - length bytes) parts (Event.Feed id attempt (length bytes) ∷ old) new chain.1
     ∙ ap (λ (some : Bytes). some ++ concat parts) (one_handed_out id attempt bytes count old chain.0)
-    ∙ append_assoc (handed_out old id) bytes (concat parts)
+    ∙ append_assoc (bytes_handed_out old id) bytes (concat parts)
 
 -- a live attempt is the last one
 live_last : (events : List Event) (id : Text) (n : ℕ) → live_attempt events id ≡ Some n → attempts_begun events id ≡ n
@@ -56,29 +56,29 @@ all_last id n [] e = refl
 all_last id n (event ∷ earlier) e = ap (λ (b : Bool). if b then event ∷ earlier else while_last id n earlier) (eq-eqb (attempts_begun (event ∷ earlier) id) n e)
 
 -- one call
-one_goes_on : (id : Text) (number most : ℕ) (bytes : Bytes) (events : List Event) (before : Bytes) → IsAccepted (Event.HandOut id number (length bytes) ∷ events)
-    → HandsPart (input_left events id) most bytes → WasHanded id number before events → WasHanded id number (before ++ bytes) (Event.HandOut id number (length bytes) ∷ events)
+one_goes_on : (id : Text) (number most : ℕ) (bytes : Bytes) (events : List Event) (before : Bytes) → IsAccepted (Event.Feed id number (length bytes) ∷ events)
+    → HandsPart (input_left events id) most bytes → WasHanded id number before events → WasHanded id number (before ++ bytes) (Event.Feed id number (length bytes) ∷ events)
 one_goes_on id number most bytes events before accepted part was =
     let last : attempts_begun events id ≡ number = live_number events id number (handed_live events id number (length bytes) accepted.0) in
-    let still : attempts_begun (Event.HandOut id number (length bytes) ∷ events) id ≡ number = omega (arith, last) in record {
+    let still : attempts_begun (Event.Feed id number (length bytes) ∷ events) id ≡ number = omega (arith, last) in record {
       begun = (omega (arith, still));
       handed =
-          ap (λ (some : Bytes). some ++ bytes) (was.handed ∙ ap (λ (es : List Event). told es id) (all_last id number events last))
-          ∙ append_assoc (start_frame events id) (handed_out events id) bytes
+          ap (λ (some : Bytes). some ++ bytes) (was.handed ∙ ap (λ (es : List Event). bytes_told es id) (all_last id number events last))
+          ∙ append_assoc (start_frame events id) (bytes_handed_out events id) bytes
           ∙ ap (λ (some : Bytes). start_frame events id ++ some) (sym (one_handed_out id number bytes most events part))
-          ∙ ap (λ (es : List Event). told es id) (sym (all_last id number (Event.HandOut id number (length bytes) ∷ events) still));
+          ∙ ap (λ (es : List Event). bytes_told es id) (sym (all_last id number (Event.Feed id number (length bytes) ∷ events) still));
     }
 
 -- what was accepted before a chain
 chain_accepted : (id : Text) (attempt count : ℕ) (parts : List Bytes) (old new : List Event) → IsAccepted new → HandsChain id attempt count parts old new → IsAccepted old
 chain_accepted id attempt count [] old new accepted chain = subst (λ (es : List Event). IsAccepted es) chain.1 accepted
 chain_accepted id attempt count (bytes ∷ parts) old new accepted chain =
-    (chain_accepted id attempt (count - length bytes) parts (Event.HandOut id attempt (length bytes) ∷ old) new accepted chain.1).1
+    (chain_accepted id attempt (count - length bytes) parts (Event.Feed id attempt (length bytes) ∷ old) new accepted chain.1).1
 
 pub chain_goes_on : ChainGoesOn
 chain_goes_on id number count [] old new before accepted chain was =
     subst (λ (es : List Event). WasHanded id number (before ++ []) es) (sym chain.1) (subst (λ (some : Bytes). WasHanded id number some old) (sym (append-nil before)) was)
 chain_goes_on id number count (bytes ∷ parts) old new before accepted chain was =
     subst (λ (some : Bytes). WasHanded id number some new) (append_assoc before bytes (concat parts))
-    (chain_goes_on id number (count - length bytes) parts (Event.HandOut id number (length bytes) ∷ old) new (before ++ bytes) accepted chain.1
-    (one_goes_on id number count bytes old before (chain_accepted id number (count - length bytes) parts (Event.HandOut id number (length bytes) ∷ old) new accepted chain.1) chain.0 was))
+    (chain_goes_on id number (count - length bytes) parts (Event.Feed id number (length bytes) ∷ old) new (before ++ bytes) accepted chain.1
+    (one_goes_on id number count bytes old before (chain_accepted id number (count - length bytes) parts (Event.Feed id number (length bytes) ∷ old) new accepted chain.1) chain.0 was))

@@ -43,26 +43,26 @@ answers_at_once (Request.GetLazyStateKeys n name) = 1
 answers_at_once _ = 0
 
 -- after a frame of the live attempt
-abbrev pub after_frame : List Event → Text → Frame → Noted → Noted
-after_frame events id (Frame.Command request) p = record p { arrivals = p.arrivals + answers_at_once request }
-after_frame events id (Frame.RunOutcome n value is_acknowledged) p = record p { arrivals = p.arrivals + 1 }
-after_frame events id (Frame.Suspend suspension) p = record p {
+abbrev pub noted_after_frame : List Event → Text → Frame → Noted → Noted
+noted_after_frame events id (Frame.Command request) p = record p { arrivals = p.arrivals + answers_at_once request }
+noted_after_frame events id (Frame.RunOutcome n value is_acknowledged) p = record p { arrivals = p.arrivals + 1 }
+noted_after_frame events id (Frame.Suspend suspension) p = record p {
   heard = Some (arrivals_heard events id);
   is_awake = is_woken (drop (arrivals_heard events id) (recorded_arrivals events id)) suspension;
 }
-after_frame events id (Frame.Error code message behavior delay) p = record p {
+noted_after_frame events id (Frame.Error code message behavior delay) p = record p {
   is_awake = if closes (version_of events id) (Frame.Error code message behavior delay) then false else p.is_awake;
 }
-after_frame events id Frame.End p = record p { heard = Some (arrivals_heard events id); is_awake = false }
-after_frame events id _ p = p
+noted_after_frame events id Frame.End p = record p { heard = Some (arrivals_heard events id); is_awake = false }
+noted_after_frame events id _ p = p
 
 -- after an event of the invocation
 abbrev pub after_event : List Event → Text → Event → Noted → Noted
-after_event events id (Event.Complete other n result) p = after_arrivals events id (completion n result ∷ []) p
+after_event events id (Event.Result other n result) p = after_arrivals events id (completion n result ∷ []) p
 after_event events id (Event.Signal other key result) p = after_arrivals events id (record { id = id_of_signal key; result = result } ∷ []) p
 after_event events id (Event.Cancel other) p = after_arrivals events id (record { id = cancel_id; result = NotificationResult.Void } ∷ []) p
 after_event events id (Event.Begin other now) p = record p { heard = None; is_awake = true }
-after_event events id (Event.Take other attempt frame) p = after_frame events id frame p
+after_event events id (Event.Move other attempt frame) p = noted_after_frame events id frame p
 after_event events id _ p = p
 
 -- events by which nothing is told of an invocation
@@ -74,10 +74,10 @@ is_quiet Frame.NotAccepted = true
 is_quiet _ = false
 
 abbrev pub is_still : Event → Bool
-is_still (Event.HandOut id attempt most) = true
-is_still (Event.CloseInput id attempt) = true
+is_still (Event.Feed id attempt most) = true
+is_still (Event.Close id attempt) = true
 is_still (Event.Stop id attempt) = true
-is_still (Event.Take id attempt frame) = is_quiet frame
+is_still (Event.Move id attempt frame) = is_quiet frame
 is_still _ = false
 
 abbrev pub NotedInvoked : Type 0

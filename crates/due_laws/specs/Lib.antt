@@ -1,8 +1,8 @@
 pub mod Noted
 pub mod NextMoment
 pub mod Awake
-pub mod Listing
+pub mod DueList
 pub mod Rows
-pub mod Handing
+pub mod InputParts
 pub mod Leaves
 pub mod Told

@@ -17,7 +17,7 @@ heard_at earlier id Frame.End = Some (arrivals_heard earlier id)
 heard_at earlier id _ = None
 
 abbrev pub heard_in : List Event → Text → Event → Option ℕ
-heard_in earlier id (Event.Take other attempt frame) = if bytes_eq other id then heard_at earlier id frame else None
+heard_in earlier id (Event.Move other attempt frame) = if bytes_eq other id then heard_at earlier id frame else None
 heard_in earlier id _ = None
 
 abbrev pub or_kept : Option ℕ → Option ℕ → Option ℕ

@@ -30,14 +30,14 @@ abbrev pub arrivals_known : List Event → Text → ℕ
 arrivals_known events id = arrivals_known_from (starting_state events id) events id
 
 -- the completions of runs whose outcomes the last attempt has proposed so that they are to be acknowledged
-abbrev pub with_outcome : Option ℕ → List ℕ → List ℕ
-with_outcome None noted = noted
-with_outcome (Some n) noted = n ∷ noted
+abbrev pub with_outcome_noted : Option ℕ → List ℕ → List ℕ
+with_outcome_noted None noted = noted
+with_outcome_noted (Some n) noted = n ∷ noted
 
 abbrev pub outcomes_noted : List Event → Text → List ℕ
 outcomes_noted [] id = []
 outcomes_noted (event ∷ earlier) id =
-    if begins_attempt id event then [] else with_outcome (acknowledged (version_of earlier id) id event) (outcomes_noted earlier id)
+    if begins_attempt id event then [] else with_outcome_noted (acknowledged (version_of earlier id) id event) (outcomes_noted earlier id)
 
 abbrev pub noted_number : List ℕ → NotificationId → Option ℕ
 noted_number noted (CompletionId n) = if list_any (λ m. m == n) noted then Some n else None
@@ -71,7 +71,7 @@ PiecesAreRows = (events : List Event) (id : Text) → IsAccepted events → AreR
 pub record KnownStays (events : List Event) (event : Event) (id : Text) : Type 0 where
   pub frames : frames_known (event ∷ events) id ≡ frames_known events id
   pub arrivals : arrivals_known (event ∷ events) id ≡ arrivals_known events id
-  pub noted : outcomes_noted (event ∷ events) id ≡ with_outcome (acknowledged (version_of events id) id event) (outcomes_noted events id)
+  pub noted : outcomes_noted (event ∷ events) id ≡ with_outcome_noted (acknowledged (version_of events id) id event) (outcomes_noted events id)
 
 abbrev pub AllKnownStays : Type 0
 AllKnownStays = (events : List Event) (event : Event) (id : Text) → begins id event ≡ false → begins_attempt id event ≡ false → KnownStays events event id
@@ -93,9 +93,9 @@ pub record OutcomesAreRead : Type 0 where
   -- one that is to be acknowledged is put behind
   pub stays : (events : List Event) (event : Event) (id : Text) → IsAccepted (event ∷ events) → begins id event ≡ false → begins_attempt id event ≡ false
       → (k : ℕ) → k ≤ length (recorded_arrivals events id)
-      → outcomes_unread (event ∷ events) id k ≡ outcomes_unread events id k ++ with_outcome (acknowledged (version_of events id) id event) []
+      → outcomes_unread (event ∷ events) id k ≡ outcomes_unread events id k ++ with_outcome_noted (acknowledged (version_of events id) id event) []
   -- whether the next arrival is one of them is told by the first, which goes when it is read
   pub told : (events : List Event) (id : Text) (k : ℕ) (arrival : Arrival) → slice_get (recorded_arrivals events id) k ≡ Some arrival
       → noted_number (outcomes_noted events id) arrival.id ≡ first_if arrival.id (outcomes_unread events id k)
   pub read : (events : List Event) (id : Text) (k : ℕ) (arrival : Arrival) → slice_get (recorded_arrivals events id) k ≡ Some arrival
-      → outcomes_unread events id k ≡ with_outcome (noted_number (outcomes_noted events id) arrival.id) (outcomes_unread events id (k + 1))
+      → outcomes_unread events id k ≡ with_outcome_noted (noted_number (outcomes_noted events id) arrival.id) (outcomes_unread events id (k + 1))

@@ -9,7 +9,7 @@ use Rattle.journal_model.specs.Attempt.{attempts_begun, begins_attempt, input_le
 use Rattle.journal_model.specs.Cause.{IsAccepted}
 use Rattle.journal_model.specs.Spelling.{frame_bytes}
 use Rattle.journal_model.specs.Start.{start_payload}
-use Rattle.due_laws.specs.Handing.{HandsChain}
+use Rattle.due_laws.specs.InputParts.{HandsChain}
 
 abbrev pub while_last : Text → (number : ℕ) → List Event → List Event
 while_last id number [] = []
@@ -20,23 +20,23 @@ start_frame [] id = []
 start_frame (Event.Begin other now ∷ earlier) id = if bytes_eq other id then frame_bytes Start (start_payload earlier id now) else start_frame earlier id
 start_frame (event ∷ earlier) id = start_frame earlier id
 
-abbrev pub handed_out : List Event → Text → Bytes
-handed_out [] id = []
-handed_out (Event.HandOut other attempt most ∷ earlier) id = handed_out earlier id ++ (if bytes_eq other id then take most (input_left earlier id) else [])
-handed_out (event ∷ earlier) id = if begins_attempt id event then [] else handed_out earlier id
+abbrev pub bytes_handed_out : List Event → Text → Bytes
+bytes_handed_out [] id = []
+bytes_handed_out (Event.Feed other attempt most ∷ earlier) id = bytes_handed_out earlier id ++ (if bytes_eq other id then take most (input_left earlier id) else [])
+bytes_handed_out (event ∷ earlier) id = if begins_attempt id event then [] else bytes_handed_out earlier id
 
 -- parts one behind the other are handed out
 abbrev pub ChainIsHandedOut : Type 0
 ChainIsHandedOut = (id : Text) (attempt count : ℕ) (parts : List Bytes) (old new : List Event) → HandsChain id attempt count parts old new
-    → handed_out new id ≡ handed_out old id ++ concat parts
+    → bytes_handed_out new id ≡ bytes_handed_out old id ++ concat parts
 
 -- the attempt was begun, and handed these bytes
-abbrev pub told : List Event → Text → Bytes
-told events id = start_frame events id ++ handed_out events id
+abbrev pub bytes_told : List Event → Text → Bytes
+bytes_told events id = start_frame events id ++ bytes_handed_out events id
 
 pub record WasHanded (id : Text) (number : ℕ) (bytes : Bytes) (events : List Event) : Type 0 where
   pub begun : number ≤ attempts_begun events id
-  pub handed : bytes ≡ told (while_last id number events) id
+  pub handed : bytes ≡ bytes_told (while_last id number events) id
 
 -- so a chain of calls hands it what stands behind that
 abbrev pub ChainGoesOn : Type 0

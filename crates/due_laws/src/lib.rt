@@ -8,9 +8,9 @@
 ghost use Rattle.due_laws.specs.Awake.{AwakeGrows, AwakeIsDue, HeardIsWithin, LiveIsAwake, NotedElsewhere, NotedFollows, NotedInvoked, NotedOpened, NotedRefused, NotedStill, NotedTicks, NotedUnticked};
 ghost use Rattle.due_laws.specs.Leaves.{OnlyAwaitedWake};
 ghost use Rattle.due_laws.specs.Told.{ChainGoesOn, ChainIsHandedOut};
-ghost use Rattle.due_laws.specs.Listing.{AwakeFound, DueListed, DueTells};
+ghost use Rattle.due_laws.specs.DueList.{AwakeFound, DueListed, DueTells};
 ghost use Rattle.due_laws.specs.Rows.{AllKnownStays, OutcomesAreRead, PiecesAreRows};
-ghost use Rattle.due_laws.specs.Handing.{ChainsAreOne, CountIsUnseen, GivenIsAsked, PartIsHanded, PartIsTaken, RowsAreRead, RowsTell, TakenIsPart};
+ghost use Rattle.due_laws.specs.InputParts.{ChainsAreOne, CountIsUnseen, GivenIsAsked, PartIsHanded, PartIsTaken, RowsAreRead, RowsTell, TakenIsPart};
 
 /// An invocation is due where it has the flag that is kept and no attempt of it is live.
 pub fn awake_is_due()

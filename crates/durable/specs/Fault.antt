@@ -9,7 +9,7 @@ status_of Usage = 3
 status_of DatabaseRefused = 2
 status_of (Script fault) = script.status_of fault
 
-abbrev pub fault_text : ProgramFault → List ℕ
-fault_text Usage = codes "usage: durable SCRIPT DATABASE"
-fault_text DatabaseRefused = codes "database refused"
-fault_text (Script fault) = script.fault_text fault
+abbrev pub program_fault_text : ProgramFault → List ℕ
+program_fault_text Usage = codes "usage: durable SCRIPT DATABASE"
+program_fault_text DatabaseRefused = codes "database refused"
+program_fault_text (Script fault) = script.line_fault_text fault

@@ -31,9 +31,9 @@ impl ProgramFault {
 }
 
 impl fmt::Display for ProgramFault {
-    ghost use Rattle.durable.specs.Fault.{fault_text};
+    ghost use Rattle.durable.specs.Fault.{program_fault_text};
 
-    ghost output = { λ fault. Some (fault_text fault) };
+    ghost output = { λ fault. Some (program_fault_text fault) };
 
     fn fmt<W: fmt::Write>(&self, f: &mut fmt::Formatter<W>) -> fmt::Result {
         match self {

@@ -12,8 +12,8 @@ use Rattle.vm_types.specs.declared.options.VMOptions.{VMOptions}
 use Rattle.store_refusals.specs.declared.refusal.Refusal.{Refusal}
 use Rattle.store_steps.specs.declared.frame.FrameReply.{FrameReply}
 use Rattle.store_steps.specs.Taken.{lies_in_frame}
-use Rattle.store_calls.specs.Standing.{Standing, Stays}
-use Rattle.store_calls.specs.Calls.{Cancels, Completes, Invokes, Signals, Stops, Ticks}
+use Rattle.store_calls.specs.AbstractStore.{Standing, StaysStanding}
+use Rattle.store_calls.specs.Calls.{Cancels, CompletesCall, Invokes, Signals, Stops, Ticks}
 use Rattle.store_calls.specs.Frames.{LeavesRefused, Rests, TakesEach}
 use Rattle.store_calls.proofs.Taking.{bytes_stay}
 use Rattle.schedule_laws.specs.Attempts.{RunOutcome, Attempt}
@@ -34,7 +34,7 @@ Adds one answer s t = (accepted : List Event) × IsAcceptedOf one answer s.event
 
 -- so many frames of an attempt
 abbrev TakesSome : Text → ℕ → (count : ℕ) → Standing → Standing → Type 0
-TakesSome id n count s t = (taken : List Frame) × (length taken ≡ count) × (t.events ≡ map (Event.Take id n) taken ++ s.events)
+TakesSome id n count s t = (taken : List Frame) × (length taken ≡ count) × (t.events ≡ map (Event.Move id n) taken ++ s.events)
 
 each_taken : (id : Text) (n : ℕ) (replies : List FrameReply) (s t : Standing) → TakesEach id n replies s t → TakesSome id n (length replies) s t
 each_taken id n [] s t it = ([], refl, it.events)
@@ -43,9 +43,9 @@ each_taken id n (first ∷ replies) s t it =
     let frame = it.1.frame in (
       rest.0 ++ frame ∷ [],
       omega (arith, rest.1, length-append rest.0 (frame ∷ [])),
-      rest.2 ∙ ap (λ (events : List Event). map (Event.Take id n) rest.0 ++ events) it.1.leaves.events
-          ∙ sym (append_assoc (map (Event.Take id n) rest.0) (Event.Take id n frame ∷ []) s.events)
-          ∙ ap (λ (events : List Event). events ++ s.events) (sym (map-append (Event.Take id n) rest.0 (frame ∷ []))),
+      rest.2 ∙ ap (λ (events : List Event). map (Event.Move id n) rest.0 ++ events) it.1.leaves.events
+          ∙ sym (append_assoc (map (Event.Move id n) rest.0) (Event.Move id n frame ∷ []) s.events)
+          ∙ ap (λ (events : List Event). events ++ s.events) (sym (map-append (Event.Move id n) rest.0 (frame ∷ []))),
     )
 
 refused_stop : (lies : Bool) (id : Text) (n : ℕ) (s t : Standing) → LeavesRefused lies id n s t → t.events ≡ (if lies then Event.Stop id n ∷ [] else []) ++ s.events
@@ -67,9 +67,9 @@ module _ {H : Type 0} (function : H → Handler) (options : VMOptions) where
   invoke_adds one (reply.Refused (refusal.Store why)) s t it = ([], refl, it.stays.events)
   invoke_adds one _ s t it = absurd it
 
-  complete_adds : (id : Text) (n : ℕ) (value : NotificationResult) (answer : Reply) (s t : Standing) → RepliesPlace (λ result. Completes id n value result s t) answer
+  complete_adds : (id : Text) (n : ℕ) (value : NotificationResult) (answer : Reply) (s t : Standing) → RepliesPlace (λ result. CompletesCall id n value result s t) answer
       → Adds {H = H} (event.Result id n value) answer s t
-  complete_adds id n value (reply.Placed place) s t it = (Event.Complete id n value ∷ [], (it.0, refl), it.1.events)
+  complete_adds id n value (reply.Placed place) s t it = (Event.Result id n value ∷ [], (it.0, refl), it.1.events)
   complete_adds id n value (reply.Refused (refusal.Store why)) s t it = ([], refl, it.stays.events)
   complete_adds id n value _ s t it = absurd it
 
@@ -109,7 +109,7 @@ module _ {H : Type 0} (function : H → Handler) (options : VMOptions) where
       let id = one.invocation in
       let n = one.number in
       let lengths : List ℕ = map length it.0 in (
-        map (Event.HandOut id n) lengths,
+        map (Event.Feed id n) lengths,
         (lengths, some_parts id n count it.0 why it.2.0 t it.2.3, sum_given it.0 ∙ sym it.1, are_fed id n count it.0 why bytes it.1 s it.2.0 t it.2.1 it.2.3, refl),
         stopped_events id n count it.0 why it.2.0 t it.2.3 ∙ parts_events id n count it.0 s it.2.0 it.2.1,
       )
@@ -117,7 +117,7 @@ module _ {H : Type 0} (function : H → Handler) (options : VMOptions) where
   feed_adds count one s t _ changed it = absurd it
 
   close_adds : (one : HeldAttempt H) (s t : Standing) (answer : Reply) (changed : Attempt H) → ClosesOne one s answer t changed → Adds {H = H} (event.Close one.invocation one.number) answer s t
-  close_adds one s t reply.Done changed it = (Event.CloseInput one.invocation one.number ∷ [], refl, it.0.events)
+  close_adds one s t reply.Done changed it = (Event.Close one.invocation one.number ∷ [], refl, it.0.events)
   close_adds one s t (reply.Refused (refusal.Store why)) changed it = ([], refl, it.0.stays.events)
   close_adds one s t _ changed it = absurd it
 
@@ -134,7 +134,7 @@ module _ {H : Type 0} (function : H → Handler) (options : VMOptions) where
       let fed = it.3.0 in
       let frame = it.3.2 in
       let some = each_taken id n it.0 fed frame.between frame.taken in
-      let takes = map (Event.Take id n) some.0 in (
+      let takes = map (Event.Move id n) some.0 in (
         stop_for id n why ++ takes,
         (some.0, some.1 ∙ sym it.1, refl),
         rests_stop id n why frame.between t frame.rests
@@ -147,7 +147,7 @@ module _ {H : Type 0} (function : H → Handler) (options : VMOptions) where
 
   -- with one that is held, or none
   held_adds : (Named : Text → ℕ → scheduled.Event H) (Change : HeldAttempt H → Standing → Reply → Standing → Attempt H → Type 0) (id : Text) (n : ℕ) (s t : Standing)
-      (held more : List (HeldAttempt H)) (answer : Reply) → (Stays s t → Adds (Named id n) (reply.Refused refusal.AttemptNotHeld) s t)
+      (held more : List (HeldAttempt H)) (answer : Reply) → (StaysStanding s t → Adds (Named id n) (reply.Refused refusal.AttemptNotHeld) s t)
       → ((one : HeldAttempt H) (changed : Attempt H) → Change one s answer t changed → Adds (Named one.invocation one.number) answer s t)
       → IfHeld Change (held_of held id n) s held answer t more → Adds (Named id n) answer s t
   held_adds Named Change id n s t held more answer none each it = by_held (held_of held id n) refl it

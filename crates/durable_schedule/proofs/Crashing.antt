@@ -11,8 +11,8 @@ use Rattle.journal_model.specs.Run.{Handler}
 use Rattle.vm_types.specs.declared.options.VMOptions.{VMOptions}
 use Rattle.store_refusals.specs.declared.refusal.Refusal.{Refusal}
 use Rattle.store_steps.specs.declared.frame.FrameReply.{FrameReply}
-use Rattle.store_calls.specs.Standing.{Standing}
-use Rattle.store_calls.specs.Calls.{Invokes, Completes, Signals, Cancels, Ticks, RefusesBytes}
+use Rattle.store_calls.specs.AbstractStore.{Standing}
+use Rattle.store_calls.specs.Calls.{Invokes, CompletesCall, Signals, Cancels, Ticks, RefusesBytes}
 use Rattle.store_calls.specs.Frames.{Accepts}
 use Rattle.store_calls.proofs.Taking.{bytes_stay}
 use Rattle.schedule_laws.specs.Attempts.{Attempt, output_of}
@@ -32,8 +32,8 @@ invoked_at_most one reply.Done s t it = inr it.events
 invoked_at_most one (reply.Refused (refusal.Store why)) s t it = inl it.stays.events
 invoked_at_most one _ s t it = absurd it
 
-completed_at_most : (id : Text) (n : ℕ) (value : NotificationResult) (answer : Reply) (s t : Standing) → RepliesPlace (λ result. Completes id n value result s t) answer
-    → AddsAtMost (Accepted.Complete id n value) s t
+completed_at_most : (id : Text) (n : ℕ) (value : NotificationResult) (answer : Reply) (s t : Standing) → RepliesPlace (λ result. CompletesCall id n value result s t) answer
+    → AddsAtMost (Accepted.Result id n value) s t
 completed_at_most id n value (reply.Placed place) s t it = inr it.1.events
 completed_at_most id n value (reply.Refused (refusal.Store why)) s t it = inl it.stays.events
 completed_at_most id n value _ s t it = absurd it
@@ -151,7 +151,7 @@ module _ (database : State) (clean : HasCleanDisk database) where
     pub complete_unwritten : (id : Text) (n : ℕ) (value : NotificationResult) (why : Refusal) → IsCertain why → IsUnwritten (event.Result id n value) (reply.Refused (refusal.Store why))
     complete_unwritten id n value why certain from to it = (
       same_kept from.standing to.standing it.0.stays.events,
-      λ t late. refused_kept (Accepted.Complete id n value) why from.standing to.standing t certain it.0 (completed_at_most id n value late.0 from.standing t late.2.0),
+      λ t late. refused_kept (Accepted.Result id n value) why from.standing to.standing t certain it.0 (completed_at_most id n value late.0 from.standing t late.2.0),
     )
 
     pub signal_unwritten : (id : Text) (key : SignalKey) (value : NotificationResult) (why : Refusal) → IsCertain why → IsUnwritten (event.Signal id key value) (reply.Refused (refusal.Store why))

@@ -5,15 +5,15 @@ use Rattle.journal_model.specs.Notification.{Bytes, Text}
 use Rattle.journal_model.specs.Event.{Event}
 use Rattle.journal_model.specs.Attempt.{input_left}
 use Rattle.store_refusals.specs.declared.refusal.Refusal.{Refusal}
-use Rattle.store_calls.specs.Standing.{Standing}
+use Rattle.store_calls.specs.AbstractStore.{Standing}
 use Rattle.schedule_laws.specs.Schedules.{given_in, HandsOutEach, StopsHandingOut}
 use Rattle.schedule_laws.proofs.Feeding.{parts_taken}
 use Rattle.durable_schedule.specs.Front.{AreFed}
 
 module _ (id : Text) (n count : ℕ) where
-  pub parts_events : (parts : List Bytes) (s t : Standing) → HandsOutEach id n count parts s t → t.events ≡ map (Event.HandOut id n) (map length parts) ++ s.events
+  pub parts_events : (parts : List Bytes) (s t : Standing) → HandsOutEach id n count parts s t → t.events ≡ map (Event.Feed id n) (map length parts) ++ s.events
   parts_events [] s t it = ap (λ (m : Standing). m.events) it
-  parts_events (last ∷ earlier) s t it = it.3.1.events ∙ ap (λ (events : List Event). Event.HandOut id n (length last) ∷ events) (parts_events earlier s it.0 it.1)
+  parts_events (last ∷ earlier) s t it = it.3.1.events ∙ ap (λ (events : List Event). Event.Feed id n (length last) ∷ events) (parts_events earlier s it.0 it.1)
 
   -- then none is handed out
   pub stopped_events : (parts : List Bytes) (why : Option Refusal) (s t : Standing) → StopsHandingOut id n count parts why s t → t.events ≡ s.events

@@ -10,8 +10,8 @@ use Rattle.journal_model.specs.Journal.{Entry, begins, is_of, is_tick, starting_
 use Rattle.journal_model.specs.Run.{Handler}
 use Rattle.journal_laws.proofs.Isolation.{frames_of-view}
 use Rattle.vm_types.specs.declared.options.VMOptions.{VMOptions}
-use Rattle.store_calls.specs.Standing.{Standing}
-use Rattle.store_model.specs.Progress.{last_error_of, error_in, first_of}
+use Rattle.store_calls.specs.AbstractStore.{Standing}
+use Rattle.store_model.specs.Progress.{last_error_of, error_in, first_item}
 use Rattle.store_invocations.specs.Told.{told_from}
 use Rattle.store_invocations.specs.Answered.{value_taken}
 use Rattle.journal_store.specs.Stored.{Stored}
@@ -52,7 +52,7 @@ module _ (id : Text) where
       by_cases false e false same = rw e same
 
   error-view : (events : List Event) → last_error_of (view_of id events) id ≡ last_error_of events id
-  error-view events = ap (λ (frames : List Frame). first_of (filter_map error_in frames)) (frames_of-view id events)
+  error-view events = ap (λ (frames : List Frame). first_item (filter_map error_in frames)) (frames_of-view id events)
 
   pub told_alike : AllStandAlone → (events : List Event) → IsToldAlike id events (without_others id events)
   told_alike stand events =

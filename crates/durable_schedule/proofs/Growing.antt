@@ -21,8 +21,8 @@ use Rattle.schedule_laws.specs.Schedules.refusal
 use Rattle.schedule_laws.specs.Schedules.{Reply, HeldAttempt, held_of, RepliesDone, RepliesPlace, RepliesCount, BeginDoes, FeedsOne, ClosesOne, StopsOne, TurnsOne, MovesOne, IfHeld, UnlessMismatch, tells_mismatch, HandsOutEach, Does, Scheduled, AppliesAll}
 use Rattle.store_steps.specs.declared.frame.FrameReply.{FrameReply}
 use Rattle.store_steps.specs.Taken.{lies_in_frame}
-use Rattle.store_calls.specs.Standing.{Standing, Stays, Refuses}
-use Rattle.store_calls.specs.Calls.{Cancels, Completes, Invokes, Signals, Stops, Ticks}
+use Rattle.store_calls.specs.AbstractStore.{Standing, StaysStanding, Refuses}
+use Rattle.store_calls.specs.Calls.{Cancels, CompletesCall, Invokes, Signals, Stops, Ticks}
 use Rattle.store_calls.specs.Frames.{Accepts, LeavesRefused, Rests, TakesEach}
 use Rattle.store_calls.proofs.Taking.{bytes_stay}
 use Rattle.durable_schedule.specs.Runs.{AppliesEach, IsOneOf, invocation_named}
@@ -31,7 +31,7 @@ use Rattle.durable_schedule.proofs.Feeding.{stopped_events}
 -- whether an accepted event begins an attempt, or hands bytes to one
 abbrev pub does_hand : Event → Bool
 does_hand (Event.Begin id now) = true
-does_hand (Event.HandOut id n most) = true
+does_hand (Event.Feed id n most) = true
 does_hand _ = false
 
 -- the invocation that it is one of, and that
@@ -72,19 +72,19 @@ same_grows kind s t same = ([], same, tt)
 more_grows : (s t : Standing) (last : Event) → t.events ≡ last ∷ s.events → GrowsBy (kind_of last) s t
 more_grows s t last more = (last ∷ [], more, (refl, tt))
 
-stays_grows : (kind : Kind) (s t : Standing) → Stays s t → GrowsBy kind s t
+stays_grows : (kind : Kind) (s t : Standing) → StaysStanding s t → GrowsBy kind s t
 stays_grows kind s t it = same_grows kind s t it.events
 
 -- parts of an input that are handed out one after another
 parts_grow : (id : Text) (n count : ℕ) (parts : List Bytes) (s t : Standing) → HandsOutEach id n count parts s t → GrowsBy (Some id, true) s t
 parts_grow id n count [] s t it = same_grows (Some id, true) s t (ap (λ (m : Standing). m.events) it)
 parts_grow id n count (last ∷ earlier) s t it =
-    grows_on (Some id, true) s it.0 t (parts_grow id n count earlier s it.0 it.1) (more_grows it.0 t (Event.HandOut id n (length last)) it.3.1.events)
+    grows_on (Some id, true) s it.0 t (parts_grow id n count earlier s it.0 it.1) (more_grows it.0 t (Event.Feed id n (length last)) it.3.1.events)
 
 each_grows : (id : Text) (n : ℕ) (replies : List FrameReply) (s t : Standing) → TakesEach id n replies s t → GrowsBy (Some id, false) s t
 each_grows id n [] s t it = stays_grows (Some id, false) s t it
 each_grows id n (first ∷ replies) s t it =
-    grows_on (Some id, false) s it.0 t (more_grows s it.0 (Event.Take id n it.1.frame) it.1.leaves.events) (each_grows id n replies it.0 t it.2)
+    grows_on (Some id, false) s it.0 t (more_grows s it.0 (Event.Move id n it.1.frame) it.1.leaves.events) (each_grows id n replies it.0 t it.2)
 
 refused_grows : (b : Bool) (id : Text) (n : ℕ) (s t : Standing) → LeavesRefused b id n s t → GrowsBy (Some id, false) s t
 refused_grows true id n s t it = more_grows s t (Event.Stop id n) it.events
@@ -119,9 +119,9 @@ count_grows Change kind (reply.Ticked count) s t each it = each (Ok count) it
 count_grows Change kind (reply.Refused (refusal.Store why)) s t each it = each (Err why) it
 count_grows Change kind _ s t each it = absurd it
 
-complete_grows : (id : Text) (n : ℕ) (value : NotificationResult) (s t : Standing) (result : Result ℕ Refusal) → Completes id n value result s t → GrowsBy (Some id, false) s t
-complete_grows id n value s t (Ok place) it = more_grows s t (Event.Complete id n value) it.1.events
-complete_grows id n value s t (Err why) it = refuses_grows (Event.Complete id n value) why s t it
+complete_grows : (id : Text) (n : ℕ) (value : NotificationResult) (s t : Standing) (result : Result ℕ Refusal) → CompletesCall id n value result s t → GrowsBy (Some id, false) s t
+complete_grows id n value s t (Ok place) it = more_grows s t (Event.Result id n value) it.1.events
+complete_grows id n value s t (Err why) it = refuses_grows (Event.Result id n value) why s t it
 
 signal_grows : (id : Text) (key : SignalKey) (value : NotificationResult) (s t : Standing) (result : Result ℕ Refusal) → Signals id key value result s t → GrowsBy (Some id, false) s t
 signal_grows id key value s t (Ok place) it = more_grows s t (Event.Signal id key value) it.1.events
@@ -156,12 +156,12 @@ module _ {H : Type 0} (function : H → Handler) (options : VMOptions) where
   feed_grows count one s t (reply.Fed n why) changed it =
       grows_on (Some one.invocation, true) s it.2.0 t (parts_grow one.invocation one.number count it.0 s it.2.0 it.2.1)
       (same_grows (Some one.invocation, true) it.2.0 t (stopped_events one.invocation one.number count it.0 why it.2.0 t it.2.3))
-  feed_grows count one s t (reply.Refused (refusal.Store why)) changed it = refuses_grows (Event.HandOut one.invocation one.number count) why s t it.0
+  feed_grows count one s t (reply.Refused (refusal.Store why)) changed it = refuses_grows (Event.Feed one.invocation one.number count) why s t it.0
   feed_grows count one s t _ changed it = absurd it
 
   close_grows : (one : HeldAttempt H) (s t : Standing) (answer : Reply) (changed : Attempt H) → ClosesOne one s answer t changed → GrowsBy (Some one.invocation, false) s t
-  close_grows one s t reply.Done changed it = more_grows s t (Event.CloseInput one.invocation one.number) it.0.events
-  close_grows one s t (reply.Refused (refusal.Store why)) changed it = refuses_grows (Event.CloseInput one.invocation one.number) why s t it.0
+  close_grows one s t reply.Done changed it = more_grows s t (Event.Close one.invocation one.number) it.0.events
+  close_grows one s t (reply.Refused (refusal.Store why)) changed it = refuses_grows (Event.Close one.invocation one.number) why s t it.0
   close_grows one s t _ changed it = absurd it
 
   turn_grows : (outcome : RunOutcome) (one : HeldAttempt H) (s t : Standing) (answer : Reply) (changed : Attempt H) → TurnsOne function outcome one s answer t changed → GrowsBy (Some one.invocation, false) s t
@@ -189,7 +189,7 @@ module _ {H : Type 0} (function : H → Handler) (options : VMOptions) where
 
   pub does_grow : (one : scheduled.Event H) (s t : Standing) (held more : List (HeldAttempt H)) (answer : Reply) → Does function options one s held answer t more → GrowsBy (kind_named one) s t
   does_grow (event.Invoke one) s t held more answer it = done_grows (λ result. Invokes one result s t) (Some one.id, false) answer s t (invoke_grows one s t) it.0
-  does_grow (event.Result id n value) s t held more answer it = place_grows (λ result. Completes id n value result s t) (Some id, false) answer s t (complete_grows id n value s t) it.0
+  does_grow (event.Result id n value) s t held more answer it = place_grows (λ result. CompletesCall id n value result s t) (Some id, false) answer s t (complete_grows id n value s t) it.0
   does_grow (event.Signal id key value) s t held more answer it = place_grows (λ result. Signals id key value result s t) (Some id, false) answer s t (signal_grows id key value s t) it.0
   does_grow (event.Cancel id) s t held more answer it = place_grows (λ result. Cancels id result s t) (Some id, false) answer s t (cancel_grows id s t) it.0
   does_grow (event.Tick now) s t held more answer it = count_grows (λ result. Ticks now result s t) (None, false) answer s t (tick_grows now s t) it.0

@@ -12,10 +12,10 @@ use Rattle.journal_model.specs.Run.{Handler}
 use Rattle.journal_model.specs.Spelling.{frame_bytes}
 use Rattle.journal_model.specs.Start.{start_payload}
 use Rattle.protocol_types.specs.declared.message_type.MessageType.{MessageType}
-use Rattle.schedule_laws.specs.Handing.{handed_out}
-use Rattle.schedule_laws.proofs.Handing.{hands_out_input}
+use Rattle.schedule_laws.specs.HandedInput.{bytes_handed_out}
+use Rattle.schedule_laws.proofs.HandedInput.{hands_out_input}
 use Rattle.vm_types.specs.declared.options.VMOptions.{VMOptions}
-use Rattle.store_calls.specs.Standing.{Standing}
+use Rattle.store_calls.specs.AbstractStore.{Standing}
 use Rattle.schedule_model.specs.Attempts.{Attempt}
 use Rattle.schedule_model.specs.Held.{is_held, with_attempt}
 use Rattle.schedule_model.proofs.Firsts.{first_of_other, first_push_other}
@@ -26,7 +26,7 @@ use Rattle.schedule_laws.specs.Schedules.event
 use Rattle.schedule_laws.specs.Schedules.reply
 use Rattle.schedule_laws.specs.Schedules.refusal
 use Rattle.schedule_laws.specs.Schedules.{Reply, HeldAttempt, held_of, BeginDoes, given_in, HandsOutEach, FeedsOne, ClosesOne, StopsOne, TurnsOne, MovesOne, IfHeld, UnlessMismatch, tells_mismatch, Scheduled, Applies}
-use Rattle.due_laws.proofs.Handing.{part_is_taken}
+use Rattle.due_laws.proofs.InputParts.{part_is_taken}
 use Rattle.store_refusals.specs.declared.refusal.Refusal.{Refusal}
 use Rattle.durable_schedule.specs.Runs.{AppliesEach}
 use Rattle.durable_schedule.specs.Handed.{AreOfInput, HandsEach, HandsOne, IsHandedInput, handed_to, start_frame, while_last}
@@ -55,7 +55,7 @@ module _ (id : Text) where
 
   -- the start frame, and what was handed out behind it
   abbrev told : List Event → Bytes
-  told events = start_frame events id ++ handed_out events id
+  told events = start_frame events id ++ bytes_handed_out events id
 
   quiet_begins : (event : Event) → does_hand event ≡ false → begins_attempt id event ≡ false
   quiet_begins (Event.Begin other now) e = cc
@@ -63,7 +63,7 @@ module _ (id : Text) where
 
   quiet_told : (event : Event) (all : List Event) → does_hand event ≡ false → told (event ∷ all) ≡ told all
   quiet_told (Event.Begin other now) all e = cc
-  quiet_told (Event.HandOut other k most) all e = cc
+  quiet_told (Event.Feed other k most) all e = cc
   quiet_told event all e = refl
 
   module _ (n : ℕ) where
@@ -122,27 +122,27 @@ module _ (id : Text) where
         (omega (arith, one_more), sym (append-nil frame) ∙ first ∙ ap (λ (events : List Event). told events) (sym (all_last (event ∷ all) one_more)))
 
     -- bytes are handed to another attempt, and to this one
-    others_handed : (other : Text) (k most : ℕ) (all : List Event) (before : Bytes) → IsAccepted (Event.HandOut other k most ∷ all) → (bytes_eq other id && (k == n)) ≡ false → WasHanded before all
-        → WasHanded before (Event.HandOut other k most ∷ all)
-    others_handed other k most all before accepted apart it = goes_on (Event.HandOut other k most) all before (λ e last. by_id last (bytes_eq other id) refl) it
+    others_handed : (other : Text) (k most : ℕ) (all : List Event) (before : Bytes) → IsAccepted (Event.Feed other k most ∷ all) → (bytes_eq other id && (k == n)) ≡ false → WasHanded before all
+        → WasHanded before (Event.Feed other k most ∷ all)
+    others_handed other k most all before accepted apart it = goes_on (Event.Feed other k most) all before (λ e last. by_id last (bytes_eq other id) refl) it
       where
-        by_id : attempts_begun all id ≡ n → (b : Bool) → bytes_eq other id ≡ b → start_frame all id ++ (handed_out all id ++ (if b then take most (input_left all id) else [])) ≡ told all
-        by_id last false e = ap (λ (bytes : Bytes). start_frame all id ++ bytes) (append-nil (handed_out all id))
+        by_id : attempts_begun all id ≡ n → (b : Bool) → bytes_eq other id ≡ b → start_frame all id ++ (bytes_handed_out all id ++ (if b then take most (input_left all id) else [])) ≡ told all
+        by_id last false e = ap (λ (bytes : Bytes). start_frame all id ++ bytes) (append-nil (bytes_handed_out all id))
         by_id last true e =
             let live : live_attempt all id ≡ Some k = subst (λ (x : Text). live_attempt all x ≡ Some k) (same_text other id e) (handed_live all other k most accepted.0) in
             let same : k ≡ n = sym (live_number all k live) ∙ last in
             absurd (let both : (bytes_eq other id && (k == n)) ≡ true = and_from (bytes_eq other id) (k == n) e (eq-eqb k n same) in let no : true ≡ false = sym both ∙ apart in cc)
 
-    handed_on : (most : ℕ) (all : List Event) (before : Bytes) → IsAccepted (Event.HandOut id n most ∷ all) → WasHanded before all
-        → WasHanded (before ++ take most (input_left all id)) (Event.HandOut id n most ∷ all)
+    handed_on : (most : ℕ) (all : List Event) (before : Bytes) → IsAccepted (Event.Feed id n most ∷ all) → WasHanded before all
+        → WasHanded (before ++ take most (input_left all id)) (Event.Feed id n most ∷ all)
     handed_on most all before accepted it =
-        let event = Event.HandOut id n most in
+        let event = Event.Feed id n most in
         let last : attempts_begun all id ≡ n = live_number all n (handed_live all id n most accepted.0) in
         let still : attempts_begun (event ∷ all) id ≡ n = omega (arith, last) in
         let bytes : Bytes = take most (input_left all id) in
-        let more : told (event ∷ all) ≡ start_frame all id ++ (handed_out all id ++ bytes) = rw (itself id) refl in (
+        let more : told (event ∷ all) ≡ start_frame all id ++ (bytes_handed_out all id ++ bytes) = rw (itself id) refl in (
           omega (arith, still),
-          ap (λ (b : Bytes). b ++ bytes) (it.1 ∙ ap (λ (events : List Event). told events) (all_last all last)) ∙ append_assoc (start_frame all id) (handed_out all id) bytes ∙ sym more
+          ap (λ (b : Bytes). b ++ bytes) (it.1 ∙ ap (λ (events : List Event). told events) (all_last all last)) ∙ append_assoc (start_frame all id) (bytes_handed_out all id) bytes ∙ sym more
               ∙ ap (λ (events : List Event). told events) (sym (all_last (event ∷ all) still)),
         )
 
@@ -151,7 +151,7 @@ module _ (id : Text) where
         → WasHanded before s.events → WasHanded before t.events
     parts_others other k count [] s t before apart hands was = subst (λ (m : Standing). WasHanded before m.events) (sym hands) was
     parts_others other k count (last ∷ earlier) s t before apart hands was =
-        let accepted : IsAccepted (Event.HandOut other k (length last) ∷ hands.0.events) = subst (λ (es : List Event). IsAccepted es) hands.3.1.events t.accepted in
+        let accepted : IsAccepted (Event.Feed other k (length last) ∷ hands.0.events) = subst (λ (es : List Event). IsAccepted es) hands.3.1.events t.accepted in
         subst (λ (es : List Event). WasHanded before es) (sym hands.3.1.events)
         (others_handed other k (length last) hands.0.events before accepted apart (parts_others other k count earlier s hands.0 before apart hands.1 was))
 
@@ -160,18 +160,18 @@ module _ (id : Text) where
         subst (λ (m : Standing). WasHanded (before ++ []) m.events) (sym hands) (subst (λ (b : Bytes). WasHanded b s.events) (sym (append-nil before)) was)
     parts_on count (last ∷ earlier) s t before hands was =
         let all : List Event = hands.0.events in
-        let accepted : IsAccepted (Event.HandOut id n (length last) ∷ all) = subst (λ (es : List Event). IsAccepted es) hands.3.1.events t.accepted in
+        let accepted : IsAccepted (Event.Feed id n (length last) ∷ all) = subst (λ (es : List Event). IsAccepted es) hands.3.1.events t.accepted in
         let out : last ≡ take (length last) (input_left all id) = part_is_taken (input_left all id) last (count - length (given_in earlier)) hands.3.0 in
         subst (λ (es : List Event). WasHanded (before ++ given_in (last ∷ earlier)) es) (sym hands.3.1.events)
-        (subst (λ (b : Bytes). WasHanded b (Event.HandOut id n (length last) ∷ all)) (append_assoc before (given_in earlier) last)
-        (subst (λ (b : Bytes). WasHanded ((before ++ given_in earlier) ++ b) (Event.HandOut id n (length last) ∷ all)) (sym out)
+        (subst (λ (b : Bytes). WasHanded b (Event.Feed id n (length last) ∷ all)) (append_assoc before (given_in earlier) last)
+        (subst (λ (b : Bytes). WasHanded ((before ++ given_in earlier) ++ b) (Event.Feed id n (length last) ∷ all)) (sym out)
         (handed_on (length last) all (before ++ given_in earlier) accepted (parts_on count earlier s hands.0 before hands.1 was))))
 
     was_of_input : (all : List Event) (before : Bytes) → IsAccepted all → WasHanded before all → AreOfInput id before (while_last id n all)
     was_of_input all before accepted it =
         let events = while_last id n all in
         inr
-        (ap (λ (b : Bytes). b ++ input_left events id) it.1 ∙ append_assoc (start_frame events id) (handed_out events id) (input_left events id)
+        (ap (λ (b : Bytes). b ++ input_left events id) it.1 ∙ append_assoc (start_frame events id) (bytes_handed_out events id) (input_left events id)
         ∙ ap (λ (b : Bytes). start_frame events id ++ b) (hands_out_input events id (accepted_last all accepted)))
 
     -- ---- what is held

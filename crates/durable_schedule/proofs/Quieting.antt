@@ -3,14 +3,14 @@ use Rattle.std.proofs.Common.{◌≡◌, refl, sym, ap, subst, Bool, true, false
 use Rattle.sqlite_trees.specs.Tree.{Trees}
 use Rattle.sqlite.specs.State.{State, HasCleanDisk}
 use Rattle.journal_model.specs.Notification.{Bytes, Text}
-use Rattle.journal_model.specs.Event.{Event as Accepted}
+use Rattle.journal_model.specs.Event.{Event}
 use Rattle.journal_model.specs.Cause.{IsAccepted}
 use Rattle.journal_model.specs.Journal.{object_of}
 use Rattle.journal_model.specs.Run.{Handler}
 use Rattle.journal_store.specs.Stands.{KeepsAll}
 use Rattle.journal_store.proofs.Quiet.{none_written}
 use Rattle.journal_store.proofs.Standing.{landed}
-use Rattle.store_calls.specs.Standing.{Standing}
+use Rattle.store_calls.specs.AbstractStore.{Standing}
 use Rattle.store_calls.specs.Calls.{Stops}
 use Rattle.schedule_laws.specs.Attempts.{Attempt, RunOutcome}
 use Rattle.schedule_laws.specs.Schedules.reply
@@ -23,7 +23,7 @@ abbrev pub KeepsAsWell : Standing → Standing → Type 0
 KeepsAsWell s t = (trees : Trees) → KeepsAll s.events trees → KeepsAll t.events trees
 
 pub same_kept : (s t : Standing) → t.events ≡ s.events → KeepsAsWell s t
-same_kept s t same trees it = subst (λ (events : List Accepted). KeepsAll events trees) (sym same) it
+same_kept s t same trees it = subst (λ (events : List Event). KeepsAll events trees) (sym same) it
 
 -- nothing is asked of this database but that it is clean: it stands for any that has such tables
 module _ (database : State) (clean : HasCleanDisk database) where
@@ -31,27 +31,27 @@ module _ (database : State) (clean : HasCleanDisk database) where
   over trees = record database { now = record database.now { trees = trees }; is_open = true }
 
   module _ (s t : Standing) where
-    behind : (event : Accepted) → t.events ≡ event ∷ s.events → (IsAccepted (event ∷ s.events) → (trees : Trees) → KeepsAll s.events trees → KeepsAll (event ∷ s.events) trees) → KeepsAsWell s t
+    behind : (event : Event) → t.events ≡ event ∷ s.events → (IsAccepted (event ∷ s.events) → (trees : Trees) → KeepsAll s.events trees → KeepsAll (event ∷ s.events) trees) → KeepsAsWell s t
     behind event more kept trees it =
-        subst (λ (events : List Accepted). KeepsAll events trees) (sym more) (kept (subst (λ (events : List Accepted). IsAccepted events) more t.accepted) trees it)
+        subst (λ (events : List Event). KeepsAll events trees) (sym more) (kept (subst (λ (events : List Event). IsAccepted events) more t.accepted) trees it)
 
-    pub handed_kept : (id : Text) (n most : ℕ) → t.events ≡ Accepted.HandOut id n most ∷ s.events → KeepsAsWell s t
-    handed_kept id n most more = behind (Accepted.HandOut id n most) more (λ accepted trees it.
-        landed s.events (Accepted.HandOut id n most) (over trees) [] trees
+    pub handed_kept : (id : Text) (n most : ℕ) → t.events ≡ Event.Feed id n most ∷ s.events → KeepsAsWell s t
+    handed_kept id n most more = behind (Event.Feed id n most) more (λ accepted trees it.
+        landed s.events (Event.Feed id n most) (over trees) [] trees
         (record { accepted = accepted.1; read = it.read; keeps = λ _ _. record { accepted = accepted.1; records = it.records; held = it.held; kept = it.kept } })
-        tt clean accepted.0 (sym (none_written (object_of s.events (Accepted.HandOut id n most)))) refl (λ r holds. holds))
+        tt clean accepted.0 (sym (none_written (object_of s.events (Event.Feed id n most)))) refl (λ r holds. holds))
 
-    pub closed_kept : (id : Text) (n : ℕ) → t.events ≡ Accepted.CloseInput id n ∷ s.events → KeepsAsWell s t
-    closed_kept id n more = behind (Accepted.CloseInput id n) more (λ accepted trees it.
-        landed s.events (Accepted.CloseInput id n) (over trees) [] trees
+    pub closed_kept : (id : Text) (n : ℕ) → t.events ≡ Event.Close id n ∷ s.events → KeepsAsWell s t
+    closed_kept id n more = behind (Event.Close id n) more (λ accepted trees it.
+        landed s.events (Event.Close id n) (over trees) [] trees
         (record { accepted = accepted.1; read = it.read; keeps = λ _ _. record { accepted = accepted.1; records = it.records; held = it.held; kept = it.kept } })
-        tt clean accepted.0 (sym (none_written (object_of s.events (Accepted.CloseInput id n)))) refl (λ r holds. holds))
+        tt clean accepted.0 (sym (none_written (object_of s.events (Event.Close id n)))) refl (λ r holds. holds))
 
-    pub stopped_kept : (id : Text) (n : ℕ) → t.events ≡ Accepted.Stop id n ∷ s.events → KeepsAsWell s t
-    stopped_kept id n more = behind (Accepted.Stop id n) more (λ accepted trees it.
-        landed s.events (Accepted.Stop id n) (over trees) [] trees
+    pub stopped_kept : (id : Text) (n : ℕ) → t.events ≡ Event.Stop id n ∷ s.events → KeepsAsWell s t
+    stopped_kept id n more = behind (Event.Stop id n) more (λ accepted trees it.
+        landed s.events (Event.Stop id n) (over trees) [] trees
         (record { accepted = accepted.1; read = it.read; keeps = λ _ _. record { accepted = accepted.1; records = it.records; held = it.held; kept = it.kept } })
-        tt clean accepted.0 (sym (none_written (object_of s.events (Accepted.Stop id n)))) refl (λ r holds. holds))
+        tt clean accepted.0 (sym (none_written (object_of s.events (Event.Stop id n)))) refl (λ r holds. holds))
 
   -- parts of an input that are handed out one after another
   parts_kept : (id : Text) (n count : ℕ) (parts : List Bytes) (s t : Standing) → HandsOutEach id n count parts s t → KeepsAsWell s t

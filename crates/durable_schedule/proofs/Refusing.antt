@@ -2,21 +2,21 @@
 use Rattle.std.proofs.Common.{◌≡◌, ◌⊎◌, ◌∙◌, refl, sym, ap, subst, ℕ, inl, inr, Bool, true, false, List, [], ◌∷◌, Option, Some, None, IsTrue, Ok}
 use Rattle.sqlite.specs.State.{State, HasCleanDisk}
 use Rattle.journal_model.specs.Notification.{Bytes, Text}
-use Rattle.journal_model.specs.Event.{Event as Accepted, Frame}
+use Rattle.journal_model.specs.Event.{Event, Frame}
 use Rattle.journal_model.specs.Journal.{version_of}
 use Rattle.journal_model.specs.Cause.{causes_of, IsAccepted}
 use Rattle.journal_model.specs.declared.cause.Cause.{Cause}
 use Rattle.protocol_stream.specs.Item.{Item, item_at}
 use Rattle.store_refusals.specs.declared.refusal.Refusal.{Refusal}
 use Rattle.store_refusals.specs.declared.refusal.Refusal.TheVariants as cause
-use Rattle.store_refusals.specs.Refused.{first_of, is_circumstance, IsRefused}
+use Rattle.store_refusals.specs.Refused.{refusal_of_first_cause, is_circumstance, IsRefused}
 use Rattle.store_steps.specs.declared.frame.FrameReply.{FrameReply}
 use Rattle.store_steps.specs.Taken.{lies_in_frame}
-use Rattle.store_calls.specs.Standing.{Standing, Stays, Refuses}
+use Rattle.store_calls.specs.AbstractStore.{Standing, StaysStanding, Refuses}
 use Rattle.store_calls.specs.Frames.{frame_in, IsNext, TakesFrame, TakesNone, RefusesFrame, LeavesRefused, Rests, Accepts}
 use Rattle.store_calls.proofs.Taking.{before_still, same_put}
 use Rattle.journal_store.specs.Stands.{Outlasts}
-use Rattle.journal_store.specs.Accepting.{OutlastsFrames}
+use Rattle.journal_store.specs.OutputAcceptance.{OutlastsFrames}
 use Rattle.durable_schedule.specs.Runs.{IsCertain, AreCertain}
 use Rattle.durable_schedule.proofs.Quieting.{KeepsAsWell, same_kept, stopped_kept}
 
@@ -35,12 +35,12 @@ no_circumstance : (why : Refusal) → IsCertain why → IsTrue (is_circumstance 
 no_circumstance why certain it = let e : true ≡ false = sym it ∙ certain in cc
 
 -- it is the first cause, or a circumstance
-first_cause : (causes : List Cause) (why : Refusal) → IsCertain why → IsRefused causes why → first_of causes ≡ Some why
+first_cause : (causes : List Cause) (why : Refusal) → IsCertain why → IsRefused causes why → refusal_of_first_cause causes ≡ Some why
 first_cause causes why certain (inl first) = first
 first_cause causes why certain (inr circumstance) = absurd (no_circumstance why certain circumstance)
 
 has_cause : (causes : List Cause) (why : Refusal) → IsCertain why → IsRefused causes why → causes ≡ [] → ⊥
-has_cause causes why certain it none = some_none why (sym (first_cause causes why certain it) ∙ ap first_of none)
+has_cause causes why certain it none = some_none why (sym (first_cause causes why certain it) ∙ ap refusal_of_first_cause none)
 
 -- what lies in a frame is no circumstance
 in_frame : (why : Refusal) → lies_in_frame why ≡ true → IsTrue (is_circumstance why) → ⊥
@@ -51,49 +51,49 @@ in_frame _ lies it = cc
 -- ---- one event
 
 -- an event was accepted, or none
-abbrev pub AddsAtMost : Accepted → Standing → Standing → Type 0
+abbrev pub AddsAtMost : Event → Standing → Standing → Type 0
 AddsAtMost event s t = (t.events ≡ s.events) ⊎ (t.events ≡ event ∷ s.events)
 
-accepted_then : (event : Accepted) (s t : Standing) → t.events ≡ event ∷ s.events → causes_of s.events event ≡ []
-accepted_then event s t more = (subst (λ (events : List Accepted). IsAccepted events) more t.accepted).0
+accepted_then : (event : Event) (s t : Standing) → t.events ≡ event ∷ s.events → causes_of s.events event ≡ []
+accepted_then event s t more = (subst (λ (events : List Event). IsAccepted events) more t.accepted).0
 
 -- it was refused for a cause, so it was never accepted
-pub refused_kept : (event : Accepted) (why : Refusal) (s to t : Standing) → IsCertain why → Refuses event why s to → AddsAtMost event s t → KeepsAsWell t to
+pub refused_kept : (event : Event) (why : Refusal) (s to t : Standing) → IsCertain why → Refuses event why s to → AddsAtMost event s t → KeepsAsWell t to
 refused_kept event why s to t certain it (inl same) = same_kept t to (it.stays.events ∙ sym same)
 refused_kept event why s to t certain it (inr more) = absurd (has_cause (causes_of s.events event) why certain it.cause (accepted_then event s t more))
 
 -- ---- frames
 
-both_stay : (s t u : Standing) → Stays s t → Stays s u → Stays t u
+both_stay : (s t u : Standing) → StaysStanding s t → StaysStanding s u → StaysStanding t u
 both_stay s t u one other = record { events = other.events ∙ sym one.events; outputs = λ id. other.outputs id ∙ sym (one.outputs id) }
 
 module _ (database : State) (clean : HasCleanDisk database) (id : Text) (n : ℕ) where
   -- the first frame of what waits is one
-  same_next : (m k : Standing) (f h : Frame) (r q : Bytes) → Stays m k → IsNext id m f r → IsNext id k h q → f ≡ h
+  same_next : (m k : Standing) (f h : Frame) (r q : Bytes) → StaysStanding m k → IsNext id m f r → IsNext id k h q → f ≡ h
   same_next m k f h r q stays one other =
       let output = only_some (m.outputs id) one.output other.output one.waits (sym (stays.outputs id) ∙ other.waits) in
       let first = only_some (item_at one.output) (one.item, r) (other.item, q) one.first (ap item_at output ∙ other.first) in
       one.frame_is ∙ ap (λ (pair : Item × Bytes). frame_in (version_of m.events id) pair.0) first
-      ∙ sym (subst (λ (events : List Accepted). h ≡ frame_in (version_of events id) other.item) stays.events other.frame_is)
+      ∙ sym (subst (λ (events : List Event). h ≡ frame_in (version_of events id) other.item) stays.events other.frame_is)
 
-  none_next : (m k : Standing) (f : Frame) (r : Bytes) (t : Standing) → Stays m k → TakesNone id n m t → IsNext id k f r → ⊥
+  none_next : (m k : Standing) (f : Frame) (r : Bytes) (t : Standing) → StaysStanding m k → TakesNone id n m t → IsNext id k f r → ⊥
   none_next m k f r t stays none one =
       let output = only_some (m.outputs id) none.output one.output none.waits (sym (stays.outputs id) ∙ one.waits) in
       some_none (one.item, r) (sym one.first ∙ sym (ap item_at output) ∙ none.none)
 
-  over_next : (m k : Standing) (f : Frame) (r : Bytes) → Stays m k → m.outputs id ≡ None → IsNext id k f r → ⊥
+  over_next : (m k : Standing) (f : Frame) (r : Bytes) → StaysStanding m k → m.outputs id ≡ None → IsNext id k f r → ⊥
   over_next m k f r stays over one = some_none one.output (sym one.waits ∙ stays.outputs id ∙ over)
 
   -- a frame that was refused for a cause would never be taken
-  refused_never : (why : Refusal) (m t k u : Standing) (told : FrameReply) → IsCertain why → RefusesFrame id n why m t → Stays m k → TakesFrame id n told k u → ⊥
+  refused_never : (why : Refusal) (m t k u : Standing) (told : FrameReply) → IsCertain why → RefusesFrame id n why m t → StaysStanding m k → TakesFrame id n told k u → ⊥
   refused_never why m t k u told certain refused stays taken =
       let one = before_still id n told m k u stays taken in
       let same = same_next m m refused.frame one.frame refused.rest one.rest (record { events = refl; outputs = λ any. refl }) refused.next one.next in
-      has_cause (causes_of m.events (Accepted.Take id n refused.frame)) why certain refused.cause
-      (ap (λ (f : Frame). causes_of m.events (Accepted.Take id n f)) same ∙ accepted_then (Accepted.Take id n one.frame) m u one.leaves.events)
+      has_cause (causes_of m.events (Event.Move id n refused.frame)) why certain refused.cause
+      (ap (λ (f : Frame). causes_of m.events (Event.Move id n f)) same ∙ accepted_then (Event.Move id n one.frame) m u one.leaves.events)
 
   -- where no further frame is taken, none would be but for a circumstance
-  no_more : (why : Option Refusal) (m t k u : Standing) (told : FrameReply) → AreCertain why → Rests id n why m t → Stays m k → TakesFrame id n told k u → ⊥
+  no_more : (why : Option Refusal) (m t k u : Standing) (told : FrameReply) → AreCertain why → Rests id n why m t → StaysStanding m k → TakesFrame id n told k u → ⊥
   no_more None m t k u told certain (inl ended) stays one = over_next m k one.frame one.rest stays ended.over one.next
   no_more None m t k u told certain (inr none) stays one = none_next m k one.frame one.rest t stays none one.next
   no_more (Some why) m t k u told certain (inl room) stays one = not_memory why certain room.memory
@@ -118,34 +118,34 @@ module _ (database : State) (clean : HasCleanDisk database) (id : Text) (n : ℕ
   ]
 
   -- an attempt that was stopped for what lies in its frame was stopped for that
-  both_stopped : (w : Refusal) (why : Option Refusal) (m k to t : Standing) → Stays m k → AreCertain why → Rests id n why m to → RefusesFrame id n w k t → lies_in_frame w ≡ true
-      → to.events ≡ Accepted.Stop id n ∷ m.events
+  both_stopped : (w : Refusal) (why : Option Refusal) (m k to t : Standing) → StaysStanding m k → AreCertain why → Rests id n why m to → RefusesFrame id n w k t → lies_in_frame w ≡ true
+      → to.events ≡ Event.Stop id n ∷ m.events
   both_stopped w None m k to t stays certain (inl ended) other lies = absurd (over_next m k other.frame other.rest stays ended.over other.next)
   both_stopped w None m k to t stays certain (inr none) other lies = absurd (none_next m k other.frame other.rest to stays none other.next)
   both_stopped w (Some why) m k to t stays certain (inl room) other lies = absurd (not_memory why certain room.memory)
   both_stopped w (Some why) m k to t stays certain (inr refused) other lies =
-      let first = first_cause (causes_of m.events (Accepted.Take id n refused.frame)) why certain refused.cause in
+      let first = first_cause (causes_of m.events (Event.Move id n refused.frame)) why certain refused.cause in
       let frame = same_next m k refused.frame other.frame refused.rest other.rest stays refused.next other.next in
-      let causes : causes_of k.events (Accepted.Take id n other.frame) ≡ causes_of m.events (Accepted.Take id n refused.frame) =
-      ap (λ (events : List Accepted). causes_of events (Accepted.Take id n other.frame)) stays.events ∙ ap (λ (f : Frame). causes_of m.events (Accepted.Take id n f)) (sym frame) in
-      let second : first_of (causes_of k.events (Accepted.Take id n other.frame)) ≡ Some w =
+      let causes : causes_of k.events (Event.Move id n other.frame) ≡ causes_of m.events (Event.Move id n refused.frame) =
+      ap (λ (events : List Event). causes_of events (Event.Move id n other.frame)) stays.events ∙ ap (λ (f : Frame). causes_of m.events (Event.Move id n f)) (sym frame) in
+      let second : refusal_of_first_cause (causes_of k.events (Event.Move id n other.frame)) ≡ Some w =
       elim other.cause [ inl it ↦ it | inr circumstance ↦ absurd (in_frame w lies circumstance) ] in
-      let same : w ≡ why = only_some (first_of (causes_of m.events (Accepted.Take id n refused.frame))) w why (sym (ap first_of causes) ∙ second) first in
+      let same : w ≡ why = only_some (refusal_of_first_cause (causes_of m.events (Event.Move id n refused.frame))) w why (sym (ap refusal_of_first_cause causes) ∙ second) first in
       let left = subst (λ (lie : Bool). LeavesRefused lie id n m to) (sym (ap lies_in_frame same) ∙ lies) refused.left in
       left.events
 
-  same_then : (m k t to : Standing) → Stays m k → t.events ≡ k.events → KeepsAsWell m to → KeepsAsWell t to
+  same_then : (m k t to : Standing) → StaysStanding m k → t.events ≡ k.events → KeepsAsWell m to → KeepsAsWell t to
   same_then m k t to stays same kept trees it = kept trees (same_kept t m (sym stays.events ∙ sym same) trees it)
 
   -- where none was taken, what a crash leaves of that is what is left
-  late_kept : (why other : Option Refusal) (m k to t : Standing) → Stays m k → AreCertain why → Rests id n why m to → Rests id n other k t → KeepsAsWell t to
+  late_kept : (why other : Option Refusal) (m k to t : Standing) → StaysStanding m k → AreCertain why → Rests id n why m to → Rests id n other k t → KeepsAsWell t to
   late_kept why None m k to t stays certain rests (inl ended) = same_then m k t to stays ended.stays.events (rests_kept why m to rests)
   late_kept why None m k to t stays certain rests (inr none) = same_then m k t to stays none.stays.events (rests_kept why m to rests)
   late_kept why (Some w) m k to t stays certain rests (inl room) = same_then m k t to stays room.stays.events (rests_kept why m to rests)
   late_kept why (Some w) m k to t stays certain rests (inr refused) = by_lie (lies_in_frame w) refl refused.left
     where
       by_lie : (lie : Bool) → lies_in_frame w ≡ lie → LeavesRefused lie id n k t → KeepsAsWell t to
-      by_lie true lies left = same_kept t to (both_stopped w why m k to t stays certain rests refused lies ∙ ap (λ (events : List Accepted). Accepted.Stop id n ∷ events) (sym stays.events) ∙ sym left.events)
+      by_lie true lies left = same_kept t to (both_stopped w why m k to t stays certain rests refused lies ∙ ap (λ (events : List Event). Event.Stop id n ∷ events) (sym stays.events) ∙ sym left.events)
       by_lie false lies left = same_then m k t to stays left.events (rests_kept why m to rests)
 
   -- ---- bytes

@@ -9,7 +9,7 @@ use Rattle.journal_model.specs.Cause.{IsAccepted, stop_of, stops_of}
 use Rattle.journal_model.specs.Run.{Handler}
 use Rattle.vm_types.specs.declared.options.VMOptions.{VMOptions}
 use Rattle.run_laws.specs.HeadlineLaws.{HoldsOn}
-use Rattle.schedule_laws.specs.Following.{HoldsOf, given_of}
+use Rattle.schedule_laws.specs.InvocationInRun.{HoldsOf, given_of}
 use Rattle.durable_schedule.specs.Runs.{ReopenedHold}
 
 module _ (on : HoldsOn) (next : Handler) (options : VMOptions) (id : Text) where

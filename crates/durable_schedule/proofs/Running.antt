@@ -10,15 +10,15 @@ use Rattle.journal_model.specs.Run.{Handler}
 use Rattle.vm_types.specs.declared.options.VMOptions.{VMOptions}
 use Rattle.journal_store.specs.Stored.{Stored}
 use Rattle.journal_store.specs.Stands.{IsStanding, Keeps, Endures, Outlasts}
-use Rattle.store_calls.specs.Standing.{Standing}
+use Rattle.store_calls.specs.AbstractStore.{Standing}
 use Rattle.schedule_laws.proofs.Schedules.{schedules_grow}
 use Rattle.schedule_laws.specs.Isolation.{AllAnswerAlone, AllKeepState, AllStandAlone}
 use Rattle.schedule_laws.specs.Laws.{FramesAreTaken, HoldsHeadline, HoldsNeverLate, HoldsTold, HoldsWakesExactly, LeavesHolds, ToldByEach}
 use Rattle.schedule_laws.specs.Schedules.{Event, Reply, HeldAttempt, Scheduled, AppliesAll, Brings, FitsEvent}
-use Rattle.schedule_laws.specs.Following.{HoldsOf, ReplaysInLine}
+use Rattle.schedule_laws.specs.InvocationInRun.{HoldsOf, ReplaysInLine}
 use Rattle.scheduler.specs.declared.scheduler.Scheduler.{Scheduler}
 use Rattle.scheduler.specs.Scheduled.{IsScheduled, AppliesWith}
-use Rattle.due_laws.proofs.Listing.{due_tells}
+use Rattle.due_laws.proofs.DueList.{due_tells}
 use Rattle.durable_schedule.specs.Runs.{AppliesFirst, LastsBehind, Leaves, LeavesFirst, StandsInRun, at_first}
 use Rattle.journal_store.proofs.Enduring.{endures_on}
 use Rattle.durable_schedule.proofs.Apart.{stands_apart, stands_still}

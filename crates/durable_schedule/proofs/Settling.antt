@@ -9,14 +9,14 @@ use Rattle.vm_types.specs.declared.options.VMOptions.{VMOptions}
 use Rattle.store_refusals.specs.declared.refusal.Refusal.{Refusal}
 use Rattle.journal_store.specs.Stored.{Stored}
 use Rattle.journal_store.specs.Stands.{Endures, IsQuiet, IsStanding, Outlasts}
-use Rattle.store_calls.specs.Standing.{Standing}
+use Rattle.store_calls.specs.AbstractStore.{Standing}
 use Rattle.schedule_laws.proofs.Schedules.{schedules_grow}
 use Rattle.schedule_laws.specs.Schedules.event
 use Rattle.schedule_laws.specs.Schedules.reply
 use Rattle.schedule_laws.specs.Schedules.refusal
 use Rattle.schedule_laws.specs.Schedules.{Event, Reply, HeldAttempt, Scheduled, held_of, tells_mismatch, Applies, AppliesAll}
 use Rattle.scheduler.specs.declared.scheduler.Scheduler.{Scheduler}
-use Rattle.scheduler.specs.Scheduled.{AppliesWith, IsScheduled, IsWritten, OutlastsEvent, Spares}
+use Rattle.scheduler.specs.Scheduled.{AppliesWith, IsScheduled, IsEventWritten, OutlastsEvent, Spares}
 use Rattle.durable_schedule.specs.Runs.{AreCertain, IsCertain, LastsNext, LastsBehind, at_first}
 use Rattle.durable_schedule.proofs.Quieting.{KeepsAsWell, fed_kept, shut_kept, turned_kept, ended_kept}
 use Rattle.durable_schedule.proofs.Refusing.{rest_lasts}
@@ -65,7 +65,7 @@ module _ {H : Type 0} (function : H → Handler) (options : VMOptions) where
 
       abbrev LastsWhole : Event H → Reply → Type 0
       LastsWhole one answer =
-          IsWritten one answer
+          IsEventWritten one answer
           × (LastsNext Before one answer → (t : Standing) → OutlastsEvent one answer t (state g new.store.connection) → Outlasts t.events (state g new.store.connection))
 
       abbrev Either : Event H → Reply → Type 0
@@ -172,7 +172,7 @@ module _ {H : Type 0} (function : H → Handler) (options : VMOptions) where
 
     abbrev pub SettlesOne : Event H → Reply → Scheduler H S → Scheduler H S → Type 0
     SettlesOne one answer old new =
-        IsWritten one answer → HasCleanDisk (state g new.store.connection) → (from : Scheduled H) → IsScheduled g from old
+        IsEventWritten one answer → HasCleanDisk (state g new.store.connection) → (from : Scheduled H) → IsScheduled g from old
         → (to : Scheduled H) × IsScheduled g to new × Applies function options one answer from to × OutlastsEvent one answer to.standing (state g new.store.connection)
 
     -- One more event: of what it leads to then, all lasts. What was written is told with what lasts of it, anything else is what it does.

@@ -8,14 +8,14 @@ use Rattle.journal_model.specs.Spelling.{frame_bytes}
 use Rattle.journal_model.specs.Start.{start_payload}
 use Rattle.protocol_types.specs.declared.message_type.MessageType.{MessageType}
 use Rattle.vm_types.specs.declared.options.VMOptions.{VMOptions}
-use Rattle.schedule_laws.specs.Attending.{Tracked}
-use Rattle.schedule_laws.specs.Following.{FollowsTold, ReplaysInLine, ToldOf}
+use Rattle.schedule_laws.specs.TrackedAttempt.{Tracked}
+use Rattle.schedule_laws.specs.InvocationInRun.{FollowsTold, ReplaysInLine, ToldOf}
 use Rattle.schedule_laws.specs.Laws.{DoesFeeding, KeepsTold, ToldByEach}
 use Rattle.schedule_laws.specs.Schedules.scheduled
 use Rattle.schedule_laws.specs.Schedules.event
 use Rattle.schedule_laws.specs.Schedules.reply
 use Rattle.schedule_laws.specs.Schedules.{Brings, FitsEvent, Reply, Scheduled}
-use Rattle.schedule_laws.specs.Turned.{BegunTells, EachBegunTells, TurnsTellEach, start_of, told_start}
+use Rattle.schedule_laws.specs.Turned.{BegunTells, EachBegunTells, TurnsTellEach, attempt_start_of, told_start}
 use Rattle.durable_schedule.specs.Handed.{HandsEach, HandsOne}
 
 module _ {H : Type 0} (function : H → Handler) (options : VMOptions) where
@@ -53,7 +53,7 @@ module _ {H : Type 0} (function : H → Handler) (options : VMOptions) where
     begun_tells (event.Begin other handler now) (reply.Begun number) bytes events replies added handed old between new told it k rest fits brings = λ same invocation is. (
       it.4 ∙ it.2.start ∙ ap (λ (x : Text). frame_bytes MessageType.Start (start_payload old.standing.events x now)) same,
       tell_each events replies added handed between new k.now number
-          (record { start = start_of options id old.standing.events now invocation; told = told_start (start_of options id old.standing.events now invocation) }) rest fits brings k.follows (k.begins same invocation is),
+          (record { start = attempt_start_of options id old.standing.events now invocation; told = told_start (attempt_start_of options id old.standing.events now invocation) }) rest fits brings k.follows (k.begins same invocation is),
     )
     begun_tells one answer bytes events replies added handed old between new told it k rest fits brings = tt
 

@@ -22,7 +22,7 @@ use Rattle.store_invocations.specs.Told.{entries_told}
 use Rattle.store_invocations.specs.Answered.{answer_told}
 use Rattle.journal_store.specs.Stored.{Stored}
 use Rattle.journal_store.specs.Stands.{KeepsAll, Outlasts, Stands}
-use Rattle.schedule_laws.specs.Following.{HoldsOf, ReplaysInLine, given_of}
+use Rattle.schedule_laws.specs.InvocationInRun.{HoldsOf, ReplaysInLine, given_of}
 use Rattle.schedule_laws.specs.Schedules.scheduled
 use Rattle.schedule_laws.specs.Schedules.event
 use Rattle.schedule_laws.specs.Schedules.reply
@@ -51,7 +51,7 @@ AreFed count left bytes (Some why) = bytes ≢ 0
 abbrev pub IsAcceptedOf : {H : Type 0} → scheduled.Event H → Reply → (before accepted : List Event) → Type 0
 IsAcceptedOf (event.Invoke new) reply.Done before accepted = accepted ≡ Event.Invoke new ∷ []
 IsAcceptedOf (event.Result id completion value) (reply.Placed place) before accepted =
-    (place ≡ 1 + length (entries_of before id)) × (accepted ≡ Event.Complete id completion value ∷ [])
+    (place ≡ 1 + length (entries_of before id)) × (accepted ≡ Event.Result id completion value ∷ [])
 IsAcceptedOf (event.Signal id key value) (reply.Placed place) before accepted = (place ≡ 1 + length (entries_of before id)) × (accepted ≡ Event.Signal id key value ∷ [])
 IsAcceptedOf (event.Cancel id) (reply.Placed place) before accepted = (place ≡ 1 + length (entries_of before id)) × (accepted ≡ Event.Cancel id ∷ [])
 IsAcceptedOf (event.Tick now) (reply.Ticked count) before accepted = (count ≡ completions_of_tick before now) × (accepted ≡ Event.Tick now ∷ [])
@@ -59,11 +59,11 @@ IsAcceptedOf (event.Begin id handler now) (reply.Begun number) before accepted =
 IsAcceptedOf (event.Begin id handler now) (reply.Refused why) before accepted =
     (accepted ≡ []) ⊎ ((why ≡ refusal.Store OutOfMemory) × (accepted ≡ Event.Begin id now ∷ []))
 IsAcceptedOf (event.Feed id attempt count) (reply.Fed bytes why) before accepted =
-    (parts : List ℕ) × (parts ≢ []) × (sum parts ≡ bytes) × AreFed count (input_left before id) bytes why × (accepted ≡ map (Event.HandOut id attempt) parts)
-IsAcceptedOf (event.Close id attempt) reply.Done before accepted = accepted ≡ Event.CloseInput id attempt ∷ []
+    (parts : List ℕ) × (parts ≢ []) × (sum parts ≡ bytes) × AreFed count (input_left before id) bytes why × (accepted ≡ map (Event.Feed id attempt) parts)
+IsAcceptedOf (event.Close id attempt) reply.Done before accepted = accepted ≡ Event.Close id attempt ∷ []
 IsAcceptedOf (event.Turn id attempt outcome) (reply.Turned turn) before accepted = accepted ≡ []
 IsAcceptedOf (event.Move id attempt count) (reply.Moved bytes frames why) before accepted =
-    (taken : List Frame) × (length taken ≡ frames) × (accepted ≡ stop_for id attempt why ++ map (Event.Take id attempt) taken)
+    (taken : List Frame) × (length taken ≡ frames) × (accepted ≡ stop_for id attempt why ++ map (Event.Move id attempt) taken)
 IsAcceptedOf (event.Stop id attempt) reply.Done before accepted = accepted ≡ Event.Stop id attempt ∷ []
 IsAcceptedOf one (reply.Refused why) before accepted = accepted ≡ []
 IsAcceptedOf one answer before accepted = ⊥

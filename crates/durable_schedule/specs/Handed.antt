@@ -9,9 +9,9 @@ use Rattle.journal_model.specs.Start.{start_payload}
 use Rattle.protocol_types.specs.declared.message_type.MessageType.{MessageType}
 use Rattle.vm_types.specs.declared.options.VMOptions.{VMOptions}
 use Rattle.store_calls.specs.declared.begun.BegunAttempt.{BegunAttempt}
-use Rattle.store_calls.specs.Calls.{Begins}
+use Rattle.store_calls.specs.Calls.{BeginsStoredAttempt}
 use Rattle.schedule_model.specs.Attempts.{Attempt}
-use Rattle.schedule_model.specs.Feeding.{given_in, FeedsParts}
+use Rattle.schedule_model.specs.InputFeed.{given_in, FeedsParts}
 use Rattle.schedule_model.specs.Held.{with_attempt}
 use Rattle.schedule_model.specs.Schedule.{HoldsBegun}
 use Rattle.schedule_laws.specs.Schedules.scheduled
@@ -44,7 +44,7 @@ module _ {H : Type 0} (function : H → Handler) (options : VMOptions) where
   -- with, which the store hands out in parts and the machine of the attempt that is held is fed. Any other hands nothing.
   abbrev pub HandsOne : scheduled.Event H → Reply → (bytes : Bytes) → Scheduled H → Scheduled H → Type 0
   HandsOne (event.Begin id handler now) (reply.Begun number) bytes old new =
-      (begun : BegunAttempt) × (number ≡ begun.number) × Begins id now begun old.standing new.standing × HoldsBegun options id handler begun old.held new.held × (bytes ≡ begun.start)
+      (begun : BegunAttempt) × (number ≡ begun.number) × BeginsStoredAttempt id now begun old.standing new.standing × HoldsBegun options id handler begun old.held new.held × (bytes ≡ begun.start)
   HandsOne (event.Feed id number count) (reply.Fed fed why) bytes old new =
       (one : HeldAttempt H) × (changed : Attempt H) × (parts : List Bytes) × (held_of old.held id number ≡ Some one) × (fed ≡ length bytes) × (bytes ≡ given_in parts)
       × FeedsParts count parts why one old.standing new.standing changed × (new.held ≡ with_attempt old.held one changed)

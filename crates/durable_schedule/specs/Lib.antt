@@ -3,6 +3,5 @@ pub mod Front
 pub mod Handed
 pub mod Runs
 pub mod Schedules
-pub mod Passed
 pub mod Attempts
 pub mod Handlers

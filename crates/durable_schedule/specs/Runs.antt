@@ -11,7 +11,7 @@ use Rattle.journal_model.specs.Headline.{Headline, NeverLate, WakesExactly}
 use Rattle.journal_model.specs.Run.{Handler}
 use Rattle.vm_types.specs.Options.{run_options}
 use Rattle.vm_types.specs.declared.options.VMOptions.{VMOptions}
-use Rattle.store_calls.specs.Standing.{Standing}
+use Rattle.store_calls.specs.AbstractStore.{Standing}
 use Rattle.store_refusals.specs.declared.refusal.Refusal.{Refusal}
 use Rattle.store_refusals.specs.Refused.{is_circumstance}
 use Rattle.schedule_laws.specs.Isolation.{IsAlike}
@@ -21,7 +21,7 @@ use Rattle.schedule_laws.specs.Schedules.event
 use Rattle.schedule_laws.specs.Schedules.reply
 use Rattle.schedule_laws.specs.Schedules.refusal
 use Rattle.schedule_laws.specs.Schedules.{Reply, HeldAttempt, Scheduled, Applies, AppliesAll, Brings}
-use Rattle.schedule_laws.specs.Following.{ReplaysInLine, HoldsOf, given_of}
+use Rattle.schedule_laws.specs.InvocationInRun.{ReplaysInLine, HoldsOf, given_of}
 use Rattle.schedule_laws.specs.Turned.{EachBegunTells}
 use Rattle.durable_schedule.specs.Handed.{HandsEach, IsHandedInput}
 

@@ -6,7 +6,7 @@ ghost use Rattle.std.specs.Prelude.{◌≡◌, ◌<◌, ◌≤◌, ◌+◌, List
 ghost use Rattle.std.specs.List.{AllByRecursion};
 ghost use Rattle.sqlite.specs.Held.{state};
 ghost use Rattle.sqlite.specs.State.{HasCleanDisk};
-ghost use Rattle.store_calls.specs.Standing.{Standing};
+ghost use Rattle.store_calls.specs.AbstractStore.{Standing};
 ghost use Rattle.journal_store.specs.Stands.{Endures, IsStanding, Outlasts};
 ghost use Rattle.schedule_laws.specs.Schedules.{AppliesAll, FitsEvent, Scheduled};
 ghost use Rattle.scheduler.specs.Scheduled.{IsScheduled};
@@ -30,7 +30,11 @@ pub use schedule_laws::{
     schedules_keep, schedules_leave,
 };
 pub use scheduler::{
-    Answer, AttachInvocationTarget, AwaitedFuture, Call, EntryKind, Event, EventRefusal, Failure, Handler, Header, HeldAttempt, Input, LastError, Moment, NewInvocation, NonEmptyValue, NotificationHandle, NotificationResult, Outcome, PayloadOptions, RecordedEntry, Reply, RetryPolicy, RunExitResult, RunOutcome, Scheduler, Sequence, SignalKey, StateMode, StateRow, Target, TerminalFailure, Turn, UnresolvedFuture, VMOptions, Value,
+    Answer, AttachInvocationTarget, AwaitedFuture, Call, EntryKind, Event, EventRefusal, Failure,
+    Handler, Header, HeldAttempt, Input, LastError, Moment, NewInvocation, NonEmptyValue,
+    NotificationHandle, NotificationResult, Outcome, PayloadOptions, RecordedEntry, Reply,
+    RetryPolicy, RunExitResult, RunOutcome, Scheduler, Sequence, SignalKey, StateMode, StateRow,
+    Target, TerminalFailure, Turn, UnresolvedFuture, VMOptions, Value,
 };
 pub use sqlite::Alter;
 use std::alloc::Global;

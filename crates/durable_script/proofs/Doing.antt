@@ -4,16 +4,16 @@ use Rattle.std.specs.Io.KnownBytes.{Appends}
 use Rattle.std.proofs.KnownBytes.{Appends-trans}
 use Rattle.sqlite_trees.specs.declared.store.Store.{Ghosts}
 use Rattle.built_in_handlers.specs.declared.built_in.BuiltIn.{BuiltIn}
-use Rattle.durable_schedule.specs.Passed.{Scheduler}
+use Rattle.scheduler.specs.declared.scheduler.Scheduler.{Scheduler}
 use Rattle.script_lines.specs.Line.{spelled}
 use Rattle.script_lines.specs.declared.fault.ScriptFault.{ScriptFault}
 use Rattle.script_lines.specs.declared.fault.ScriptFault.TheVariants.{LineNotUnderstood, ScriptUnreadable, LineOutOfMemory, TextOutOfMemory, OutputUnwritable}
 use Rattle.durable_script.specs.declared.runner.Runner.{Runner}
 use Rattle.durable_script.specs.Line.{DoesLine, DoesSomeLine}
-use Rattle.durable_script.specs.Reaching.{Reaches}
+use Rattle.durable_script.specs.SchedulerChanges.{Reaches}
 use Rattle.durable_script.specs.Runner.{DoesNext, StopsAt}
 use Rattle.durable_script.specs.Run.{DoneLine, lines_of, texts_of, AreUnderstood, DoesAll, DoesFirst, HasDone, DoesLines, ComesSoFar}
-use Rattle.durable_script.proofs.Reaching.{reaches_then}
+use Rattle.durable_script.proofs.SchedulerChanges.{reaches_then}
 
 module _ {S : Type 0} (g : Ghosts S) (lines : List (ℕ × List ℕ)) (start : Scheduler BuiltIn S) where
   -- a scheduler that came from the start by these lines

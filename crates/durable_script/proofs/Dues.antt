@@ -7,15 +7,16 @@ use Rattle.built_in_handlers.specs.declared.built_in.BuiltIn.{BuiltIn}
 use Rattle.journal_model.specs.Event.{Event}
 use Rattle.journal_model.specs.Attempt.{due}
 use Rattle.store_refusals.specs.declared.refusal.Refusal.{Refusal}
-use Rattle.store_refusals.specs.Names.{name_of}
+use Rattle.store_refusals.specs.Names.{refusal_name_of}
 use Rattle.store_refusals.specs.Refused.{IsRefused}
 use Rattle.journal_store.specs.Stands.{IsQuiet}
-use Rattle.durable_schedule.specs.Passed.{Scheduler, IsScheduled}
+use Rattle.scheduler.specs.declared.scheduler.Scheduler.{Scheduler}
+use Rattle.scheduler.specs.Scheduled.{IsScheduled}
 use Rattle.durable_schedule.specs.Schedules.{Scheduled}
 use Rattle.script_lines.specs.Text.{due_line, refused_text}
-use Rattle.durable_script.specs.Reaching.{Reaches, Nowhere}
-use Rattle.durable_script.specs.Shown.{Looks, ShowsDue}
-use Rattle.durable_script.proofs.Reaching.{reaches_so, reaches_told}
+use Rattle.durable_script.specs.SchedulerChanges.{Reaches, Nowhere}
+use Rattle.durable_script.specs.Shown.{ShowsOnly, ShowsDue}
+use Rattle.durable_script.proofs.SchedulerChanges.{reaches_so, reaches_told}
 
 -- these are due
 abbrev AreDue : List (List ℕ) → List Event → Type 0
@@ -27,13 +28,13 @@ AreNotTold why events = IsRefused [] why
 
 module _ {S : Type 0} (g : Ghosts S) (a b : Scheduler BuiltIn S) (quiet : IsQuiet g a.store b.store) (kept : b ≡ record a { store = b.store }) where
   pub due_printed : (ids : List (List ℕ)) → (HasCleanDisk (state g b.store.connection) → (s : Scheduled BuiltIn) → IsScheduled g s a → AreDue ids s.standing.events × IsScheduled g s b)
-      → Reaches g Nowhere (Looks (ShowsDue (due_line ids ++ 10 ∷ []))) a b
+      → Reaches g Nowhere (ShowsOnly (ShowsDue (due_line ids ++ 10 ∷ []))) a b
   due_printed ids tells =
-      reaches_so g Nowhere Nowhere (Looks (AreDue ids)) (Looks (ShowsDue (due_line ids ++ 10 ∷ []))) a b (λ x y none. none)
+      reaches_so g Nowhere Nowhere (ShowsOnly (AreDue ids)) (ShowsOnly (ShowsDue (due_line ids ++ 10 ∷ []))) a b (λ x y none. none)
       (λ x y p. (inl (ap (λ (ids : List (List ℕ)). due_line ids ++ 10 ∷ []) p.0), p.1)) (reaches_told g (AreDue ids) a b quiet tells kept)
 
   pub no_due_printed : (why : Refusal) → (HasCleanDisk (state g b.store.connection) → (s : Scheduled BuiltIn) → IsScheduled g s a → AreNotTold why s.standing.events × IsScheduled g s b)
-      → Reaches g Nowhere (Looks (ShowsDue (refused_text (name_of why) ++ 10 ∷ []))) a b
+      → Reaches g Nowhere (ShowsOnly (ShowsDue (refused_text (refusal_name_of why) ++ 10 ∷ []))) a b
   no_due_printed why tells =
-      reaches_so g Nowhere Nowhere (Looks (AreNotTold why)) (Looks (ShowsDue (refused_text (name_of why) ++ 10 ∷ []))) a b (λ x y none. none)
+      reaches_so g Nowhere Nowhere (ShowsOnly (AreNotTold why)) (ShowsOnly (ShowsDue (refused_text (refusal_name_of why) ++ 10 ∷ []))) a b (λ x y none. none)
       (λ x y p. (inr (why, p.0, refl), p.1)) (reaches_told g (AreNotTold why) a b quiet tells kept)

@@ -8,13 +8,14 @@ use Rattle.journal_model.specs.Run.{Handler}
 use Rattle.vm_types.specs.Options.{default_options}
 use Rattle.durable_schedule.proofs.Running.{each_more}
 use Rattle.durable_schedule.proofs.Schedules.{schedules_grow}
-use Rattle.durable_schedule.specs.Passed.{LeavesHolds, ReplaysInLine}
+use Rattle.schedule_laws.specs.Laws.{LeavesHolds}
+use Rattle.schedule_laws.specs.InvocationInRun.{ReplaysInLine}
 use Rattle.durable_schedule.specs.Schedules.event
 use Rattle.durable_schedule.specs.Schedules.{FitsEvent, Event, Reply, Scheduled, AppliesAll, Brings}
 use Rattle.script_lines.specs.declared.line.Line.{Line}
 use Rattle.script_lines.specs.declared.line.Line.TheVariants.{Invoke, Result, Signal, Cancel, Tick, Begin, Feed, Close, Turn, Move, Stop, Due, Show, State}
 use Rattle.script_lines.specs.declared.outcome.LineOutcome.{LineOutcome}
-use Rattle.durable_script.specs.Line.{brought, new_invocation, goes_on, turn_of, AppliesOne, TurnsGoOn, EndsTurns, AreTurns, AreOfLine, DoesEvent, DoesLine}
+use Rattle.durable_script.specs.Line.{brought, new_invocation, goes_on, turn_event, AppliesOne, TurnsGoOn, EndsTurns, AreTurns, AreOfLine, DoesEvent, DoesLine}
 use Rattle.durable_script.specs.Printed.{printed, refused_memory}
 use Rattle.durable_script.specs.Run.{DoneLine, AllBring, AreFirst, AreOfLines, DoesAll, DoesFirst, LinesFollow}
 
@@ -69,7 +70,7 @@ record TurnsBehind (before : List DoneLine) (id : Text) (n : ℕ) (outcome : Opt
   events_are : events ≡ first ++ own
   replies_are : replies ≡ told ++ answers
   of_lines : AreOfLines before first told
-  are_turns : AllByRecursion (λ one. one ≡ turn_of id n outcome) own
+  are_turns : AllByRecursion (λ one. one ≡ turn_event id n outcome) own
   gone_on : AllByRecursion (λ answer. goes_on answer ≡ true) answers
   as_many : length own ≡ turns
   so_many : length answers ≡ turns
@@ -82,7 +83,7 @@ module _ (before : List DoneLine) (number : ℕ) (text : List ℕ) where
   module _ (id : Text) (n : ℕ) (outcome : Option LineOutcome) (turns : ℕ) (events : List (Event BuiltIn)) (replies : List Reply) (it : TurnsBehind before id n outcome turns events replies) where
     -- a turn with this outcome
     abbrev turn : Event BuiltIn
-    turn = turn_of id n outcome
+    turn = turn_event id n outcome
 
     -- one more behind these
     more_events : events ++ turn ∷ [] ≡ it.first ++ (it.own ++ turn ∷ [])
@@ -131,17 +132,17 @@ module _ (before : List DoneLine) (number : ℕ) (text : List ℕ) where
     module _ (turns taken : ℕ) (last : Reply) (taken_are : taken ≡ turns + 1) (text_is : text ≡ printed taken last ++ 10 ∷ []) (events : List (Event BuiltIn)) (replies : List Reply)
         (it : TurnsBehind before id n outcome turns events replies) where
       -- the last one
-      turn_last : AreOfLines (done_line turn_line ∷ before) (events ++ turn_of id n outcome ∷ []) (replies ++ last ∷ [])
+      turn_last : AreOfLines (done_line turn_line ∷ before) (events ++ turn_event id n outcome ∷ []) (replies ++ last ∷ [])
       turn_last = (
         it.first,
-        it.own ++ turn_of id n outcome ∷ [],
+        it.own ++ turn_event id n outcome ∷ [],
         it.told,
         it.answers ++ last ∷ [],
         more_events id n outcome turns events replies it,
         more_replies id n outcome turns events replies it last,
         it.of_lines,
-        are_of_line id n outcome turns events replies it taken last (it.own ++ turn_of id n outcome ∷ []) (it.answers ++ last ∷ []) taken_are text_is (more_turns id n outcome turns events replies it)
-            (omega (arith, it.as_many, it.so_many, length-append it.own (turn_of id n outcome ∷ []), length-append it.answers (last ∷ []))) (inl refl),
+        are_of_line id n outcome turns events replies it taken last (it.own ++ turn_event id n outcome ∷ []) (it.answers ++ last ∷ []) taken_are text_is (more_turns id n outcome turns events replies it)
+            (omega (arith, it.as_many, it.so_many, length-append it.own (turn_event id n outcome ∷ []), length-append it.answers (last ∷ []))) (inl refl),
       )
 
       -- none behind these, since memory was refused
@@ -164,7 +165,7 @@ module _ (before : List DoneLine) (number : ℕ) (text : List ℕ) where
   turns_more AreBrought id n outcome (suc turns) start old new t s =
       let rest = turns_more AreBrought id n outcome turns start old t.0 t.1 s in
       let one = t.2 in
-      event_more (TurnsBehind before id n outcome turns) (TurnsBehind before id n outcome (suc turns)) AreBrought AreBrought (λ id next all. all) start t.0 new rest (turn_of id n outcome) one.answer
+      event_more (TurnsBehind before id n outcome turns) (TurnsBehind before id n outcome (suc turns)) AreBrought AreBrought (λ id next all. all) start t.0 new rest (turn_event id n outcome) one.answer
       (turn_more id n outcome turns rest.events rest.replies rest.are one.answer one.another) (λ id next all. tt) one.applies
 
   module _ (start old new : Scheduled BuiltIn) (s : IsOfLines before start old) where
@@ -221,7 +222,7 @@ module _ (before : List DoneLine) (number : ℕ) (text : List ℕ) where
         elim d.took.takes [
           | inl applies ↦
               event_more (TurnsBehind before id n outcome d.took.before) (AreOfLines (done_line line ∷ before)) (Brought line) (Brought line) (λ id next all. all)
-              start d.took.between new rest (turn_of id n outcome) d.last
+              start d.took.between new rest (turn_event id n outcome) d.last
               (turn_last id n count outcome d.took.before d.taken d.last d.took.taken_are d.text_is rest.events rest.replies rest.are) (λ id next all. tt) applies
           | inr none ↦
               none_more (TurnsBehind before id n outcome d.took.before) (AreOfLines (done_line line ∷ before)) (Brought line) (Brought line) (λ id next all. all)

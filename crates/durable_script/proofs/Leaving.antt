@@ -9,13 +9,14 @@ use Rattle.built_in_handlers.specs.BuiltIn.{function_of}
 use Rattle.vm_types.specs.Options.{default_options}
 use Rattle.journal_store.specs.Stored.{Stored}
 use Rattle.journal_store.specs.Stands.{Endures, IsStanding, Keeps}
-use Rattle.store_calls.specs.Standing.{Standing}
+use Rattle.store_calls.specs.AbstractStore.{Standing}
 use Rattle.durable_schedule.proofs.Running.{all_left}
-use Rattle.durable_schedule.specs.Passed.laws
-use Rattle.durable_schedule.specs.Passed.{AllAnswerAlone, AllKeepState, AllStandAlone, Scheduler}
+use Rattle.schedule_laws.specs.Laws as laws
+use Rattle.schedule_laws.specs.Isolation.{AllAnswerAlone, AllKeepState, AllStandAlone}
+use Rattle.scheduler.specs.declared.scheduler.Scheduler.{Scheduler}
 use Rattle.durable_schedule.specs.Runs.{at_first}
 use Rattle.durable_schedule.specs.Schedules.{Scheduled}
-use Rattle.durable_script.specs.Reaching.{IsAt, KeepsCut, Reaches}
+use Rattle.durable_script.specs.SchedulerChanges.{IsAt, KeepsCut, Reaches}
 use Rattle.durable_script.specs.Run.{DoneLine, DoesAll, DoesFirst, AreSchedule, AreCut, AreDone}
 use Rattle.durable_script.proofs.Following.{lines_are, cut_of}
 

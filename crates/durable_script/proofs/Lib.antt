@@ -1,5 +1,5 @@
 pub mod Naming
-pub mod Reaching
+pub mod SchedulerChanges
 pub mod Following
 pub mod Leaving
 pub mod Printing

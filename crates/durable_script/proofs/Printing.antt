@@ -3,7 +3,7 @@ use Rattle.std.proofs.Common.{◌≡◌, ℕ, List, [], ◌∷◌, ◌++◌, Opt
 use Rattle.sqlite_trees.specs.declared.store.Store.{Ghosts}
 use Rattle.built_in_handlers.specs.declared.built_in.BuiltIn.{BuiltIn}
 use Rattle.journal_model.specs.Notification.{Text}
-use Rattle.durable_schedule.specs.Passed.{Scheduler}
+use Rattle.scheduler.specs.declared.scheduler.Scheduler.{Scheduler}
 use Rattle.durable_schedule.specs.Schedules.event
 use Rattle.durable_schedule.specs.Schedules.{Event, Reply}
 use Rattle.script_lines.specs.declared.line.Line.{Line}
@@ -11,9 +11,9 @@ use Rattle.script_lines.specs.declared.line.Line.TheVariants as line
 use Rattle.script_lines.specs.declared.outcome.LineOutcome.{LineOutcome}
 use Rattle.script_lines.specs.declared.word.HandlerName.{HandlerName}
 use Rattle.durable_script.specs.Line.{AppliesOne, IsBegin, DoesEvent, DoesSomeEvent, TookTurns, TakesTurns, DoesLine, DoesSomeLine}
-use Rattle.durable_script.specs.Printed.{printed, Makes}
-use Rattle.durable_script.specs.Reaching.{Reaches, Nowhere}
-use Rattle.durable_script.proofs.Reaching.{Applied, reaches_so}
+use Rattle.durable_script.specs.Printed.{printed, MakesText}
+use Rattle.durable_script.specs.SchedulerChanges.{Reaches, Nowhere}
+use Rattle.durable_script.proofs.SchedulerChanges.{Applied, reaches_so}
 
 module _ {S : Type 0} (g : Ghosts S) (old new : Scheduler BuiltIn S) where
   pub event_printed : (one : Event BuiltIn) (reply : Reply) → Reaches g (Applied one) (AppliesOne one reply) old new
@@ -30,13 +30,13 @@ module _ {S : Type 0} (g : Ghosts S) (old new : Scheduler BuiltIn S) where
 
 -- what is told of a text is told in another way
 module _ {T E : Type 0} (bytes_of : T → List ℕ) (r : Result T E) where
-  pub makes_so : (P Q : List ℕ → Type 0) → ((text : List ℕ) → P text → Q text) → Makes bytes_of r P → Makes bytes_of r Q
+  pub makes_so : (P Q : List ℕ → Type 0) → ((text : List ℕ) → P text → Q text) → MakesText bytes_of r P → MakesText bytes_of r Q
   makes_so P Q so made = (made.0, made.1, so made.0 made.2)
 
   module _ {S : Type 0} (g : Ghosts S) (old new : Scheduler BuiltIn S) where
     -- a line that begins an attempt
-    pub makes_begun : (id : Text) (name : HandlerName) (now : ℕ) (one : Event BuiltIn) → IsBegin id name now one → Makes bytes_of r (λ text. Reaches g (DoesSomeEvent one) (DoesEvent one text) old new)
-        → Makes bytes_of r (λ text. Reaches g (DoesSomeLine (line.Begin id name now)) (DoesLine (line.Begin id name now) text) old new)
+    pub makes_begun : (id : Text) (name : HandlerName) (now : ℕ) (one : Event BuiltIn) → IsBegin id name now one → MakesText bytes_of r (λ text. Reaches g (DoesSomeEvent one) (DoesEvent one text) old new)
+        → MakesText bytes_of r (λ text. Reaches g (DoesSomeLine (line.Begin id name now)) (DoesLine (line.Begin id name now) text) old new)
     makes_begun id name now one is made =
         let it = event.Begin id is.0 now in
         let does = subst (λ (e : Event BuiltIn). Reaches g (DoesSomeEvent e) (DoesEvent e made.0) old new) is.2 made.2 in (
@@ -47,9 +47,9 @@ module _ {T E : Type 0} (bytes_of : T → List ℕ) (r : Result T E) where
         )
 
     -- a line that commits nothing leaves nothing more in a crash
-    pub makes_quiet : (asked it : Line) → asked ≡ it → Makes bytes_of r (λ text. Reaches g Nowhere (DoesLine it text) old new)
-        → Makes bytes_of r (λ text. Reaches g (DoesSomeLine asked) (DoesLine asked text) old new)
+    pub makes_quiet : (asked it : Line) → asked ≡ it → MakesText bytes_of r (λ text. Reaches g Nowhere (DoesLine it text) old new)
+        → MakesText bytes_of r (λ text. Reaches g (DoesSomeLine asked) (DoesLine asked text) old new)
     makes_quiet asked it is made =
-        subst (λ (line : Line). Makes bytes_of r (λ text. Reaches g (DoesSomeLine line) (DoesLine line text) old new)) (sym is)
+        subst (λ (line : Line). MakesText bytes_of r (λ text. Reaches g (DoesSomeLine line) (DoesLine line text) old new)) (sym is)
         (makes_so (λ text. Reaches g Nowhere (DoesLine it text) old new) (λ text. Reaches g (DoesSomeLine it) (DoesLine it text) old new)
         (λ text does. reaches_so g Nowhere (DoesSomeLine it) (DoesLine it text) (DoesLine it text) old new (λ x y none. absurd none) (λ x y p. p) does) made)

@@ -11,16 +11,17 @@ use Rattle.journal_model.specs.State.{StateMap}
 use Rattle.journal_model.specs.Event.{Event}
 use Rattle.journal_model.specs.Journal.{object_state}
 use Rattle.store_refusals.specs.declared.refusal.Refusal.{Refusal}
-use Rattle.store_refusals.specs.Names.{name_of}
+use Rattle.store_refusals.specs.Names.{refusal_name_of}
 use Rattle.store_refusals.specs.Refused.{IsRefused}
 use Rattle.journal_store.specs.Stands.{IsQuiet}
-use Rattle.durable_schedule.specs.Passed.{Scheduler, IsScheduled}
+use Rattle.scheduler.specs.declared.scheduler.Scheduler.{Scheduler}
+use Rattle.scheduler.specs.Scheduled.{IsScheduled}
 use Rattle.durable_schedule.specs.Schedules.{Scheduled, StateRow, state_row}
 use Rattle.script_lines.specs.Text.{refused_text}
-use Rattle.durable_script.specs.Reaching.{Reaches, Nowhere}
+use Rattle.durable_script.specs.SchedulerChanges.{Reaches, Nowhere}
 use Rattle.durable_script.specs.Rows.{row_text, rows_text}
-use Rattle.durable_script.specs.Shown.{state_entry, Looks, ShowsState}
-use Rattle.durable_script.proofs.Reaching.{reaches_so, reaches_told}
+use Rattle.durable_script.specs.Shown.{state_entry, ShowsOnly, TellsState}
+use Rattle.durable_script.proofs.SchedulerChanges.{reaches_so, reaches_told}
 
 -- rows of an object are shown as its values are
 rows_shown : (object : Text) (states : StateMap) → flat_map row_text (map (state_row object) states) ≡ flat_map state_entry states
@@ -37,16 +38,16 @@ AreNotTold why events = IsRefused [] why
 
 module _ {S : Type 0} (g : Ghosts S) (object : Text) (a b : Scheduler BuiltIn S) (quiet : IsQuiet g a.store b.store) (kept : b ≡ record a { store = b.store }) where
   pub states_printed : (rows : List StateRow) → (HasCleanDisk (state g b.store.connection) → (s : Scheduled BuiltIn) → IsScheduled g s a → AreStates object rows s.standing.events × IsScheduled g s b)
-      → Reaches g Nowhere (Looks (ShowsState object (rows_text rows))) a b
+      → Reaches g Nowhere (ShowsOnly (TellsState object (rows_text rows))) a b
   states_printed rows tells =
-      reaches_so g Nowhere Nowhere (Looks (AreStates object rows)) (Looks (ShowsState object (rows_text rows))) a b (λ x y none. none)
+      reaches_so g Nowhere Nowhere (ShowsOnly (AreStates object rows)) (ShowsOnly (TellsState object (rows_text rows))) a b (λ x y none. none)
       (λ x y p. (
         inl (ap rows_text p.0 ∙ ap (λ (text : List ℕ). text ++ (codes "end" ++ 10 ∷ [])) (rows_shown object (object_state x.standing.events object))),
         p.1,
       )) (reaches_told g (AreStates object rows) a b quiet tells kept)
 
   pub no_states_printed : (why : Refusal) → (HasCleanDisk (state g b.store.connection) → (s : Scheduled BuiltIn) → IsScheduled g s a → AreNotTold why s.standing.events × IsScheduled g s b)
-      → Reaches g Nowhere (Looks (ShowsState object (refused_text (name_of why) ++ 10 ∷ []))) a b
+      → Reaches g Nowhere (ShowsOnly (TellsState object (refused_text (refusal_name_of why) ++ 10 ∷ []))) a b
   no_states_printed why tells =
-      reaches_so g Nowhere Nowhere (Looks (AreNotTold why)) (Looks (ShowsState object (refused_text (name_of why) ++ 10 ∷ []))) a b (λ x y none. none)
+      reaches_so g Nowhere Nowhere (ShowsOnly (AreNotTold why)) (ShowsOnly (TellsState object (refused_text (refusal_name_of why) ++ 10 ∷ []))) a b (λ x y none. none)
       (λ x y p. (inr (why, p.0, refl), p.1)) (reaches_told g (AreNotTold why) a b quiet tells kept)

@@ -5,7 +5,7 @@ use Rattle.journal_model.specs.declared.notification.NotificationId.{Notificatio
 use Rattle.journal_model.specs.declared.notification.NotificationId.TheVariants as ids
 use Rattle.journal_model.specs.declared.notification.NotificationResult.{NotificationResult}
 use Rattle.journal_model.specs.declared.notification.NotificationResult.TheVariants as results
-use Rattle.protocol_types.specs.MessageType.{number_of}
+use Rattle.protocol_types.specs.MessageType.{type_number}
 use Rattle.protocol_stream.specs.Frame.{message_of}
 use Rattle.protocol_messages.specs.Decoded.{DecodesNotification}
 use Rattle.store_refusals.specs.declared.refusal.Refusal.{Refusal}
@@ -33,7 +33,7 @@ brought_words (results.StateKeys keys) = keys_words keys
 
 -- the line of a request, or of an arrival, each with its place
 abbrev pub entry_text : ShownEntry → List ℕ
-entry_text (Request entry) = request_line entry.place (number_of entry.ty) entry.payload ++ 10 ∷ []
+entry_text (Request entry) = request_line entry.place (type_number entry.ty) entry.payload ++ 10 ∷ []
 entry_text (Arrival place arrival) = arrival_line place (id_word arrival.id) (brought_words arrival.result) ++ 10 ∷ []
 
 -- an entry is shown as it is told: a request by its frame, an arrival by what its payload means

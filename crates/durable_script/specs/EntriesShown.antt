@@ -5,7 +5,7 @@ use Rattle.journal_model.specs.Notification.{Text}
 use Rattle.journal_model.specs.Event.{Event}
 use Rattle.journal_model.specs.Journal.{Entry, Recorded, Arrived, entries_of}
 use Rattle.journal_model.specs.Spelling.{request_type, request_payload}
-use Rattle.protocol_types.specs.MessageType.{number_of}
+use Rattle.protocol_types.specs.MessageType.{type_number}
 use Rattle.vm_input_laws.specs.Arrivals.{ArrivalFits}
 use Rattle.store_invocations.specs.Told.{entries_told}
 use Rattle.script_lines.specs.Text.{request_line}
@@ -15,7 +15,7 @@ use Rattle.durable_script.specs.Entries.{AreShown, brought_words, entry_text, id
 
 -- the line of an entry at its place
 abbrev pub line_at : ℕ → Entry → List ℕ
-line_at place (Recorded request) = request_line place (number_of (request_type request)) (request_payload request) ++ 10 ∷ []
+line_at place (Recorded request) = request_line place (type_number (request_type request)) (request_payload request) ++ 10 ∷ []
 line_at place (Arrived arrival) = arrival_line place (id_word arrival.id) (brought_words arrival.result) ++ 10 ∷ []
 
 -- those from a place on

@@ -1,4 +1,4 @@
-pub mod Reaching
+pub mod SchedulerChanges
 pub mod Printed
 pub mod Entries
 pub mod EntriesShown

@@ -25,7 +25,7 @@ use Rattle.script_lines.specs.declared.word.StateMode.{StateMode}
 use Rattle.script_lines.specs.declared.word.StateMode.TheVariants.{Whole, Hidden}
 use Rattle.durable_script.specs.Outcome.{given_outcome}
 use Rattle.durable_script.specs.Printed.{printed, refused_memory}
-use Rattle.durable_script.specs.Shown.{Looks, Shows, ShowsDue, ShowsState}
+use Rattle.durable_script.specs.Shown.{ShowsOnly, Shows, ShowsDue, TellsState}
 
 -- the handler that a name stands for
 abbrev pub IsNamed : HandlerName → BuiltIn → Type 0
@@ -73,14 +73,14 @@ goes_on (Turned turn.RanBody) = true
 goes_on _ = false
 
 -- a turn of an attempt, in which the body of a run ends as the line says
-abbrev pub turn_of : List ℕ → ℕ → Option LineOutcome → Event BuiltIn
-turn_of id attempt outcome = event.Turn id attempt (given_outcome outcome)
+abbrev pub turn_event : List ℕ → ℕ → Option LineOutcome → Event BuiltIn
+turn_event id attempt outcome = event.Turn id attempt (given_outcome outcome)
 
 -- a turn is taken, behind which there is another to make
 pub record TurnGoesOn (id : List ℕ) (attempt : ℕ) (outcome : Option LineOutcome) (old new : Scheduled BuiltIn) : Type 0 where
   pub answer : Reply
   pub another : goes_on answer ≡ true
-  pub applies : AppliesOne (turn_of id attempt outcome) answer old new
+  pub applies : AppliesOne (turn_event id attempt outcome) answer old new
 
 -- so many of them
 abbrev pub TurnsGoOn : List ℕ → ℕ → Option LineOutcome → ℕ → Scheduled BuiltIn → Scheduled BuiltIn → Type 0
@@ -90,7 +90,7 @@ TurnsGoOn id attempt outcome (suc turns) old new =
 
 -- a turn is taken; or memory is refused for the copy of the outcome that the line gives, and none is
 abbrev pub TakesTurn : List ℕ → ℕ → Option LineOutcome → Reply → Scheduled BuiltIn → Scheduled BuiltIn → Type 0
-TakesTurn id attempt outcome answer old new = AppliesOne (turn_of id attempt outcome) answer old new ⊎ (IsSome outcome × (answer ≡ refused_memory) × (new ≡ old))
+TakesTurn id attempt outcome answer old new = AppliesOne (turn_event id attempt outcome) answer old new ⊎ (IsSome outcome × (answer ≡ refused_memory) × (new ≡ old))
 
 -- so many turns were taken, of as many as were asked for: behind the first behind which there is no other to make, none is
 pub record TookTurns (id : List ℕ) (attempt asked : ℕ) (outcome : Option LineOutcome) (taken : ℕ) (last : Reply) (old new : Scheduled BuiltIn) : Type 0 where
@@ -121,9 +121,9 @@ DoesLine (Close id attempt) text old new = DoesEvent (event.Close id attempt) te
 DoesLine (Turn id attempt count outcome) text old new = TakesTurns id attempt count outcome text old new
 DoesLine (Move id attempt count) text old new = DoesEvent (event.Move id attempt count) text old new
 DoesLine (Stop id attempt) text old new = DoesEvent (event.Stop id attempt) text old new
-DoesLine Due text old new = Looks (ShowsDue text) old new
-DoesLine (Show id) text old new = Looks (Shows id text) old new
-DoesLine (State object) text old new = Looks (ShowsState object text) old new
+DoesLine Due text old new = ShowsOnly (ShowsDue text) old new
+DoesLine (Show id) text old new = ShowsOnly (Shows id text) old new
+DoesLine (State object) text old new = ShowsOnly (TellsState object text) old new
 
 -- the last reply is that of a turn, or tells that memory was refused for one more
 abbrev pub EndsTurns : Option LineOutcome → (before : List Reply) → (last : Reply) → (answers : List Reply) → Type 0
@@ -131,7 +131,7 @@ EndsTurns outcome before last answers = (answers ≡ before ++ last ∷ []) ⊎ 
 
 -- turns of one attempt, behind all but the last of which there is another to make; the last reply is printed, with their number
 pub record AreTurns (id : List ℕ) (attempt : ℕ) (outcome : Option LineOutcome) (text : List ℕ) (own : List (Event BuiltIn)) (answers : List Reply) : Type 0 where
-  pub turns : AllByRecursion (λ one. one ≡ turn_of id attempt outcome) own
+  pub turns : AllByRecursion (λ one. one ≡ turn_event id attempt outcome) own
   pub as_many : length own ≡ length answers
   pub before : List Reply
   pub last : Reply

@@ -3,7 +3,7 @@ use Rattle.std.specs.Prelude.{◌≡◌, ℕ, List, Some, None, Result, IfOk}
 use Rattle.durable_schedule.specs.Attempts.turn
 use Rattle.durable_schedule.specs.Attempts.{Turn}
 use Rattle.durable_schedule.specs.Schedules.reply
-use Rattle.durable_schedule.specs.Schedules.{Reply, name_of}
+use Rattle.durable_schedule.specs.Schedules.{Reply, event_refusal_name_of}
 use Rattle.durable_schedule.specs.Schedules.refusal
 use Rattle.store_refusals.specs.Names as store
 use Rattle.store_refusals.specs.declared.refusal.Refusal.TheVariants.{OutOfMemory}
@@ -31,12 +31,12 @@ printed turns (reply.Placed place) = reply_text (Placed place)
 printed turns (reply.Ticked sleeps) = reply_text (Ticked sleeps)
 printed turns (reply.Begun attempt) = reply_text (Begun attempt)
 printed turns (reply.Fed bytes None) = reply_text (Fed bytes)
-printed turns (reply.Fed bytes (Some why)) = refused_text (store.name_of why)
+printed turns (reply.Fed bytes (Some why)) = refused_text (store.refusal_name_of why)
 printed turns (reply.Turned turn) = reply_text (Turned turns (word_of turn))
 printed turns (reply.Moved bytes frames None) = moved_text bytes frames
-printed turns (reply.Moved bytes frames (Some why)) = moved_until_text bytes frames (store.name_of why)
-printed turns (reply.Refused why) = refused_text (name_of why)
+printed turns (reply.Moved bytes frames (Some why)) = moved_until_text bytes frames (store.refusal_name_of why)
+printed turns (reply.Refused why) = refused_text (event_refusal_name_of why)
 
 -- This holds of a text, which was made, or for which there was no memory.
-abbrev pub Makes : {T E : Type 0} → (T → List ℕ) → Result T E → (List ℕ → Type 0) → Type 0
-Makes bytes_of result Holds = (text : List ℕ) × IfOk result (λ made. bytes_of made ≡ text) × Holds text
+abbrev pub MakesText : {T E : Type 0} → (T → List ℕ) → Result T E → (List ℕ → Type 0) → Type 0
+MakesText bytes_of result Holds = (text : List ℕ) × IfOk result (λ made. bytes_of made ≡ text) × Holds text

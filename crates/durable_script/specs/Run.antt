@@ -11,8 +11,8 @@ use Rattle.journal_model.specs.Run.{Handler}
 use Rattle.vm_types.specs.Options.{default_options}
 use Rattle.journal_store.specs.Stored.{Stored}
 use Rattle.journal_store.specs.Stands.{Endures, IsStanding}
-use Rattle.store_calls.specs.Standing.{Standing}
-use Rattle.durable_schedule.specs.Passed.{HoldsOf}
+use Rattle.store_calls.specs.AbstractStore.{Standing}
+use Rattle.schedule_laws.specs.InvocationInRun.{HoldsOf}
 use Rattle.durable_schedule.specs.Runs.{Leaves, at_first}
 use Rattle.durable_schedule.specs.Schedules.{AppliesAll, Brings, Event, HeldAttempt, Reply, Scheduled}
 use Rattle.built_in_handlers.specs.BuiltIn.{function_of}

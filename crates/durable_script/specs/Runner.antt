@@ -6,7 +6,7 @@ use Rattle.script_lines.specs.Line.{spelled, IsLine}
 use Rattle.script_lines.specs.declared.fault.ScriptFault.{ScriptFault}
 use Rattle.script_lines.specs.declared.fault.ScriptFault.TheVariants.{LineNotUnderstood, ScriptUnreadable, LineOutOfMemory, TextOutOfMemory, OutputUnwritable}
 use Rattle.durable_script.specs.declared.runner.Runner.{Runner}
-use Rattle.durable_script.specs.Reaching.{Reaches}
+use Rattle.durable_script.specs.SchedulerChanges.{Reaches}
 use Rattle.durable_script.specs.Line.{DoesLine, DoesSomeLine}
 
 -- the bytes spell this line

@@ -11,7 +11,7 @@ use Rattle.journal_model.specs.Journal.{is_open, object_state}
 use Rattle.journal_model.specs.Attempt.{due}
 use Rattle.journal_model.specs.Cause.{those_that_hold}
 use Rattle.store_refusals.specs.declared.refusal.Refusal.{Refusal}
-use Rattle.store_refusals.specs.Names.{name_of}
+use Rattle.store_refusals.specs.Names.{refusal_name_of}
 use Rattle.store_refusals.specs.Refused.{IsRefused}
 use Rattle.store_invocations.specs.Rows.{known_tests}
 use Rattle.store_invocations.specs.Told.{entries_told}
@@ -57,7 +57,7 @@ RefusesShow id refusal events = IsRefused (those_that_hold (known_tests events i
 pub record ShowsRefusal (id : Text) (text : List ℕ) (events : List Event) : Type 0 where
   pub refusal : Refusal
   pub cause : RefusesShow id refusal events
-  pub text_is : text ≡ refused_text (name_of refusal) ++ 10 ∷ []
+  pub text_is : text ≡ refused_text (refusal_name_of refusal) ++ 10 ∷ []
 
 abbrev pub Shows : Text → List ℕ → List Event → Type 0
 Shows id text events = ShowsRecords id text events ⊎ ShowsRefusal id text events
@@ -73,16 +73,16 @@ abbrev pub states_text : StateMap → List ℕ
 states_text states = flat_map state_entry states ++ (codes "end" ++ 10 ∷ [])
 
 -- the state is told, or it is not, for a circumstance: an object of which nothing is recorded has none
-abbrev pub ShowsState : Text → List ℕ → List Event → Type 0
-ShowsState object text events =
-    (text ≡ states_text (object_state events object)) ⊎ ((refusal : Refusal) × IsRefused [] refusal × (text ≡ refused_text (name_of refusal) ++ 10 ∷ []))
+abbrev pub TellsState : Text → List ℕ → List Event → Type 0
+TellsState object text events =
+    (text ≡ states_text (object_state events object)) ⊎ ((refusal : Refusal) × IsRefused [] refusal × (text ≡ refused_text (refusal_name_of refusal) ++ 10 ∷ []))
 
 -- ---- what is due
 
 -- the invocations that are due are told, or they are not, for a circumstance
 abbrev pub ShowsDue : List ℕ → List Event → Type 0
-ShowsDue text events = (text ≡ due_line (due events) ++ 10 ∷ []) ⊎ ((refusal : Refusal) × IsRefused [] refusal × (text ≡ refused_text (name_of refusal) ++ 10 ∷ []))
+ShowsDue text events = (text ≡ due_line (due events) ++ 10 ∷ []) ⊎ ((refusal : Refusal) × IsRefused [] refusal × (text ≡ refused_text (refusal_name_of refusal) ++ 10 ∷ []))
 
 -- what is told of the accepted events, and nothing changes
-abbrev pub Looks : (List Event → Type 0) → Scheduled BuiltIn → Scheduled BuiltIn → Type 0
-Looks Told old new = Told old.standing.events × (new ≡ old)
+abbrev pub ShowsOnly : (List Event → Type 0) → Scheduled BuiltIn → Scheduled BuiltIn → Type 0
+ShowsOnly Told old new = Told old.standing.events × (new ≡ old)

@@ -1,9 +1,9 @@
 //! The invocations that are due, as a line shows them.
 ghost use Rattle.std.specs.Prelude.{◌≡◌, ◌∷◌, [], ◌++◌, IfOk, string_bytes};
 ghost use Rattle.script_lines.specs.Text.{due_line};
-ghost use Rattle.durable_script.specs.Printed.{Makes};
-ghost use Rattle.durable_script.specs.Reaching.{Nowhere, Reaches};
-ghost use Rattle.durable_script.specs.Shown.{Looks, ShowsDue};
+ghost use Rattle.durable_script.specs.Printed.{MakesText};
+ghost use Rattle.durable_script.specs.SchedulerChanges.{Nowhere, Reaches};
+ghost use Rattle.durable_script.specs.Shown.{ShowsOnly, ShowsDue};
 
 use crate::reply::reply_line;
 use built_in_handlers::BuiltIn;
@@ -24,7 +24,7 @@ fn ids_line(alloc: Global, ids: &[ByteStr]) -> Result<String, AllocError>
 pub(crate) fn show_due<S: Alter + Drop>(
     scheduler: &mut Scheduler<BuiltIn, S>,
 ) -> Result<String, AllocError>
-    ensures { Makes string_bytes result (λ text. Reaches S.Store Nowhere (Looks (ShowsDue text)) scheduler.old scheduler.new) }
+    ensures { MakesText string_bytes result (λ text. Reaches S.Store Nowhere (ShowsOnly (ShowsDue text)) scheduler.old scheduler.new) }
 {
     let alloc = scheduler.alloc;
     match scheduler.due() {

@@ -1,7 +1,7 @@
 //! A whole script, from a reader to a writer.
 ghost use Rattle.std.specs.Prelude.{◌≡◌, Err};
 ghost use Rattle.script_lines.specs.Script.{numbered_lines};
-ghost use Rattle.durable_script.specs.Reaching.{Reaches};
+ghost use Rattle.durable_script.specs.SchedulerChanges.{Reaches};
 ghost use Rattle.durable_script.specs.Run.{DoesAll, DoesFirst, DoesLines, RunsScript};
 
 use crate::runner::Runner;

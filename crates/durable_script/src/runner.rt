@@ -2,8 +2,8 @@
 ghost use Rattle.std.specs.Prelude.{◌≡◌, ◌≤◌, [], IfOk, IfErr, string_bytes};
 ghost use Rattle.script_lines.specs.Line.{IsLine};
 ghost use Rattle.vm_types.specs.Options.{default_options};
-ghost use Rattle.durable_script.specs.Reaching.{Nowhere, Reaches};
-ghost use Rattle.durable_script.specs.Printed.{Makes};
+ghost use Rattle.durable_script.specs.SchedulerChanges.{Nowhere, Reaches};
+ghost use Rattle.durable_script.specs.Printed.{MakesText};
 ghost use Rattle.durable_script.specs.Line.{brought, new_invocation, goes_on, IsBegin, DoesEvent, DoesSomeEvent, TakesTurn, TakesTurns, TookTurns, DoesLine, DoesSomeLine};
 ghost use Rattle.durable_script.specs.Runner.{DoesNext, StopsAt};
 
@@ -92,7 +92,7 @@ fn do_event<S: Alter + Drop>(
     scheduler: &mut Scheduler<BuiltIn, S>,
     event: Event<BuiltIn>,
 ) -> Result<String, AllocError>
-    ensures { Makes string_bytes result (λ text. Reaches S.Store (DoesSomeEvent event) (DoesEvent event text) scheduler.old scheduler.new) }
+    ensures { MakesText string_bytes result (λ text. Reaches S.Store (DoesSomeEvent event) (DoesEvent event text) scheduler.old scheduler.new) }
 {
     let reply = scheduler.apply(event);
     let text = reply_line(scheduler.alloc, line_reply(1, &reply));
@@ -153,7 +153,7 @@ fn do_turns<S: Alter + Drop>(
     outcome: Option<LineOutcome>,
 ) -> Result<String, AllocError>
     requires { 1 ≤ count }
-    ensures { Makes string_bytes result (λ text. Reaches S.Store Nowhere (TakesTurns id.now attempt count outcome text) scheduler.old scheduler.new) }
+    ensures { MakesText string_bytes result (λ text. Reaches S.Store Nowhere (TakesTurns id.now attempt count outcome text) scheduler.old scheduler.new) }
 {
     let (taken, reply) = take_turns(scheduler, id, attempt, count, &outcome);
     drop(outcome);
@@ -168,7 +168,7 @@ fn carry_out<S: Alter + Drop>(
     line: Line,
 ) -> Result<String, AllocError>
     requires { IsLine line }
-    ensures { Makes string_bytes result (λ text. Reaches S.Store (DoesSomeLine line) (DoesLine line text) scheduler.old scheduler.new) }
+    ensures { MakesText string_bytes result (λ text. Reaches S.Store (DoesSomeLine line) (DoesLine line text) scheduler.old scheduler.new) }
 {
     let alloc = scheduler.alloc;
     match line {

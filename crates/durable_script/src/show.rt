@@ -1,9 +1,9 @@
 //! What is recorded of an invocation, as a line shows it.
 ghost use Rattle.std.specs.Prelude.{◌≡◌, Some, IfOk, IfErr, string_bytes};
 ghost use Rattle.script_lines.specs.Text.{answer_text};
-ghost use Rattle.durable_script.specs.Printed.{Makes};
-ghost use Rattle.durable_script.specs.Reaching.{Nowhere, Reaches};
-ghost use Rattle.durable_script.specs.Shown.{answer_line, shown_text, HasEntries, HasRecords, Looks, RefusesShow, Shows};
+ghost use Rattle.durable_script.specs.Printed.{MakesText};
+ghost use Rattle.durable_script.specs.SchedulerChanges.{Nowhere, Reaches};
+ghost use Rattle.durable_script.specs.Shown.{answer_line, shown_text, HasEntries, HasRecords, ShowsOnly, RefusesShow, Shows};
 
 use crate::entry::{ShownEntry, read_entries};
 use crate::reply::reply_line;
@@ -56,8 +56,8 @@ fn shown_entries<S: Alter + Drop>(
     scheduler: &mut Scheduler<BuiltIn, S>,
     id: &ByteStr,
 ) -> Result<Vec<ShownEntry>, Refusal>
-    ensures ok { IfOk result (λ shown. Reaches S.Store Nowhere (Looks (HasEntries id.now shown.items)) scheduler.old scheduler.new) }
-    ensures err { IfErr result (λ refusal. Reaches S.Store Nowhere (Looks (RefusesShow id.now refusal)) scheduler.old scheduler.new) }
+    ensures ok { IfOk result (λ shown. Reaches S.Store Nowhere (ShowsOnly (HasEntries id.now shown.items)) scheduler.old scheduler.new) }
+    ensures err { IfErr result (λ refusal. Reaches S.Store Nowhere (ShowsOnly (RefusesShow id.now refusal)) scheduler.old scheduler.new) }
 {
     let alloc = scheduler.alloc;
     let entries = scheduler.entries(id)?;
@@ -69,8 +69,8 @@ fn shown<S: Alter + Drop>(
     scheduler: &mut Scheduler<BuiltIn, S>,
     id: &ByteStr,
 ) -> Result<ShownInvocation, Refusal>
-    ensures ok { IfOk result (λ shown. Reaches S.Store Nowhere (Looks (HasRecords id.now shown.entries.items shown.answer shown.is_open)) scheduler.old scheduler.new) }
-    ensures err { IfErr result (λ refusal. Reaches S.Store Nowhere (Looks (RefusesShow id.now refusal)) scheduler.old scheduler.new) }
+    ensures ok { IfOk result (λ shown. Reaches S.Store Nowhere (ShowsOnly (HasRecords id.now shown.entries.items shown.answer shown.is_open)) scheduler.old scheduler.new) }
+    ensures err { IfErr result (λ refusal. Reaches S.Store Nowhere (ShowsOnly (RefusesShow id.now refusal)) scheduler.old scheduler.new) }
 {
     let is_open = scheduler.is_open(id)?;
     let answer = scheduler.answer(id)?;
@@ -92,7 +92,7 @@ pub(crate) fn show<S: Alter + Drop>(
     scheduler: &mut Scheduler<BuiltIn, S>,
     id: &ByteStr,
 ) -> Result<String, AllocError>
-    ensures { Makes string_bytes result (λ text. Reaches S.Store Nowhere (Looks (Shows id.now text)) scheduler.old scheduler.new) }
+    ensures { MakesText string_bytes result (λ text. Reaches S.Store Nowhere (ShowsOnly (Shows id.now text)) scheduler.old scheduler.new) }
 {
     let alloc = scheduler.alloc;
     match shown(scheduler, id) {

@@ -1,10 +1,10 @@
 //! The state of an object, as a line shows it.
 ghost use Rattle.std.specs.Prelude.{◌≡◌, Some, string_bytes};
 ghost use Rattle.script_lines.specs.Text.{state_line, state_text};
-ghost use Rattle.durable_script.specs.Printed.{Makes};
-ghost use Rattle.durable_script.specs.Reaching.{Nowhere, Reaches};
+ghost use Rattle.durable_script.specs.Printed.{MakesText};
+ghost use Rattle.durable_script.specs.SchedulerChanges.{Nowhere, Reaches};
 ghost use Rattle.durable_script.specs.Rows.{rows_text};
-ghost use Rattle.durable_script.specs.Shown.{Looks, ShowsState};
+ghost use Rattle.durable_script.specs.Shown.{ShowsOnly, TellsState};
 
 use crate::reply::reply_line;
 use built_in_handlers::BuiltIn;
@@ -47,7 +47,7 @@ pub(crate) fn show_state<S: Alter + Drop>(
     scheduler: &mut Scheduler<BuiltIn, S>,
     object: &ByteStr,
 ) -> Result<String, AllocError>
-    ensures { Makes string_bytes result (λ text. Reaches S.Store Nowhere (Looks (ShowsState object.now text)) scheduler.old scheduler.new) }
+    ensures { MakesText string_bytes result (λ text. Reaches S.Store Nowhere (ShowsOnly (TellsState object.now text)) scheduler.old scheduler.new) }
 {
     let alloc = scheduler.alloc;
     match scheduler.state(object) {

@@ -13,12 +13,12 @@ abbrev pub options : PayloadOptions
 options = record { unstable_serialization = false }
 
 -- the moment in milliseconds from which the rounds are counted: the first eight bytes of the input
-abbrev pub start_of : Bytes → ℕ
-start_of bytes = if nat_lt (length bytes) 8 then 0 else from_be_bytes w64 (take 8 bytes)
+abbrev pub start_of_rounds : Bytes → ℕ
+start_of_rounds bytes = if nat_lt (length bytes) 8 then 0 else from_be_bytes w64 (take 8 bytes)
 
 -- when a round is over, of rounds that are counted from 0
-abbrev pub end_of : Bytes → ℕ → ℕ
-end_of bytes round = min (start_of bytes + 100 * (round + 1)) (2 ^ 64 - 1)
+abbrev pub end_of_round : Bytes → ℕ → ℕ
+end_of_round bytes round = min (start_of_rounds bytes + 100 * (round + 1)) (2 ^ 64 - 1)
 
 -- the handle that a sleep was answered
 abbrev pub sleep_of : Answer → ℕ
@@ -29,7 +29,7 @@ abbrev pub sleep_at : List Answer → ℕ → ℕ
 sleep_at answers at = sleep_of (unwrap_or (slice_get answers at) Answer.Done)
 
 abbrev pub sleep_in : Bytes → ℕ → Call
-sleep_in bytes round = Call.Sleep [] (end_of bytes round * 1_000_000) None
+sleep_in bytes round = Call.Sleep [] (end_of_round bytes round * 1_000_000) None
 
 abbrev pub count_in : ℕ → Call
 count_in round = Call.StateSet (codes "rounds") ((49 + round) ∷ []) None options

@@ -18,7 +18,7 @@ pub struct Rounds {
 }
 
 fn start_of(input: &Bytes) -> u64
-    ensures { result ≡ rounding.start_of input.now }
+    ensures { result ≡ rounding.start_of_rounds input.now }
 {
     match input.as_slice().split_first_chunk::<8>() {
         Some((word, _rest)) => u64::from_be_bytes(*word),
@@ -28,7 +28,7 @@ fn start_of(input: &Bytes) -> u64
 
 fn end_of(input: &Bytes, round: u64) -> u64
     requires { round < 5 }
-    ensures { result ≡ rounding.end_of input.now round }
+    ensures { result ≡ rounding.end_of_round input.now round }
 {
     start_of(input).saturating_add(100 * (round + 1))
 }

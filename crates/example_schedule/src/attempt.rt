@@ -1,7 +1,7 @@
 //! The loop of a program: what is due goes on.
 use crate::reminder::Reminder;
 use crate::work::Work;
-use durable_schedule::{Alter, ByteStr, Outcome, EventRefusal, RunOutcome, Scheduler};
+use durable_schedule::{Alter, ByteStr, EventRefusal, Outcome, RunOutcome, Scheduler};
 
 /// Goes on with each invocation that is due at this moment, as far as it comes, and tells what came of each.
 pub fn go_on<S: Alter + Drop>(

@@ -14,7 +14,7 @@ use Rattle.journal_model.specs.Attempt.{Piece, begins_attempt, acknowledged, ent
 use Rattle.journal_model.specs.Cause.{causes_of, IsAccepted}
 use Rattle.journal_model.specs.Headline.{arrivals_handed}
 use Rattle.journal_laws.proofs.ObjectState.{open_when_accepted, begun_before}
-use Rattle.input_laws.specs.Reading.{arrivals_among}
+use Rattle.input_laws.specs.ArrivalsRead.{arrivals_among}
 use Rattle.input_laws.proofs.Events.{added_by, start_same, arrivals_now, entries_first, not_begun, unborn_open}
 
 -- ---- frames that hold arrivals
@@ -110,8 +110,8 @@ arrivals_count all (arrival ∷ arrivals) = let later = arrivals_count all arriv
 
 event_count : (start : StateMap) (earlier : List Event) (id : Text) (event : Event) (entries : List Entry)
     → arrivals_among (event_pieces start earlier id event entries) ≡ length (arrivals_in (entries_added start earlier id event entries))
-event_count start earlier id (Event.Take other attempt (Frame.RunOutcome n value true)) entries =
-    by_tests (entries_after start earlier id (Event.Take other attempt (Frame.RunOutcome n value true)) entries) (completion n (result_of_value value))
+event_count start earlier id (Event.Move other attempt (Frame.RunOutcome n value true)) entries =
+    by_tests (entries_after start earlier id (Event.Move other attempt (Frame.RunOutcome n value true)) entries) (completion n (result_of_value value))
     (has_feature (version_of earlier id) Acknowledgement) (bytes_eq other id)
   where
     by_tests : (all : List Entry) (arrival : Arrival) (a b : Bool)
@@ -166,11 +166,11 @@ other_begins (Event.Begin other now) id e = e
 other_begins _ id e = refl
 
 pub other_asks : (event : Event) (id : Text) → is_of id event ≡ false → bytes_asked id event ≡ None
-other_asks (Event.HandOut other attempt most) id e = rw e refl
+other_asks (Event.Feed other attempt most) id e = rw e refl
 other_asks _ id e = refl
 
 pub other_answers : (version : ℕ) (event : Event) (id : Text) → is_of id event ≡ false → acknowledged version id event ≡ None
-other_answers version (Event.Take other attempt (Frame.RunOutcome completion value true)) id e =
+other_answers version (Event.Move other attempt (Frame.RunOutcome completion value true)) id e =
     ap (λ (b : Bool). if has_feature version Acknowledgement && b then Some completion else None) e ∙ neither (has_feature version Acknowledgement)
   where
     neither : (b : Bool) → ◌≡◌ {A = Option ℕ} (if b && false then Some completion else None) None

@@ -18,7 +18,7 @@ new = record { id = i1; object = codes "o"; input = []; headers = []; version = 
 
 abbrev pub second_begun : List Event
 second_begun =
-    Event.Begin i1 10 ∷ Event.Tick 10 ∷ Event.Stop i1 1 ∷ Event.Take i1 1 (Frame.Command (Request.Sleep 10 1 [])) ∷ Event.HandOut i1 1 10 ∷ Event.Begin i1 0
+    Event.Begin i1 10 ∷ Event.Tick 10 ∷ Event.Stop i1 1 ∷ Event.Move i1 1 (Frame.Command (Request.Sleep 10 1 [])) ∷ Event.Feed i1 1 10 ∷ Event.Begin i1 0
     ∷ Event.Invoke new ∷ []
 
 second-input : IsInput second_begun i1 (CarriesInput new ∷ CarriesRequest (Request.Sleep 10 1 []) ∷ CarriesArrival SleepCompletionNotification (completion 1 Void) ∷ [])

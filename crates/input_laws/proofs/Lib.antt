@@ -1,6 +1,6 @@
 pub mod Events
 pub mod Handed
-pub mod Reading
+pub mod ArrivalsRead
 pub mod News
 pub mod Telling
 pub mod LiveAttempts

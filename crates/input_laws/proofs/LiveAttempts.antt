@@ -25,19 +25,19 @@ some_is (Some n) e = (n, refl)
 pub own_hold : (a b : Bool) (x y : Cause) (own : Tests) → those_that_hold ((a, x) ∷ (b, y) ∷ own) ≡ [] → those_that_hold own ≡ []
 own_hold a b x y own e = holds-tail ((b, y) ∷ own) (holds-tail ((a, x) ∷ (b, y) ∷ own) e)
 
-pub taken_live : (events : List Event) (id : Text) (attempt : ℕ) (frame : Frame) → causes_of events (Event.Take id attempt frame) ≡ [] → is_live events id attempt ≡ true
+pub taken_live : (events : List Event) (id : Text) (attempt : ℕ) (frame : Frame) → causes_of events (Event.Move id attempt frame) ≡ [] → is_live events id attempt ≡ true
 taken_live events id attempt frame causes =
     not-false (is_live events id attempt)
-    (holds-head (own_tests events (Event.Take id attempt frame))
+    (holds-head (own_tests events (Event.Move id attempt frame))
     (own_hold (not (is_some (invocation_begun events id))) (is_some (invocation_begun events id) && not (is_open events id)) Cause.UnknownInvocation Cause.InvocationClosed
-    (own_tests events (Event.Take id attempt frame)) causes))
+    (own_tests events (Event.Move id attempt frame)) causes))
 
-pub handed_open : (events : List Event) (id : Text) (attempt most : ℕ) → causes_of events (Event.HandOut id attempt most) ≡ [] → is_input_closed events id ≡ false
+pub handed_open : (events : List Event) (id : Text) (attempt most : ℕ) → causes_of events (Event.Feed id attempt most) ≡ [] → is_input_closed events id ≡ false
 handed_open events id attempt most causes =
     holds-head ((is_input_closed events id, Cause.InputAlreadyClosed) ∷ [])
-    (holds-tail (own_tests events (Event.HandOut id attempt most))
+    (holds-tail (own_tests events (Event.Feed id attempt most))
     (own_hold (not (is_some (invocation_begun events id))) (is_some (invocation_begun events id) && not (is_open events id)) Cause.UnknownInvocation Cause.InvocationClosed
-    (own_tests events (Event.HandOut id attempt most)) causes))
+    (own_tests events (Event.Feed id attempt most)) causes))
 
 pub none_live : (event : Event) (events : List Event) (id : Text) → begins_attempt id event ≡ false → (is_of id event && ends_live event) ≡ true → live_attempt (event ∷ events) id ≡ None
 none_live event events id e f = rw (e, f) refl

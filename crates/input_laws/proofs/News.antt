@@ -39,17 +39,17 @@ arrivals_bring all id event (arrival ∷ arrivals) =
 
 pub event_brings : (start : StateMap) (earlier : List Event) (id : Text) (event : Event) (entries : List Entry)
     → BringsNews (entries_after start earlier id event entries) id event (event_pieces start earlier id event entries) (arrivals_in (entries_added start earlier id event entries))
-event_brings start earlier id (Event.Take other attempt (Frame.RunOutcome n value true)) entries =
-    by_tests (entries_after start earlier id (Event.Take other attempt (Frame.RunOutcome n value true)) entries) (has_feature (version_of earlier id) Acknowledgement) (bytes_eq other id) refl
+event_brings start earlier id (Event.Move other attempt (Frame.RunOutcome n value true)) entries =
+    by_tests (entries_after start earlier id (Event.Move other attempt (Frame.RunOutcome n value true)) entries) (has_feature (version_of earlier id) Acknowledgement) (bytes_eq other id) refl
   where
     by_tests : (all : List Entry) (a b : Bool) → bytes_eq other id ≡ b
-        → BringsNews all id (Event.Take other attempt (Frame.RunOutcome n value true))
+        → BringsNews all id (Event.Move other attempt (Frame.RunOutcome n value true))
         (later_pieces all (if a && b then Some n else None) (arrivals_in (if b || false then Arrived (completion n (result_of_value value)) ∷ [] else [])))
         (arrivals_in (if b || false then Arrived (completion n (result_of_value value)) ∷ [] else []))
     by_tests all true true e = record { messages = CarriesOutcome n value ∷ []; pieces_are = refl; arrivals_are = refl; none = refl; brought = ((e, refl, refl), tt) }
-    by_tests all true false e = arrivals_bring all id (Event.Take other attempt (Frame.RunOutcome n value true)) []
-    by_tests all false true e = arrivals_bring all id (Event.Take other attempt (Frame.RunOutcome n value true)) (completion n (result_of_value value) ∷ [])
-    by_tests all false false e = arrivals_bring all id (Event.Take other attempt (Frame.RunOutcome n value true)) []
+    by_tests all true false e = arrivals_bring all id (Event.Move other attempt (Frame.RunOutcome n value true)) []
+    by_tests all false true e = arrivals_bring all id (Event.Move other attempt (Frame.RunOutcome n value true)) (completion n (result_of_value value) ∷ [])
+    by_tests all false false e = arrivals_bring all id (Event.Move other attempt (Frame.RunOutcome n value true)) []
 event_brings start earlier id event entries =
     arrivals_bring (entries_after start earlier id event entries) id event (arrivals_in (entries_added start earlier id event entries))
 

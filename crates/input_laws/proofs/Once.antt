@@ -11,13 +11,13 @@ use Rattle.journal_model.specs.State.{StateMap, state_after}
 use Rattle.journal_model.specs.Request.{Request, completions_asked}
 use Rattle.journal_model.specs.declared.notification.SignalKey.{SignalKey}
 use Rattle.journal_model.specs.Event.{Event, Frame}
-use Rattle.journal_model.specs.Journal.{Entry, Recorded, Arrived, completion, begins, is_of, is_tick, is_open, invocation_begun, starting_state, requests_in, arrivals_in, completes, is_awaited, asks_for, request_asking, open_request, sleep_in, sleeps_in, by_moment, sorted_by_moment, can_be_due, is_over, slept, read_answer, entries_of_event, entries_of, recorded_requests, recorded_arrivals}
+use Rattle.journal_model.specs.Journal.{Entry, Recorded, Arrived, completion, begins, is_of, is_tick, is_open, invocation_begun, starting_state, requests_in, arrivals_in, completes, is_awaited, asks_for, request_asking, open_request, sleep_in, sleeps_in, by_moment, sorted_by_moment, can_be_due, is_sleep_over, slept, read_answer, entries_of_event, entries_of, recorded_requests, recorded_arrivals}
 use Rattle.journal_model.specs.Cause.{do_ascend, greatest, last_completion, is_run, own_tests, causes_of, IsAccepted}
 use Rattle.journal_model.specs.declared.cause.Cause.{Cause}
 use Rattle.journal_model.specs.Value.{result_of_value}
 use Rattle.journal_laws.proofs.ObjectState.{tail_of, holds-head, holds-tail, not-false}
 use Rattle.journal_laws.proofs.Leaving.{and-true}
-use Rattle.input_laws.specs.Once.{count_of, numbers_asked, number_of, numbers_come, AreOnce}
+use Rattle.input_laws.specs.Once.{count_of, numbers_asked, completion_numbers_of, numbers_come, AreOnce}
 use Rattle.input_laws.proofs.Events.{added_by, entries_first, requests_now, arrivals_now}
 use Rattle.input_laws.proofs.LiveAttempts.{own_hold}
 
@@ -34,7 +34,7 @@ count_asked n requests more = ap (count_of n) (asked-append requests more) ∙ c
 
 come-append : (xs ys : List Arrival) → numbers_come (xs ++ ys) ≡ numbers_come xs ++ numbers_come ys
 come-append [] ys = refl
-come-append (x ∷ xs) ys = ap (λ (rest : List ℕ). number_of x.id ++ rest) (come-append xs ys) ∙ sym (append_assoc (number_of x.id) (numbers_come xs) (numbers_come ys))
+come-append (x ∷ xs) ys = ap (λ (rest : List ℕ). completion_numbers_of x.id ++ rest) (come-append xs ys) ∙ sym (append_assoc (completion_numbers_of x.id) (numbers_come xs) (numbers_come ys))
 
 -- ---- numbers that ascend
 
@@ -89,7 +89,7 @@ awaited-none n [] e = refl
 awaited-none n (arrival ∷ arrivals) e = by_id arrival.id (λ f. awaited-none n arrivals f) e
   where
     by_id : (id : NotificationId) → (list_any (completes n) arrivals ≡ false → count_of n (numbers_come arrivals) ≡ 0)
-        → (same_id id (CompletionId n) || list_any (completes n) arrivals) ≡ false → count_of n (number_of id ++ numbers_come arrivals) ≡ 0
+        → (same_id id (CompletionId n) || list_any (completes n) arrivals) ≡ false → count_of n (completion_numbers_of id ++ numbers_come arrivals) ≡ 0
     by_id (CompletionId m) later e = by_test (m == n) e
       where
         by_test : (b : Bool) → (b || list_any (completes n) arrivals) ≡ false → (if b then 1 else 0) + count_of n (numbers_come arrivals) ≡ 0
@@ -212,12 +212,12 @@ filtered m p (sleep ∷ sleeps) = by_test (p sleep) (filtered m p sleeps)
     by_test false low = omega arith
 
 -- what is over is awaited
-over_awaited : (entries : List Entry) (now m : ℕ) (sleeps : List (ℕ × ℕ)) → is_awaited entries m ≡ false → count_of m (numbers_of (filter (is_over entries now) sleeps)) ≡ 0
+over_awaited : (entries : List Entry) (now m : ℕ) (sleeps : List (ℕ × ℕ)) → is_awaited entries m ≡ false → count_of m (numbers_of (filter (is_sleep_over entries now) sleeps)) ≡ 0
 over_awaited entries now m [] e = refl
-over_awaited entries now m (sleep ∷ sleeps) e = by_test (is_over entries now sleep) refl (over_awaited entries now m sleeps e)
+over_awaited entries now m (sleep ∷ sleeps) e = by_test (is_sleep_over entries now sleep) refl (over_awaited entries now m sleeps e)
   where
-    by_number : (b : Bool) → (sleep.1 == m) ≡ b → is_over entries now sleep ≡ true → count_of m (numbers_of (filter (is_over entries now) sleeps)) ≡ 0
-        → (if b then 1 else 0) + count_of m (numbers_of (filter (is_over entries now) sleeps)) ≡ 0
+    by_number : (b : Bool) → (sleep.1 == m) ≡ b → is_sleep_over entries now sleep ≡ true → count_of m (numbers_of (filter (is_sleep_over entries now) sleeps)) ≡ 0
+        → (if b then 1 else 0) + count_of m (numbers_of (filter (is_sleep_over entries now) sleeps)) ≡ 0
     by_number false g f later = omega arith
     by_number true g f later =
         let same : sleep.1 ≡ m = eqb-true sleep.1 m g in
@@ -225,8 +225,8 @@ over_awaited entries now m (sleep ∷ sleeps) e = by_test (is_over entries now s
         let more = and-true (can_be_due sleep) (is_awaited entries sleep.1) parts.1 in
         absurd (true≢false (sym more.1 ∙ ap (is_awaited entries) same ∙ e))
 
-    by_test : (b : Bool) → is_over entries now sleep ≡ b → count_of m (numbers_of (filter (is_over entries now) sleeps)) ≡ 0
-        → count_of m (numbers_of (if b then sleep ∷ filter (is_over entries now) sleeps else filter (is_over entries now) sleeps)) ≡ 0
+    by_test : (b : Bool) → is_sleep_over entries now sleep ≡ b → count_of m (numbers_of (filter (is_sleep_over entries now) sleeps)) ≡ 0
+        → count_of m (numbers_of (if b then sleep ∷ filter (is_sleep_over entries now) sleeps else filter (is_sleep_over entries now) sleeps)) ≡ 0
     by_test false f later = later
     by_test true f later = by_number (sleep.1 == m) refl f later
 
@@ -251,8 +251,8 @@ slept_asked m (request ∷ requests) =
 pub slept_few : (entries : List Entry) (now m : ℕ) → count_of m (numbers_come (slept entries now)) ≤ count_of m (numbers_of (sleeps_in (requests_in entries)))
 slept_few entries now m =
     let all = sorted_by_moment (sleeps_in (requests_in entries)) in
-    let a = come_of m (filter (is_over entries now) all) in
-    let b = filtered m (is_over entries now) all in
+    let a = come_of m (filter (is_sleep_over entries now) all) in
+    let b = filtered m (is_sleep_over entries now) all in
     let c = sorted m (sleeps_in (requests_in entries)) in
     omega (arith, a, b, c)
 
@@ -260,7 +260,7 @@ once_slept : (entries : List Entry) (now : ℕ) → AreOnce (requests_in entries
     → count_of m (numbers_come (arrivals_in entries)) + count_of m (numbers_come (slept entries now)) ≤ count_of m (numbers_asked (requests_in entries))
 once_slept entries now once m =
     let all = sorted_by_moment (sleeps_in (requests_in entries)) in
-    let a = come_of m (filter (is_over entries now) all) in
+    let a = come_of m (filter (is_sleep_over entries now) all) in
     let b = slept_few entries now m in
     let c = slept_asked m (requests_in entries) in
     by_awaited (list_any (completes m) (arrivals_in entries)) refl (omega (arith, b, c)) (λ e. a ∙ over_awaited entries now m all e) (once.come m)
@@ -324,11 +324,11 @@ module _ (events : List Event) (id : Text) (once : AreOnce (recorded_requests ev
       (once_come (recorded_requests events id) (recorded_arrivals events id) (arrivals_in added) once comes))
 
   asked_once : (attempt : ℕ) (request : Request) → do_ascend (last_completion (recorded_requests events id)) (completions_asked request) ≡ true
-      → AreOnce (recorded_requests (Event.Take id attempt (Frame.Command request) ∷ events) id) (recorded_arrivals (Event.Take id attempt (Frame.Command request) ∷ events) id)
+      → AreOnce (recorded_requests (Event.Move id attempt (Frame.Command request) ∷ events) id) (recorded_arrivals (Event.Move id attempt (Frame.Command request) ∷ events) id)
   asked_once attempt request ascend =
       let state = state_after (recorded_requests events id) (starting_state events id) in
-      now_once (Event.Take id attempt (Frame.Command request)) refl (Recorded request ∷ map Arrived (read_answer state request))
-      (own_added events id (Event.Take id attempt (Frame.Command request)) ((bytes_eq-Decides id id).1 refl))
+      now_once (Event.Move id attempt (Frame.Command request)) refl (Recorded request ∷ map Arrived (read_answer state request))
+      (own_added events id (Event.Move id attempt (Frame.Command request)) ((bytes_eq-Decides id id).1 refl))
       (subst (λ (more : List Request). AreOnce (recorded_requests events id ++ request ∷ more) (recorded_arrivals events id ++ arrivals_in (map Arrived (read_answer state request)))) (sym (requests_arrived (read_answer state request)))
       (subst (λ (later : List Arrival). AreOnce (recorded_requests events id ++ request ∷ []) (recorded_arrivals events id ++ later)) (sym (arrivals_arrived (read_answer state request)))
       (once_more (recorded_requests events id) (request ∷ []) (recorded_arrivals events id) (read_answer state request) once asks (comes state))))
@@ -380,19 +380,19 @@ module _ (events : List Event) (id : Text) (once : AreOnce (recorded_requests ev
           come_once (Event.Tick now) old (map Arrived arrivals) (rw e refl) (requests_arrived arrivals)
           (λ m. subst (λ (later : List Arrival). count_of m (numbers_come (recorded_arrivals events id)) + count_of m (numbers_come later) ≤ count_of m (numbers_asked (recorded_requests events id)))
           (sym (arrivals_arrived arrivals)) (once_slept (entries_of events id) now once m))
-  once_step (Event.Complete other n result) causes old = by_id (bytes_eq other id) refl
+  once_step (Event.Result other n result) causes old = by_id (bytes_eq other id) refl
     where
       opened : is_some (open_request (entries_of events other) n) ≡ true
       opened =
           not-false (is_some (open_request (entries_of events other) n))
-          (holds-head (own_tests events (Event.Complete other n result))
+          (holds-head (own_tests events (Event.Result other n result))
           (own_hold (not (is_some (invocation_begun events other))) (is_some (invocation_begun events other) && not (is_open events other)) Cause.UnknownInvocation Cause.InvocationClosed
-          (own_tests events (Event.Complete other n result)) causes))
+          (own_tests events (Event.Result other n result)) causes))
 
-      by_id : (b : Bool) → bytes_eq other id ≡ b → AreOnce (recorded_requests (Event.Complete other n result ∷ events) id) (recorded_arrivals (Event.Complete other n result ∷ events) id)
-      by_id false f = still_once (Event.Complete other n result) old (other_added events id (Event.Complete other n result) f refl)
+      by_id : (b : Bool) → bytes_eq other id ≡ b → AreOnce (recorded_requests (Event.Result other n result ∷ events) id) (recorded_arrivals (Event.Result other n result ∷ events) id)
+      by_id false f = still_once (Event.Result other n result) old (other_added events id (Event.Result other n result) f refl)
       by_id true f =
-          come_once (Event.Complete other n result) old (Arrived (completion n result) ∷ []) (own_added events id (Event.Complete other n result) f) refl
+          come_once (Event.Result other n result) old (Arrived (completion n result) ∷ []) (own_added events id (Event.Result other n result) f) refl
           (once_one (entries_of events id) n once (subst (λ (x : Text). is_some (open_request (entries_of events x) n) ≡ true) ((bytes_eq-Decides other id).0 f) opened))
   once_step (Event.Signal other (SignalKey.ByIndex n) result) causes old =
       signal_once (Event.Signal other (SignalKey.ByIndex n) result) old other (record { id = SignalId n; result = result }) (λ f. other_added events id (Event.Signal other (SignalKey.ByIndex n) result) f refl) (own_added events id (Event.Signal other (SignalKey.ByIndex n) result)) (λ m. refl)
@@ -400,41 +400,41 @@ module _ (events : List Event) (id : Text) (once : AreOnce (recorded_requests ev
       signal_once (Event.Signal other (SignalKey.ByName name) result) old other (record { id = SignalName name; result = result }) (λ f. other_added events id (Event.Signal other (SignalKey.ByName name) result) f refl) (own_added events id (Event.Signal other (SignalKey.ByName name) result)) (λ m. refl)
   once_step (Event.Cancel other) causes old =
       signal_once (Event.Cancel other) old other (record { id = SignalId 1; result = Void }) (λ f. other_added events id (Event.Cancel other) f refl) (own_added events id (Event.Cancel other)) (λ m. refl)
-  once_step (Event.Take other attempt (Frame.Command request)) causes old = by_id (bytes_eq other id) refl
+  once_step (Event.Move other attempt (Frame.Command request)) causes old = by_id (bytes_eq other id) refl
     where
       ascends : do_ascend (last_completion (recorded_requests events other)) (completions_asked request) ≡ true
       ascends =
           not-false (do_ascend (last_completion (recorded_requests events other)) (completions_asked request))
-          (holds-head (tail_of (own_tests events (Event.Take other attempt (Frame.Command request))))
-          (holds-tail (own_tests events (Event.Take other attempt (Frame.Command request)))
+          (holds-head (tail_of (own_tests events (Event.Move other attempt (Frame.Command request))))
+          (holds-tail (own_tests events (Event.Move other attempt (Frame.Command request)))
           (own_hold (not (is_some (invocation_begun events other))) (is_some (invocation_begun events other) && not (is_open events other)) Cause.UnknownInvocation Cause.InvocationClosed
-          (own_tests events (Event.Take other attempt (Frame.Command request))) causes)))
+          (own_tests events (Event.Move other attempt (Frame.Command request))) causes)))
 
       by_id : (b : Bool) → bytes_eq other id ≡ b
-          → AreOnce (recorded_requests (Event.Take other attempt (Frame.Command request) ∷ events) id) (recorded_arrivals (Event.Take other attempt (Frame.Command request) ∷ events) id)
-      by_id false f = still_once (Event.Take other attempt (Frame.Command request)) old (other_added events id (Event.Take other attempt (Frame.Command request)) f refl)
+          → AreOnce (recorded_requests (Event.Move other attempt (Frame.Command request) ∷ events) id) (recorded_arrivals (Event.Move other attempt (Frame.Command request) ∷ events) id)
+      by_id false f = still_once (Event.Move other attempt (Frame.Command request)) old (other_added events id (Event.Move other attempt (Frame.Command request)) f refl)
       by_id true f =
           let same : other ≡ id = (bytes_eq-Decides other id).0 f in
-          subst (λ (x : Text). AreOnce (recorded_requests (Event.Take x attempt (Frame.Command request) ∷ events) id) (recorded_arrivals (Event.Take x attempt (Frame.Command request) ∷ events) id)) (sym same)
+          subst (λ (x : Text). AreOnce (recorded_requests (Event.Move x attempt (Frame.Command request) ∷ events) id) (recorded_arrivals (Event.Move x attempt (Frame.Command request) ∷ events) id)) (sym same)
           (asked_once attempt request (subst (λ (x : Text). do_ascend (last_completion (recorded_requests events x)) (completions_asked request) ≡ true) same ascends))
-  once_step (Event.Take other attempt (Frame.RunOutcome n value told)) causes old = by_id (bytes_eq other id) refl
+  once_step (Event.Move other attempt (Frame.RunOutcome n value told)) causes old = by_id (bytes_eq other id) refl
     where
       opened : is_some (open_request (entries_of events other) n) ≡ true
       opened =
           some_run (open_request (entries_of events other) n)
           (not-false (is_run (open_request (entries_of events other) n))
-          (holds-head (tail_of (own_tests events (Event.Take other attempt (Frame.RunOutcome n value told))))
-          (holds-tail (own_tests events (Event.Take other attempt (Frame.RunOutcome n value told)))
+          (holds-head (tail_of (own_tests events (Event.Move other attempt (Frame.RunOutcome n value told))))
+          (holds-tail (own_tests events (Event.Move other attempt (Frame.RunOutcome n value told)))
           (own_hold (not (is_some (invocation_begun events other))) (is_some (invocation_begun events other) && not (is_open events other)) Cause.UnknownInvocation Cause.InvocationClosed
-          (own_tests events (Event.Take other attempt (Frame.RunOutcome n value told))) causes))))
+          (own_tests events (Event.Move other attempt (Frame.RunOutcome n value told))) causes))))
 
       by_id : (b : Bool) → bytes_eq other id ≡ b
-          → AreOnce (recorded_requests (Event.Take other attempt (Frame.RunOutcome n value told) ∷ events) id) (recorded_arrivals (Event.Take other attempt (Frame.RunOutcome n value told) ∷ events) id)
-      by_id false f = still_once (Event.Take other attempt (Frame.RunOutcome n value told)) old (other_added events id (Event.Take other attempt (Frame.RunOutcome n value told)) f refl)
+          → AreOnce (recorded_requests (Event.Move other attempt (Frame.RunOutcome n value told) ∷ events) id) (recorded_arrivals (Event.Move other attempt (Frame.RunOutcome n value told) ∷ events) id)
+      by_id false f = still_once (Event.Move other attempt (Frame.RunOutcome n value told)) old (other_added events id (Event.Move other attempt (Frame.RunOutcome n value told)) f refl)
       by_id true f =
-          come_once (Event.Take other attempt (Frame.RunOutcome n value told)) old (Arrived (completion n (result_of_value value)) ∷ []) (own_added events id (Event.Take other attempt (Frame.RunOutcome n value told)) f) refl
+          come_once (Event.Move other attempt (Frame.RunOutcome n value told)) old (Arrived (completion n (result_of_value value)) ∷ []) (own_added events id (Event.Move other attempt (Frame.RunOutcome n value told)) f) refl
           (once_one (entries_of events id) n once (subst (λ (x : Text). is_some (open_request (entries_of events x) n) ≡ true) ((bytes_eq-Decides other id).0 f) opened))
-  once_step (Event.Take other attempt frame) causes old = still_once (Event.Take other attempt frame) old (both (bytes_eq other id || false))
+  once_step (Event.Move other attempt frame) causes old = still_once (Event.Move other attempt frame) old (both (bytes_eq other id || false))
     where
       both : (b : Bool) → ◌≡◌ {A = List Entry} (if b then [] else []) []
       both true = refl

@@ -7,7 +7,7 @@ use Rattle.journal_model.specs.Notification.{Arrival, same_id}
 use Rattle.journal_model.specs.Request.{Request, completions_asked}
 use Rattle.journal_model.specs.Journal.{asks_for}
 use Rattle.journal_model.specs.Delivery.{results_for}
-use Rattle.input_laws.specs.Once.{count_of, numbers_asked, number_of, numbers_come, AreOnce, ComeWhenAsked, CompletionsComeWhenAsked}
+use Rattle.input_laws.specs.Once.{count_of, numbers_asked, completion_numbers_of, numbers_come, AreOnce, ComeWhenAsked, CompletionsComeWhenAsked}
 use Rattle.input_laws.proofs.Once.{count-append, recorded_once}
 
 pub count-results : (n : ℕ) (arrivals : List Arrival) → length (results_for arrivals (CompletionId n)) ≡ count_of n (numbers_come arrivals)
@@ -16,7 +16,7 @@ count-results n (arrival ∷ arrivals) = by_id arrival.id (count-results n arriv
   where
     by_id : (id : NotificationId) → length (results_for arrivals (CompletionId n)) ≡ count_of n (numbers_come arrivals)
         → length (map (λ (a : Arrival). a.result) (if same_id id (CompletionId n) then arrival ∷ filter (λ (a : Arrival). same_id a.id (CompletionId n)) arrivals
-        else filter (λ (a : Arrival). same_id a.id (CompletionId n)) arrivals)) ≡ count_of n (number_of id ++ numbers_come arrivals)
+        else filter (λ (a : Arrival). same_id a.id (CompletionId n)) arrivals)) ≡ count_of n (completion_numbers_of id ++ numbers_come arrivals)
     by_id (CompletionId m) later = by_test (m == n)
       where
         by_test : (b : Bool) → length (map (λ (a : Arrival). a.result) (if b then arrival ∷ filter (λ (a : Arrival). same_id a.id (CompletionId n)) arrivals

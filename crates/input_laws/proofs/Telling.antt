@@ -9,7 +9,7 @@ use Rattle.journal_model.specs.Event.{Event}
 use Rattle.journal_model.specs.Journal.{Entry, Recorded, Arrived, begins, invocation_begun, starting_state, requests_in, arrivals_in, entries_of, recorded_arrivals}
 use Rattle.journal_model.specs.Attempt.{Piece, begins_attempt, notification_type, entry_piece, journal_pieces, event_pieces, input_from, input_pieces}
 use Rattle.journal_model.specs.Cause.{IsAccepted}
-use Rattle.input_laws.specs.Reading.{arrivals_among, HasReadPieces, arrivals_read}
+use Rattle.input_laws.specs.ArrivalsRead.{arrivals_among, HasReadPieces, arrivals_read}
 use Rattle.input_laws.specs.Message.{InputMessage, CarriesInput, CarriesRequest, CarriesArrival, CarriesOutcome, piece_of, arrival_carried, arrivals_carried, requests_carried, message_of, HasReadMessages}
 use Rattle.input_laws.proofs.News.{news}
 use Rattle.input_laws.proofs.Events.{added_by, start_same, entries_first, arrivals_now}

@@ -6,7 +6,7 @@ use Rattle.journal_model.specs.Attempt.{Piece, arrivals_within}
 use Rattle.journal_model.specs.Cause.{IsAccepted}
 use Rattle.journal_model.specs.Headline.{arrivals_handed}
 use Rattle.input_laws.specs.Message.{InputMessage, IsInput}
-use Rattle.input_laws.specs.Reading.{HasReadPieces, arrivals_read}
+use Rattle.input_laws.specs.ArrivalsRead.{HasReadPieces, arrivals_read}
 
 -- the input of the last attempt is messages that carry all recorded arrivals
 abbrev pub InputsAreMessages : Type 0

@@ -64,6 +64,6 @@ pub record HasReadMessages (events : List Event) (id : Text) (held : Bytes) (rea
 -- acknowledgement of an outcome that the event takes
 abbrev pub IsBroughtBy : List Entry → Text → Event → InputMessage → Type 0
 IsBroughtBy entries id event (CarriesArrival type arrival) = type ≡ notification_type entries arrival.id
-IsBroughtBy entries id (Event.Take other attempt (Frame.RunOutcome taken outcome true)) (CarriesOutcome number value) =
+IsBroughtBy entries id (Event.Move other attempt (Frame.RunOutcome taken outcome true)) (CarriesOutcome number value) =
     (bytes_eq other id ≡ true) × (taken ≡ number) × (outcome ≡ value)
 IsBroughtBy entries id event _ = ⊥

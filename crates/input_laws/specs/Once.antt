@@ -19,12 +19,12 @@ count_of n (m ∷ ms) = (if m == n then 1 else 0) + count_of n ms
 abbrev pub numbers_asked : List Request → List ℕ
 numbers_asked = flat_map completions_asked
 
-abbrev pub number_of : NotificationId → List ℕ
-number_of (CompletionId n) = n ∷ []
-number_of _ = []
+abbrev pub completion_numbers_of : NotificationId → List ℕ
+completion_numbers_of (CompletionId n) = n ∷ []
+completion_numbers_of _ = []
 
 abbrev pub numbers_come : List Arrival → List ℕ
-numbers_come = flat_map (λ (arrival : Arrival). number_of arrival.id)
+numbers_come = flat_map (λ (arrival : Arrival). completion_numbers_of arrival.id)
 
 -- each number is asked for once at most, and comes as often at most
 pub record AreOnce (requests : List Request) (arrivals : List Arrival) : Type 0 where

@@ -70,7 +70,7 @@ module _ (id : Text) where
   is_of-begins _ e = refl
 
   is_of-asked : (event : Event) → is_of id event ≡ false → bytes_asked id event ≡ None
-  is_of-asked (Event.HandOut other attempt most) e = rw e refl
+  is_of-asked (Event.Feed other attempt most) e = rw e refl
   is_of-asked _ e = refl
 
   attempts_begun-view : (events : List Event) → attempts_begun (view_of id events) id ≡ attempts_begun events id
@@ -113,7 +113,7 @@ module _ (id : Text) where
       ap₂ (λ (o : Option ℕ) (added : List Entry). later_pieces (entries ++ added) o (arrivals_in added)) (not_acknowledged event e) quiet
     where
       not_acknowledged : (event : Event) → is_of id event ≡ false → acknowledged (version_of events id) id event ≡ None
-      not_acknowledged (Event.Take other attempt (Frame.RunOutcome completion value true)) e = by_test (nat_le 7 (version_of events id))
+      not_acknowledged (Event.Move other attempt (Frame.RunOutcome completion value true)) e = by_test (nat_le 7 (version_of events id))
         where
           by_test : (b : Bool) → (if b && bytes_eq other id then Some completion else None) ≡ None
           by_test true = rw e refl
@@ -160,7 +160,7 @@ module _ (id : Text) where
   suspension_of-view (event ∷ events) = by_cases (is_of id event) refl (is_tick event) (suspension_of-view events)
     where
       no_suspension : (event : Event) → is_of id event ≡ false → suspension_in id event ≡ None
-      no_suspension (Event.Take other attempt (Frame.Suspend suspension)) e = rw e refl
+      no_suspension (Event.Move other attempt (Frame.Suspend suspension)) e = rw e refl
       no_suspension _ e = refl
 
       kept : suspension_of (view_of id events) id ≡ suspension_of events id → suspension_of (event ∷ view_of id events) id ≡ suspension_of (event ∷ events) id

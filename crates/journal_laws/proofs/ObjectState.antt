@@ -69,13 +69,13 @@ at_same events other id e opened = subst (λ (x : Text). is_open events x ≡ tr
 pub open_when_accepted : (events : List Event) (event : Event) (id : Text) → invoked_by event ≡ None → is_of id event ≡ true → causes_of events event ≡ [] → is_open events id ≡ true
 open_when_accepted events (Event.Invoke new) id e f accepted = cc
 open_when_accepted events (Event.Tick now) id e f accepted = cc
-open_when_accepted events (Event.Complete other n result) id e f accepted = at_same events other id f (open-from_tests events other (own_tests events (Event.Complete other n result)) accepted)
+open_when_accepted events (Event.Result other n result) id e f accepted = at_same events other id f (open-from_tests events other (own_tests events (Event.Result other n result)) accepted)
 open_when_accepted events (Event.Signal other key result) id e f accepted = at_same events other id f (open-from_tests events other (own_tests events (Event.Signal other key result)) accepted)
 open_when_accepted events (Event.Cancel other) id e f accepted = at_same events other id f (open-from_tests events other (own_tests events (Event.Cancel other)) accepted)
 open_when_accepted events (Event.Begin other now) id e f accepted = at_same events other id f (open-from_tests events other (own_tests events (Event.Begin other now)) accepted)
-open_when_accepted events (Event.HandOut other attempt most) id e f accepted = at_same events other id f (open-from_tests events other (own_tests events (Event.HandOut other attempt most)) accepted)
-open_when_accepted events (Event.CloseInput other attempt) id e f accepted = at_same events other id f (open-from_tests events other (own_tests events (Event.CloseInput other attempt)) accepted)
-open_when_accepted events (Event.Take other attempt frame) id e f accepted = at_same events other id f (open-from_tests events other (own_tests events (Event.Take other attempt frame)) accepted)
+open_when_accepted events (Event.Feed other attempt most) id e f accepted = at_same events other id f (open-from_tests events other (own_tests events (Event.Feed other attempt most)) accepted)
+open_when_accepted events (Event.Close other attempt) id e f accepted = at_same events other id f (open-from_tests events other (own_tests events (Event.Close other attempt)) accepted)
+open_when_accepted events (Event.Move other attempt frame) id e f accepted = at_same events other id f (open-from_tests events other (own_tests events (Event.Move other attempt frame)) accepted)
 open_when_accepted events (Event.Stop other attempt) id e f accepted = at_same events other id f (open-from_tests events other (own_tests events (Event.Stop other attempt)) accepted)
 
 both_nothing : {A : Type 0} (b : Bool) → ◌≡◌ {A = List A} (if b then [] else []) []
@@ -242,10 +242,10 @@ requests_in-arrived (arrival ∷ arrivals) = requests_in-arrived arrivals
 -- the requests among the entries that an event of the invocation adds are those of its frame
 pub requests_of_event : (start : StateMap) (entries : List Entry) (event : Event) → requests_in (entries_of_event start entries event) ≡ request_of_frame (frame_of event)
 requests_of_event start entries (Event.Tick now) = requests_in-arrived (slept entries now)
-requests_of_event start entries (Event.Take invocation attempt (Frame.Command request)) =
+requests_of_event start entries (Event.Move invocation attempt (Frame.Command request)) =
     ap (λ (rest : List Request). request ∷ rest) (requests_in-arrived (read_answer (state_after (requests_in entries) start) request))
-requests_of_event start entries (Event.Take invocation attempt (Frame.RunOutcome n value is_acknowledged)) = refl
-requests_of_event start entries (Event.Take invocation attempt _) = refl
+requests_of_event start entries (Event.Move invocation attempt (Frame.RunOutcome n value is_acknowledged)) = refl
+requests_of_event start entries (Event.Move invocation attempt _) = refl
 requests_of_event start entries _ = refl
 
 is_text_of : (object : Text) (o : Option Text) → is_text object o ≡ true → o ≡ Some object
@@ -281,10 +281,10 @@ requests_alike : (earlier : List Event) (event : Event) → invoked_by event ≡
     → ((other : Text) → invocation_of event ≡ Some other → is_text object (object_in earlier other) ≡ bytes_eq other id) → (start : StateMap) (entries : List Entry)
     → requests_for object earlier event ≡ requests_in (entries_added start earlier id event entries)
 unfolding object_in
-requests_alike earlier (Event.Take other attempt frame) e id object test start entries =
+requests_alike earlier (Event.Move other attempt frame) e id object test start entries =
     ap (λ (b : Bool). if b then request_of_frame (Some frame) else []) (test other refl ∙ sym (or-false_right (bytes_eq other id) (is_open earlier id)))
-    ∙ sym (requests_if (bytes_eq other id || (false && is_open earlier id)) (entries_of_event start entries (Event.Take other attempt frame))
-    ∙ ap (λ (requests : List Request). if bytes_eq other id || (false && is_open earlier id) then requests else []) (requests_of_event start entries (Event.Take other attempt frame)))
+    ∙ sym (requests_if (bytes_eq other id || (false && is_open earlier id)) (entries_of_event start entries (Event.Move other attempt frame))
+    ∙ ap (λ (requests : List Request). if bytes_eq other id || (false && is_open earlier id) then requests else []) (requests_of_event start entries (Event.Move other attempt frame)))
 requests_alike earlier event e id object test start entries =
     both_nothing (is_text object (object_of earlier event))
     ∙ sym (requests_if (is_of id event || (is_tick event && is_open earlier id)) (entries_of_event start entries event)

@@ -2,7 +2,7 @@
 use Rattle.std.proofs.Common.{◌≡◌, refl, sym, ap, ap₂, ◌∙◌, Bool, true, false, ◌||◌, ◌&&◌, if◌then◌else◌, List, [], ◌∷◌, ◌⊎◌, inl, inr}
 use Rattle.std.specs.List.{list_any, list_all}
 use Rattle.journal_model.specs.AwaitTree.{AwaitState, Pending, Succeeded, Failed, is_completed, is_succeeded, is_failed, Combinator, Unknown, FirstCompleted, AllCompleted, FirstSucceededOrAllFailed, AllSucceededOrFirstFailed, AtLeast, AwaitTree, Single, Combined, AwaitTrees, no_trees, and_trees, first_completed, combined_state, at_least_state, await_state, child_states, ends_at_once, has_ended, has_ended_node, some_has_ended_node, is_awake}
-use Rattle.journal_model.specs.Waiting.{lowered, pruned, pruned_children, earlier_or_later}
+use Rattle.journal_model.specs.PrunedTrees.{lowered, pruned, pruned_children, earlier_or_later}
 use Rattle.journal_laws.proofs.AtLeast.{Goes, none, stays, comes, pruned-at_least, lowered-twice}
 use Rattle.journal_laws.proofs.Leaving.{or-false, and-true, first-completed}
 

@@ -31,13 +31,13 @@ abbrev begin_at : ℕ → Event
 begin_at now = Event.Begin (codes "i1") now
 
 abbrev give : ℕ → ℕ → Event
-give attempt count = Event.HandOut (codes "i1") attempt count
+give attempt count = Event.Feed (codes "i1") attempt count
 
 abbrev close : ℕ → Event
-close attempt = Event.CloseInput (codes "i1") attempt
+close attempt = Event.Close (codes "i1") attempt
 
 abbrev take : ℕ → Frame → Event
-take attempt frame = Event.Take (codes "i1") attempt frame
+take attempt frame = Event.Move (codes "i1") attempt frame
 
 abbrev command : ℕ → Request → Event
 command attempt request = take attempt (Frame.Command request)
@@ -46,7 +46,7 @@ abbrev stop : ℕ → Event
 stop attempt = Event.Stop (codes "i1") attempt
 
 abbrev complete : ℕ → NotificationResult → Event
-complete n result = Event.Complete (codes "i1") n result
+complete n result = Event.Result (codes "i1") n result
 
 abbrev leaf : ℕ → AwaitTree NotificationId
 leaf n = Single (CompletionId n)
@@ -236,7 +236,7 @@ twice-input = refl
 
 -- a read is answered in its own transaction, from the state that another invocation left
 abbrev read_asked : List Event
-read_asked = twice_whole ++ Event.Invoke (new_of (codes "i2") (codes "o") 7) ∷ Event.Begin (codes "i2") 0 ∷ Event.HandOut (codes "i2") 1 10 ∷ Event.Take (codes "i2") 1 (Frame.Command (Request.GetLazyState (codes "x") 1 [])) ∷ []
+read_asked = twice_whole ++ Event.Invoke (new_of (codes "i2") (codes "o") 7) ∷ Event.Begin (codes "i2") 0 ∷ Event.Feed (codes "i2") 1 10 ∷ Event.Move (codes "i2") 1 (Frame.Command (Request.GetLazyState (codes "x") 1 [])) ∷ []
 
 read-asked : entries_of (after_all [] read_asked) (codes "i2") ≡ Recorded (Request.GetLazyState (codes "x") 1 []) ∷ arrived 1 (value (codes "2")) ∷ []
 unfolding is_utf8 chars encode_utf8
@@ -313,8 +313,8 @@ reopened-keeps = refl
 abbrev two_naps : List Event
 two_naps =
     nap_suspended
-    ++ Event.Invoke (new_of (codes "a2") (codes "p") 7) ∷ Event.Begin (codes "a2") 0 ∷ Event.HandOut (codes "a2") 1 1000 ∷ Event.CloseInput (codes "a2") 1
-    ∷ Event.Take (codes "a2") 1 (Frame.Command (Request.Sleep 10 1 [])) ∷ Event.Take (codes "a2") 1 (Frame.Suspend (Some (or_cancelled (leaf 1)))) ∷ []
+    ++ Event.Invoke (new_of (codes "a2") (codes "p") 7) ∷ Event.Begin (codes "a2") 0 ∷ Event.Feed (codes "a2") 1 1000 ∷ Event.Close (codes "a2") 1
+    ∷ Event.Move (codes "a2") 1 (Frame.Command (Request.Sleep 10 1 [])) ∷ Event.Move (codes "a2") 1 (Frame.Suspend (Some (or_cancelled (leaf 1)))) ∷ []
 
 two_naps-before : due (after_all [] two_naps) ≡ []
 two_naps-before = refl

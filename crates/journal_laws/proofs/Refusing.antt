@@ -83,12 +83,12 @@ module _ (events others : List Event) (id : Text) (told : IsToldAlike events oth
     pub refused_alike : (event : Event) → invocation_of event ≡ Some id → invoked_by event ≡ None → first_cause (causes_of events event) ≡ first_cause (causes_of others event)
     refused_alike (Event.Invoke new) own e = cc
     refused_alike (Event.Tick now) own e = cc
-    refused_alike (Event.Complete other n result) own e =
+    refused_alike (Event.Result other n result) own e =
         let same : other ≡ id = cc in
-        at (λ x. Event.Complete x n result) other same
-        (by_tests (own_tests events (Event.Complete id n result)) (own_tests others (Event.Complete id n result))
+        at (λ x. Event.Result x n result) other same
+        (by_tests (own_tests events (Event.Result id n result)) (own_tests others (Event.Result id n result))
         (λ opened. ap₂ (λ (entries : List Entry) (more : Tests). (not (is_some (open_request entries n)), Cause.CompletionNotOpen) ∷ (refuses_kind (open_request entries n) n result, Cause.WrongKind) ∷ more)
-        told.entries (adding_tests-alike (Event.Complete id n result))))
+        told.entries (adding_tests-alike (Event.Result id n result))))
     refused_alike (Event.Signal other key result) own e =
         let same : other ≡ id = cc in
         at (λ x. Event.Signal x key result) other same
@@ -103,23 +103,23 @@ module _ (events others : List Event) (id : Text) (told : IsToldAlike events oth
         at (λ x. Event.Begin x now) other same
         (by_tests (own_tests events (Event.Begin id now)) (own_tests others (Event.Begin id now))
         (λ opened. ap₂ (λ (n : ℕ) (payload : Bytes). (nat_le (2 ^ 32 - 1) n, Cause.NumbersUsedUp) ∷ (is_too_long payload, Cause.PayloadTooLong) ∷ []) told.attempts (payload_alike opened now)))
-    refused_alike (Event.HandOut other attempt most) own e =
+    refused_alike (Event.Feed other attempt most) own e =
         let same : other ≡ id = cc in
-        at (λ x. Event.HandOut x attempt most) other same
-        (by_tests (own_tests events (Event.HandOut id attempt most)) (own_tests others (Event.HandOut id attempt most))
+        at (λ x. Event.Feed x attempt most) other same
+        (by_tests (own_tests events (Event.Feed id attempt most)) (own_tests others (Event.Feed id attempt most))
         (λ opened. ap₂ (λ (live : Tests) (closed : Bool). live ++ ((closed, Cause.InputAlreadyClosed) ∷ [])) (live_tests-alike attempt) told.input_closed))
-    refused_alike (Event.CloseInput other attempt) own e =
+    refused_alike (Event.Close other attempt) own e =
         let same : other ≡ id = cc in
-        at (λ x. Event.CloseInput x attempt) other same
-        (by_tests (own_tests events (Event.CloseInput id attempt)) (own_tests others (Event.CloseInput id attempt))
+        at (λ x. Event.Close x attempt) other same
+        (by_tests (own_tests events (Event.Close id attempt)) (own_tests others (Event.Close id attempt))
         (λ opened. ap₂ (λ (live more : Tests). live ++ more) (live_tests-alike attempt)
         (ap₂ (λ (left : Bytes) (closed : Bool). (not (is_empty left), Cause.InputRemains) ∷ (closed, Cause.InputAlreadyClosed) ∷ []) left_alike told.input_closed)))
-    refused_alike (Event.Take other attempt frame) own e =
+    refused_alike (Event.Move other attempt frame) own e =
         let same : other ≡ id = cc in
-        at (λ x. Event.Take x attempt frame) other same
-        (by_tests (own_tests events (Event.Take id attempt frame)) (own_tests others (Event.Take id attempt frame))
+        at (λ x. Event.Move x attempt frame) other same
+        (by_tests (own_tests events (Event.Move id attempt frame)) (own_tests others (Event.Move id attempt frame))
         (λ opened. ap₂ (λ (live more : Tests). live ++ more) (live_tests-alike attempt)
-        (ap₂ (λ (tests more : Tests). tests ++ more) (frame_tests-alike frame) (adding_tests-alike (Event.Take id attempt frame)))))
+        (ap₂ (λ (tests more : Tests). tests ++ more) (frame_tests-alike frame) (adding_tests-alike (Event.Move id attempt frame)))))
     refused_alike (Event.Stop other attempt) own e =
         let same : other ≡ id = cc in
         at (λ x. Event.Stop x attempt) other same

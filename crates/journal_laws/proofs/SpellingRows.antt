@@ -9,7 +9,7 @@ use Rattle.journal_model.specs.Request.{Request, SignalValue}
 use Rattle.journal_model.specs.declared.notification.SignalKey.{SignalKey}
 use Rattle.journal_model.specs.Refusal.{UnsupportedAtLeast}
 use Rattle.journal_model.specs.Run.{Handler, Invocation, RefusedCall, run}
-use Rattle.journal_model.specs.Waiting.{pruned, suspended_tree}
+use Rattle.journal_model.specs.PrunedTrees.{pruned, suspended_tree}
 use Rattle.journal_model.specs.Spelling.{request_payload, suspension_payload, awaiting_on_payload, request_frame, header_bytes, notification_payload, input_frame}
 use Rattle.built_in_handlers.specs.Handlers
 use Rattle.journal_laws.proofs.TreeRows.{leaves}

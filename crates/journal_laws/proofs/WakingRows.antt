@@ -11,7 +11,7 @@ use Rattle.journal_model.specs.AwaitTree.{AwaitTree, Single, Combined, no_trees,
 use Rattle.journal_model.specs.declared.call.Call.{Call}
 use Rattle.journal_model.specs.Run.{Handler, run}
 use Rattle.journal_model.specs.Delivery.{state_of_result}
-use Rattle.journal_model.specs.Waiting.{suspended_tree}
+use Rattle.journal_model.specs.PrunedTrees.{suspended_tree}
 use Rattle.journal_model.specs.Attempt.{first_result}
 use Rattle.built_in_handlers.specs.Handlers
 use Rattle.journal_laws.proofs.Rows.{whole, completed}

@@ -6,7 +6,7 @@ ghost use Rattle.journal_model.specs.Cause.{AskingAccepts};
 ghost use Rattle.journal_model.specs.Headline.{AllIsolated, StateFollows};
 ghost use Rattle.journal_model.specs.Run.{ArrivalsExtend, CallsExtend};
 ghost use Rattle.journal_model.specs.State.{AppliesOnce};
-ghost use Rattle.journal_model.specs.Waiting.{LeavingOutWidens, PruningKeeps};
+ghost use Rattle.journal_model.specs.PrunedTrees.{LeavingOutWidens, PruningKeeps};
 
 /// More arrivals and more calls only extend a run.
 pub fn runs_extend()

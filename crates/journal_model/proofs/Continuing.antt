@@ -7,7 +7,7 @@ use Rattle.journal_model.specs.Request.{Request}
 use Rattle.journal_model.specs.Refusal.{Refusal, refusal_of}
 use Rattle.journal_model.specs.History.{Step, answers_of}
 use Rattle.journal_model.specs.Await.{WaitsFor, await_outcome}
-use Rattle.journal_model.specs.Run.{Handler, Invocation, GoesOn, Waits, RefusedCall, Ended, Kind, Awaits, Ends, Answers, kind_of, answered_step, after_await, carried_out, unless_refused, after_call, continued, run, run_requests, is_going, IsBeginning}
+use Rattle.journal_model.specs.Run.{Handler, Invocation, GoesOn, Waits, RefusedCall, Ended, Kind, Awaits, Ends, Answers, call_kind, answered_step, after_await, carried_out, unless_refused, after_call, continued, run, run_requests, is_going, IsBeginning}
 use Rattle.journal_model.proofs.Extension.{stays, requests-longer}
 
 -- what comes of one call, by what it is
@@ -16,19 +16,19 @@ module _ (invocation : Invocation) (steps : List Step) (arrivals : List Arrival)
       → after_call invocation steps arrivals call ≡ record { steps = steps; ending = RefusedCall refusal }
   after_call-refused refusal e = ap (unless_refused invocation steps arrivals call) e
 
-  pub after_call-carried_out : (kind : Kind) → refusal_of invocation.version call ≡ None → kind_of call ≡ kind
+  pub after_call-carried_out : (kind : Kind) → refusal_of invocation.version call ≡ None → call_kind call ≡ kind
       → after_call invocation steps arrivals call ≡ carried_out invocation steps arrivals call kind
   after_call-carried_out kind e is = ap (unless_refused invocation steps arrivals call) e ∙ ap (carried_out invocation steps arrivals call) is
 
-  pub after_call-answers : refusal_of invocation.version call ≡ None → kind_of call ≡ Answers
+  pub after_call-answers : refusal_of invocation.version call ≡ None → call_kind call ≡ Answers
       → after_call invocation steps arrivals call ≡ record { steps = answered_step invocation steps arrivals call ∷ steps; ending = GoesOn }
   after_call-answers = after_call-carried_out Answers
 
-  pub after_call-ends : refusal_of invocation.version call ≡ None → kind_of call ≡ Ends
+  pub after_call-ends : refusal_of invocation.version call ≡ None → call_kind call ≡ Ends
       → after_call invocation steps arrivals call ≡ record { steps = steps; ending = Ended }
   after_call-ends = after_call-carried_out Ends
 
-  pub after_call-waits : (tree : AwaitTree ℕ) (ids : AwaitTree (Option NotificationId)) → refusal_of invocation.version call ≡ None → kind_of call ≡ Awaits tree
+  pub after_call-waits : (tree : AwaitTree ℕ) (ids : AwaitTree (Option NotificationId)) → refusal_of invocation.version call ≡ None → call_kind call ≡ Awaits tree
       → await_outcome invocation.options steps arrivals tree ≡ WaitsFor ids
       → after_call invocation steps arrivals call ≡ record { steps = steps; ending = Waits ids }
   after_call-waits tree ids e is waits = after_call-carried_out (Awaits tree) e is ∙ ap (after_await steps call) waits

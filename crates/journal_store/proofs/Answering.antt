@@ -3,15 +3,15 @@ use Rattle.std.proofs.Common.{◌≡◌, ℕ, ◌<◌, refl, sym, subst, Bool, t
 use Rattle.std.specs.Option.{ForSome}
 use Rattle.journal_model.specs.Notification.{Text}
 use Rattle.store_live.specs.declared.attempt.LiveAttempt.{LiveAttempt}
-use Rattle.store_live.specs.Attempts.{ByInvocation, attempt_of, IsNow, after_take}
-use Rattle.journal_store.specs.Taking.{HasRoomToNote, passed}
+use Rattle.store_live.specs.Attempts.{ByInvocation, attempt_of, IsNow, live_after_take}
+use Rattle.journal_store.specs.FrameAcceptance.{HasRoomToNote, passed}
 
 still_room : (noted : Option ℕ) (b : Bool) (len : ℕ) (o : Option LiveAttempt) → ForSome o (HasRoomToNote noted) → ForSome (passed b len o) (HasRoomToNote noted)
 still_room None b len o room attempt is = tt
 still_room (Some n) true len o room attempt is = cc
 still_room (Some n) false len None room attempt is = cc
 still_room (Some n) false len (Some one) room attempt is =
-    let e : after_take len one ≡ attempt = cc in subst (λ (a : LiveAttempt). 0 < a.input.room) e (room one refl)
+    let e : live_after_take len one ≡ attempt = cc in subst (λ (a : LiveAttempt). 0 < a.input.room) e (room one refl)
 
 pub room_behind : (noted : Option ℕ) (b : Bool) (len : ℕ) (id : Text) (old new : ByInvocation) → IsNow id (passed b len (attempt_of old id)) old new
     → ForSome (attempt_of old id) (HasRoomToNote noted) → ForSome (attempt_of new id) (HasRoomToNote noted)

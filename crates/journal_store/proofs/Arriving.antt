@@ -2,7 +2,7 @@
 use Rattle.std.proofs.Common.{◌≡◌, ℕ, ◌+◌, ◌∙◌, sym, subst, length, inr, true, List, [], ◌∷◌, None, Result, Ok, Err, IfOk, IfErr, OnOk, OnErr}
 use Rattle.sqlite_trees.specs.Tree.{Trees}
 use Rattle.sqlite.specs.State.{State, HasCleanDisk, Survives}
-use Rattle.sql_tables.specs.Asking.{IsKept as Asked}
+use Rattle.sql_tables.specs.QueryAnswers.{AreTablesKept}
 use Rattle.journal_model.specs.Notification.{Text}
 use Rattle.journal_model.specs.Event.{Event}
 use Rattle.journal_model.specs.Journal.{entries_of, version_of}
@@ -16,7 +16,7 @@ use Rattle.store_arrivals.specs.Arrivals.{IsMadeReady}
 use Rattle.store_live.specs.Attempts.{Attempts}
 use Rattle.store_live_laws.specs.Agrees.{does_record}
 use Rattle.journal_store.specs.Stands.{Stands}
-use Rattle.journal_store.specs.Writing.{IsUnwritten}
+use Rattle.journal_store.specs.StoreTransaction.{IsUnwritten}
 use Rattle.journal_store.proofs.Leading.{Does}
 use Rattle.journal_store.proofs.Standing.{all_stored, store_still, stands_recorded}
 
@@ -24,10 +24,10 @@ use Rattle.journal_store.proofs.Standing.{all_stored, store_still, stands_record
 pub arrival_recorded : (events : List Event) (event : Event) (id : Text) (old mid new : State) (P Q : Trees → Type 0) (before after : Attempts)
     (made : PreparedArrival) (result : Result ℕ Refusal)
     → does_record event ≡ true → ((one : Text) → acknowledged (version_of events one) one event ≡ None) → IsReadIn events event
-    → Survives old mid P → Asked old mid → Survives mid new Q → HasCleanDisk new
+    → Survives old mid P → AreTablesKept old mid → Survives mid new Q → HasCleanDisk new
     → (causes_of events event ≡ []) × IsMadeReady events event id made
     → IfOk result (λ place. place ≡ made.place) → OnOk result (HasWritten made.writes.items mid new)
-    → IfErr result (IsUnwritten made.writes.items mid new) → OnErr result (Asked mid new) → after ≡ before → Stands events old before.attempts
+    → IfErr result (IsUnwritten made.writes.items mid new) → OnErr result (AreTablesKept mid new) → after ≡ before → Stands events old before.attempts
     → Does events event (λ place. place ≡ 1 + length (entries_of events id)) result new after.attempts
 arrival_recorded events event id old mid new P Q before after made (Ok place) does plain read earlier asked lives clean ready place_is wrote why undone same stands =
     let store = store_still events old mid P earlier asked stands.kept in

@@ -2,7 +2,7 @@
 use Rattle.std.proofs.Common.{◌≡◌, ℕ, refl, sym, ap, ap₂, subst, ◌∙◌, inr, not, ◌&&◌, is_some, List, [], ◌∷◌, Option, Some, None, Result, Ok, Err, IfErr, IfOk, OnOk, OnErr}
 use Rattle.sqlite_trees.specs.Tree.{Trees}
 use Rattle.sqlite.specs.State.{State, HasCleanDisk, Survives}
-use Rattle.sql_tables.specs.Asking.{IsKept as Asked}
+use Rattle.sql_tables.specs.QueryAnswers.{AreTablesKept}
 use Rattle.journal_model.specs.Notification.{Text}
 use Rattle.journal_model.specs.declared.invocation.NewInvocation.{NewInvocation}
 use Rattle.journal_model.specs.Event.{Event}
@@ -20,7 +20,7 @@ use Rattle.store_live_laws.specs.Agrees.{Agrees, IsBegunAs}
 use Rattle.store_live_laws.proofs.Begun.{begun}
 use Rattle.store_calls.specs.declared.begun.BegunAttempt.{BegunAttempt}
 use Rattle.journal_store.specs.Stands.{Stands}
-use Rattle.journal_store.specs.Writing.{IsUnwritten}
+use Rattle.journal_store.specs.StoreTransaction.{IsUnwritten}
 use Rattle.journal_store.specs.Attempts.{IsToldAs, fresh}
 use Rattle.journal_store.proofs.Leading.{Does, IsBegunAttempt}
 use Rattle.journal_store.proofs.Standing.{all_stored, store_still, stands_after}
@@ -49,9 +49,9 @@ begun_some (Some new) more e = (new, refl)
 pub begin_recorded : (events : List Event) (id : Text) (now : ℕ) (old mid new : State) (P Q : Trees → Type 0) (attempts left : ByInvocation) (made : PreparedAttempt)
     (more : Tests) (result : Result BegunAttempt Refusal)
     → causes_of events (Event.Begin id now) ≡ those_that_hold ((not (is_some (invocation_begun events id)), UnknownInvocation) ∷ more)
-    → Survives old mid P → Asked old mid → Survives mid new Q → HasCleanDisk new → (causes_of events (Event.Begin id now) ≡ []) × IsBegun events id now made
+    → Survives old mid P → AreTablesKept old mid → Survives mid new Q → HasCleanDisk new → (causes_of events (Event.Begin id now) ≡ []) × IsBegun events id now made
     → IfOk result (IsToldAs made) → OnOk result (HasWritten made.writes.items mid new)
-    → OnOk result (IsNow id (Some (fresh made.number made.version made.known made.arrivals)) attempts left) → IfErr result (IsUnwritten made.writes.items mid new) → OnErr result (Asked mid new) → OnErr result (left ≡ attempts)
+    → OnOk result (IsNow id (Some (fresh made.number made.version made.known made.arrivals)) attempts left) → IfErr result (IsUnwritten made.writes.items mid new) → OnErr result (AreTablesKept mid new) → OnErr result (left ≡ attempts)
     → Stands events old attempts → Does events (Event.Begin id now) (IsBegunAttempt events id now) result new left
 begin_recorded events id now old mid new P Q attempts left made more (Ok told) tests before asked lives clean ready is wrote put why undone same stands =
     let store = store_still events old mid P before asked stands.kept in

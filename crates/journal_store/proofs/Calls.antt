@@ -9,16 +9,16 @@ use Rattle.journal_model.specs.Event.{Event}
 use Rattle.journal_model.specs.Attempt.{is_live}
 use Rattle.journal_model.specs.Cause.{causes_of}
 use Rattle.journal_model.specs.declared.cause.Cause.{Cause}
-use Rattle.store_tables.specs.Looks.{Looks}
+use Rattle.store_tables.specs.Looks.{OnlyAsks}
 use Rattle.store_refusals.specs.declared.refusal.Refusal.{Refusal}
 use Rattle.store_refusals.specs.declared.refusal.Refusal.TheVariants as refusal
 use Rattle.store_refusals.specs.Refused.{IsRefused, is_circumstance}
 use Rattle.store_invocations.specs.Rows.{IsStoreOf}
 use Rattle.store_live.specs.declared.attempt.LiveAttempt.{LiveAttempt}
-use Rattle.store_live.specs.Attempts.{Attempts, ByInvocation, attempt_of, IsNow, Changes, bytes_out, after_close, after_hand_out, after_output}
+use Rattle.store_live.specs.Attempts.{Attempts, ByInvocation, attempt_of, IsNow, ChangesLive, bytes_out, after_close, after_hand_out, after_output}
 use Rattle.store_live_laws.specs.Agrees.{Agrees, has_number, cause_of_stale, CausesOfStale}
 use Rattle.store_live_laws.proofs.Tests.{live_told, stale_told}
-use Rattle.store_calls.specs.Standing.{Standing, Stays, Refuses}
+use Rattle.store_calls.specs.AbstractStore.{Standing, StaysStanding, Refuses}
 use Rattle.store_calls.specs.Calls.{HandsOut, ClosesInput, Pushes, Stops}
 use Rattle.store_calls.specs.Frames.{Steps}
 use Rattle.journal_store.specs.Stored.{stored}
@@ -36,7 +36,7 @@ pub record IsDead (id : Text) (n : ℕ) (why : Refusal) (s t : Standing) : Type 
   pub dead : is_live s.events id n ≡ false
   pub causes : CausesOfStale s.events id n
   pub told : IsStale s.events id why
-  pub stays : Stays s t
+  pub stays : StaysStanding s t
 
 module _ (id : Text) (n : ℕ) (why : Refusal) (s t : Standing) (d : IsDead id n why s t) where
   stop_refused : IsRefused (causes_of s.events (Event.Stop id n)) why
@@ -44,12 +44,12 @@ module _ (id : Text) (n : ℕ) (why : Refusal) (s t : Standing) (d : IsDead id n
 
   pub hand_out_dead : (most : ℕ) → HandsOut id n most (Err why) s t
   hand_out_dead most = record {
-    cause = stale_refused why (cause_of_stale s.events id) (causes_of s.events (Event.HandOut id n most)) (d.causes.of_hand_out most) d.told;
+    cause = stale_refused why (cause_of_stale s.events id) (causes_of s.events (Event.Feed id n most)) (d.causes.of_hand_out most) d.told;
     stays = d.stays;
   }
 
   pub close_dead : ClosesInput id n (Err why) s t
-  close_dead = record { cause = stale_refused why (cause_of_stale s.events id) (causes_of s.events (Event.CloseInput id n)) d.causes.of_close d.told; stays = d.stays }
+  close_dead = record { cause = stale_refused why (cause_of_stale s.events id) (causes_of s.events (Event.Close id n)) d.causes.of_close d.told; stays = d.stays }
 
   pub push_dead : (bytes : Bytes) → Pushes id n bytes (Err why) s t
   push_dead bytes = rw d.dead (record { cause = stop_refused; stays = d.stays })
@@ -61,7 +61,7 @@ module _ (id : Text) (n : ℕ) (why : Refusal) (s t : Standing) (d : IsDead id n
   step_dead = inl (record { dead = d.dead; refuses = record { cause = stop_refused; stays = d.stays } })
 
 module _ {S : Type 0} (g : Ghosts S) (a b : Held S) (live : Attempts) (id : Text) (n : ℕ) where
-  pub is_dead : (why : Refusal) → has_number n (attempt_of live.attempts id) ≡ false → Looks g a b
+  pub is_dead : (why : Refusal) → has_number n (attempt_of live.attempts id) ≡ false → OnlyAsks g a b
       → (HasCleanDisk (state g b) → (events : List Event) → IsStoreOf events (state g a) → IsStale events id why) → Leads g (IsDead id n why) (stored a live) (stored b live)
   is_dead why none looks told clean s is =
       let agrees = is.stands.live id in
@@ -78,14 +78,14 @@ module _ {S : Type 0} (g : Ghosts S) (a b : Held S) (live : Attempts) (id : Text
 
   -- so a call is refused
   pub dead : (Call : Refusal → Standing → Standing → Type 0) → ((why : Refusal) (s t : Standing) → IsDead id n why s t → Call why s t) → (why : Refusal)
-      → has_number n (attempt_of live.attempts id) ≡ false → Looks g a b
+      → has_number n (attempt_of live.attempts id) ≡ false → OnlyAsks g a b
       → (HasCleanDisk (state g b) → (events : List Event) → IsStoreOf events (state g a) → IsStale events id why) → Leads g (Call why) (stored a live) (stored b live)
   dead Call so why none looks told = leads_so g (IsDead id n why) (Call why) (stored a live) (stored b live) (so why) (is_dead why none looks told)
 
 -- ---- the next row is not read
 
 pub none_read : {A : Type 0} (Call : Result A Refusal → Standing → Standing → Type 0) (event : Event) (r : Result A Refusal) {Q : Refusal → Type 0} → IsErrAnd r Q
-    → ((why : Refusal) (s t : Standing) → Refuses event why s t → Call (Err why) s t) → {S : Type 0} (g : Ghosts S) (a b : Held S) (before after : Attempts) → after ≡ before → Looks g a b
+    → ((why : Refusal) (s t : Standing) → Refuses event why s t → Call (Err why) s t) → {S : Type 0} (g : Ghosts S) (a b : Held S) (before after : Attempts) → after ≡ before → OnlyAsks g a b
     → ((why : Refusal) → Q why → HasCleanDisk (state g b) → (s : Standing) → IsStanding g s (stored a before) → IsRefused [] why) → Leads g (Call r) (stored a before) (stored b after)
 none_read Call event (Ok x) it is g a b before after same looks told = absurd it
 none_read Call event (Err why) it is g a b before after same looks told =
@@ -110,7 +110,7 @@ output_kept events id bytes None agrees = agrees
 output_kept events id bytes (Some attempt) agrees =
     record { number = agrees.number; version = agrees.version; input = agrees.input; closed = agrees.closed }
 
-stands_pushed : (events : List Event) (database : State) (old new : ByInvocation) (id : Text) (bytes : Bytes) → Stands events database old → Changes id (after_output bytes) old new → Stands events database new
+stands_pushed : (events : List Event) (database : State) (old new : ByInvocation) (id : Text) (bytes : Bytes) → Stands events database old → ChangesLive id (after_output bytes) old new → Stands events database new
 stands_pushed events database old new id bytes stands changes = record {
   kept = stands.kept;
   live = λ other. elim (true_or_false (bytes_eq id other)) [
@@ -132,29 +132,29 @@ module _ {S : Type 0} (g : Ghosts S) (tables : Held S) (before : Attempts) (id :
       (s, is, record { cause = cause s.events is.stands; stays = record { events = refl; outputs = λ one. refl } })
 
   pub hands_out : (most : ℕ) (bytes : Bytes) (after : Attempts) → has_closed (attempt_of before.attempts id) ≡ false → bytes ≡ bytes_out most (attempt_of before.attempts id)
-      → Changes id (after_hand_out most) before.attempts after.attempts → (s : Standing) → HasRead s.events id (attempt_of before.attempts id) → IsStanding g s (stored tables before)
+      → ChangesLive id (after_hand_out most) before.attempts after.attempts → (s : Standing) → HasRead s.events id (attempt_of before.attempts id) → IsStanding g s (stored tables before)
       → (t : Standing) × IsStanding g t (stored tables after) × HandsOut id n most (Ok bytes) s t
   hands_out most bytes after opened out changed s read is =
       let did = stands_handed s.events (state g tables) before.attempts after.attempts id n most bytes is.stands here opened read out changed in
-      let it = adds g s (stored tables before) (stored tables after) is (Event.HandOut id n (length bytes)) did.2 (handed_waits id most before.attempts after.attempts changed) in
+      let it = adds g s (stored tables before) (stored tables after) is (Event.Feed id n (length bytes)) did.2 (handed_waits id most before.attempts after.attempts changed) in
       (it.0, it.1, (did.1, it.2))
 
-  pub closes : (after : Attempts) → has_rest (attempt_of before.attempts id) ≡ false → has_closed (attempt_of before.attempts id) ≡ false → Changes id after_close before.attempts after.attempts
+  pub closes : (after : Attempts) → has_rest (attempt_of before.attempts id) ≡ false → has_closed (attempt_of before.attempts id) ≡ false → ChangesLive id after_close before.attempts after.attempts
       → (s : Standing) → HasRead s.events id (attempt_of before.attempts id) → IsStanding g s (stored tables before)
       → (t : Standing) × IsStanding g t (stored tables after) × ClosesInput id n (Ok tt) s t
   closes after rest opened changed s read is =
       let did = stands_closed s.events (state g tables) before.attempts after.attempts id n is.stands here read rest opened changed in
-      adds g s (stored tables before) (stored tables after) is (Event.CloseInput id n) did.2 (closed_waits id before.attempts after.attempts changed)
+      adds g s (stored tables before) (stored tables after) is (Event.Close id n) did.2 (closed_waits id before.attempts after.attempts changed)
 
   pub hands_closed : (most : ℕ) → has_closed (attempt_of before.attempts id) ≡ true → Leads g (HandsOut id n most (Err (refusal.Cause Cause.InputAlreadyClosed))) (stored tables before) (stored tables before)
   hands_closed most closed =
-      refuses_still (Event.HandOut id n most) (refusal.Cause Cause.InputAlreadyClosed) before refl (λ events stands. hand_out_closed events (state g tables) before.attempts id n most stands here closed)
+      refuses_still (Event.Feed id n most) (refusal.Cause Cause.InputAlreadyClosed) before refl (λ events stands. hand_out_closed events (state g tables) before.attempts id n most stands here closed)
 
   pub hands_none : (most : ℕ) (after : Attempts) (result : Result Bytes Refusal) → after ≡ before → result ≡ Err refusal.OutOfMemory
       → Leads g (HandsOut id n most result) (stored tables before) (stored tables after)
   hands_none most after result same is =
       subst (λ (r : Result Bytes Refusal). Leads g (HandsOut id n most r) (stored tables before) (stored tables after)) (sym is)
-      (refuses_still (Event.HandOut id n most) refusal.OutOfMemory after same (λ events stands. inr refl))
+      (refuses_still (Event.Feed id n most) refusal.OutOfMemory after same (λ events stands. inr refl))
 
   pub closes_rest : has_rest (attempt_of before.attempts id) ≡ true → (s : Standing) → HasRead s.events id (attempt_of before.attempts id) → IsStanding g s (stored tables before)
       → (t : Standing) × IsStanding g t (stored tables before) × ClosesInput id n (Err (refusal.Cause Cause.InputRemains)) s t
@@ -167,7 +167,7 @@ module _ {S : Type 0} (g : Ghosts S) (tables : Held S) (before : Attempts) (id :
   closes_closed rest closed s read is =
       (s, is, record { cause = close_closed s.events (state g tables) before.attempts id n is.stands here read rest closed; stays = record { events = refl; outputs = λ one. refl } })
 
-  pub pushes : (bytes : Bytes) (after : Attempts) → Changes id (after_output bytes) before.attempts after.attempts → Leads g (Pushes id n bytes (Ok tt)) (stored tables before) (stored tables after)
+  pub pushes : (bytes : Bytes) (after : Attempts) → ChangesLive id (after_output bytes) before.attempts after.attempts → Leads g (Pushes id n bytes (Ok tt)) (stored tables before) (stored tables after)
   pushes bytes after changed clean s is =
       let it = stood g s.events (stored tables after) (stands_pushed s.events (state g tables) before.attempts after.attempts id bytes is.stands changed) in
       let one = this_one n (attempt_of before.attempts id) here in (

@@ -8,22 +8,22 @@ use Rattle.sqlite.specs.State.{State, HasCleanDisk, Survives}
 use Rattle.sqlite.specs.declared.error.Error.{Error}
 use Rattle.sqlite.specs.declared.error.Error.TheVariants.{SqliteFailure}
 use Rattle.sqlite.specs.declared.error.ErrorCode.TheVariants as code
-use Rattle.sql_tables.specs.Asking.{IsKept}
+use Rattle.sql_tables.specs.QueryAnswers.{AreTablesKept}
 use Rattle.sql_tables.specs.Causes.{AreRefused, IsCause, IsCauseToWrite}
 use Rattle.sql_tables.specs.Refusals.{has_no_place}
 use Rattle.sql_tables.proofs.Causes.{cause_later}
 use Rattle.journal_model.specs.Event.{Event}
-use Rattle.store_tables.specs.Looks.{Looks}
+use Rattle.store_tables.specs.Looks.{OnlyAsks}
 use Rattle.store_tables.specs.Steps.{IsStore, Lands}
 use Rattle.store_tables.specs.Statements.{statements_of_all}
 use Rattle.store_tables.specs.declared.row.Write.{Write}
 use Rattle.store_tables.proofs.Ruled.{rules_refuse}
 use Rattle.store_refusals.specs.declared.refusal.Refusal.{Refusal}
 use Rattle.store_invocations.specs.Rows.{IsStoreOf}
-use Rattle.store_calls.specs.Standing.{Standing}
+use Rattle.store_calls.specs.AbstractStore.{Standing}
 use Rattle.journal_store.specs.Stored.{Stored}
 use Rattle.journal_store.specs.Stands.{IsStanding, KeepsAll, Leads}
-use Rattle.journal_store.specs.Writing.{Writes}
+use Rattle.journal_store.specs.StoreTransaction.{WritesRows}
 use Rattle.journal_store.specs.Causes.{AreWritesOf, AskingWantsMemory, RefusesEvent, RefusesTried, RunsWell, TellsWhy, TellsWhyUnwritten, Tries, TriesEvent, WritingWantsMemory}
 use Rattle.journal_store.proofs.Standing.{store_still}
 
@@ -44,8 +44,8 @@ abbrev pub AreTried : {S : Type 0} → Ghosts S → Tries → Held S → Stored 
 AreTried g Tried mid old writes =
     HasCleanDisk (state g mid) → (s : Standing) → IsStanding g s old → (event : Event) × Tried s s event × AreWritesOf s.events event writes
 
-module _ {S : Type 0} (g : Ghosts S) (Tried : Tries) (mid : Held S) (old new : Stored S) (writes : List Write) (looks : Looks g old.connection mid) (tried : AreTried g Tried mid old writes) where
-  refuses_tried : (cause : Error) → IsStore (state g mid) → HasCleanDisk (state g mid) → HasCleanDisk (state g new.connection) → IsKept (state g mid) (state g new.connection) → IsTrue (state g mid).is_open
+module _ {S : Type 0} (g : Ghosts S) (Tried : Tries) (mid : Held S) (old new : Stored S) (writes : List Write) (looks : OnlyAsks g old.connection mid) (tried : AreTried g Tried mid old writes) where
+  refuses_tried : (cause : Error) → IsStore (state g mid) → HasCleanDisk (state g mid) → HasCleanDisk (state g new.connection) → AreTablesKept (state g mid) (state g new.connection) → IsTrue (state g mid).is_open
       → AreRefused (state g mid).step_limit (statements_of_all writes) (state g mid).now cause → RefusesTried g Tried old new cause
   refuses_tried cause tables early clean undone opened refused = record {
     before = (state g mid).now;
@@ -66,7 +66,7 @@ module _ {S : Type 0} (g : Ghosts S) (Tried : Tries) (mid : Held S) (old new : S
         );
   }
 
-  tried_cause : (cause : Error) → IsStore (state g mid) → HasCleanDisk (state g new.connection) → Survives (state g mid) (state g new.connection) (Lands writes (state g mid)) → IsKept (state g mid) (state g new.connection)
+  tried_cause : (cause : Error) → IsStore (state g mid) → HasCleanDisk (state g new.connection) → Survives (state g mid) (state g new.connection) (Lands writes (state g mid)) → AreTablesKept (state g mid) (state g new.connection)
       → IsCauseToWrite (statements_of_all writes) (state g mid) (state g new.connection) cause → IsCause (state g old.connection) (state g new.connection) cause ⊎ RefusesTried g Tried old new cause
   unfolding IsCauseToWrite
   tried_cause cause tables clean lives undone (inl own) =
@@ -74,13 +74,13 @@ module _ {S : Type 0} (g : Ghosts S) (Tried : Tries) (mid : Held S) (old new : S
   tried_cause cause tables clean lives undone (inr (opened, refused)) = inr (refuses_tried cause tables (omega (arith, lives.clean, clean)) clean undone opened refused)
 
   -- they are written behind a question, or refused
-  pub tried_by : {A : Type 0} (result : Result A Refusal) → Writes g writes mid new.connection result → IfErr result (TellsWhyUnwritten g old new Tried)
+  pub tried_by : {A : Type 0} (result : Result A Refusal) → WritesRows g writes mid new.connection result → IfErr result (TellsWhyUnwritten g old new Tried)
   tried_by (Ok answer) wrote = tt
   tried_by (Err why) wrote = λ clean cause is. tried_cause cause (wrote.why.store cause is) clean wrote.crash wrote.undone (wrote.why.cause clean cause is)
 
 -- those of one event
-pub event_tried : {S A : Type 0} (g : Ghosts S) (event : Event) (mid : Held S) (old new : Stored S) (writes : List Write) (result : Result A Refusal) → Looks g old.connection mid
-    → (HasCleanDisk (state g mid) → (events : List Event) → IsStoreOf events (state g old.connection) → AreWritesOf events event writes) → Writes g writes mid new.connection result
+pub event_tried : {S A : Type 0} (g : Ghosts S) (event : Event) (mid : Held S) (old new : Stored S) (writes : List Write) (result : Result A Refusal) → OnlyAsks g old.connection mid
+    → (HasCleanDisk (state g mid) → (events : List Event) → IsStoreOf events (state g old.connection) → AreWritesOf events event writes) → WritesRows g writes mid new.connection result
     → IfErr result (TellsWhyUnwritten g old new (TriesEvent event))
 event_tried g event mid old new writes result looks are wrote =
     tried_by g (TriesEvent event) mid old new writes looks (λ clean s is. (event, (refl, refl), are clean s.events is.stands.kept)) result wrote

@@ -17,7 +17,7 @@ use Rattle.protocol_types.specs.declared.message_type.MessageType.{MessageType}
 use Rattle.store_model.specs.Kept.{version_kept}
 use Rattle.store_model.proofs.Versions.{kept_number}
 use Rattle.store_invocations.specs.Rows.{IsStoreOf}
-use Rattle.store_calls.specs.Standing.{Standing, Adds}
+use Rattle.store_calls.specs.AbstractStore.{Standing, Adds}
 use Rattle.store_calls.proofs.Landing.{begun}
 use Rattle.journal_store.specs.Attempts.{BeginsSome}
 use Rattle.journal_store.specs.Stored.{Stored}
@@ -76,9 +76,9 @@ event_landed : (s : Standing) (event : Event) → causes_of s.events event ≡ [
 event_landed s event causes live =
     (record { events = event ∷ s.events; accepted = (causes, s.accepted); outputs = s.outputs; live = live }, record { events = refl; outputs = λ other. refl })
 
-pub complete_landed : (s : Standing) (id : Text) (n : ℕ) (value : NotificationResult) → causes_of s.events (Event.Complete id n value) ≡ [] → (t : Standing) × Adds (Event.Complete id n value) s t
+pub complete_landed : (s : Standing) (id : Text) (n : ℕ) (value : NotificationResult) → causes_of s.events (Event.Result id n value) ≡ [] → (t : Standing) × Adds (Event.Result id n value) s t
 complete_landed s id n value causes =
-    event_landed s (Event.Complete id n value) causes (λ other. still_live (is_of other (Event.Complete id n value)) (s.outputs other) (live_attempt s.events other) (s.live other))
+    event_landed s (Event.Result id n value) causes (λ other. still_live (is_of other (Event.Result id n value)) (s.outputs other) (live_attempt s.events other) (s.live other))
 
 pub signal_landed : (s : Standing) (id : Text) (key : SignalKey) (value : NotificationResult) → causes_of s.events (Event.Signal id key value) ≡ [] → (t : Standing) × Adds (Event.Signal id key value) s t
 signal_landed s id key value causes =

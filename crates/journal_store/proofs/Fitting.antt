@@ -106,19 +106,19 @@ module _ (events : List Event) (id : Text) where
       unused false e f = cc
 
   has_places : (event : Event) → causes_of events event ≡ [] → adds_to events id event ≡ true → HasPlacesFor event id
-  has_places (Event.Complete other n result) e adds =
-      own (Event.Complete other n result) other adds
+  has_places (Event.Result other n result) e adds =
+      own (Event.Result other n result) other adds
       (none_behind
       (open_tests events other ++ ((not (is_some (open_request (entries_of events other) n)), CompletionNotOpen) ∷ (refuses_kind (open_request (entries_of events other) n) n result, WrongKind) ∷ []))
-      (adding_tests events other (Event.Complete other n result)) e)
+      (adding_tests events other (Event.Result other n result)) e)
   has_places (Event.Signal other key result) e adds =
       own (Event.Signal other key result) other adds
       (none_behind (open_tests events other ++ ((not (may_signal result), WrongKind) ∷ (is_reserved key, ReservedSignal) ∷ [])) (adding_tests events other (Event.Signal other key result)) e)
   has_places (Event.Cancel other) e adds = own (Event.Cancel other) other adds (none_behind (open_tests events other) (adding_tests events other (Event.Cancel other)) e)
-  has_places (Event.Take other attempt frame) e adds =
-      own (Event.Take other attempt frame) other adds
-      (none_behind (frame_tests events other frame) (adding_tests events other (Event.Take other attempt frame))
-      (none_behind (open_tests events other ++ live_tests events other attempt) (frame_tests events other frame ++ adding_tests events other (Event.Take other attempt frame)) e))
+  has_places (Event.Move other attempt frame) e adds =
+      own (Event.Move other attempt frame) other adds
+      (none_behind (frame_tests events other frame) (adding_tests events other (Event.Move other attempt frame))
+      (none_behind (open_tests events other ++ live_tests events other attempt) (frame_tests events other frame ++ adding_tests events other (Event.Move other attempt frame)) e))
   has_places (Event.Tick now) e adds = ticked now adds (first_none (tick_uses_up events now) NumbersUsedUp [] e)
   has_places event e adds = refl
 

@@ -7,13 +7,13 @@ use Rattle.sqlite.specs.State.{HasCleanDisk}
 use Rattle.journal_model.specs.Notification.{Bytes, Text}
 use Rattle.journal_model.specs.Event.{Event}
 use Rattle.journal_model.specs.Attempt.{Piece, input_pieces}
-use Rattle.due_laws.specs.Handing.{IsEndOf}
+use Rattle.due_laws.specs.InputParts.{IsEndOf}
 use Rattle.store_refusals.specs.declared.refusal.Refusal.{Refusal}
 use Rattle.store_live.specs.declared.attempt.LiveAttempt.{LiveAttempt}
-use Rattle.store_live.specs.Input.{InputKept, after_bytes, handed_out}
-use Rattle.store_live.specs.Attempts.{Attempts, Changes, after_close, after_hand_out, attempt_of, bytes_out}
+use Rattle.store_live.specs.Input.{InputKept, after_bytes, input_handed_out}
+use Rattle.store_live.specs.Attempts.{Attempts, ChangesLive, after_close, after_hand_out, attempt_of, bytes_out}
 use Rattle.store_live_laws.specs.Agrees.{Agrees}
-use Rattle.store_calls.specs.Standing.{Standing}
+use Rattle.store_calls.specs.AbstractStore.{Standing}
 use Rattle.journal_store.specs.Stored.{Stored, stored}
 use Rattle.journal_store.specs.Stands.{IsStanding}
 use Rattle.journal_store.specs.Attempts.{AreOfOneFrame, GivesOneFrame, bytes_given, rest_kept}
@@ -36,7 +36,7 @@ of_read frames read rest bytes kept split (inr end) = inr (record {
 })
 
 -- what is handed out of that and what is kept then are together what it was
-split_rest : (most : ℕ) (m : InputKept) → m.rest ≡ take most m.rest ++ (handed_out most m).rest
+split_rest : (most : ℕ) (m : InputKept) → m.rest ≡ take most m.rest ++ (input_handed_out most m).rest
 split_rest most m = by_both (take most m.rest) (drop most m.rest) (sym (take-append-drop most m.rest))
   where
     by_both : (bytes rest : Bytes) → m.rest ≡ bytes ++ rest → m.rest ≡ bytes ++ (after_bytes bytes rest m).rest
@@ -48,7 +48,7 @@ handed_of_frame : (events : List Event) (id : Text) (most : ℕ) (o : Option Liv
     → AreOfOneFrame (input_pieces events id) (bytes_out most o) (rest_kept (option_map (after_hand_out most) o))
 handed_of_frame events id most None agrees = inl (refl, refl)
 handed_of_frame events id most (Some attempt) agrees =
-    of_read (input_pieces events id) attempt.input.read attempt.input.rest (take most attempt.input.rest) (handed_out most attempt.input).rest (split_rest most attempt.input)
+    of_read (input_pieces events id) attempt.input.read attempt.input.rest (take most attempt.input.rest) (input_handed_out most attempt.input).rest (split_rest most attempt.input)
     agrees.input.reads.part
 
 kept_of_frame : (events : List Event) (id : Text) (o : Option LiveAttempt) → Agrees events id o → AreOfOneFrame (input_pieces events id) [] (rest_kept o)
@@ -80,14 +80,14 @@ module _ {S : Type 0} (g : Ghosts S) (id : Text) (old : Stored S) (b : Held S) (
       (subst (λ (live : Attempts). AreOfOneFrame (input_pieces s.events id) [] (rest_kept (attempt_of live.attempts id))) (sym same)
       (kept_of_frame s.events id (attempt_of mid.attempts id) (agrees clean s is)))
 
-  pub gives_bytes : (most : ℕ) (bytes : Bytes) (after : Attempts) → bytes ≡ bytes_out most (attempt_of mid.attempts id) → Changes id (after_hand_out most) mid.attempts after.attempts
+  pub gives_bytes : (most : ℕ) (bytes : Bytes) (after : Attempts) → bytes ≡ bytes_out most (attempt_of mid.attempts id) → ChangesLive id (after_hand_out most) mid.attempts after.attempts
       → GivesOneFrame g id (Ok bytes) old (stored b after)
   gives_bytes most bytes after out changed clean s is =
       subst (λ (given : Bytes). AreOfOneFrame (input_pieces s.events id) given (rest_kept (attempt_of after.attempts id))) (sym out)
       (subst (λ (o : Option LiveAttempt). AreOfOneFrame (input_pieces s.events id) (bytes_out most (attempt_of mid.attempts id)) (rest_kept o)) (sym changed.own)
       (handed_of_frame s.events id most (attempt_of mid.attempts id) (agrees clean s is)))
 
-  pub gives_closed : (after : Attempts) → Changes id after_close mid.attempts after.attempts → GivesOneFrame g id (Ok []) old (stored b after)
+  pub gives_closed : (after : Attempts) → ChangesLive id after_close mid.attempts after.attempts → GivesOneFrame g id (Ok []) old (stored b after)
   gives_closed after changed clean s is =
       subst (λ (kept : Bytes). AreOfOneFrame (input_pieces s.events id) [] kept) (sym (ap rest_kept changed.own ∙ closed_rest (attempt_of mid.attempts id)))
       (kept_of_frame s.events id (attempt_of mid.attempts id) (agrees clean s is))

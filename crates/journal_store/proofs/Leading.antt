@@ -18,7 +18,7 @@ use Rattle.store_live.specs.declared.attempt.LiveAttempt.{LiveAttempt}
 use Rattle.store_live.specs.Attempts.{ByInvocation, attempt_of}
 use Rattle.store_live_laws.specs.Agrees.{Agrees}
 use Rattle.store_calls.specs.declared.begun.BegunAttempt.{BegunAttempt}
-use Rattle.store_calls.specs.Standing.{Standing, Stays, Adds, Leaves, Refuses}
+use Rattle.store_calls.specs.AbstractStore.{Standing, StaysStanding, Adds, LeavesWaiting, Refuses}
 use Rattle.store_calls.specs.Calls.{TakesPlace, BeginsAttempt}
 use Rattle.journal_store.specs.Stored.{Stored}
 use Rattle.journal_store.specs.Stands.{Stands, IsStanding, Leads, output_of, KeepsOutputs, WaitsNow, WaitsAfter}
@@ -74,12 +74,12 @@ module _ {S : Type 0} (g : Ghosts S) (s : Standing) (old new : Stored S) (is : I
       let it = stood g (event ∷ s.events) new stands in
       (it.0, it.1.standing, record { events = it.1.same; outputs = λ id. it.1.standing.outputs id ∙ keeps id ∙ sym (is.outputs id) })
 
-  pub stays : Now s.events → KeepsOutputs old.live.attempts new.live.attempts → Then (Stays s)
+  pub stays : Now s.events → KeepsOutputs old.live.attempts new.live.attempts → Then (StaysStanding s)
   stays stands keeps =
       let it = stood g s.events new stands in
       (it.0, it.1.standing, record { events = it.1.same; outputs = λ id. it.1.standing.outputs id ∙ keeps id ∙ sym (is.outputs id) })
 
-  pub leaves : (event : Event) (id : Text) (output : Option Bytes) → Now (event ∷ s.events) → WaitsNow id output old.live.attempts new.live.attempts → Then (Leaves event id output s)
+  pub leaves : (event : Event) (id : Text) (output : Option Bytes) → Now (event ∷ s.events) → WaitsNow id output old.live.attempts new.live.attempts → Then (LeavesWaiting event id output s)
   leaves event id output stands waits =
       let it = stood g (event ∷ s.events) new stands in (
         it.0,

@@ -13,8 +13,8 @@ pub mod Beginning
 pub mod Calls
 pub mod Answering
 pub mod Outcomes
-pub mod Taking
-pub mod Accepting
+pub mod FrameAcceptance
+pub mod OutputAcceptance
 pub mod Opening
 pub mod Reading
 pub mod Framed

@@ -12,10 +12,10 @@ use Rattle.journal_model.specs.declared.cause.Cause.TheVariants.{InputAlreadyClo
 use Rattle.store_model.specs.Writes.{state_writes}
 use Rattle.store_refusals.specs.declared.refusal.Refusal.{Refusal}
 use Rattle.store_refusals.specs.declared.refusal.Refusal.TheVariants as refusal
-use Rattle.store_refusals.specs.Refused.{first_of, is_circumstance, IsRefused}
+use Rattle.store_refusals.specs.Refused.{refusal_of_first_cause, is_circumstance, IsRefused}
 use Rattle.store_live.specs.declared.attempt.LiveAttempt.{LiveAttempt}
-use Rattle.store_live.specs.Attempts.{ByInvocation, attempt_of, IsNow, Changes, bytes_out, after_close, after_hand_out}
-use Rattle.due_laws.specs.Handing.{HandsPart}
+use Rattle.store_live.specs.Attempts.{ByInvocation, attempt_of, IsNow, ChangesLive, bytes_out, after_close, after_hand_out}
+use Rattle.due_laws.specs.InputParts.{HandsPart}
 use Rattle.store_live_laws.specs.Agrees.{Agrees, has_number, CausesOfLive, IsFirstCause, LeftIsTold}
 use Rattle.store_live_laws.proofs.Left.{left_told, part_told}
 use Rattle.store_live_laws.proofs.Tests.{live_told, causes_told}
@@ -65,7 +65,7 @@ stands_stopped events database old new id number stands live now =
 
 pub stale_refused : (why : Refusal) (cause : Cause) (causes : List Cause) → IsFirstCause cause causes → (why ≡ refusal.Cause cause) ⊎ IsTrue (is_circumstance why)
     → IsRefused causes why
-stale_refused why cause causes first (inl is) = inl (ap first_of first.1 ∙ ap Some (sym is))
+stale_refused why cause causes first (inl is) = inl (ap refusal_of_first_cause first.1 ∙ ap Some (sym is))
 stale_refused why cause causes first (inr circumstance) = inr circumstance
 
 -- ---- bytes that are handed out
@@ -76,19 +76,19 @@ told_here events database attempts id number stands here = causes_told events id
 
 hand_out_causes : (events : List Event) (database : State) (attempts : ByInvocation) (id : Text) (number most : ℕ) → Stands events database attempts
     → has_number number (attempt_of attempts id) ≡ true → (closed : Bool) → has_closed (attempt_of attempts id) ≡ closed
-    → causes_of events (Event.HandOut id number most) ≡ those_that_hold ((closed, InputAlreadyClosed) ∷ [])
+    → causes_of events (Event.Feed id number most) ≡ those_that_hold ((closed, InputAlreadyClosed) ∷ [])
 hand_out_causes events database attempts id number most stands live closed is =
     let here = this_one number (attempt_of attempts id) live in
     let told = (told_here events database attempts id number stands here).of_hand_out most in
     let same : here.attempt.is_input_closed ≡ closed = sym (ap has_closed here.is) ∙ is in
-    subst (λ (n : ℕ). causes_of events (Event.HandOut id n most) ≡ those_that_hold ((closed, InputAlreadyClosed) ∷ [])) here.numbered
+    subst (λ (n : ℕ). causes_of events (Event.Feed id n most) ≡ those_that_hold ((closed, InputAlreadyClosed) ∷ [])) here.numbered
     (told ∙ ap (λ (b : Bool). those_that_hold ((b, InputAlreadyClosed) ∷ [])) same)
 
 pub hand_out_closed : (events : List Event) (database : State) (attempts : ByInvocation) (id : Text) (number most : ℕ) → Stands events database attempts
     → has_number number (attempt_of attempts id) ≡ true → has_closed (attempt_of attempts id) ≡ true
-    → IsRefused (causes_of events (Event.HandOut id number most)) (refusal.Cause Cause.InputAlreadyClosed)
+    → IsRefused (causes_of events (Event.Feed id number most)) (refusal.Cause Cause.InputAlreadyClosed)
 hand_out_closed events database attempts id number most stands live closed =
-    inl (ap first_of (hand_out_causes events database attempts id number most stands live true closed))
+    inl (ap refusal_of_first_cause (hand_out_causes events database attempts id number most stands live true closed))
 
 handed_bytes : (events : List Event) (id : Text) (most : ℕ) (o : Option LiveAttempt) (number : ℕ) → IsThis number o → Agrees events id o → HasRead events id o
     → HandsPart (input_left events id) most (bytes_out most o)
@@ -97,23 +97,23 @@ handed_bytes events id most (Some attempt) number here agrees read = part_told e
 
 pub stands_handed : (events : List Event) (database : State) (old new : ByInvocation) (id : Text) (number most : ℕ) (bytes : List ℕ) → Stands events database old
     → has_number number (attempt_of old id) ≡ true → has_closed (attempt_of old id) ≡ false → HasRead events id (attempt_of old id) → bytes ≡ bytes_out most (attempt_of old id)
-    → Changes id (after_hand_out most) old new
-    → (causes_of events (Event.HandOut id number (length bytes)) ≡ []) × HandsPart (input_left events id) most bytes × Stands (Event.HandOut id number (length bytes) ∷ events) database new
+    → ChangesLive id (after_hand_out most) old new
+    → (causes_of events (Event.Feed id number (length bytes)) ≡ []) × HandsPart (input_left events id) most bytes × Stands (Event.Feed id number (length bytes) ∷ events) database new
 stands_handed events database old new id number most bytes stands live opened read out changed =
     subst
-    (λ (given : List ℕ). (causes_of events (Event.HandOut id number (length given)) ≡ []) × HandsPart (input_left events id) most given × Stands (Event.HandOut id number (length given) ∷ events) database new)
+    (λ (given : List ℕ). (causes_of events (Event.Feed id number (length given)) ≡ []) × HandsPart (input_left events id) most given × Stands (Event.Feed id number (length given) ∷ events) database new)
     (sym out) all
   where
-    all : (causes_of events (Event.HandOut id number (length (bytes_out most (attempt_of old id)))) ≡ []) × HandsPart (input_left events id) most (bytes_out most (attempt_of old id))
-        × Stands (Event.HandOut id number (length (bytes_out most (attempt_of old id))) ∷ events) database new
+    all : (causes_of events (Event.Feed id number (length (bytes_out most (attempt_of old id)))) ≡ []) × HandsPart (input_left events id) most (bytes_out most (attempt_of old id))
+        × Stands (Event.Feed id number (length (bytes_out most (attempt_of old id))) ∷ events) database new
     all =
         let count : ℕ = length (bytes_out most (attempt_of old id)) in
         let none = hand_out_causes events database old id number count stands live false opened in
         let here = this_one number (attempt_of old id) live in
-        let kept = unwritten events (Event.HandOut id number count) database stands.kept tt none (none_written (object_of events (Event.HandOut id number count))) in (
+        let kept = unwritten events (Event.Feed id number count) database stands.kept tt none (none_written (object_of events (Event.Feed id number count))) in (
           none,
           handed_bytes events id most (attempt_of old id) number here (stands.live id) read,
-          stands_after events (Event.HandOut id number count) id (option_map (after_hand_out most) (attempt_of old id)) database old new refl refl kept
+          stands_after events (Event.Feed id number count) id (option_map (after_hand_out most) (attempt_of old id)) database old new refl refl kept
               (handed_out events id number most (attempt_of old id) kept.accepted (stands.live id)) changed stands.live,
         )
 
@@ -122,7 +122,7 @@ stands_handed events database old new id number most bytes stands live opened re
 close_causes : (events : List Event) (database : State) (attempts : ByInvocation) (id : Text) (number : ℕ) → Stands events database attempts
     → has_number number (attempt_of attempts id) ≡ true → HasRead events id (attempt_of attempts id) → (rest closed : Bool) → has_rest (attempt_of attempts id) ≡ rest
     → has_closed (attempt_of attempts id) ≡ closed
-    → causes_of events (Event.CloseInput id number) ≡ those_that_hold ((rest, InputRemains) ∷ (closed, InputAlreadyClosed) ∷ [])
+    → causes_of events (Event.Close id number) ≡ those_that_hold ((rest, InputRemains) ∷ (closed, InputAlreadyClosed) ∷ [])
 close_causes events database attempts id number stands live read rest closed left is =
     let here = this_one number (attempt_of attempts id) live in
     let told = (told_here events database attempts id number stands here).of_close in
@@ -130,7 +130,7 @@ close_causes events database attempts id number stands live read rest closed lef
     let agrees = subst (Agrees events id) here.is (stands.live id) in
     let more : not (is_empty (input_left events id)) ≡ rest =
     rest_seen here.attempt (left_told events id here.attempt stands.kept.accepted agrees) (read here.attempt here.is) here.attempt.input.rest refl ∙ (sym (ap has_rest here.is) ∙ left) in
-    subst (λ (n : ℕ). causes_of events (Event.CloseInput id n) ≡ those_that_hold ((rest, InputRemains) ∷ (closed, InputAlreadyClosed) ∷ [])) here.numbered
+    subst (λ (n : ℕ). causes_of events (Event.Close id n) ≡ those_that_hold ((rest, InputRemains) ∷ (closed, InputAlreadyClosed) ∷ [])) here.numbered
     (told ∙ ap₂ (λ (a b : Bool). those_that_hold ((a, InputRemains) ∷ (b, InputAlreadyClosed) ∷ [])) more same)
   where
     rest_seen : (attempt : LiveAttempt) → LeftIsTold events id attempt → (attempt.input.rest ≡ [] → input_left events id ≡ []) → (bytes : List ℕ) → attempt.input.rest ≡ bytes
@@ -141,24 +141,24 @@ close_causes events database attempts id number stands live read rest closed lef
 
 pub close_remains : (events : List Event) (database : State) (attempts : ByInvocation) (id : Text) (number : ℕ) → Stands events database attempts
     → has_number number (attempt_of attempts id) ≡ true → HasRead events id (attempt_of attempts id) → has_rest (attempt_of attempts id) ≡ true
-    → IsRefused (causes_of events (Event.CloseInput id number)) (refusal.Cause Cause.InputRemains)
+    → IsRefused (causes_of events (Event.Close id number)) (refusal.Cause Cause.InputRemains)
 close_remains events database attempts id number stands live read rest =
-    inl (ap first_of (close_causes events database attempts id number stands live read true (has_closed (attempt_of attempts id)) rest refl))
+    inl (ap refusal_of_first_cause (close_causes events database attempts id number stands live read true (has_closed (attempt_of attempts id)) rest refl))
 
 pub close_closed : (events : List Event) (database : State) (attempts : ByInvocation) (id : Text) (number : ℕ) → Stands events database attempts
     → has_number number (attempt_of attempts id) ≡ true → HasRead events id (attempt_of attempts id) → has_rest (attempt_of attempts id) ≡ false → has_closed (attempt_of attempts id) ≡ true
-    → IsRefused (causes_of events (Event.CloseInput id number)) (refusal.Cause Cause.InputAlreadyClosed)
+    → IsRefused (causes_of events (Event.Close id number)) (refusal.Cause Cause.InputAlreadyClosed)
 close_closed events database attempts id number stands live read rest closed =
-    inl (ap first_of (close_causes events database attempts id number stands live read false true rest closed))
+    inl (ap refusal_of_first_cause (close_causes events database attempts id number stands live read false true rest closed))
 
 pub stands_closed : (events : List Event) (database : State) (old new : ByInvocation) (id : Text) (number : ℕ) → Stands events database old
-    → has_number number (attempt_of old id) ≡ true → HasRead events id (attempt_of old id) → has_rest (attempt_of old id) ≡ false → has_closed (attempt_of old id) ≡ false → Changes id after_close old new
-    → (causes_of events (Event.CloseInput id number) ≡ []) × Unit {0} × Stands (Event.CloseInput id number ∷ events) database new
+    → has_number number (attempt_of old id) ≡ true → HasRead events id (attempt_of old id) → has_rest (attempt_of old id) ≡ false → has_closed (attempt_of old id) ≡ false → ChangesLive id after_close old new
+    → (causes_of events (Event.Close id number) ≡ []) × Unit {0} × Stands (Event.Close id number ∷ events) database new
 stands_closed events database old new id number stands live read rest opened changed =
     let none = close_causes events database old id number stands live read false false rest opened in
-    let kept = unwritten events (Event.CloseInput id number) database stands.kept tt none (none_written (object_of events (Event.CloseInput id number))) in (
+    let kept = unwritten events (Event.Close id number) database stands.kept tt none (none_written (object_of events (Event.Close id number))) in (
       none,
       tt,
-      stands_after events (Event.CloseInput id number) id (option_map after_close (attempt_of old id)) database old new refl refl kept
+      stands_after events (Event.Close id number) id (option_map after_close (attempt_of old id)) database old new refl refl kept
           (closed_kept events id number (attempt_of old id) kept.accepted (stands.live id)) changed stands.live,
     )

@@ -11,17 +11,17 @@ use Rattle.journal_model.specs.Notification.{Bytes, Text}
 use Rattle.journal_model.specs.Spelling.{acknowledgement_payload, frame_bytes}
 use Rattle.journal_model.specs.Event.{Event}
 use Rattle.journal_model.specs.Cause.{IsAccepted}
-use Rattle.store_tables.specs.Looks.{Looks}
+use Rattle.store_tables.specs.Looks.{OnlyAsks}
 use Rattle.store_tables.specs.declared.row.EntryRow.{EntryRow}
 use Rattle.store_invocations.specs.Rows.{IsStoreOf}
 use Rattle.store_refusals.specs.declared.refusal.Refusal.{Refusal}
-use Rattle.store_refusals.specs.Prepared.{Tells}
+use Rattle.store_refusals.specs.Prepared.{TellsOrRefuses}
 use Rattle.store_refusals.specs.Refused.{IsRefused}
 use Rattle.store_live.specs.declared.attempt.LiveAttempt.{LiveAttempt}
 use Rattle.store_live.specs.declared.input.FrameRead.{FrameRead}
 use Rattle.store_live.specs.declared.input.NextRow.{NextRow}
 use Rattle.store_live.specs.Input.{CanCount, is_first, next_ordinal, next_row}
-use Rattle.store_live.specs.Attempts.{Attempts, ByInvocation, attempt_of, Changes}
+use Rattle.store_live.specs.Attempts.{Attempts, ByInvocation, attempt_of, ChangesLive}
 use Rattle.store_live_laws.specs.Agrees.{Agrees, has_number}
 use Rattle.store_live_laws.proofs.Left.{left_told}
 use Rattle.store_live_laws.proofs.Steps.{is_read}
@@ -114,13 +114,13 @@ wanted_full events id o one is left =
 
 pub wanted_next : (events : List Event) (id : Text) (o : Option LiveAttempt) (one : LiveAttempt) (r : Result (Option FrameRead) Refusal) → o ≡ Some one → (length one.input.rest == 0) ≡ true
     → FitsNext o
-    → (next_ordinal one.input < 2 ^ 32 → Tells (λ (frame : Option FrameRead). frame ≡ option_map (frame_read one.input.unread (next_row one.input)) (row_asked events id (next_row one.input))) r)
-    → Tells (IsWanted events id o) r
+    → (next_ordinal one.input < 2 ^ 32 → TellsOrRefuses (λ (frame : Option FrameRead). frame ≡ option_map (frame_read one.input.unread (next_row one.input)) (row_asked events id (next_row one.input))) r)
+    → TellsOrRefuses (IsWanted events id o) r
 wanted_next events id o one r is out fits told =
-    subst (λ (live : Option LiveAttempt). Tells (IsWanted events id live) r) (sym is)
-    (subst (λ (b : Bool). Tells (IsWantedBy events id one b) r) (sym out) (told (subst FitsNext is fits)))
+    subst (λ (live : Option LiveAttempt). TellsOrRefuses (IsWanted events id live) r) (sym is)
+    (subst (λ (b : Bool). TellsOrRefuses (IsWantedBy events id one b) r) (sym out) (told (subst FitsNext is fits)))
 
-pub unwanted : (id : Text) (old : ByInvocation) → Changes id (after_wanted None) old old
+pub unwanted : (id : Text) (old : ByInvocation) → ChangesLive id (after_wanted None) old old
 unwanted id old = record { own = same (attempt_of old id); others = λ other apart. refl }
   where
     same : (o : Option LiveAttempt) → o ≡ option_map (after_wanted None) o
@@ -141,7 +141,7 @@ same_closed None (Some attempt) = refl
 same_closed (Some frame) (Some attempt) = refl
 
 stands_on : (events : List Event) (database : State) (old new : ByInvocation) (id : Text) (found : Option FrameRead) → Stands events database old → HasReadOn events id (attempt_of old id) found
-    → Changes id (after_wanted found) old new → Stands events database new
+    → ChangesLive id (after_wanted found) old new → Stands events database new
 stands_on events database old new id found stands has changes = record {
   kept = stands.kept;
   live = λ other. elim (true_or_false (bytes_eq id other)) [
@@ -150,10 +150,10 @@ stands_on events database old new id found stands has changes = record {
   ];
 }
 
-module _ {S : Type 0} (g : Ghosts S) (a b : Held S) (before : Attempts) (id : Text) (looks : Looks g a b) where
+module _ {S : Type 0} (g : Ghosts S) (a b : Held S) (before : Attempts) (id : Text) (looks : OnlyAsks g a b) where
   pub reads_on : (after : Attempts) (found : Option FrameRead)
       → (HasCleanDisk (state g b) → (events : List Event) → IsStoreOf events (state g a) → FitsNext (attempt_of before.attempts id) → IsWanted events id (attempt_of before.attempts id) found)
-      → (HasRoomFor found (attempt_of before.attempts id) → Changes id (after_wanted found) before.attempts after.attempts)
+      → (HasRoomFor found (attempt_of before.attempts id) → ChangesLive id (after_wanted found) before.attempts after.attempts)
       → KeepsOutputs before.attempts after.attempts → ReadsNext g id (Ok tt) (stored a before) (stored b after)
   reads_on after found told changed waits clean s is =
       let store = is.stands.kept in

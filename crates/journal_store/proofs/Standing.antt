@@ -5,7 +5,7 @@ use Rattle.sqlite_trees.specs.Tree.{Trees}
 use Rattle.sqlite.specs.Effect.{Database}
 use Rattle.sqlite.specs.State.{State, HasCleanDisk, Survives}
 use Rattle.sqlite.proofs.StateLemmas.{survives_then}
-use Rattle.sql_tables.specs.Asking.{IsKept as Asked}
+use Rattle.sql_tables.specs.QueryAnswers.{AreTablesKept}
 use Rattle.journal_model.specs.Notification.{Text}
 use Rattle.journal_model.specs.declared.invocation.NewInvocation.{NewInvocation}
 use Rattle.journal_model.specs.Event.{Event}
@@ -15,9 +15,8 @@ use Rattle.journal_model.specs.Cause.{causes_of, IsAccepted}
 use Rattle.store_frames.specs.Read.{AreRead, IsReadIn}
 use Rattle.store_tables.specs.Records.{Holds, Records, applied_all}
 use Rattle.store_tables.specs.declared.row.Write.{Write}
-use Rattle.store_tables.specs.Steps.{Turns}
+use Rattle.store_tables.specs.Steps.{TurnsRecords, Lands}
 use Rattle.store_tables.specs.Looks.{HasWritten}
-use Rattle.store_tables.specs.Steps.{Lands}
 use Rattle.store_model.specs.Kept.{IsKept}
 use Rattle.store_model.specs.Writes.{writes_of}
 use Rattle.store_model.proofs.Keeping.{kept_after}
@@ -25,12 +24,12 @@ use Rattle.store_refusals.specs.Prepared.{Keeps}
 use Rattle.store_invocations.specs.Rows.{IsStoreOf}
 use Rattle.store_invocations.proofs.Standing.{store_kept}
 use Rattle.store_live.specs.declared.attempt.LiveAttempt.{LiveAttempt}
-use Rattle.store_live.specs.Attempts.{ByInvocation, attempt_of, IsNow, Changes, after_reserve}
+use Rattle.store_live.specs.Attempts.{ByInvocation, attempt_of, IsNow, ChangesLive, after_reserve}
 use Rattle.store_live_laws.specs.Agrees.{Agrees, does_record}
 use Rattle.store_live_laws.proofs.Steps.{as_before, elsewhere, recorded}
 use Rattle.store_live_laws.proofs.Begun.{invoked}
 use Rattle.store_live.specs.Before.{IsAsBefore, AreAsBefore}
-use Rattle.store_calls.specs.Standing.{Standing}
+use Rattle.store_calls.specs.AbstractStore.{Standing}
 use Rattle.journal_store.specs.Stands.{Stands, KeepsAll, KeepsOf}
 
 pub true_or_false : (b : Bool) → (b ≡ true) ⊎ (b ≡ false)
@@ -40,7 +39,7 @@ true_or_false false = inr refl
 -- ---- records
 
 all_kept : (events : List Event) (event : Event) (s : State) (writes : List Write) (trees : Trees) → Keeps events s → AreRead (event ∷ events) → causes_of events event ≡ []
-    → writes ≡ writes_of events event → Turns (applied_all writes) s.now.trees trees → KeepsAll (event ∷ events) trees
+    → writes ≡ writes_of events event → TurnsRecords (applied_all writes) s.now.trees trees → KeepsAll (event ∷ events) trees
 all_kept events event s writes trees k read accepted are turns = record {
   read = read;
   records = applied_all writes k.records;
@@ -50,7 +49,7 @@ all_kept events event s writes trees k read accepted are turns = record {
 
 -- what was made ready of an event was written
 pub written : (events : List Event) (event : Event) (old new : State) (writes : List Write) → IsStoreOf events old → IsReadIn events event → HasCleanDisk old → causes_of events event ≡ []
-    → writes ≡ writes_of events event → IsTrue old.is_open → Turns (applied_all writes) old.now.trees new.now.trees → IsStoreOf (event ∷ events) new
+    → writes ≡ writes_of events event → IsTrue old.is_open → TurnsRecords (applied_all writes) old.now.trees new.now.trees → IsStoreOf (event ∷ events) new
 written events event old new writes store read clean accepted are is_open turns =
     let k = store.keeps clean is_open in
     let all = all_kept events event old writes new.now.trees k (read, store.read) accepted are turns in
@@ -62,7 +61,7 @@ written events event old new writes store read clean accepted are is_open turns 
 
 -- and so it is where a crash comes
 pub landed : (events : List Event) (event : Event) (old : State) (writes : List Write) (trees : Trees) → IsStoreOf events old → IsReadIn events event → HasCleanDisk old → causes_of events event ≡ []
-    → writes ≡ writes_of events event → IsTrue old.is_open → Turns (applied_all writes) old.now.trees trees → KeepsAll (event ∷ events) trees
+    → writes ≡ writes_of events event → IsTrue old.is_open → TurnsRecords (applied_all writes) old.now.trees trees → KeepsAll (event ∷ events) trees
 landed events event old writes trees store read clean accepted are is_open turns = all_kept events event old writes trees (store.keeps clean is_open) (read, store.read) accepted are turns
 
 -- an event that writes nothing, of writes that keep what is recorded
@@ -118,7 +117,7 @@ with_room_only : (o : Option LiveAttempt) → IsAsBefore o (option_map after_res
 with_room_only None = tt
 with_room_only (Some attempt) = refl
 
-pub room_only : (id : Text) (old new : ByInvocation) → Changes id after_reserve old new → AreAsBefore old new
+pub room_only : (id : Text) (old new : ByInvocation) → ChangesLive id after_reserve old new → AreAsBefore old new
 room_only id old new room other = elim (true_or_false (bytes_eq id other)) [
   | inl same ↦ subst (λ (o : Text). IsAsBefore (attempt_of old o) (attempt_of new o)) ((bytes_eq-Decides id other).0 same)
       (subst (IsAsBefore (attempt_of old id)) (sym room.own) (with_room_only (attempt_of old id)))
@@ -129,7 +128,7 @@ pub agrees_still : (events : List Event) (id : Text) (one other : Option LiveAtt
 agrees_still = as_before
 
 -- the tables keep the same records where nothing was changed
-pub store_still : (events : List Event) (old new : State) (P : Trees → Type 0) → Survives old new P → Asked old new → IsStoreOf events old → IsStoreOf events new
+pub store_still : (events : List Event) (old new : State) (P : Trees → Type 0) → Survives old new P → AreTablesKept old new → IsStoreOf events old → IsStoreOf events new
 store_still events old new P lives asked store = record {
   accepted = store.accepted;
   read = store.read;
@@ -150,7 +149,7 @@ all_stored events event mid new P writes lives clean store read accepted are (in
     written events event mid new writes store read early accepted are all.0 all.1
 
 -- a store stands as before
-pub stands_still : (events : List Event) (old new : State) (P : Trees → Type 0) (attempts left : ByInvocation) → Survives old new P → Asked old new → AreAsBefore attempts left
+pub stands_still : (events : List Event) (old new : State) (P : Trees → Type 0) (attempts left : ByInvocation) → Survives old new P → AreTablesKept old new → AreAsBefore attempts left
     → Stands events old attempts → Stands events new left
 stands_still events old new P attempts left lives asked same stands = record {
   kept = store_still events old new P lives asked stands.kept;
@@ -158,7 +157,7 @@ stands_still events old new P attempts left lives asked same stands = record {
 }
 
 -- the database was asked alone
-pub stands_asked : (events : List Event) (old new : State) (attempts : ByInvocation) → Survives old new (λ _. ⊥) → Asked old new → Stands events old attempts → Stands events new attempts
+pub stands_asked : (events : List Event) (old new : State) (attempts : ByInvocation) → Survives old new (λ _. ⊥) → AreTablesKept old new → Stands events old attempts → Stands events new attempts
 stands_asked events old new attempts lives asked stands = record { kept = store_still events old new (λ _. ⊥) lives asked stands.kept; live = stands.live }
 
 -- of a new invocation no attempt is live, before and after
@@ -178,7 +177,7 @@ stands_invoked events new database attempts accepted before kept live =
 -- what one transaction of an event leaves where a crash comes, if what it writes was made ready before
 pub commits_after : (R : Standing → Standing → Type 0) (old mid new : State) (event : Event) (writes : List Write) → ((events : List Event) → IsReadIn events event)
     → ((s : Standing) → causes_of s.events event ≡ [] → (t : Standing) × R s t) → ((s t : Standing) → R s t → t.events ≡ event ∷ s.events)
-    → Survives old mid (λ _. ⊥) → Asked old mid → Survives mid new (Lands writes mid)
+    → Survives old mid (λ _. ⊥) → AreTablesKept old mid → Survives mid new (Lands writes mid)
     → (HasCleanDisk mid → (events : List Event) → IsStoreOf events old → (causes_of events event ≡ []) × (writes ≡ writes_of events event))
     → Survives old new (KeepsOf (λ (s : Standing). IsStoreOf s.events old) R)
 commits_after R old mid new event writes read made adds before asked lives ready =

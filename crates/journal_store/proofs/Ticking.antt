@@ -10,22 +10,22 @@ use Rattle.journal_model.specs.Cause.{causes_of, IsAccepted}
 use Rattle.store_frames.specs.Read.{AreRead}
 use Rattle.store_tables.specs.Records.{Holds, Records, applied_all}
 use Rattle.store_tables.specs.declared.row.Write.{Write}
-use Rattle.store_tables.specs.Looks.{HasWritten, Lasts, Looks}
-use Rattle.store_tables.specs.Steps.{Lands, Turns}
+use Rattle.store_tables.specs.Looks.{HasWritten, Lasts, OnlyAsks}
+use Rattle.store_tables.specs.Steps.{Lands, TurnsRecords}
 use Rattle.store_model.specs.Kept.{IsKept}
 use Rattle.store_refusals.specs.declared.refusal.Refusal.{Refusal}
-use Rattle.store_refusals.specs.Prepared.{Keeps as KeepsNow}
+use Rattle.store_refusals.specs.Prepared.{Keeps}
 use Rattle.store_invocations.specs.Rows.{IsStoreOf}
 use Rattle.store_invocations.proofs.Standing.{store_kept}
 use Rattle.store_live.specs.Attempts.{Attempts}
 use Rattle.store_arrivals.specs.Made.{IsTickReady}
 use Rattle.store_arrivals.specs.declared.tick.PreparedTick.{PreparedTick}
 use Rattle.store_arrivals.proofs.Keeping.{ready_keeps}
-use Rattle.store_calls.specs.Standing.{Adds}
+use Rattle.store_calls.specs.AbstractStore.{Adds}
 use Rattle.store_calls.specs.Calls.{Ticks}
 use Rattle.journal_store.specs.Stored.{stored}
 use Rattle.journal_store.specs.Stands.{EnduresAlways, KeepsAll, KeepsOf, Leads, Settles, Stands}
-use Rattle.journal_store.specs.Writing.{Writes}
+use Rattle.journal_store.specs.StoreTransaction.{WritesRows}
 use Rattle.journal_store.proofs.Enduring.{tick_landed}
 use Rattle.journal_store.proofs.Lasting.{outlasts_now}
 use Rattle.journal_store.proofs.Leading.{adds, refuses}
@@ -44,8 +44,8 @@ tick_keeps events now made none ready r accepted kept =
     subst (λ (writes : List Write). IsKept (Event.Tick now ∷ events) (applied_all writes r)) (sym ready.writes)
     (ready_keeps events now ready.ids r accepted none ready.ending kept)
 
-kept_by : (events : List Event) (event : Event) (s : State) (writes : List Write) (trees : Trees) → KeepsNow events s → AreRead (event ∷ events) → KeepsBy events event writes
-    → Turns (applied_all writes) s.now.trees trees → KeepsAll (event ∷ events) trees
+kept_by : (events : List Event) (event : Event) (s : State) (writes : List Write) (trees : Trees) → Keeps events s → AreRead (event ∷ events) → KeepsBy events event writes
+    → TurnsRecords (applied_all writes) s.now.trees trees → KeepsAll (event ∷ events) trees
 kept_by events event s writes trees k read keeps turns = record {
   read = read;
   records = applied_all writes k.records;
@@ -54,7 +54,7 @@ kept_by events event s writes trees k read keeps turns = record {
 }
 
 module _ (events : List Event) (now : ℕ) (writes : List Write) (keeps : KeepsBy events (Event.Tick now) writes) (none : causes_of events (Event.Tick now) ≡ []) where
-  all_written : (mid new : State) → IsStoreOf events mid → HasCleanDisk mid → IsTrue mid.is_open → Turns (applied_all writes) mid.now.trees new.now.trees
+  all_written : (mid new : State) → IsStoreOf events mid → HasCleanDisk mid → IsTrue mid.is_open → TurnsRecords (applied_all writes) mid.now.trees new.now.trees
       → IsStoreOf (Event.Tick now ∷ events) new
   all_written mid new store clean is_open turns =
       let all = kept_by events (Event.Tick now) mid writes new.now.trees (store.keeps clean is_open) (tt, store.read) keeps turns in
@@ -77,10 +77,10 @@ module _ (events : List Event) (now : ℕ) (writes : List Write) (keeps : KeepsB
 abbrev pub IsReadyTick : State → State → ℕ → PreparedTick → Type 0
 IsReadyTick old mid now made = HasCleanDisk mid → (events : List Event) → IsStoreOf events old → (causes_of events (Event.Tick now) ≡ []) × IsTickReady events now made
 
-module _ {S : Type 0} (g : Ghosts S) (a mid b : Held S) (before after : Attempts) (now : ℕ) (made : PreparedTick) (looks : Looks g a mid)
+module _ {S : Type 0} (g : Ghosts S) (a mid b : Held S) (before after : Attempts) (now : ℕ) (made : PreparedTick) (looks : OnlyAsks g a mid)
     (ready : IsReadyTick (state g a) (state g mid) now made) where
   -- what was made ready was written, or nothing was
-  pub ticks : (result : Result ℕ Refusal) → Writes g made.writes.items mid b result → IfOk result (λ count. count ≡ made.count) → after ≡ before
+  pub ticks : (result : Result ℕ Refusal) → WritesRows g made.writes.items mid b result → IfOk result (λ count. count ≡ made.count) → after ≡ before
       → Leads g (Ticks now result) (stored a before) (stored b after)
   ticks (Ok count) wrote counted same clean s is =
       let early : HasCleanDisk (state g mid) = omega (arith, wrote.crash.clean, clean) in
@@ -112,7 +112,7 @@ module _ {S : Type 0} (g : Ghosts S) (a mid b : Held S) (before after : Attempts
       looks.crash lives
 
   -- what was answered lasts
-  pub tick_settled : (result : Result ℕ Refusal) → Writes g made.writes.items mid b result → (IsTrue (state g a).is_open → Lasts (state g a))
+  pub tick_settled : (result : Result ℕ Refusal) → WritesRows g made.writes.items mid b result → (IsTrue (state g a).is_open → Lasts (state g a))
       → (HasCleanDisk (state g mid) → IsTrue (state g a).is_open) → Leads g (Ticks now result) (stored a before) (stored b after)
       → OnOk result (Settles g (Ticks now result) (stored a before) (stored b after))
   tick_settled (Err why) wrote idle asked leads = tt

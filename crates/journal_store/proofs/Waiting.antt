@@ -3,7 +3,7 @@ use Rattle.std.proofs.Common.{◌≡◌, ℕ, refl, ap, subst, ◌∙◌, inl, i
 use Rattle.std.proofs.lemmas.Slice.Eq.{bytes_eq-Decides}
 use Rattle.journal_model.specs.Notification.{Bytes, Text}
 use Rattle.store_live.specs.declared.attempt.LiveAttempt.{LiveAttempt}
-use Rattle.store_live.specs.Attempts.{Attempts, ByInvocation, attempt_of, IsNow, Changes, ChangesInput, after_hand_out, after_input, after_close}
+use Rattle.store_live.specs.Attempts.{Attempts, ByInvocation, attempt_of, IsNow, ChangesLive, ChangesInput, after_hand_out, after_input, after_close}
 use Rattle.store_live.specs.Before.{IsAsBefore, AreAsBefore}
 use Rattle.journal_store.specs.Stands.{output_of, KeepsOutputs, WaitsNow}
 use Rattle.journal_store.proofs.Standing.{true_or_false}
@@ -21,7 +21,7 @@ same_output : (change : LiveAttempt → LiveAttempt) → ((one : LiveAttempt) �
 same_output change same None = refl
 same_output change same (Some one) = ap (λ (bytes : Bytes). Some bytes) (same one)
 
-changed_waits : (id : Text) (change : LiveAttempt → LiveAttempt) (old new : ByInvocation) → ((one : LiveAttempt) → (change one).output ≡ one.output) → Changes id change old new
+changed_waits : (id : Text) (change : LiveAttempt → LiveAttempt) (old new : ByInvocation) → ((one : LiveAttempt) → (change one).output ≡ one.output) → ChangesLive id change old new
     → KeepsOutputs old new
 changed_waits id change old new same changes other = elim (true_or_false (bytes_eq id other)) [
   | inl is ↦ subst (λ (o : Text). output_of new o ≡ output_of old o) ((bytes_eq-Decides id other).0 is)
@@ -29,10 +29,10 @@ changed_waits id change old new same changes other = elim (true_or_false (bytes_
   | inr apart ↦ ap (option_map output_in) (changes.others other apart)
 ]
 
-pub handed_waits : (id : Text) (most : ℕ) (old new : ByInvocation) → Changes id (after_hand_out most) old new → KeepsOutputs old new
+pub handed_waits : (id : Text) (most : ℕ) (old new : ByInvocation) → ChangesLive id (after_hand_out most) old new → KeepsOutputs old new
 handed_waits id most old new changes = changed_waits id (after_hand_out most) old new (λ one. refl) changes
 
-pub closed_waits : (id : Text) (old new : ByInvocation) → Changes id after_close old new → KeepsOutputs old new
+pub closed_waits : (id : Text) (old new : ByInvocation) → ChangesLive id after_close old new → KeepsOutputs old new
 closed_waits id old new changes = changed_waits id after_close old new (λ one. refl) changes
 
 -- room was made

@@ -11,17 +11,17 @@ use Rattle.protocol_types.specs.declared.version.Version.{Version}
 use Rattle.store_refusals.specs.declared.refusal.Refusal.{Refusal}
 use Rattle.store_refusals.specs.declared.refusal.Refusal.TheVariants as refusal
 use Rattle.store_refusals.specs.Refused.{is_circumstance}
-use Rattle.store_refusals.specs.Prepared.{Tells}
+use Rattle.store_refusals.specs.Prepared.{TellsOrRefuses}
 use Rattle.store_invocations.specs.declared.attempt.PreparedAttempt.{PreparedAttempt}
 use Rattle.store_live.specs.declared.attempt.LiveAttempt.{LiveAttempt}
 use Rattle.store_live.specs.declared.input.FrameRead.{FrameRead}
 use Rattle.store_live.specs.Input.{at_begin, next_ordinal, next_row}
-use Rattle.store_live.specs.Attempts.{CountsFrame, after_frame, attempt_of}
+use Rattle.store_live.specs.Attempts.{CountsFrame, live_after_frame, attempt_of}
 use Rattle.store_live_laws.specs.Memory.{frame_read, row_asked}
 use Rattle.store_live_laws.specs.Agrees.{cause_of_stale, has_number}
 use Rattle.store_calls.specs.declared.begun.BegunAttempt.{BegunAttempt}
-use Rattle.store_calls.specs.Standing.{Standing}
-use Rattle.store_calls.specs.Calls.{Begins}
+use Rattle.store_calls.specs.AbstractStore.{Standing}
+use Rattle.store_calls.specs.Calls.{BeginsStoredAttempt}
 use Rattle.journal_store.specs.Stored.{Stored}
 use Rattle.journal_store.specs.Stands.{IsStanding}
 
@@ -57,7 +57,7 @@ IsWanted events id (Some attempt) found = IsWantedBy events id attempt (length a
 -- it is taken in
 abbrev pub after_wanted : Option FrameRead → LiveAttempt → LiveAttempt
 after_wanted None attempt = attempt
-after_wanted (Some frame) attempt = after_frame frame attempt
+after_wanted (Some frame) attempt = live_after_frame frame attempt
 
 abbrev pub HasRoomFor : Option FrameRead → Option LiveAttempt → Type 0
 HasRoomFor None o = Unit {0}
@@ -75,7 +75,7 @@ pub record HasReadNext {S : Type 0} (g : Ghosts S) (id : Text) (s : Standing) (o
   pub read : HasRead s.events id (attempt_of new.live.attempts id)
 
 abbrev pub ReadsNext : {S : Type 0} → Ghosts S → Text → Result (Unit {0}) Refusal → Stored S → Stored S → Type 0
-ReadsNext g id result old new = HasCleanDisk (state g new.connection) → (s : Standing) → IsStanding g s old → Tells (λ _. HasReadNext g id s old new) result
+ReadsNext g id result old new = HasCleanDisk (state g new.connection) → (s : Standing) → IsStanding g s old → TellsOrRefuses (λ _. HasReadNext g id s old new) result
 
 -- ---- one frame at most
 
@@ -111,7 +111,7 @@ GivesOneFrame g id result old new =
 
 -- an attempt is begun, with some answer
 abbrev pub BeginsSome : Text → ℕ → Standing → Standing → Type 0
-BeginsSome id now old new = (begun : BegunAttempt) × Begins id now begun old new
+BeginsSome id now old new = (begun : BegunAttempt) × BeginsStoredAttempt id now begun old new
 
 -- the attempt as it is kept then: nothing of its input was read, and it wrote nothing
 abbrev pub fresh : (number : ℕ) → Version → (known arrivals : ℕ) → LiveAttempt

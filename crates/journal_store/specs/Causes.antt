@@ -20,7 +20,7 @@ use Rattle.store_refusals.specs.declared.refusal.Refusal.TheVariants.{StatementR
 use Rattle.store_refusals.specs.Causes.{TellsCause}
 use Rattle.store_arrivals.specs.Made.{ready_writes}
 use Rattle.store_steps.specs.declared.frame.FrameReply.{FrameReply}
-use Rattle.store_calls.specs.Standing.{Standing}
+use Rattle.store_calls.specs.AbstractStore.{Standing}
 use Rattle.store_calls.specs.Calls.{PutsBehind}
 use Rattle.store_calls.specs.Frames.{IsNext, TakesEach}
 use Rattle.journal_store.specs.Stored.{Stored}
@@ -38,7 +38,7 @@ TriesEvent one s at event = (at ≡ s) × (event ≡ one)
 
 -- the first frame that waits of an attempt is taken
 abbrev pub TakesNext : Text → (attempt : ℕ) → Standing → Event → Type 0
-TakesNext id attempt at event = (frame : Frame) × (rest : Bytes) × IsNext id at frame rest × (event ≡ Event.Take id attempt frame)
+TakesNext id attempt at event = (frame : Frame) × (rest : Bytes) × IsNext id at frame rest × (event ≡ Event.Move id attempt frame)
 
 abbrev pub TriesFrame : Text → (attempt : ℕ) → Tries
 TriesFrame id attempt s at event = (at ≡ s) × TakesNext id attempt at event

@@ -1,9 +1,9 @@
 pub mod Stored
 pub mod Stands
 pub mod Attempts
-pub mod Taking
-pub mod Writing
-pub mod Accepting
+pub mod FrameAcceptance
+pub mod StoreTransaction
+pub mod OutputAcceptance
 pub mod Causes
 pub mod Opened
 pub mod Words

@@ -2,7 +2,7 @@
 use Rattle.std.specs.Prelude.{◌≡◌, ◌≢◌, ◌⊎◌, true, false, [], IsTrue}
 use Rattle.sqlite_trees.specs.Tree.{Trees}
 use Rattle.sqlite.specs.State.{State, Survives}
-use Rattle.sql_tables.specs.Asking.{IsKept}
+use Rattle.sql_tables.specs.QueryAnswers.{AreTablesKept}
 use Rattle.sql_tables.specs.Columns.{no_schema}
 use Rattle.store_tables.specs.Records.{Records, Holds, IsMarked}
 use Rattle.store_tables.specs.Tables.{store_schema}
@@ -29,6 +29,6 @@ MakesTables s trees = (s.now.schema ≡ no_schema) × KeepsAll [] trees
 
 -- the connection as it comes back
 pub record ComesBack (old new : State) : Type 0 where
-  pub kept : IsKept old new
+  pub kept : AreTablesKept old new
   pub mode : new.in_transaction ≡ old.in_transaction
   pub survives : Survives old new (MakesTables old)

@@ -10,12 +10,12 @@ use Rattle.store_frames.specs.Read.{AreRead}
 use Rattle.store_tables.specs.Records.{Records, Holds}
 use Rattle.store_model.specs.Kept.{IsKept}
 use Rattle.store_refusals.specs.declared.refusal.Refusal.{Refusal}
-use Rattle.store_refusals.specs.Prepared.{Tells}
+use Rattle.store_refusals.specs.Prepared.{TellsOrRefuses}
 use Rattle.store_invocations.specs.Rows.{Decides, IsStoreOf, known_tests}
 use Rattle.store_live.specs.declared.attempt.LiveAttempt.{LiveAttempt}
 use Rattle.store_live.specs.Attempts.{ByInvocation, attempt_of}
 use Rattle.store_live_laws.specs.Agrees.{Agrees}
-use Rattle.store_calls.specs.Standing.{Standing}
+use Rattle.store_calls.specs.AbstractStore.{Standing}
 use Rattle.journal_store.specs.Stored.{Stored}
 
 -- The events were accepted; the tables hold what is kept of them, as long as the connection is open; the attempts in memory are
@@ -101,7 +101,7 @@ module _ {S : Type 0} (g : Ghosts S) where
   abbrev pub TellsAlways : {A : Type 0} → (List Event → A → Type 0) → Result A Refusal → Stored S → Stored S → Type 0
   TellsAlways IsTold result old new =
       HasCleanDisk (state g new.connection) → (events : List Event) → Stands events (state g old.connection) old.live.attempts
-      → Tells (IsTold events) result × Stands events (state g new.connection) new.live.attempts
+      → TellsOrRefuses (IsTold events) result × Stands events (state g new.connection) new.live.attempts
 
   -- Of whatever accepted events it stood for a store tells this where they know the invocation, and is refused where they do not; and
   -- it stands for them then.

@@ -1,7 +1,7 @@
 -- The words of the crates below that the contracts of this one share.
 pub use Rattle.sqlite.specs.Held.{state}
 pub use Rattle.sqlite.specs.State.{HasCleanDisk, Survives}
-pub use Rattle.sql_tables.specs.Asking.{IsKept}
+pub use Rattle.sql_tables.specs.QueryAnswers.{AreTablesKept}
 pub use Rattle.store_live.specs.Attempts.{attempt_of}
 pub use Rattle.store_live.specs.Before.{AreAsBefore}
 pub use Rattle.store_live_laws.specs.Agrees.{has_number}

@@ -3,10 +3,10 @@ ghost use Rattle.std.specs.Prelude.{◌≡◌, ◌+◌, [], true, IfErr, IfOk, O
 ghost use Rattle.journal_model.specs.Attempt.{is_live};
 ghost use Rattle.store_refusals.specs.declared.refusal.Refusal.TheVariants.{OutOfMemory};
 ghost use Rattle.store_calls.specs.Calls.{PutsBehind};
-ghost use Rattle.store_calls.specs.Frames.{Accepts, AcceptsFirst, TakesFirst, TakesFrames, TakesOne};
-ghost use Rattle.journal_store.specs.Accepting.{SettlesFrames, SettlesNext, TakesNext, told};
+ghost use Rattle.store_calls.specs.Frames.{Accepts, AcceptsFirst, TakesFirstFrames, TakesFrames, TakesOne};
+ghost use Rattle.journal_store.specs.OutputAcceptance.{SettlesFrames, SettlesNext, TakesNext, accepted_told};
 ghost use Rattle.journal_store.specs.Stands.{Endures, Leads};
-ghost use Rattle.journal_store.specs.Words.{state, IsKept, attempt_of, has_number};
+ghost use Rattle.journal_store.specs.Words.{state, AreTablesKept, attempt_of, has_number};
 ghost use Rattle.journal_store.specs.Causes.{TellsWhy, TellsWhyUnwritten, TriesFrame, TriesFrameBehind, TriesFrameOf};
 
 use crate::store::Store;
@@ -34,7 +34,7 @@ fn take_next<S: Alter + Drop>(
     ensures len { IfOk result (λ goes_on. goes_on ≡ true → vec_len replies.new ≡ vec_len replies.old + 1) }
     ensures does { Leads S.Store (TakesNext id.now attempt result replies.old.items replies.new.items) store.old store.new }
     ensures settled { SettlesNext S.Store id.now attempt result replies.old.items replies.new.items store.old store.new }
-    ensures kept { replies.new.items ≡ replies.old.items → IsKept (state S.Store store.old.connection) (state S.Store store.new.connection) }
+    ensures kept { replies.new.items ≡ replies.old.items → AreTablesKept (state S.Store store.old.connection) (state S.Store store.new.connection) }
     ensures cause { IfErr result (TellsWhyUnwritten S.Store store.old store.new (TriesFrame id.now attempt)) }
     ensures crash { Endures S.Store (TakesOne id.now attempt) store.old store.new }
 {
@@ -55,9 +55,9 @@ fn take_next<S: Alter + Drop>(
 fn take_all<S: Alter + Drop>(store: &mut Store<S>, id: &ByteStr, attempt: u32) -> Accepted
     ensures does { Leads S.Store (λ s t. is_live s.events id.now attempt ≡ true → TakesFrames id.now attempt result.replies.items result.refusal s t) store.old store.new }
     ensures settled { SettlesFrames S.Store (λ s m. m ≡ s) id.now attempt result.replies.items result.refusal store.old store.new }
-    ensures kept { result.replies.items ≡ [] → IsKept (state S.Store store.old.connection) (state S.Store store.new.connection) }
+    ensures kept { result.replies.items ≡ [] → AreTablesKept (state S.Store store.old.connection) (state S.Store store.new.connection) }
     ensures cause { IfSome result.refusal (TellsWhyUnwritten S.Store store.old store.new (TriesFrameBehind id.now attempt result.replies.items)) }
-    ensures crash { Endures S.Store (TakesFirst id.now attempt) store.old store.new }
+    ensures crash { Endures S.Store (TakesFirstFrames id.now attempt) store.old store.new }
 {
     let mut replies = Vec::new(store.alloc());
     loop {
@@ -83,11 +83,11 @@ impl<S: Alter + Drop> Store<S> {
     /// Takes in the next bytes that the attempt wrote, and the frames among them: up to one that ends it, or one that is refused, or
     /// until none waits whole. An `Err` is a refusal of the bytes. Where no frame is answered the tables are as they were.
     pub fn accept(&mut self, id: &ByteStr, attempt: u32, bytes: &[u8]) -> Result<Accepted, Refusal>
-        ensures does { Leads S.Store (Accepts id.now attempt bytes.now (told result)) self.old self.new }
+        ensures does { Leads S.Store (Accepts id.now attempt bytes.now (accepted_told result)) self.old self.new }
         ensures live { has_number attempt (attempt_of self.old.live.attempts id.now) ≡ true → IfErr result (λ why. why ≡ OutOfMemory) }
         ensures settled { IfOk result (λ accepted. SettlesFrames S.Store (PutsBehind id.now attempt bytes.now) id.now attempt accepted.replies.items accepted.refusal self.old self.new) }
-        ensures kept { OnErr result (IsKept (state S.Store self.old.connection) (state S.Store self.new.connection)) }
-        ensures kept_unanswered { IfOk result (λ accepted. accepted.replies.items ≡ [] → IsKept (state S.Store self.old.connection) (state S.Store self.new.connection)) }
+        ensures kept { OnErr result (AreTablesKept (state S.Store self.old.connection) (state S.Store self.new.connection)) }
+        ensures kept_unanswered { IfOk result (λ accepted. accepted.replies.items ≡ [] → AreTablesKept (state S.Store self.old.connection) (state S.Store self.new.connection)) }
         ensures cause { IfErr result (TellsWhy S.Store self.old self.new) }
         ensures cause_of_frame { IfOk result (λ accepted. IfSome accepted.refusal (TellsWhyUnwritten S.Store self.old self.new (TriesFrameOf id.now attempt bytes.now accepted.replies.items))) }
         ensures crash { Endures S.Store (AcceptsFirst id.now attempt bytes.now) self.old self.new }

@@ -1,16 +1,16 @@
 // What is done to a live attempt. The database is asked for the next frame of its input, and to tell why an attempt is not live.
 ghost use Rattle.std.specs.Prelude.{◌≡◌, ◌≤◌, true, length, List, [], Ok, None, IfErr, IfOk, OnErr};
 ghost use Rattle.journal_model.specs.Event.{Event};
-ghost use Rattle.store_tables.specs.Looks.{Looks};
+ghost use Rattle.store_tables.specs.Looks.{OnlyAsks};
 ghost use Rattle.store_invocations.specs.Rows.{IsStoreOf};
 ghost use Rattle.store_refusals.specs.declared.refusal.Refusal.TheVariants.{OutOfMemory};
 ghost use Rattle.store_calls.specs.Calls.{ClosesInput, Pushes, HandsOut, Stops};
-ghost use Rattle.store_refusals.specs.Prepared.{Tells};
-ghost use Rattle.store_live.specs.Attempts.{Changes};
+ghost use Rattle.store_refusals.specs.Prepared.{TellsOrRefuses};
+ghost use Rattle.store_live.specs.Attempts.{ChangesLive};
 ghost use Rattle.journal_store.specs.Attempts.{FitsNext, GivesOneFrame, HasRoomFor, IsStale, IsWanted, ReadsNext, after_wanted, has_closed, has_rest};
 ghost use Rattle.journal_store.specs.Stands.{IsQuiet, KeepsOutputs, Leads, WaitsAfter};
 ghost use Rattle.journal_store.specs.Stored.{stored};
-ghost use Rattle.journal_store.specs.Words.{state, HasCleanDisk, IsKept, attempt_of, has_number};
+ghost use Rattle.journal_store.specs.Words.{state, HasCleanDisk, AreTablesKept, attempt_of, has_number};
 ghost use Rattle.store_refusals.specs.Causes.{TellsCause};
 ghost use Rattle.journal_store.specs.Causes.{TellsWhy};
 
@@ -60,8 +60,8 @@ fn frame_wanted<S: Alter>(
     id: &ByteStr,
 ) -> Result<Option<FrameRead>, Refusal>
     ensures told { HasCleanDisk (state S.Store tables.new) → (events : List Event) → IsStoreOf events (state S.Store tables.old) → FitsNext (attempt_of live.now.attempts id.now)
-        → Tells (IsWanted events id.now (attempt_of live.now.attempts id.now)) result }
-    ensures looks { Looks S.Store tables.old tables.new }
+        → TellsOrRefuses (IsWanted events id.now (attempt_of live.now.attempts id.now)) result }
+    ensures looks { OnlyAsks S.Store tables.old tables.new }
     ensures cause { IfErr result (TellsCause (state S.Store tables.old) (state S.Store tables.new)) }
 {
     let Some(one) = live.get(id) else {
@@ -76,7 +76,7 @@ fn frame_wanted<S: Alter>(
 
 /// Takes in the frame that was read.
 fn put_wanted(live: &mut LiveAttempts, id: &ByteStr, found: Option<FrameRead>)
-    ensures told { HasRoomFor found (attempt_of live.old.attempts id.now) → Changes id.now (after_wanted found) live.old.attempts live.new.attempts }
+    ensures told { HasRoomFor found (attempt_of live.old.attempts id.now) → ChangesLive id.now (after_wanted found) live.old.attempts live.new.attempts }
     ensures waits { KeepsOutputs live.old.attempts live.new.attempts }
 {
     if let Some(frame) = found {
@@ -93,7 +93,7 @@ fn read_next<S: Alter>(
     ensures reads { ReadsNext S.Store id.now result (stored tables.old live.old) (stored tables.new live.new) }
     ensures stays { OnErr result (live.new ≡ live.old) }
     ensures waits { KeepsOutputs live.old.attempts live.new.attempts }
-    ensures looks { Looks S.Store tables.old tables.new }
+    ensures looks { OnlyAsks S.Store tables.old tables.new }
     ensures cause { IfErr result (TellsCause (state S.Store tables.old) (state S.Store tables.new)) }
 {
     let found = frame_wanted(tables, live, id)?;
@@ -104,7 +104,7 @@ fn read_next<S: Alter>(
 /// Why a call is refused on an attempt that is not live.
 pub(crate) fn stale_refusal<S: Alter>(tables: &mut StoreTables<S>, id: &ByteStr) -> Refusal
     ensures told { HasCleanDisk (state S.Store tables.new) → (events : List Event) → IsStoreOf events (state S.Store tables.old) → IsStale events id.now result }
-    ensures looks { Looks S.Store tables.old tables.new }
+    ensures looks { OnlyAsks S.Store tables.old tables.new }
     ensures cause { TellsCause (state S.Store tables.old) (state S.Store tables.new) result }
 {
     match open_row(tables, id) {
@@ -124,7 +124,7 @@ impl<S: Alter + Drop> Store<S> {
         ensures few { IfOk result (λ bytes. length bytes ≤ most) }
         ensures frame { GivesOneFrame S.Store id.now result self.old self.new }
         ensures waits { KeepsOutputs self.old.live.attempts self.new.live.attempts }
-        ensures kept { IsKept (state S.Store self.old.connection) (state S.Store self.new.connection) }
+        ensures kept { AreTablesKept (state S.Store self.old.connection) (state S.Store self.new.connection) }
         ensures cause { IfErr result (TellsWhy S.Store self.old self.new) }
         ensures crash { IsQuiet S.Store self.old self.new }
     {
@@ -144,7 +144,7 @@ impl<S: Alter + Drop> Store<S> {
         ensures does { Leads S.Store (ClosesInput id.now attempt result) self.old self.new }
         ensures frame { GivesOneFrame S.Store id.now (Ok []) self.old self.new }
         ensures waits { KeepsOutputs self.old.live.attempts self.new.live.attempts }
-        ensures kept { IsKept (state S.Store self.old.connection) (state S.Store self.new.connection) }
+        ensures kept { AreTablesKept (state S.Store self.old.connection) (state S.Store self.new.connection) }
         ensures cause { IfErr result (TellsWhy S.Store self.old self.new) }
         ensures crash { IsQuiet S.Store self.old self.new }
     {
@@ -168,7 +168,7 @@ impl<S: Alter + Drop> Store<S> {
         ensures does { Leads S.Store (Pushes id.now attempt bytes.now result) self.old self.new }
         ensures live { has_number attempt (attempt_of self.old.live.attempts id.now) ≡ true → IfErr result (λ why. why ≡ OutOfMemory) }
         ensures asks { has_number attempt (attempt_of self.old.live.attempts id.now) ≡ true → self.new.connection ≡ self.old.connection }
-        ensures kept { IsKept (state S.Store self.old.connection) (state S.Store self.new.connection) }
+        ensures kept { AreTablesKept (state S.Store self.old.connection) (state S.Store self.new.connection) }
         ensures cause { IfErr result (TellsWhy S.Store self.old self.new) }
         ensures crash { IsQuiet S.Store self.old self.new }
     {

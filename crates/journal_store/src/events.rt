@@ -2,12 +2,12 @@
 ghost use Rattle.std.specs.Prelude.{◌≡◌, Some, [], ◌<◌, IfOk, OnErr, OnOk, IfErr};
 ghost use Rattle.journal_model.specs.Event.{Event};
 ghost use Rattle.store_live.specs.Attempts.{IsNow};
-ghost use Rattle.store_calls.specs.Standing.{Adds};
-ghost use Rattle.store_calls.specs.Calls.{BeginsAttempt, Completes, Invokes};
+ghost use Rattle.store_calls.specs.AbstractStore.{Adds};
+ghost use Rattle.store_calls.specs.Calls.{BeginsAttempt, CompletesCall, Invokes};
 ghost use Rattle.journal_store.specs.Attempts.{BeginsSome, IsToldAs, fresh};
 ghost use Rattle.journal_store.specs.Stands.{EnduresAlways, KeepsOutputs, Leads, Settles, WaitsAfter};
-ghost use Rattle.journal_store.specs.Words.{state, IsKept};
-ghost use Rattle.journal_store.specs.Writing.{Writes};
+ghost use Rattle.journal_store.specs.Words.{state, AreTablesKept};
+ghost use Rattle.journal_store.specs.StoreTransaction.{WritesRows};
 ghost use Rattle.journal_store.specs.Causes.{TellsWhyUnwritten, TriesEvent};
 
 use crate::store::Store;
@@ -25,7 +25,7 @@ use store_tables::{StoreTables, Write, commit_all};
 
 /// Writes in one transaction what is to be written, if there is anything.
 pub(crate) fn commit<S: Alter>(tables: &mut StoreTables<S>, writes: &[Write]) -> Result<(), Refusal>
-    ensures { Writes S.Store writes.now tables.old tables.new result }
+    ensures { WritesRows S.Store writes.now tables.old tables.new result }
 {
     // It does nothing: its contract says over what tables a write is refused.
     let _settled = tables.is_settled();
@@ -37,7 +37,7 @@ pub(crate) fn commit<S: Alter>(tables: &mut StoreTables<S>, writes: &[Write]) ->
 
 /// Writes what was made ready of an event.
 fn commit_ready<S: Alter>(tables: &mut StoreTables<S>, writes: Vec<Write>) -> Result<(), Refusal>
-    ensures { Writes S.Store writes.items tables.old tables.new result }
+    ensures { WritesRows S.Store writes.items tables.old tables.new result }
 {
     let done = commit(tables, writes.as_slice());
     drop(writes);
@@ -78,7 +78,7 @@ impl<S: Alter + Drop> Store<S> {
     /// before a byte of it is handed out.
     pub(crate) fn record_arrival(&mut self, made: PreparedArrival) -> Result<u32, Refusal>
         ensures place { IfOk result (λ place. place ≡ made.place) }
-        ensures made { Writes S.Store made.writes.items self.old.connection self.new.connection result }
+        ensures made { WritesRows S.Store made.writes.items self.old.connection self.new.connection result }
         ensures live { self.new.live ≡ self.old.live }
     {
         let PreparedArrival { writes, place } = made;
@@ -91,7 +91,7 @@ impl<S: Alter + Drop> Store<S> {
     /// Makes room for the attempt that is begun; then writes what was made ready of the begin, and takes the attempt in.
     fn record_begin(&mut self, id: &ByteStr, made: PreparedAttempt) -> Result<BegunAttempt, Refusal>
         ensures told { IfOk result (IsToldAs made) }
-        ensures made { Writes S.Store made.writes.items self.old.connection self.new.connection result }
+        ensures made { WritesRows S.Store made.writes.items self.old.connection self.new.connection result }
         ensures put { OnOk result (IsNow id.now (Some (fresh made.number made.version made.known made.arrivals)) self.old.live.attempts self.new.live.attempts) }
         ensures waits { WaitsAfter id.now (Some []) result self.old.live.attempts self.new.live.attempts }
         ensures stays { OnErr result (self.new.live.attempts ≡ self.old.live.attempts) }
@@ -134,7 +134,7 @@ impl<S: Alter + Drop> Store<S> {
         ensures does { Leads S.Store (Invokes new result) self.old self.new }
         ensures live { self.new.live ≡ self.old.live }
         ensures settled { OnOk result (Settles S.Store (Invokes new result) self.old self.new) }
-        ensures kept { OnErr result (IsKept (state S.Store self.old.connection) (state S.Store self.new.connection)) }
+        ensures kept { OnErr result (AreTablesKept (state S.Store self.old.connection) (state S.Store self.new.connection)) }
         ensures cause { IfErr result (TellsWhyUnwritten S.Store self.old self.new (TriesEvent (Event.Invoke new))) }
         ensures crash { EnduresAlways S.Store (Adds (Event.Invoke new)) self.old self.new }
     {
@@ -153,12 +153,12 @@ impl<S: Alter + Drop> Store<S> {
         completion: u32,
         brought: NotificationResult,
     ) -> Result<u32, Refusal>
-        ensures does { Leads S.Store (Completes id.now completion brought result) self.old self.new }
+        ensures does { Leads S.Store (CompletesCall id.now completion brought result) self.old self.new }
         ensures waits { KeepsOutputs self.old.live.attempts self.new.live.attempts }
-        ensures settled { OnOk result (Settles S.Store (Completes id.now completion brought result) self.old self.new) }
-        ensures kept { OnErr result (IsKept (state S.Store self.old.connection) (state S.Store self.new.connection)) }
-        ensures cause { IfErr result (TellsWhyUnwritten S.Store self.old self.new (TriesEvent (Event.Complete id.now completion brought))) }
-        ensures crash { EnduresAlways S.Store (Adds (Event.Complete id.now completion brought)) self.old self.new }
+        ensures settled { OnOk result (Settles S.Store (CompletesCall id.now completion brought result) self.old self.new) }
+        ensures kept { OnErr result (AreTablesKept (state S.Store self.old.connection) (state S.Store self.new.connection)) }
+        ensures cause { IfErr result (TellsWhyUnwritten S.Store self.old self.new (TriesEvent (Event.Result id.now completion brought))) }
+        ensures crash { EnduresAlways S.Store (Adds (Event.Result id.now completion brought)) self.old self.new }
     {
         match prepare_result(&mut self.tables, id, completion, brought) {
             Ok(made) => self.record_arrival(made),
@@ -171,7 +171,7 @@ impl<S: Alter + Drop> Store<S> {
         ensures does { Leads S.Store (BeginsAttempt id.now now result) self.old self.new }
         ensures waits { WaitsAfter id.now (Some []) result self.old.live.attempts self.new.live.attempts }
         ensures settled { OnOk result (Settles S.Store (BeginsAttempt id.now now result) self.old self.new) }
-        ensures kept { OnErr result (IsKept (state S.Store self.old.connection) (state S.Store self.new.connection)) }
+        ensures kept { OnErr result (AreTablesKept (state S.Store self.old.connection) (state S.Store self.new.connection)) }
         ensures cause { IfErr result (TellsWhyUnwritten S.Store self.old self.new (TriesEvent (Event.Begin id.now now))) }
         ensures crash { EnduresAlways S.Store (BeginsSome id.now now) self.old self.new }
     {

@@ -9,7 +9,7 @@ ghost use Rattle.store_refusals.specs.declared.refusal.Refusal.TheVariants.{Fore
 ghost use Rattle.store_invocations.specs.Rows.{IsStoreOf};
 ghost use Rattle.journal_store.specs.Opened.{CanBeTaken, ComesBack, IsNotTaken, MakesTables};
 ghost use Rattle.journal_store.specs.Stands.{Stands};
-ghost use Rattle.journal_store.specs.Words.{state, HasCleanDisk, Survives, IsKept};
+ghost use Rattle.journal_store.specs.Words.{state, HasCleanDisk, Survives, AreTablesKept};
 ghost use Rattle.store_refusals.specs.Causes.{TellsCause};
 
 use crate::store::Store;
@@ -31,7 +31,7 @@ pub struct NotOpened<S: Alter> {
 /// Gives an empty database the tables of a store, and takes a store's.
 fn take_tables<S: Alter>(alloc: Global, conn: &mut Connection<S>) -> Result<(), Refusal>
     ensures fresh { HasCleanDisk (state S.Store conn.new) → OnOk result ((state S.Store conn.old).now.schema ≡ no_schema → Holds (state S.Store conn.new).now.trees no_records) }
-    ensures kept { HasCleanDisk (state S.Store conn.new) → OnOk result ((state S.Store conn.old).now.schema ≢ no_schema → IsKept (state S.Store conn.old) (state S.Store conn.new)) }
+    ensures kept { HasCleanDisk (state S.Store conn.new) → OnOk result ((state S.Store conn.old).now.schema ≢ no_schema → AreTablesKept (state S.Store conn.old) (state S.Store conn.new)) }
     ensures taken { HasCleanDisk (state S.Store conn.new) → OnOk result (CanBeTaken (state S.Store conn.old)) }
     ensures store { OnOk result (IsStore (state S.Store conn.new)) }
     ensures idle { OnOk result ((state S.Store conn.new).in_transaction ≡ false) }

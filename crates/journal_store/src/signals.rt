@@ -1,10 +1,10 @@
 // What comes from outside without a request: signals, and the cancellation.
 ghost use Rattle.std.specs.Prelude.{OnErr, OnOk, IfErr};
 ghost use Rattle.journal_model.specs.Event.{Event};
-ghost use Rattle.store_calls.specs.Standing.{Adds};
+ghost use Rattle.store_calls.specs.AbstractStore.{Adds};
 ghost use Rattle.store_calls.specs.Calls.{Cancels, Signals};
 ghost use Rattle.journal_store.specs.Stands.{EnduresAlways, KeepsOutputs, Leads, Settles};
-ghost use Rattle.journal_store.specs.Words.{state, IsKept};
+ghost use Rattle.journal_store.specs.Words.{state, AreTablesKept};
 ghost use Rattle.journal_store.specs.Causes.{TellsWhyUnwritten, TriesEvent};
 
 use crate::store::Store;
@@ -25,7 +25,7 @@ impl<S: Alter + Drop> Store<S> {
         ensures does { Leads S.Store (Signals id.now key brought result) self.old self.new }
         ensures waits { KeepsOutputs self.old.live.attempts self.new.live.attempts }
         ensures settled { OnOk result (Settles S.Store (Signals id.now key brought result) self.old self.new) }
-        ensures kept { OnErr result (IsKept (state S.Store self.old.connection) (state S.Store self.new.connection)) }
+        ensures kept { OnErr result (AreTablesKept (state S.Store self.old.connection) (state S.Store self.new.connection)) }
         ensures cause { IfErr result (TellsWhyUnwritten S.Store self.old self.new (TriesEvent (Event.Signal id.now key brought))) }
         ensures crash { EnduresAlways S.Store (Adds (Event.Signal id.now key brought)) self.old self.new }
     {
@@ -41,7 +41,7 @@ impl<S: Alter + Drop> Store<S> {
         ensures does { Leads S.Store (Cancels id.now result) self.old self.new }
         ensures waits { KeepsOutputs self.old.live.attempts self.new.live.attempts }
         ensures settled { OnOk result (Settles S.Store (Cancels id.now result) self.old self.new) }
-        ensures kept { OnErr result (IsKept (state S.Store self.old.connection) (state S.Store self.new.connection)) }
+        ensures kept { OnErr result (AreTablesKept (state S.Store self.old.connection) (state S.Store self.new.connection)) }
         ensures cause { IfErr result (TellsWhyUnwritten S.Store self.old self.new (TriesEvent (Event.Cancel id.now))) }
         ensures crash { EnduresAlways S.Store (Adds (Event.Cancel id.now)) self.old self.new }
     {

@@ -2,12 +2,12 @@
 ghost use Rattle.std.specs.Prelude.{◌≡◌, ◌≤◌, true, length, option_map, Some, IfOk, OnErr, OnOk, IfErr};
 ghost use Rattle.std.specs.Option.{ForSome};
 ghost use Rattle.store_steps.specs.Taken.{does_end, lies_in_frame};
-ghost use Rattle.store_live.specs.Attempts.{Changes, IsNow};
+ghost use Rattle.store_live.specs.Attempts.{ChangesLive, IsNow};
 ghost use Rattle.store_calls.specs.Frames.{Steps, TakesOne};
 ghost use Rattle.journal_store.specs.Stands.{Endures, Leads};
-ghost use Rattle.journal_store.specs.Taking.{HasMessage, HasMessageOf, HasRoomToNote, IsEndedBy, IsFirstOf, IsFirstSeen, IsSeenOf, SettlesStep, after_noted, after_room, passed};
-ghost use Rattle.journal_store.specs.Words.{state, IsKept, AreAsBefore, attempt_of, has_number};
-ghost use Rattle.journal_store.specs.Writing.{Writes};
+ghost use Rattle.journal_store.specs.FrameAcceptance.{HasMessage, HasMessageOf, HasRoomToNote, IsEndedBy, IsFirstOf, IsFirstSeen, IsSeenOf, SettlesStep, after_noted, after_room, passed};
+ghost use Rattle.journal_store.specs.Words.{state, AreTablesKept, AreAsBefore, attempt_of, has_number};
+ghost use Rattle.journal_store.specs.StoreTransaction.{WritesRows};
 ghost use Rattle.journal_store.specs.Causes.{TellsWhyUnwritten, TriesFrame};
 
 use crate::attempt::{is_live, stale_refusal};
@@ -93,7 +93,7 @@ fn room_for_outcome(
     id: &ByteStr,
     acknowledged: Option<u32>,
 ) -> Result<(), AllocError>
-    ensures ok { OnOk result (Changes id.now (after_room acknowledged) live.old.attempts live.new.attempts) }
+    ensures ok { OnOk result (ChangesLive id.now (after_room acknowledged) live.old.attempts live.new.attempts) }
     ensures err { OnErr result (live.new ≡ live.old) }
 {
     match acknowledged {
@@ -105,7 +105,7 @@ fn room_for_outcome(
 /// The outcome of a run is to be acknowledged, if there is one. Room was made for it.
 fn note_acknowledged(live: &mut LiveAttempts, id: &ByteStr, acknowledged: Option<u32>)
     requires { ForSome (attempt_of live.old.attempts id.now) (HasRoomToNote acknowledged) }
-    ensures { Changes id.now (after_noted acknowledged) live.old.attempts live.new.attempts }
+    ensures { ChangesLive id.now (after_noted acknowledged) live.old.attempts live.new.attempts }
 {
     if let Some(completion) = acknowledged {
         live.note_outcome(id, completion);
@@ -148,7 +148,7 @@ impl<S: Alter + Drop> Store<S> {
     ) -> Result<Option<FrameReply>, Refusal>
         requires len { ForSome (attempt_of self.old.live.attempts id.now) (λ attempt. len ≤ length attempt.output) }
         ensures reply { IfOk result (λ reply. reply ≡ Some made.reply) }
-        ensures made { Writes S.Store made.writes.items self.old.connection self.new.connection result }
+        ensures made { WritesRows S.Store made.writes.items self.old.connection self.new.connection result }
         ensures left { OnOk result (IsNow id.now (option_map (after_noted made.acknowledged) (passed (does_end made.reply) len (attempt_of self.old.live.attempts id.now))) self.old.live.attempts self.new.live.attempts) }
         ensures stays { OnErr result (AreAsBefore self.old.live.attempts self.new.live.attempts) }
     {
@@ -184,7 +184,7 @@ impl<S: Alter + Drop> Store<S> {
         requires seen { IsSeenOf (attempt_of self.old.live.attempts id.now) seen }
         ensures does { Leads S.Store (Steps id.now attempt result) self.old self.new }
         ensures settled { SettlesStep S.Store id.now attempt result self.old self.new }
-        ensures kept { OnErr result (IsKept (state S.Store self.old.connection) (state S.Store self.new.connection)) }
+        ensures kept { OnErr result (AreTablesKept (state S.Store self.old.connection) (state S.Store self.new.connection)) }
         ensures cause { IfErr result (TellsWhyUnwritten S.Store self.old self.new (TriesFrame id.now attempt)) }
         ensures crash { Endures S.Store (TakesOne id.now attempt) self.old self.new }
     {
@@ -205,7 +205,7 @@ impl<S: Alter + Drop> Store<S> {
     pub fn step(&mut self, id: &ByteStr, attempt: u32) -> Result<Option<FrameReply>, Refusal>
         ensures does { Leads S.Store (Steps id.now attempt result) self.old self.new }
         ensures settled { SettlesStep S.Store id.now attempt result self.old self.new }
-        ensures kept { OnErr result (IsKept (state S.Store self.old.connection) (state S.Store self.new.connection)) }
+        ensures kept { OnErr result (AreTablesKept (state S.Store self.old.connection) (state S.Store self.new.connection)) }
         ensures cause { IfErr result (TellsWhyUnwritten S.Store self.old self.new (TriesFrame id.now attempt)) }
         ensures crash { Endures S.Store (TakesOne id.now attempt) self.old self.new }
     {

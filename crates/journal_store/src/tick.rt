@@ -1,11 +1,11 @@
 // A tick is recorded: the ends of all sleeps that are due, of all open invocations, in one transaction.
 ghost use Rattle.std.specs.Prelude.{◌≡◌, IfOk, OnErr, OnOk, IfErr};
 ghost use Rattle.journal_model.specs.Event.{Event};
-ghost use Rattle.store_calls.specs.Standing.{Adds};
+ghost use Rattle.store_calls.specs.AbstractStore.{Adds};
 ghost use Rattle.store_calls.specs.Calls.{Ticks};
 ghost use Rattle.journal_store.specs.Stands.{EnduresAlways, KeepsOutputs, Leads, Settles};
-ghost use Rattle.journal_store.specs.Words.{state, IsKept};
-ghost use Rattle.journal_store.specs.Writing.{Writes};
+ghost use Rattle.journal_store.specs.Words.{state, AreTablesKept};
+ghost use Rattle.journal_store.specs.StoreTransaction.{WritesRows};
 ghost use Rattle.journal_store.specs.Causes.{TellsWhyUnwritten, TriesEvent};
 
 use crate::events::commit;
@@ -18,7 +18,7 @@ impl<S: Alter + Drop> Store<S> {
     /// Writes what was made ready, if anything. Live attempts read the ends from their rows.
     fn record_tick(&mut self, made: PreparedTick) -> Result<u64, Refusal>
         ensures count { IfOk result (λ count. count ≡ made.count) }
-        ensures made { Writes S.Store made.writes.items self.old.connection self.new.connection result }
+        ensures made { WritesRows S.Store made.writes.items self.old.connection self.new.connection result }
         ensures live { self.new.live ≡ self.old.live }
     {
         let PreparedTick { writes, count } = made;
@@ -36,7 +36,7 @@ impl<S: Alter + Drop> Store<S> {
         ensures does { Leads S.Store (Ticks now result) self.old self.new }
         ensures waits { KeepsOutputs self.old.live.attempts self.new.live.attempts }
         ensures settled { OnOk result (Settles S.Store (Ticks now result) self.old self.new) }
-        ensures kept { OnErr result (IsKept (state S.Store self.old.connection) (state S.Store self.new.connection)) }
+        ensures kept { OnErr result (AreTablesKept (state S.Store self.old.connection) (state S.Store self.new.connection)) }
         ensures cause { IfErr result (TellsWhyUnwritten S.Store self.old self.new (TriesEvent (Event.Tick now))) }
         ensures crash { EnduresAlways S.Store (Adds (Event.Tick now)) self.old self.new }
     {

@@ -21,7 +21,7 @@ use Rattle.input_laws.specs.Message.{InputMessage, CarriesInput, CarriesRequest,
 use Rattle.input_laws.proofs.Events.{added_by, entries_now, itself}
 use Rattle.input_laws.proofs.Telling.{entries_arrivals, entries_requests}
 use Rattle.run_laws.specs.Held.{Holds}
-use Rattle.live_laws.specs.Sending.{PassesOn}
+use Rattle.live_laws.specs.RequestsInFlight.{PassesOn}
 use Rattle.live_laws.specs.Begun.{begun_last, begun_earlier, journal_after, BegunWith, proposals_in, IsProposed, IsLater, HasInput}
 
 -- ---- the start
@@ -109,7 +109,7 @@ proposals_behind P frame frames all = all
 module _ (id : Text) (proposed : List (ℕ × NonEmptyValue)) where
   passes_proposals : (event : Event) (coming coming' : List Frame) → begins_attempt id event ≡ false → PassesOn id event coming coming'
       → AllByRecursion (IsProposed proposed) (proposals_in coming) → AllByRecursion (IsProposed proposed) (proposals_in coming')
-  passes_proposals (Event.Take other attempt frame) coming coming' going passes all = by_id (bytes_eq other id) refl
+  passes_proposals (Event.Move other attempt frame) coming coming' going passes all = by_id (bytes_eq other id) refl
     where
       by_id : (b : Bool) → bytes_eq other id ≡ b → AllByRecursion (IsProposed proposed) (proposals_in coming')
       by_id true e = proposals_behind (IsProposed proposed) frame coming' (subst (λ (some : List Frame). AllByRecursion (IsProposed proposed) (proposals_in some)) (passes.0 e) all)
@@ -121,7 +121,7 @@ module _ (id : Text) (proposed : List (ℕ × NonEmptyValue)) where
   brought_one : (event : Event) (entries : List Entry) (coming coming' : List Frame) → PassesOn id event coming coming' → AllByRecursion (IsProposed proposed) (proposals_in coming)
       → (message : InputMessage) → IsBroughtBy entries id event message → IsLater entries proposed message
   brought_one event entries coming coming' passes all (CarriesArrival type arrival) b = (entries, [], sym (append-nil entries), b)
-  brought_one (Event.Take other attempt (Frame.RunOutcome taken outcome true)) entries coming coming' passes all (CarriesOutcome number value) b =
+  brought_one (Event.Move other attempt (Frame.RunOutcome taken outcome true)) entries coming coming' passes all (CarriesOutcome number value) b =
       let (e, f, g) = b in
       let first : AllByRecursion (IsProposed proposed) ((taken, outcome) ∷ proposals_in coming') =
       subst (λ (some : List Frame). AllByRecursion (IsProposed proposed) (proposals_in some)) (passes.0 e) all in

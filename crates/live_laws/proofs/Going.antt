@@ -12,8 +12,8 @@ use Rattle.journal_model.specs.Journal.{Entry, entries_of}
 use Rattle.input_laws.specs.Message.{InputMessage, CarriesInput, CarriesRequest, CarriesArrival, CarriesOutcome, requests_carried}
 use Rattle.input_laws.proofs.News.{requests_carried-append}
 use Rattle.live_laws.specs.Begun.{IsLater}
-use Rattle.live_laws.specs.Living.{LiveAttempt, HasReadJournal, IsLiveMachine}
-use Rattle.live_laws.proofs.Reading.{none_behind}
+use Rattle.live_laws.specs.AttemptWithMachine.{LiveAttempt, HasReadJournal, IsLiveMachine}
+use Rattle.live_laws.proofs.MachinePosition.{none_behind}
 
 -- ---- the journal is read
 

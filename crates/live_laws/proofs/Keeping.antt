@@ -7,8 +7,8 @@ use Rattle.journal_model.specs.Journal.{recorded_requests}
 use Rattle.journal_model.specs.Attempt.{is_input_closed}
 use Rattle.journal_model.specs.Cause.{causes_of}
 use Rattle.journal_model.specs.Headline.{arrivals_handed}
-use Rattle.live_laws.specs.Sending.{FollowsSo, PassesOn, ScheduleOfRun, starts, accepts, writes}
-use Rattle.live_laws.proofs.Sending.{sends-append, none_flies, flies_step, takes_step}
+use Rattle.live_laws.specs.RequestsInFlight.{FollowsSo, PassesOn, ScheduleOfRun, starts, accepts, writes}
+use Rattle.live_laws.proofs.RequestsInFlight.{sends-append, none_flies, flies_step, takes_step}
 use Rattle.run_laws.proofs.Holding.{holds_step}
 
 module _ (next : Handler) (given : Invocation) (id : Text) where

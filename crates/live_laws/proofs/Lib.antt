@@ -1,4 +1,4 @@
-pub mod Sending
+pub mod RequestsInFlight
 pub mod TurnWrites
 pub mod LiveTurns
 pub mod LiveInput
@@ -6,11 +6,11 @@ pub mod Begun
 pub mod Keeping
 pub mod Schedules
 pub mod TurnRows
-pub mod Reading
+pub mod MachinePosition
 pub mod MachineTurn
-pub mod Beginning
+pub mod StartFrame
 mod PositionRows
-pub mod Asking
+pub mod AskedArrivals
 pub mod Recording
 pub mod Texts
 pub mod LiveMachines

@@ -8,7 +8,7 @@ use Rattle.journal_model.specs.Event.{Event, Frame}
 use Rattle.journal_model.specs.Journal.{Entry, requests_in, begins, invocation_begun, starting_state, arrivals_in, entries_of, recorded_requests, recorded_arrivals}
 use Rattle.journal_model.specs.Attempt.{Piece, begins_attempt, bytes_asked, journal_pieces, input_pieces, input_bytes, input_left}
 use Rattle.journal_model.specs.Cause.{IsAccepted}
-use Rattle.live_laws.specs.Sending.{PassesOn}
+use Rattle.live_laws.specs.RequestsInFlight.{PassesOn}
 use Rattle.input_laws.specs.Message.{InputMessage, CarriesInput, piece_of, arrivals_carried, requests_carried, message_of, IsBroughtBy}
 use Rattle.live_laws.specs.Live.{IsLive}
 use Rattle.std.specs.List.{AllByRecursion}
@@ -18,7 +18,7 @@ use Rattle.input_laws.proofs.Events.{entries_now, itself, arrivals_now, requests
 use Rattle.live_laws.specs.TurnLaws.{MessagesComeWhenAsked, AttemptsBeginLive, EventsKeepLive, HandingOutKeepsLive}
 use Rattle.input_laws.proofs.News.{news, requests_carried-append}
 use Rattle.input_laws.proofs.Handed.{brought, pieces_now, quiet_pieces, begin_added}
-use Rattle.input_laws.proofs.Reading.{reads_on, reads_more, reads_first}
+use Rattle.input_laws.proofs.ArrivalsRead.{reads_on, reads_more, reads_first}
 use Rattle.input_laws.proofs.Telling.{pieces-append, arrivals_carried-append, entries_pieces, entries_arrivals, entries_requests, messages_read}
 use Rattle.live_laws.proofs.LiveTurns.{asked_same}
 
@@ -63,9 +63,9 @@ module _ (next : Handler) (given : Invocation) (id : Text) (events : List Event)
   -- one that hands it the next bytes
   pub live_more : (attempt most : ℕ) (coming : List Frame) (held : Bytes) (read unread : List InputMessage) (calls : ℕ) (left written : List Request) → IsAccepted events → bytes_eq id id ≡ true
       → IsLive next given id events coming held read unread calls left written
-      → IsLive next given id (Event.HandOut id attempt most ∷ events) coming (held ++ take most (input_left events id)) read unread calls left written
+      → IsLive next given id (Event.Feed id attempt most ∷ events) coming (held ++ take most (input_left events id)) read unread calls left written
   live_more attempt most coming held read unread calls left written accepted itself live =
-      let event = Event.HandOut id attempt most in
+      let event = Event.Feed id attempt most in
       let nothing : brought events event id refl refl ≡ [] = quiet_pieces (starting_state events id) events id event (entries_of events id) refl (both (bytes_eq id id || false)) in
       let reads = reads_more events id held (map piece_of read) (map piece_of unread) (messages_read events id held read unread live.input) event accepted refl refl most
       (ap (λ (b : Bool). if b then Some most else None) itself) nothing in record {

@@ -14,18 +14,18 @@ use Rattle.journal_model.specs.Headline.{run_of, shown_state}
 use Rattle.input_laws.specs.Message.{InputMessage, piece_of, requests_carried, IsBroughtBy}
 use Rattle.input_laws.proofs.Events.{itself, start_same, entries_now}
 use Rattle.input_laws.proofs.News.{news, requests_carried-append}
-use Rattle.live_laws.specs.Sending.{PassesOn}
+use Rattle.live_laws.specs.RequestsInFlight.{PassesOn}
 use Rattle.live_laws.specs.Begun.{HasInput}
 use Rattle.live_laws.specs.Live.{IsLive}
 use Rattle.live_laws.proofs.Begun.{begun_with, begun_on, journal_begins, input_first, input_on}
 use Rattle.live_laws.proofs.LiveInput.{live_first, live_on, live_more}
 use Rattle.live_laws.proofs.LiveTurns.{reads_messages}
-use Rattle.live_laws.specs.Reading.{IsMachineAt}
+use Rattle.live_laws.specs.MachinePosition.{IsMachineAt}
 use Rattle.live_laws.specs.MachineTurn.{HasPosition}
-use Rattle.live_laws.specs.Beginning.{AttemptStart, IsBegunAs, start_after}
-use Rattle.live_laws.specs.Living.{LiveAttempt, HoldsStart, start_unread, start_read, IsLiveMachine, handed_bytes, after_reading}
+use Rattle.live_laws.specs.StartFrame.{AttemptStart, IsBegunAs, start_after}
+use Rattle.live_laws.specs.AttemptWithMachine.{LiveAttempt, HoldsStart, start_unread, start_read, IsLiveMachine, handed_bytes, after_reading}
 use Rattle.live_laws.specs.MachineLaws.{MachinesBegin, MachinesStayLive}
-use Rattle.live_laws.proofs.Reading.{messages-written, machine_position}
+use Rattle.live_laws.proofs.MachinePosition.{messages-written, machine_position}
 
 -- ---- the begin
 
@@ -110,13 +110,13 @@ module _ (next : Handler) (options : RunOptions) (fallback_seed : ℕ) (id : Tex
         },
       )
 
-  machine_handed : (attempt most : ℕ) → IsAccepted events → IsLiveMachine next options fallback_seed id (Event.HandOut id attempt most ∷ events) (handed_bytes live (take most (input_left events id)))
+  machine_handed : (attempt most : ℕ) → IsAccepted events → IsLiveMachine next options fallback_seed id (Event.Feed id attempt most ∷ events) (handed_bytes live (take most (input_left events id)))
   machine_handed attempt most accepted =
       let now = live_more next live.start.given id events attempt most live.coming live.held live.read live.unread live.calls position.left live.machine.written accepted (itself id) is_live in record {
-        begun = begun_as next options fallback_seed id (Event.HandOut id attempt most) events live.start refl refl l.begun;
+        begun = begun_as next options fallback_seed id (Event.Feed id attempt most) events live.start refl refl l.begun;
         messages =
-            subst (λ (all : List InputMessage). HasInput (Event.HandOut id attempt most ∷ events) id live.coming live.proposed live.start.new live.start.journal all) (append-nil (live.read ++ live.unread))
-            (input_on events id (Event.HandOut id attempt most) live.coming live.coming live.proposed live.start.new live.start.journal (live.read ++ live.unread) [] refl refl refl tt l.messages);
+            subst (λ (all : List InputMessage). HasInput (Event.Feed id attempt most ∷ events) id live.coming live.proposed live.start.new live.start.journal all) (append-nil (live.read ++ live.unread))
+            (input_on events id (Event.Feed id attempt most) live.coming live.coming live.proposed live.start.new live.start.journal (live.read ++ live.unread) [] refl refl refl tt l.messages);
         holds = holds_more live (take most (input_left events id)) l.holds;
         reads = now.input;
         machine = l.machine;

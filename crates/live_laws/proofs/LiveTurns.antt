@@ -8,19 +8,19 @@ use Rattle.journal_model.specs.Event.{Suspension, Event, Frame}
 use Rattle.journal_model.specs.Journal.{begins, requests_in, recorded_requests}
 use Rattle.journal_model.specs.Attempt.{Piece, begins_attempt, input_left, input_bytes, is_input_closed, arrivals_within}
 use Rattle.journal_model.specs.Headline.{arrivals_handed}
-use Rattle.live_laws.specs.Sending.{request_sent, requests_sent, SendsOfRun, FollowsSo, PassesOn}
+use Rattle.live_laws.specs.RequestsInFlight.{request_sent, requests_sent, SendsOfRun, FollowsSo, PassesOn}
 use Rattle.run_laws.specs.Suspended.{WaitsAll}
 use Rattle.live_laws.specs.TurnWrites.{WritesOfRun, nothing, answers, notes, fails, suspends, ends}
 use Rattle.input_laws.specs.Message.{InputMessage, piece_of, arrivals_carried, requests_carried, IsInput, HasReadMessages}
 use Rattle.live_laws.specs.Live.{IsPosition, IsLive, TurnsOfRun}
 use Rattle.live_laws.specs.TurnLaws.{TurnsKeep, PositionsAreAtCalls}
 use Rattle.input_laws.proofs.News.{requests_carried-append}
-use Rattle.input_laws.specs.Reading.{HasReadPieces, arrivals_read}
+use Rattle.input_laws.specs.ArrivalsRead.{HasReadPieces, arrivals_read}
 use Rattle.input_laws.proofs.Events.{added_by, requests_now, no_request, all_requests, nothing_added}
 use Rattle.input_laws.proofs.Handed.{bytes_more}
 use Rattle.input_laws.proofs.Telling.{pieces-append, messages_read, arrivals_of_read}
-use Rattle.input_laws.proofs.Reading.{read_first, read_all}
-use Rattle.live_laws.proofs.Sending.{sends-more, sends-closes, sends-append}
+use Rattle.input_laws.proofs.ArrivalsRead.{read_first, read_all}
+use Rattle.live_laws.proofs.RequestsInFlight.{sends-more, sends-closes, sends-append}
 use Rattle.live_laws.proofs.TurnWrites.{writes_send}
 
 module _ (next : Handler) (given : Invocation) (id : Text) (events : List Event) where
@@ -33,20 +33,20 @@ module _ (next : Handler) (given : Invocation) (id : Text) (events : List Event)
   -- what was recorded and what is on its way stay the same together
   pub asked_same : (event : Event) (coming left : List Frame) → begins id event ≡ false → begins_attempt id event ≡ false → PassesOn id event coming left
       → recorded_requests (event ∷ events) id ++ requests_sent left ≡ recorded_requests events id ++ requests_sent coming
-  asked_same (Event.Take other attempt frame) coming left old going passes = by_id (bytes_eq other id) refl
+  asked_same (Event.Move other attempt frame) coming left old going passes = by_id (bytes_eq other id) refl
     where
       event : Event
-      event = Event.Take other attempt frame
+      event = Event.Move other attempt frame
 
       by_id : (b : Bool) → bytes_eq other id ≡ b
-          → recorded_requests (Event.Take other attempt frame ∷ events) id ++ requests_sent left ≡ recorded_requests events id ++ requests_sent coming
+          → recorded_requests (Event.Move other attempt frame ∷ events) id ++ requests_sent left ≡ recorded_requests events id ++ requests_sent coming
       by_id true e =
           ap (λ (requests : List Request). requests ++ requests_sent left)
-          (requests_now (Event.Take other attempt frame) events id old
-          ∙ ap (λ (more : List Request). recorded_requests events id ++ more) (all_requests events id (Event.Take other attempt frame) e))
+          (requests_now (Event.Move other attempt frame) events id old
+          ∙ ap (λ (more : List Request). recorded_requests events id ++ more) (all_requests events id (Event.Move other attempt frame) e))
           ∙ append_assoc (recorded_requests events id) (request_sent frame) (requests_sent left)
           ∙ ap (λ (some : List Frame). recorded_requests events id ++ requests_sent some) (sym (passes.0 e))
-      by_id false e = same_asked (Event.Take other attempt frame) coming left old (ap requests_in (nothing_added events id (Event.Take other attempt frame) e refl)) (passes.1 e)
+      by_id false e = same_asked (Event.Move other attempt frame) coming left old (ap requests_in (nothing_added events id (Event.Move other attempt frame) e refl)) (passes.1 e)
   asked_same (Event.Begin other now) coming left old going passes =
       same_asked (Event.Begin other now) coming left old (no_request events id (Event.Begin other now) refl) (passes.1 going)
   asked_same event coming left old going passes = same_asked event coming left old (no_request events id event refl) passes

@@ -2,7 +2,7 @@
 use Rattle.std.proofs.Common.{◌≡◌, refl, [], ◌∷◌, codes, length}
 use Rattle.run_laws.proofs.RunRows.{new, given, sleep}
 use Rattle.input_laws.specs.Message.{CarriesInput, CarriesRequest}
-use Rattle.live_laws.specs.Living.{LiveAttempt, attempt_begun, HoldsStart, start_unread, start_read, HasReadJournal, handed_bytes, after_reading}
+use Rattle.live_laws.specs.AttemptWithMachine.{LiveAttempt, attempt_begun, HoldsStart, start_unread, start_read, HasReadJournal, handed_bytes, after_reading}
 
 -- a start frame of one byte, and an input of one more
 abbrev first : LiveAttempt

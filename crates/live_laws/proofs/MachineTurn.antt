@@ -15,24 +15,24 @@ use Rattle.journal_model.specs.Await.{awaited_tree}
 use Rattle.journal_model.specs.Run.{Handler, Invocation, Progress, run, run_requests, IsBeginning, BeginsRun}
 use Rattle.journal_model.specs.Event.{Suspension, Frame}
 use Rattle.journal_model.specs.Attempt.{arrivals_within}
-use Rattle.run_laws.specs.Suspended.{Tells, WaitsAll}
+use Rattle.run_laws.specs.Suspended.{TellsAwaitedTree, WaitsAll}
 use Rattle.run_laws.proofs.Awaits.{awaits_tell, children_tell}
 use Rattle.input_laws.specs.Message.{InputMessage, piece_of, arrivals_carried, requests_carried}
 use Rattle.input_laws.proofs.News.{requests_carried-append}
-use Rattle.live_laws.specs.Sending.{requests_sent}
+use Rattle.live_laws.specs.RequestsInFlight.{requests_sent}
 use Rattle.live_laws.specs.TurnWrites.{IsNote, WritesOfRun, answers, notes, fails, suspends, ends}
 use Rattle.live_laws.specs.Live.{TurnsOfRun}
 use Rattle.attempt_model.specs.Machine.{StopsMidway, Machine, Reply, Answered, AwaitsTree, AwaitsChild, Finished, FailedBy, Work, ToAwait, ToEnd, ToTake, ToLook, ToMake, work_of, reply_to_make, reply_where_taken, reply_to_take, is_cancelled, reply_where_unknown, reply_where_asleep, reply_to_end, reply_where_cancelled, reply_to_children, reply_where_awake, reply_to_await, reply_to_work, reply_unless_refused}
 use Rattle.attempt_model.specs.Children.{cancel_requests_for, ChildrenOutcome, AllKnown, FirstUnknown, OneIsNoId, children_outcome}
 use Rattle.attempt_model.specs.Requests.{Commands, PutState, put_all, requests_by}
 use Rattle.attempt_model.specs.Results.{slot_of, waiting_for, are_keys_text, Resolution, Awake, Asleep, resolution_of}
-use Rattle.attempt_model.specs.Standing.{Stands, AreOfKind, Fits, next_call, RepliesAsRun, AreReflexive}
+use Rattle.attempt_model.specs.Simulation.{Stands, AreOfKind, Fits, next_call, RepliesAsRun, AreReflexive}
 use Rattle.attempt_laws.proofs.Simulating.{simulates, stops_with_run}
-use Rattle.live_laws.specs.Reading.{IsInRun}
+use Rattle.live_laws.specs.MachinePosition.{IsInRun}
 use Rattle.live_laws.specs.Replies.{SendsWaiting, SendsReply, goes_on, StandsBehind}
 use Rattle.live_laws.specs.MachineTurn.{turn_reply, MakesTurns}
 use Rattle.live_laws.specs.PositionLaws.{MachinesTurn}
-use Rattle.live_laws.proofs.Reading.{none_behind}
+use Rattle.live_laws.proofs.MachinePosition.{none_behind}
 
 -- ---- a reply that is no answer writes nothing
 
@@ -114,7 +114,7 @@ module _ (next : Handler) (given : Invocation) (is_closed : Bool) (read unread :
   asked = requests_carried read ++ m.written
 
   waiting_writes : (b : Bool) (tree : AwaitTree (Option NotificationId)) (sent : List Frame)
-      → ((suspension : Suspension) → Tells given.version tree (Some suspension) → WaitsAll next given (arrivals_carried read) (requests_carried read ++ m.written) (Some suspension))
+      → ((suspension : Suspension) → TellsAwaitedTree given.version tree (Some suspension) → WaitsAll next given (arrivals_carried read) (requests_carried read ++ m.written) (Some suspension))
       → SendsWaiting given.version b tree sent → WritesOfRun next given (arrivals_carried read) b (requests_carried read ++ m.written) sent
   waiting_writes false tree sent waits (inl e) = subst (λ (frames : List Frame). WritesOfRun next given (arrivals_carried read) false (requests_carried read ++ m.written) frames) (sym e) (notes [] tt)
   waiting_writes false tree sent waits (inr e) =

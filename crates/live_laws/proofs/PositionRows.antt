@@ -7,7 +7,7 @@ use Rattle.built_in_handlers.specs.Handlers
 use Rattle.run_laws.proofs.RunRows.{new, given, sleep}
 use Rattle.input_laws.specs.Message.{CarriesInput, CarriesRequest}
 use Rattle.attempt_model.specs.Machine.{Machine, machine_at_start, reply_to}
-use Rattle.live_laws.specs.Reading.{with_messages}
+use Rattle.live_laws.specs.MachinePosition.{with_messages}
 use Rattle.live_laws.specs.Replies.{SendsReply}
 
 abbrev any_header : Call → Request → Request → Bool

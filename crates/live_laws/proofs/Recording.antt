@@ -25,9 +25,9 @@ use Rattle.input_laws.proofs.AskedOnce.{kind_count, found_kind, kind_slept}
 use Rattle.attempt_model.specs.Attempts.{gives_id}
 use Rattle.attempt_laws.proofs.Tables.{results-append}
 use Rattle.attempt_laws.proofs.Coming.{gives, any-append, given-asked, all-both}
-use Rattle.live_laws.specs.Asking.{GiveIds}
+use Rattle.live_laws.specs.AskedArrivals.{GiveIds}
 use Rattle.live_laws.specs.MachineLaws.{RecordsGiveIds}
-use Rattle.live_laws.proofs.Asking.{given_completes, gives_no_sleep, none_come}
+use Rattle.live_laws.proofs.AskedArrivals.{given_completes, gives_no_sleep, none_come}
 
 -- nothing but invocation ids for this number is among the arrivals of these entries
 abbrev FitEntries : ℕ → List Entry → Type 0
@@ -127,14 +127,14 @@ module _ (events : List Event) (id : Text) where
       ap (gives n) (sym (requests_now event events id old ∙ ap (λ (more : List Request). recorded_requests events id ++ more) none ∙ append-nil (recorded_requests events id))) ∙ e
 
   adds_fit : (event : Event) → causes_of events event ≡ [] → begins id event ≡ false → adds_to events id event ≡ true → Adds event
-  adds_fit (Event.Complete other k result) causes old adds n once now e =
-      let tests = own_tests events (Event.Complete other k result) in
-      let passes = own_passes events (Event.Complete other k result) other causes in
+  adds_fit (Event.Result other k result) causes old adds n once now e =
+      let tests = own_tests events (Event.Result other k result) in
+      let passes = own_passes events (Event.Result other k result) other causes in
       let same_id : other ≡ id = (bytes_eq-Decides other id).0 (or-nothing (bytes_eq other id) false refl adds) in
       one_fits n k result (λ same. completed_fits (entries_of events id) k result (once.asked k)
       (subst (λ (x : Text). is_some (open_request (entries_of events x) k) ≡ true) same_id (not-false (is_some (open_request (entries_of events other) k)) (holds-head tests passes)))
       (subst (λ (x : Text). refuses_kind (open_request (entries_of events x) k) k result ≡ false) same_id (holds-head (tail_of tests) (holds-tail tests passes)))
-      (subst (λ (m : ℕ). gives m (recorded_requests events id) ≡ true) (sym same) (gives_before (Event.Complete other k result) old (no_request events id (Event.Complete other k result) refl) n e)))
+      (subst (λ (m : ℕ). gives m (recorded_requests events id) ≡ true) (sym same) (gives_before (Event.Result other k result) old (no_request events id (Event.Result other k result) refl) n e)))
   adds_fit (Event.Signal other (SignalKey.ByIndex k) result) causes old adds n once now e = refl
   adds_fit (Event.Signal other (SignalKey.ByName name) result) causes old adds n once now e = refl
   adds_fit (Event.Cancel other) causes old adds n once now e = refl
@@ -146,28 +146,28 @@ module _ (events : List Event) (id : Text) where
       let b = kind_slept n (gives_id n) (given-asked n) (gives_no_sleep n) (recorded_requests events id) (gives_before (Event.Tick moment) old (no_request events id (Event.Tick moment) refl) n e) in
       let c = once.asked n in
       omega (arith, a, b, c)))
-  adds_fit (Event.Take other attempt (Frame.Command request)) causes old adds n once now e =
+  adds_fit (Event.Move other attempt (Frame.Command request)) causes old adds n once now e =
       let state = state_after (recorded_requests events id) (starting_state events id) in
       fits_none n (Recorded request ∷ map Arrived (read_answer state request))
       (ap (λ (arrivals : List Arrival). results_for arrivals (CompletionId n)) (arrivals_arrived (read_answer state request))
       ∙ read_fits state n (recorded_requests events id) request
       (subst (λ (requests : List Request). count_of n (numbers_asked requests) ≤ 1) recorded (now.asked n)) (ap (gives n) (sym recorded) ∙ e))
     where
-      recorded : recorded_requests (Event.Take other attempt (Frame.Command request) ∷ events) id ≡ recorded_requests events id ++ request ∷ []
+      recorded : recorded_requests (Event.Move other attempt (Frame.Command request) ∷ events) id ≡ recorded_requests events id ++ request ∷ []
       recorded =
-          requests_now (Event.Take other attempt (Frame.Command request)) events id old
+          requests_now (Event.Move other attempt (Frame.Command request)) events id old
           ∙ ap (λ (more : List Request). recorded_requests events id ++ more)
-          (one_request events id (Event.Take other attempt (Frame.Command request)) request (or-nothing (bytes_eq other id) false refl adds) refl)
-  adds_fit (Event.Take other attempt (Frame.RunOutcome k value told)) causes old adds n once now e =
-      let event = Event.Take other attempt (Frame.RunOutcome k value told) in
-      let tests = own_tests events (Event.Take other attempt (Frame.RunOutcome k value told)) in
-      let passes = own_passes events (Event.Take other attempt (Frame.RunOutcome k value told)) other causes in
+          (one_request events id (Event.Move other attempt (Frame.Command request)) request (or-nothing (bytes_eq other id) false refl adds) refl)
+  adds_fit (Event.Move other attempt (Frame.RunOutcome k value told)) causes old adds n once now e =
+      let event = Event.Move other attempt (Frame.RunOutcome k value told) in
+      let tests = own_tests events (Event.Move other attempt (Frame.RunOutcome k value told)) in
+      let passes = own_passes events (Event.Move other attempt (Frame.RunOutcome k value told)) other causes in
       let same_id : other ≡ id = (bytes_eq-Decides other id).0 (or-nothing (bytes_eq other id) false refl adds) in
       one_fits n k (result_of_value value) (λ same. absurd (run_apart (entries_of events id) k (once.asked k)
       (subst (λ (x : Text). is_run (open_request (entries_of events x) k) ≡ true) same_id
       (not-false (is_run (open_request (entries_of events other) k)) (holds-head (tail_of tests) (holds-tail tests passes))))
       (subst (λ (m : ℕ). gives m (recorded_requests events id) ≡ true) (sym same) (gives_before event old (no_request events id event refl) n e))))
-  adds_fit (Event.Take other attempt frame) causes old adds n once now e = refl
+  adds_fit (Event.Move other attempt frame) causes old adds n once now e = refl
   adds_fit event causes old adds n once now e = refl
 
   -- what is added fits, so all of it does

@@ -9,10 +9,10 @@ use Rattle.journal_model.specs.Cause.{IsAccepted}
 use Rattle.journal_model.specs.Run.{Handler, Invocation}
 use Rattle.journal_model.specs.Headline.{run_of, FollowsRun, Headline}
 use Rattle.journal_laws.proofs.ObjectState.{find-passes}
-use Rattle.live_laws.specs.Sending.{FollowsSo}
+use Rattle.live_laws.specs.RequestsInFlight.{FollowsSo}
 use Rattle.input_laws.proofs.Events.{not_begun}
 use Rattle.input_laws.proofs.LiveAttempts.{unborn_live, live_now}
-use Rattle.live_laws.proofs.Sending.{none_flies}
+use Rattle.live_laws.proofs.RequestsInFlight.{none_flies}
 use Rattle.live_laws.proofs.Keeping.{all_events}
 use Rattle.run_laws.proofs.Beginning.{unborn_of_run}
 use Rattle.live_laws.specs.TurnLaws.{LeavesOfRun, SchedulesLeave}

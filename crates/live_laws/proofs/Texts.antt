@@ -7,11 +7,11 @@ use Rattle.journal_model.specs.declared.notification.NotificationResult.TheVaria
 use Rattle.journal_model.specs.declared.value.NonEmptyValue.{NonEmptyValue}
 use Rattle.journal_model.specs.Notification.{Bytes, Text}
 use Rattle.journal_model.specs.Value.{result_of_value}
-use Rattle.journal_model.specs.State.{StateMap, value_at, state_keys, state_change, state_after}
+use Rattle.journal_model.specs.State.{StateMap, value_of_key, state_keys, state_change, state_after}
 use Rattle.journal_model.specs.Request.{Request}
 use Rattle.journal_model.specs.Delivery.{value_or_void}
 use Rattle.journal_model.specs.Event.{Event, Frame}
-use Rattle.journal_model.specs.Journal.{Entry, completion, begins, adds_to, starting_state, requests_in, arrivals_in, open_request, sleeps_in, sorted_by_moment, is_over, slept, read_answer, entries_of_event, entries_of, recorded_requests, recorded_arrivals}
+use Rattle.journal_model.specs.Journal.{Entry, completion, begins, adds_to, starting_state, requests_in, arrivals_in, open_request, sleeps_in, sorted_by_moment, is_sleep_over, slept, read_answer, entries_of_event, entries_of, recorded_requests, recorded_arrivals}
 use Rattle.journal_model.specs.Cause.{keys_of, may_complete, may_signal, refuses_kind, own_tests, causes_of, IsAccepted}
 use Rattle.journal_laws.proofs.ObjectState.{tail_of, holds-head, holds-tail, not-false}
 use Rattle.input_laws.proofs.Events.{added_by, entries_first, requests_now, arrivals_now, no_request, one_request}
@@ -20,7 +20,7 @@ use Rattle.run_laws.specs.Keys.{HasTextKeys}
 use Rattle.run_laws.proofs.States.{text_change, text_asked, starts_text}
 use Rattle.attempt_model.specs.Results.{are_keys_text}
 use Rattle.attempt_laws.proofs.Coming.{all-both}
-use Rattle.live_laws.specs.Asking.{keys_are_text}
+use Rattle.live_laws.specs.AskedArrivals.{keys_are_text}
 use Rattle.live_laws.specs.MachineLaws.{RecordsHaveTextKeys}
 use Rattle.live_laws.proofs.Recording.{or-nothing, own_passes}
 
@@ -45,20 +45,20 @@ module _ (events : List Event) (id : Text) where
       (sym (requests_now event events id old ∙ ap (λ (more : List Request). recorded_requests events id ++ more) none ∙ append-nil (recorded_requests events id))) all
 
   requests_text_on : (event : Event) → causes_of events event ≡ [] → begins id event ≡ false → HaveText (recorded_requests events id) → HaveText (recorded_requests (event ∷ events) id)
-  requests_text_on (Event.Take other attempt (Frame.Command request)) causes old all = by_adds (adds_to events id (Event.Take other attempt (Frame.Command request))) refl
+  requests_text_on (Event.Move other attempt (Frame.Command request)) causes old all = by_adds (adds_to events id (Event.Move other attempt (Frame.Command request))) refl
     where
-      by_adds : (b : Bool) → adds_to events id (Event.Take other attempt (Frame.Command request)) ≡ b → HaveText (recorded_requests (Event.Take other attempt (Frame.Command request) ∷ events) id)
+      by_adds : (b : Bool) → adds_to events id (Event.Move other attempt (Frame.Command request)) ≡ b → HaveText (recorded_requests (Event.Move other attempt (Frame.Command request) ∷ events) id)
       by_adds true f =
           subst HaveText
-          (sym (requests_now (Event.Take other attempt (Frame.Command request)) events id old
+          (sym (requests_now (Event.Move other attempt (Frame.Command request)) events id old
           ∙ ap (λ (more : List Request). recorded_requests events id ++ more)
-          (one_request events id (Event.Take other attempt (Frame.Command request)) request (or-nothing (bytes_eq other id) false refl f) refl)))
+          (one_request events id (Event.Move other attempt (Frame.Command request)) request (or-nothing (bytes_eq other id) false refl f) refl)))
           (all-both (λ request. list_all is_utf8 (keys_of request)) (recorded_requests events id) (request ∷ []) all
           (ap (λ (b : Bool). b && true) (text_asked events other attempt request causes)))
       by_adds false f =
-          requests_same (Event.Take other attempt (Frame.Command request)) old
-          (ap (λ (b : Bool). requests_in (if b then entries_of_event (starting_state events id) (entries_of events id) (Event.Take other attempt (Frame.Command request)) else [])) f) all
-  requests_text_on (Event.Take other attempt frame) causes old all = requests_same (Event.Take other attempt frame) old (no_request events id (Event.Take other attempt frame) refl) all
+          requests_same (Event.Move other attempt (Frame.Command request)) old
+          (ap (λ (b : Bool). requests_in (if b then entries_of_event (starting_state events id) (entries_of events id) (Event.Move other attempt (Frame.Command request)) else [])) f) all
+  requests_text_on (Event.Move other attempt frame) causes old all = requests_same (Event.Move other attempt frame) old (no_request events id (Event.Move other attempt frame) refl) all
   requests_text_on event causes old all = requests_same event old (no_request events id event refl) all
 
 pub requests_text : (events : List Event) (id : Text) → IsAccepted events → HaveText (recorded_requests events id)
@@ -76,7 +76,7 @@ keys_text [] all = refl
 keys_text (entry ∷ entries) all = ap (λ (b : Bool). b && list_all is_utf8 (state_keys entries)) all.0 ∙ keys_text entries all.1
 
 read_text : (state : StateMap) (request : Request) → HasTextKeys state → keys_are_text (read_answer state request) ≡ true
-read_text state (Request.GetLazyState key n name) all = by_value (value_at state key)
+read_text state (Request.GetLazyState key n name) all = by_value (value_of_key state key)
   where
     by_value : (o : Option Bytes) → (are_keys_text (value_or_void o) && true) ≡ true
     by_value None = refl
@@ -115,22 +115,22 @@ one_text b e = ap (λ (a : Bool). a && true) e
 
 module _ (events : List Event) (id : Text) (accepted : IsAccepted events) where
   text_added : (event : Event) → causes_of events event ≡ [] → adds_to events id event ≡ true → keys_are_text (arrivals_in (entries_of_event (starting_state events id) (entries_of events id) event)) ≡ true
-  text_added (Event.Complete other n result) causes adds =
-      let tests = own_tests events (Event.Complete other n result) in
-      let passes = own_passes events (Event.Complete other n result) other causes in
+  text_added (Event.Result other n result) causes adds =
+      let tests = own_tests events (Event.Result other n result) in
+      let passes = own_passes events (Event.Result other n result) other causes in
       one_text (are_keys_text result)
       (completed_text (open_request (entries_of events other) n) n result (not-false (is_some (open_request (entries_of events other) n)) (holds-head tests passes))
       (holds-head (tail_of tests) (holds-tail tests passes)))
   text_added (Event.Signal other key result) causes adds =
       let tests = own_tests events (Event.Signal other key result) in
       one_text (are_keys_text result) (signal_text result (not-false (may_signal result) (holds-head tests (own_passes events (Event.Signal other key result) other causes))))
-  text_added (Event.Tick now) causes adds = ap keys_are_text (arrivals_arrived (slept (entries_of events id) now)) ∙ slept_text (filter (is_over (entries_of events id) now) (sorted_by_moment (sleeps_in (recorded_requests events id))))
-  text_added (Event.Take other attempt (Frame.Command request)) causes adds =
+  text_added (Event.Tick now) causes adds = ap keys_are_text (arrivals_arrived (slept (entries_of events id) now)) ∙ slept_text (filter (is_sleep_over (entries_of events id) now) (sorted_by_moment (sleeps_in (recorded_requests events id))))
+  text_added (Event.Move other attempt (Frame.Command request)) causes adds =
       let state = state_after (recorded_requests events id) (starting_state events id) in
       ap keys_are_text (arrivals_arrived (read_answer state request))
       ∙ read_text state request (text_after (recorded_requests events id) (starting_state events id) (requests_text events id accepted) (starts_text events id accepted))
-  text_added (Event.Take other attempt (Frame.RunOutcome n value told)) causes adds = one_text (are_keys_text (result_of_value value)) (outcome_text value)
-  text_added (Event.Take other attempt frame) causes adds = refl
+  text_added (Event.Move other attempt (Frame.RunOutcome n value told)) causes adds = one_text (are_keys_text (result_of_value value)) (outcome_text value)
+  text_added (Event.Move other attempt frame) causes adds = refl
   text_added event causes adds = refl
 
   text_on : (event : Event) → causes_of events event ≡ [] → begins id event ≡ false → keys_are_text (recorded_arrivals events id) ≡ true → keys_are_text (recorded_arrivals (event ∷ events) id) ≡ true

@@ -6,7 +6,7 @@ use Rattle.built_in_handlers.specs.Handlers
 use Rattle.run_laws.proofs.RunRows.{new, given, sleep, slept, output}
 use Rattle.run_laws.proofs.SuspensionRows.{for_one}
 use Rattle.input_laws.specs.Message.{CarriesInput, CarriesRequest, CarriesArrival}
-use Rattle.live_laws.specs.Sending.{SendsOfRun}
+use Rattle.live_laws.specs.RequestsInFlight.{SendsOfRun}
 use Rattle.live_laws.specs.TurnWrites.{WritesOfRun, answers, suspends}
 use Rattle.live_laws.specs.Live.{IsPosition}
 

@@ -6,10 +6,10 @@ use Rattle.journal_model.specs.Request.{Request}
 use Rattle.journal_model.specs.Run.{Handler, Invocation, run_requests, BeginsRun}
 use Rattle.journal_model.specs.Event.{Frame}
 use Rattle.run_laws.specs.Position.{IsAtCall}
-use Rattle.live_laws.specs.Sending.{requests_sent, SendsOfRun}
+use Rattle.live_laws.specs.RequestsInFlight.{requests_sent, SendsOfRun}
 use Rattle.live_laws.specs.TurnWrites.{IsNote, WritesOfRun, nothing, answers, notes, fails, suspends, ends}
 use Rattle.run_laws.proofs.Extending.{begins-less}
-use Rattle.live_laws.proofs.Sending.{sends-append}
+use Rattle.live_laws.proofs.RequestsInFlight.{sends-append}
 
 module _ (next : Handler) (given : Invocation) (arrivals : List Arrival) where
   module _ (is_closed : Bool) where

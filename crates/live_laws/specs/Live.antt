@@ -6,7 +6,7 @@ use Rattle.journal_model.specs.Run.{Handler, Invocation, GoesOn, run, run_reques
 use Rattle.journal_model.specs.Event.{Suspension, Event, Frame}
 use Rattle.journal_model.specs.Journal.{recorded_requests}
 use Rattle.journal_model.specs.Attempt.{input_bytes, arrivals_within}
-use Rattle.live_laws.specs.Sending.{requests_sent}
+use Rattle.live_laws.specs.RequestsInFlight.{requests_sent}
 use Rattle.live_laws.specs.TurnWrites.{WritesOfRun}
 use Rattle.input_laws.specs.Message.{InputMessage, piece_of, arrivals_carried, requests_carried, HasReadMessages}
 

@@ -14,11 +14,11 @@ use Rattle.journal_model.specs.Headline.{run_of}
 use Rattle.input_laws.specs.Message.{InputMessage, piece_of, IsBroughtBy}
 use Rattle.input_laws.specs.Once.{ComeWhenAsked}
 use Rattle.run_laws.specs.Held.{Holds}
-use Rattle.live_laws.specs.Sending.{PassesOn}
+use Rattle.live_laws.specs.RequestsInFlight.{PassesOn}
 use Rattle.attempt_model.specs.Attempts.{ComeAsAsked}
-use Rattle.live_laws.specs.Beginning.{start_after}
-use Rattle.live_laws.specs.Asking.{GiveIds, keys_are_text, AsksByText}
-use Rattle.live_laws.specs.Living.{LiveAttempt, attempt_begun, IsLiveMachine, handed_bytes, after_reading}
+use Rattle.live_laws.specs.StartFrame.{start_after}
+use Rattle.live_laws.specs.AskedArrivals.{GiveIds, keys_are_text, AsksByText}
+use Rattle.live_laws.specs.AttemptWithMachine.{LiveAttempt, attempt_begun, IsLiveMachine, handed_bytes, after_reading}
 
 -- ---- what has come
 
@@ -49,7 +49,7 @@ pub record StaysLive (next : Handler) (options : RunOptions) (fallback_seed : �
   pub brings : (event : Event) (coming : List Frame) → begins id event ≡ false → begins_attempt id event ≡ false → bytes_asked id event ≡ None → PassesOn id event live.coming coming
       → (more : List InputMessage) × AllByRecursion (IsBroughtBy (entries_of (event ∷ events) id) id event) more
       × IsLiveMachine next options fallback_seed id (event ∷ events) (record live { unread = live.unread ++ more; coming = coming })
-  pub is_handed : (attempt most : ℕ) → IsLiveMachine next options fallback_seed id (Event.HandOut id attempt most ∷ events) (handed_bytes live (take most (input_left events id)))
+  pub is_handed : (attempt most : ℕ) → IsLiveMachine next options fallback_seed id (Event.Feed id attempt most ∷ events) (handed_bytes live (take most (input_left events id)))
   pub reads_start : live.bytes ≡ live.start.frame ++ live.held → IsLiveMachine next options fallback_seed id events (record live { bytes = live.held })
   pub reads : (some still : List InputMessage) (kept : Bytes) → live.bytes ≡ live.held → live.unread ≡ some ++ still → live.held ≡ input_bytes (map piece_of some) ++ kept
       → IsLiveMachine next options fallback_seed id events (after_reading live some still kept)

@@ -13,8 +13,8 @@ use Rattle.live_laws.specs.Live.{IsPosition, TurnsOfRun}
 use Rattle.live_laws.specs.TurnWrites.{IsNote}
 use Rattle.attempt_model.specs.Machine.{Machine, Reply, reply_to, StopsMidway}
 use Rattle.attempt_model.specs.Requests.{PutState}
-use Rattle.attempt_model.specs.Standing.{IsShown, next_call}
-use Rattle.live_laws.specs.Reading.{with_messages, IsInRun, IsMachineAt}
+use Rattle.attempt_model.specs.Simulation.{IsShown, next_call}
+use Rattle.live_laws.specs.MachinePosition.{with_messages, IsInRun, IsMachineAt}
 use Rattle.live_laws.specs.Replies.{SendsReply, goes_on, StandsBehind}
 
 -- it is at the position of its attempt, with the recorded requests that it has still to match; it stays so where it reads more of its

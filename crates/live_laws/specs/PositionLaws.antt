@@ -9,10 +9,10 @@ use Rattle.journal_model.specs.Run.{Handler, Invocation}
 use Rattle.journal_model.specs.Event.{Event}
 use Rattle.input_laws.specs.Message.{InputMessage, arrivals_carried, requests_carried}
 use Rattle.attempt_model.specs.Machine.{Machine}
-use Rattle.attempt_model.specs.Standing.{AreOfKind, Fits, AreReflexive}
-use Rattle.live_laws.specs.Reading.{IsInRun, IsMachineAt}
+use Rattle.attempt_model.specs.Simulation.{AreOfKind, Fits, AreReflexive}
+use Rattle.live_laws.specs.MachinePosition.{IsInRun, IsMachineAt}
 use Rattle.live_laws.specs.MachineTurn.{HasPosition, MakesTurns}
-use Rattle.live_laws.specs.Beginning.{AttemptStart, IsBegunAs, ShowsStart}
+use Rattle.live_laws.specs.StartFrame.{AttemptStart, IsBegunAs, ShowsStart}
 
 -- where a machine stands is the position of its attempt
 abbrev pub MachinesHavePositions : Type 0

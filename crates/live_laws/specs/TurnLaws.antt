@@ -16,11 +16,11 @@ use Rattle.journal_model.specs.Attempt.{Piece, begins_attempt, bytes_asked, is_i
 use Rattle.journal_model.specs.Cause.{causes_of, IsAccepted}
 use Rattle.journal_model.specs.Headline.{run_of, Headline, NeverLate, WakesExactly, arrivals_handed}
 use Rattle.run_laws.specs.Position.{IsAtCall}
-use Rattle.input_laws.specs.Reading.{HasReadPieces, arrivals_read}
+use Rattle.input_laws.specs.ArrivalsRead.{HasReadPieces, arrivals_read}
 use Rattle.input_laws.specs.Message.{InputMessage, CarriesInput, arrivals_carried, requests_carried, IsBroughtBy}
 use Rattle.input_laws.specs.Once.{ComeWhenAsked}
 use Rattle.run_laws.specs.Held.{Holds}
-use Rattle.live_laws.specs.Sending.{requests_sent, SendsOfRun, FollowsSo, PassesOn, ScheduleOfRun}
+use Rattle.live_laws.specs.RequestsInFlight.{requests_sent, SendsOfRun, FollowsSo, PassesOn, ScheduleOfRun}
 use Rattle.live_laws.specs.TurnWrites.{WritesOfRun}
 use Rattle.live_laws.specs.Begun.{journal_after, BegunWith, proposals_in, HasInput}
 use Rattle.live_laws.specs.Live.{IsPosition, IsLive, TurnsOfRun}
@@ -99,7 +99,7 @@ EventsKeepLive = (next : Handler) (given : Invocation) (id : Text) (event : Even
 abbrev pub HandingOutKeepsLive : Type 0
 HandingOutKeepsLive = (next : Handler) (given : Invocation) (id : Text) (events : List Event) (attempt most : ℕ) (coming : List Frame) (held : Bytes) (read unread : List InputMessage)
     (calls : ℕ) (left written : List Request) → IsAccepted events → IsLive next given id events coming held read unread calls left written
-    → IsLive next given id (Event.HandOut id attempt most ∷ events) coming (held ++ take most (input_left events id)) read unread calls left written
+    → IsLive next given id (Event.Feed id attempt most ∷ events) coming (held ++ take most (input_left events id)) read unread calls left written
 
 -- what has come to it has come once, and was asked for
 abbrev pub MessagesComeWhenAsked : Type 0

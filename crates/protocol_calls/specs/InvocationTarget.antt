@@ -1,7 +1,7 @@
 -- The fields that say which invocation a command is about.
 use Rattle.std.specs.Prelude.{IsUtf8, List, [], option_map, ℕ, ◌-◌, ◌∷◌, Option, Some, None}
 use Rattle.protocol_wire.specs.Wire.{Field}
-use Rattle.protocol_wire.specs.Selection.{optional_text, optional_record, run, first_of}
+use Rattle.protocol_wire.specs.Selection.{optional_text, optional_record, run, first_present}
 use Rattle.protocol_wire.specs.Parts.{Part, optional_bytes, payload_of}
 use Rattle.protocol_table.specs.declared.table.attach_invocation_command.TheConstants.{IDEMPOTENT_REQUEST_TARGET, INVOCATION_ID, TARGET, WORKFLOW_TARGET}
 use Rattle.protocol_calls.specs.Fields.{idempotent_request_target_of, idempotent_request_target_parts, IdempotentRequestTargetFits, workflow_target_of, workflow_target_parts, WorkflowTargetFits}
@@ -10,8 +10,8 @@ use Rattle.protocol_calls.specs.declared.invocation_target.InvocationTarget.TheV
 
 abbrev pub target_in : ℕ → List Field → Option InvocationTarget
 target_in levels fs =
-    first_of (option_map (λ x. targets.InvocationId x) (optional_text INVOCATION_ID.number fs)) (
-    first_of (option_map (λ w. targets.WorkflowTarget w) (optional_record (workflow_target_of (levels - 1)) WORKFLOW_TARGET.number fs)) (
+    first_present (option_map (λ x. targets.InvocationId x) (optional_text INVOCATION_ID.number fs)) (
+    first_present (option_map (λ w. targets.WorkflowTarget w) (optional_record (workflow_target_of (levels - 1)) WORKFLOW_TARGET.number fs)) (
     option_map (λ x. targets.IdempotentRequestTarget x) (optional_record (idempotent_request_target_of (levels - 1)) IDEMPOTENT_REQUEST_TARGET.number fs)))
 
 -- Of these the last run stands.

@@ -4,7 +4,7 @@ use Rattle.std.specs.List.{AllByRecursion}
 use Rattle.std.proofs.Common.{sym, ap, ◌∙◌}
 use Rattle.protocol_wire.specs.Check.{payload_fault}
 use Rattle.protocol_wire.specs.Parts.{payload_of, bytes_if, optional_bytes, optional_number}
-use Rattle.protocol_wire.specs.Selection.{last_run, first_of, last_number, last_bytes, texts}
+use Rattle.protocol_wire.specs.Selection.{last_run, first_present, last_number, last_bytes, texts}
 use Rattle.protocol_table.specs.Table.{descriptors_of}
 use Rattle.protocol_table.specs.declared.table.RecordType.TheVariants as types
 use Rattle.protocol_table.specs.declared.table.call_command.TheConstants as call_command
@@ -222,9 +222,9 @@ target_back : (levels : ℕ) (o : Option InvocationTarget) → InvocationTargetF
 unfolding texts last_bytes last_number
 target_back levels None h k0 k1 = refl
 target_back levels (Some (targets.InvocationId x)) h k0 k1 =
-    ap (λ (o : Option (List ℕ)). first_of (option_map (λ x. targets.InvocationId x) o) None) (optional_text_back attach_invocation_command.INVOCATION_ID.number (Some x) (optional_bytes attach_invocation_command.INVOCATION_ID.number (Some x) ∷ []) refl)
+    ap (λ (o : Option (List ℕ)). first_present (option_map (λ x. targets.InvocationId x) o) None) (optional_text_back attach_invocation_command.INVOCATION_ID.number (Some x) (optional_bytes attach_invocation_command.INVOCATION_ID.number (Some x) ∷ []) refl)
 target_back levels (Some (targets.WorkflowTarget w)) h k0 k1 =
-    ap (λ (o : Option WorkflowTarget). first_of (option_map (λ w. targets.WorkflowTarget w) o) None) (optional_record_back (workflow_target_of (levels - 1)) (λ r. payload_of (workflow_target_parts r)) attach_invocation_command.WORKFLOW_TARGET.number (Some w) (optional_bytes attach_invocation_command.WORKFLOW_TARGET.number (Some (payload_of (workflow_target_parts w))) ∷ []) refl (sym (workflow_target_reads (levels - 1) w h k0.0).value))
+    ap (λ (o : Option WorkflowTarget). first_present (option_map (λ w. targets.WorkflowTarget w) o) None) (optional_record_back (workflow_target_of (levels - 1)) (λ r. payload_of (workflow_target_parts r)) attach_invocation_command.WORKFLOW_TARGET.number (Some w) (optional_bytes attach_invocation_command.WORKFLOW_TARGET.number (Some (payload_of (workflow_target_parts w))) ∷ []) refl (sym (workflow_target_reads (levels - 1) w h k0.0).value))
 target_back levels (Some (targets.IdempotentRequestTarget x)) h k0 k1 =
     ap (λ (o : Option IdempotentRequestTarget). option_map (λ x. targets.IdempotentRequestTarget x) o) (optional_record_back (idempotent_request_target_of (levels - 1)) (λ r. payload_of (idempotent_request_target_parts r)) attach_invocation_command.IDEMPOTENT_REQUEST_TARGET.number (Some x) (optional_bytes attach_invocation_command.IDEMPOTENT_REQUEST_TARGET.number (Some (payload_of (idempotent_request_target_parts x))) ∷ []) refl (sym (idempotent_request_target_reads (levels - 1) x h k1.0).value))
 
@@ -299,7 +299,7 @@ signal_id_back : (levels : ℕ) (o : Option SendSignalCommandSignalId) → SendS
 unfolding texts last_bytes last_number
 signal_id_back levels None h = refl
 signal_id_back levels (Some (signal_ids.Idx x)) h =
-    ap (λ (o : Option ℕ). first_of (option_map (λ x. signal_ids.Idx x) o) None) (optional_u32_back send_signal_command.IDX.number (Some x) (optional_number send_signal_command.IDX.number (Some x) ∷ []) refl h)
+    ap (λ (o : Option ℕ). first_present (option_map (λ x. signal_ids.Idx x) o) None) (optional_u32_back send_signal_command.IDX.number (Some x) (optional_number send_signal_command.IDX.number (Some x) ∷ []) refl h)
 signal_id_back levels (Some (signal_ids.Name n)) h =
     ap (λ (o : Option (List ℕ)). option_map (λ n. signal_ids.Name n) o) (optional_text_back send_signal_command.NAME.number (Some n) (optional_bytes send_signal_command.NAME.number (Some n) ∷ []) refl)
 
@@ -322,14 +322,14 @@ result_failure_holds levels (Some (results.Value v)) h k = tt
 result_failure_holds levels (Some (results.Failure f)) h k = (failure_reads levels f h k.0).sound
 
 -- of the fields of the result alone
-result_back : (levels : ℕ) (o : Option SendSignalCommandResult) → SendSignalCommandResultFits (levels - 1) o → AllByRecursion LengthFits (bytes_if (result_void o)) → AllByRecursion LengthFits (bytes_if (result_value o)) → AllByRecursion LengthFits (bytes_if (result_failure o)) → result_in levels (last_run (held_among send_signal_command.RESULT (result_parts o))) ≡ o
+signal_result_back : (levels : ℕ) (o : Option SendSignalCommandResult) → SendSignalCommandResultFits (levels - 1) o → AllByRecursion LengthFits (bytes_if (result_void o)) → AllByRecursion LengthFits (bytes_if (result_value o)) → AllByRecursion LengthFits (bytes_if (result_failure o)) → result_in levels (last_run (held_among send_signal_command.RESULT (result_parts o))) ≡ o
 unfolding texts last_bytes last_number
-result_back levels None h k0 k1 k2 = refl
-result_back levels (Some (results.Void v)) h k0 k1 k2 =
-    ap (λ (o : Option Void). first_of (option_map (λ v. results.Void v) o) None) (optional_record_back (void_of (levels - 1)) (λ r. payload_of (void_parts r)) send_signal_command.VOID.number (Some v) (optional_bytes send_signal_command.VOID.number (Some (payload_of (void_parts v))) ∷ []) refl (sym (void_reads (levels - 1) v h k0.0).value))
-result_back levels (Some (results.Value v)) h k0 k1 k2 =
-    ap (λ (o : Option Value). first_of (option_map (λ v. results.Value v) o) None) (optional_record_back (value_of (levels - 1)) (λ r. payload_of (value_parts r)) send_signal_command.VALUE.number (Some v) (optional_bytes send_signal_command.VALUE.number (Some (payload_of (value_parts v))) ∷ []) refl (sym (value_reads (levels - 1) v h k1.0).value))
-result_back levels (Some (results.Failure f)) h k0 k1 k2 =
+signal_result_back levels None h k0 k1 k2 = refl
+signal_result_back levels (Some (results.Void v)) h k0 k1 k2 =
+    ap (λ (o : Option Void). first_present (option_map (λ v. results.Void v) o) None) (optional_record_back (void_of (levels - 1)) (λ r. payload_of (void_parts r)) send_signal_command.VOID.number (Some v) (optional_bytes send_signal_command.VOID.number (Some (payload_of (void_parts v))) ∷ []) refl (sym (void_reads (levels - 1) v h k0.0).value))
+signal_result_back levels (Some (results.Value v)) h k0 k1 k2 =
+    ap (λ (o : Option Value). first_present (option_map (λ v. results.Value v) o) None) (optional_record_back (value_of (levels - 1)) (λ r. payload_of (value_parts r)) send_signal_command.VALUE.number (Some v) (optional_bytes send_signal_command.VALUE.number (Some (payload_of (value_parts v))) ∷ []) refl (sym (value_reads (levels - 1) v h k1.0).value))
+signal_result_back levels (Some (results.Failure f)) h k0 k1 k2 =
     ap (λ (o : Option Failure). option_map (λ f. results.Failure f) o) (optional_record_back (failure_of (levels - 1)) (λ r. payload_of (failure_parts r)) send_signal_command.FAILURE.number (Some f) (optional_bytes send_signal_command.FAILURE.number (Some (payload_of (failure_parts f))) ∷ []) refl (sym (failure_reads (levels - 1) f h k2.0).value))
 
 pub send_signal_command_reads : Reads types.SendSignalCommand send_signal_command_of send_signal_command_parts SendSignalCommandFits
@@ -339,7 +339,7 @@ send_signal_command_reads levels v h small =
     let table = descriptors_of types.SendSignalCommand in
     let lengths = lengths_fit ps small in
     let signal_id = ap (signal_id_in levels) (run-fields_of send_signal_command.SIGNAL_ID ps) ∙ signal_id_back levels v.signal_id h.signal_id in
-    let result = ap (result_in levels) (run-fields_of send_signal_command.RESULT ps) ∙ result_back levels v.result h.result lengths.1.1.1.0 lengths.1.1.1.1.0 lengths.1.1.1.1.1.0 in
+    let result = ap (result_in levels) (run-fields_of send_signal_command.RESULT ps) ∙ signal_result_back levels v.result h.result lengths.1.1.1.0 lengths.1.1.1.1.0 lengths.1.1.1.1.1.0 in
     read_back levels types.SendSignalCommand send_signal_command_of ps v h.level small (
       text_holds below table send_signal_command.TARGET_INVOCATION_ID.number v.target_invocation_id (refl, refl) h.target_invocation_id,
       (
@@ -373,7 +373,7 @@ awakeable_result_back : (levels : ℕ) (o : Option CompleteAwakeableCommandResul
 unfolding texts last_bytes last_number
 awakeable_result_back levels None h k0 k1 = refl
 awakeable_result_back levels (Some (awakeable_results.Value v)) h k0 k1 =
-    ap (λ (o : Option Value). first_of (option_map (λ v. awakeable_results.Value v) o) None) (optional_record_back (value_of (levels - 1)) (λ r. payload_of (value_parts r)) complete_awakeable_command.VALUE.number (Some v) (optional_bytes complete_awakeable_command.VALUE.number (Some (payload_of (value_parts v))) ∷ []) refl (sym (value_reads (levels - 1) v h k0.0).value))
+    ap (λ (o : Option Value). first_present (option_map (λ v. awakeable_results.Value v) o) None) (optional_record_back (value_of (levels - 1)) (λ r. payload_of (value_parts r)) complete_awakeable_command.VALUE.number (Some v) (optional_bytes complete_awakeable_command.VALUE.number (Some (payload_of (value_parts v))) ∷ []) refl (sym (value_reads (levels - 1) v h k0.0).value))
 awakeable_result_back levels (Some (awakeable_results.Failure f)) h k0 k1 =
     ap (λ (o : Option Failure). option_map (λ f. awakeable_results.Failure f) o) (optional_record_back (failure_of (levels - 1)) (λ r. payload_of (failure_parts r)) complete_awakeable_command.FAILURE.number (Some f) (optional_bytes complete_awakeable_command.FAILURE.number (Some (payload_of (failure_parts f))) ∷ []) refl (sym (failure_reads (levels - 1) f h k1.0).value))
 

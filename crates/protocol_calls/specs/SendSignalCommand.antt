@@ -1,7 +1,7 @@
 -- The fields of a send signal command.
 use Rattle.std.specs.Prelude.{IsUtf8, List, [], option_map, ℕ, ◌-◌, ◌<◌, ◌^◌, ◌∷◌, ◌++◌, Option, Some, None}
 use Rattle.protocol_wire.specs.Wire.{Field}
-use Rattle.protocol_wire.specs.Selection.{text, optional_u32, optional_text, optional_record, run, first_of}
+use Rattle.protocol_wire.specs.Selection.{text, optional_u32, optional_text, optional_record, run, first_present}
 use Rattle.protocol_wire.specs.Parts.{Part, optional_number, optional_bytes, payload_of, plain_bytes}
 use Rattle.protocol_table.specs.declared.table.send_signal_command.TheConstants.{ENTRY_NAME, FAILURE, IDX, NAME, RESULT, SIGNAL_ID, TARGET_INVOCATION_ID, VALUE, VOID}
 use Rattle.protocol_records.specs.Failure.{failure_of, failure_parts, FailureFits}
@@ -15,7 +15,7 @@ use Rattle.protocol_calls.specs.declared.send_signal_command.SendSignalCommandRe
 
 abbrev pub signal_id_in : ℕ → List Field → Option SendSignalCommandSignalId
 signal_id_in levels fs =
-    first_of (option_map (λ x. signal_ids.Idx x) (optional_u32 IDX.number fs)) (
+    first_present (option_map (λ x. signal_ids.Idx x) (optional_u32 IDX.number fs)) (
     option_map (λ n. signal_ids.Name n) (optional_text NAME.number fs))
 
 -- Of these the last run stands.
@@ -24,8 +24,8 @@ send_signal_command_signal_id_of levels fs = signal_id_in levels (run SIGNAL_ID 
 
 abbrev pub result_in : ℕ → List Field → Option SendSignalCommandResult
 result_in levels fs =
-    first_of (option_map (λ v. results.Void v) (optional_record (void_of (levels - 1)) VOID.number fs)) (
-    first_of (option_map (λ v. results.Value v) (optional_record (value_of (levels - 1)) VALUE.number fs)) (
+    first_present (option_map (λ v. results.Void v) (optional_record (void_of (levels - 1)) VOID.number fs)) (
+    first_present (option_map (λ v. results.Value v) (optional_record (value_of (levels - 1)) VALUE.number fs)) (
     option_map (λ f. results.Failure f) (optional_record (failure_of (levels - 1)) FAILURE.number fs)))
 
 -- Of these the last run stands.

@@ -6,7 +6,7 @@ ghost use Rattle.protocol_wire.specs.Check.{payload_fault};
 ghost use Rattle.protocol_wire.specs.Sound.{AreSound, AreTexts};
 ghost use Rattle.protocol_wire.specs.Selection.{values};
 ghost use Rattle.protocol_wire.specs.Parts.{payload_of};
-ghost use Rattle.protocol_wire.specs.Lengths.{counted};
+ghost use Rattle.protocol_wire.specs.Lengths.{counted_bytes};
 ghost use Rattle.protocol_table.specs.declared.table.RecordType.TheVariants.{IdempotentRequestTarget as idempotent_request_target_type, WorkflowTarget as workflow_target_type};
 ghost use Rattle.protocol_calls.specs.InvocationTarget.{target_of, target_parts};
 
@@ -95,7 +95,7 @@ pub fn put_target(
 
 /// How long the fields of the target are, behind the bytes before them.
 pub fn len_target(before: u64, one: &Option<InvocationTarget>) -> u64
-    ensures { result ≡ counted before (payload_of (target_parts one.now)) }
+    ensures { result ≡ counted_bytes before (payload_of (target_parts one.now)) }
 {
     match one {
         None => before,

@@ -2,7 +2,7 @@ ghost use Rattle.std.specs.Prelude.{◌≡◌, ◌++◌, None, IfOk, OnOk};
 ghost use Rattle.protocol_wire.specs.Fields.{fields};
 ghost use Rattle.protocol_wire.specs.Check.{payload_fault};
 ghost use Rattle.protocol_wire.specs.Parts.{payload_of};
-ghost use Rattle.protocol_wire.specs.Lengths.{counted};
+ghost use Rattle.protocol_wire.specs.Lengths.{counted_bytes};
 ghost use Rattle.protocol_table.specs.declared.table.RecordType.TheVariants.{SendSignalCommand as send_signal_command_type};
 ghost use Rattle.protocol_calls.specs.SendSignalCommand.{send_signal_command_signal_id_of, signal_id_parts, send_signal_command_result_of, result_parts};
 
@@ -73,7 +73,7 @@ fn put_signal_id(
 }
 
 fn len_signal_id(before: u64, one: &Option<SendSignalCommandSignalId>) -> u64
-    ensures { result ≡ counted before (payload_of (signal_id_parts one.now)) }
+    ensures { result ≡ counted_bytes before (payload_of (signal_id_parts one.now)) }
 {
     match one {
         None => before,
@@ -118,7 +118,7 @@ fn put_result(
 }
 
 fn len_result(before: u64, one: &Option<SendSignalCommandResult>) -> u64
-    ensures { result ≡ counted before (payload_of (result_parts one.now)) }
+    ensures { result ≡ counted_bytes before (payload_of (result_parts one.now)) }
 {
     match one {
         None => before,

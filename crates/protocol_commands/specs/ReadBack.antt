@@ -4,7 +4,7 @@ use Rattle.std.specs.List.{AllByRecursion}
 use Rattle.std.proofs.Common.{sym, ap, ◌∙◌}
 use Rattle.protocol_wire.specs.Check.{payload_fault}
 use Rattle.protocol_wire.specs.Parts.{payload_of, bytes_if, optional_bytes}
-use Rattle.protocol_wire.specs.Selection.{last_run, first_of, last_number, last_bytes, texts}
+use Rattle.protocol_wire.specs.Selection.{last_run, first_present, last_number, last_bytes, texts}
 use Rattle.protocol_table.specs.Table.{descriptors_of}
 use Rattle.protocol_table.specs.declared.table.RecordType.TheVariants as types
 use Rattle.protocol_table.specs.declared.table.clear_all_state_command.TheConstants as clear_all_state_command
@@ -202,7 +202,7 @@ completion_back : (levels : ℕ) (o : Option CompletePromiseCommandCompletion) �
 unfolding texts last_bytes last_number
 completion_back levels None h k0 k1 = refl
 completion_back levels (Some (completions.CompletionValue c)) h k0 k1 =
-    ap (λ (o : Option Value). first_of (option_map (λ c. completions.CompletionValue c) o) None) (optional_record_back (value_of (levels - 1)) (λ r. payload_of (value_parts r)) complete_promise_command.COMPLETION_VALUE.number (Some c) (optional_bytes complete_promise_command.COMPLETION_VALUE.number (Some (payload_of (value_parts c))) ∷ []) refl (sym (value_reads (levels - 1) c h k0.0).value))
+    ap (λ (o : Option Value). first_present (option_map (λ c. completions.CompletionValue c) o) None) (optional_record_back (value_of (levels - 1)) (λ r. payload_of (value_parts r)) complete_promise_command.COMPLETION_VALUE.number (Some c) (optional_bytes complete_promise_command.COMPLETION_VALUE.number (Some (payload_of (value_parts c))) ∷ []) refl (sym (value_reads (levels - 1) c h k0.0).value))
 completion_back levels (Some (completions.CompletionFailure c)) h k0 k1 =
     ap (λ (o : Option Failure). option_map (λ c. completions.CompletionFailure c) o) (optional_record_back (failure_of (levels - 1)) (λ r. payload_of (failure_parts r)) complete_promise_command.COMPLETION_FAILURE.number (Some c) (optional_bytes complete_promise_command.COMPLETION_FAILURE.number (Some (payload_of (failure_parts c))) ∷ []) refl (sym (failure_reads (levels - 1) c h k1.0).value))
 
@@ -236,12 +236,12 @@ complete_promise_command_reads levels v h small =
     })
 
 -- of the fields of the result alone
-result_back : (levels : ℕ) (o : Option GetEagerStateCommandResult) → ChoiceFits eager_choice (levels - 1) o → AllByRecursion LengthFits (bytes_if (first_spelled eager_choice o)) → AllByRecursion LengthFits (bytes_if (second_spelled eager_choice o)) → chosen_in eager_choice levels (last_run (held_among get_eager_state_command.RESULT (choice_parts eager_choice o))) ≡ o
+eager_result_back : (levels : ℕ) (o : Option GetEagerStateCommandResult) → ChoiceFits eager_choice (levels - 1) o → AllByRecursion LengthFits (bytes_if (first_spelled eager_choice o)) → AllByRecursion LengthFits (bytes_if (second_spelled eager_choice o)) → chosen_in eager_choice levels (last_run (held_among get_eager_state_command.RESULT (choice_parts eager_choice o))) ≡ o
 unfolding texts last_bytes last_number
-result_back levels None h k0 k1 = refl
-result_back levels (Some (results.Void v)) h k0 k1 =
-    ap (λ (o : Option Void). first_of (option_map (λ v. results.Void v) o) None) (optional_record_back (void_of (levels - 1)) (λ r. payload_of (void_parts r)) get_eager_state_command.VOID.number (Some v) (optional_bytes get_eager_state_command.VOID.number (Some (payload_of (void_parts v))) ∷ []) refl (sym (void_reads (levels - 1) v h k0.0).value))
-result_back levels (Some (results.Value v)) h k0 k1 =
+eager_result_back levels None h k0 k1 = refl
+eager_result_back levels (Some (results.Void v)) h k0 k1 =
+    ap (λ (o : Option Void). first_present (option_map (λ v. results.Void v) o) None) (optional_record_back (void_of (levels - 1)) (λ r. payload_of (void_parts r)) get_eager_state_command.VOID.number (Some v) (optional_bytes get_eager_state_command.VOID.number (Some (payload_of (void_parts v))) ∷ []) refl (sym (void_reads (levels - 1) v h k0.0).value))
+eager_result_back levels (Some (results.Value v)) h k0 k1 =
     ap (λ (o : Option Value). option_map (λ v. results.Value v) o) (optional_record_back (value_of (levels - 1)) (λ r. payload_of (value_parts r)) get_eager_state_command.VALUE.number (Some v) (optional_bytes get_eager_state_command.VALUE.number (Some (payload_of (value_parts v))) ∷ []) refl (sym (value_reads (levels - 1) v h k1.0).value))
 
 pub get_eager_state_command_reads : Reads types.GetEagerStateCommand get_eager_state_command_of get_eager_state_command_parts GetEagerStateCommandFits
@@ -250,7 +250,7 @@ get_eager_state_command_reads levels v h small =
     let below = payload_fault (levels - 1) in
     let table = descriptors_of types.GetEagerStateCommand in
     let lengths = lengths_fit ps small in
-    let result = ap (chosen_in eager_choice levels) (run-fields_of get_eager_state_command.RESULT ps) ∙ result_back levels v.result h.result lengths.1.1.0 lengths.1.1.1.0 in
+    let result = ap (chosen_in eager_choice levels) (run-fields_of get_eager_state_command.RESULT ps) ∙ eager_result_back levels v.result h.result lengths.1.1.0 lengths.1.1.1.0 in
     read_back levels types.GetEagerStateCommand get_eager_state_command_of ps v h.level small (
       bytes_holds below table get_eager_state_command.KEY.number v.key (refl, refl),
       (

@@ -2,7 +2,7 @@ ghost use Rattle.std.specs.Prelude.{◌≡◌, ◌++◌, None, IfOk, OnOk};
 ghost use Rattle.protocol_wire.specs.Fields.{fields};
 ghost use Rattle.protocol_wire.specs.Check.{payload_fault};
 ghost use Rattle.protocol_wire.specs.Parts.{payload_of};
-ghost use Rattle.protocol_wire.specs.Lengths.{counted};
+ghost use Rattle.protocol_wire.specs.Lengths.{counted_bytes};
 ghost use Rattle.protocol_table.specs.declared.table.RecordType.TheVariants.{GetEagerStateCommand as get_eager_state_command_type};
 ghost use Rattle.protocol_records.specs.Choice.{choice_parts, chosen};
 ghost use Rattle.protocol_commands.specs.Choices.{eager_choice};
@@ -63,7 +63,7 @@ fn put_result(
 }
 
 fn len_result(before: u64, one: &Option<GetEagerStateCommandResult>) -> u64
-    ensures { result ≡ counted before (payload_of (choice_parts eager_choice one.now)) }
+    ensures { result ≡ counted_bytes before (payload_of (choice_parts eager_choice one.now)) }
 {
     match one {
         None => before,

@@ -1,7 +1,7 @@
 -- The fields of a notification.
 use Rattle.std.specs.Prelude.{IsUtf8, List, [], option_map, ℕ, ◌-◌, ◌<◌, ◌^◌, ◌∷◌, ◌++◌, Option, Some, None}
 use Rattle.protocol_wire.specs.Wire.{Field}
-use Rattle.protocol_wire.specs.Selection.{optional_u32, optional_text, optional_record, run, first_of}
+use Rattle.protocol_wire.specs.Selection.{optional_u32, optional_text, optional_record, run, first_present}
 use Rattle.protocol_wire.specs.Parts.{Part, optional_number, optional_bytes, payload_of}
 use Rattle.protocol_table.specs.declared.table.notification.TheConstants.{COMPLETION_ID, FAILURE, ID, INVOCATION_ID, RESULT, SIGNAL_ID, SIGNAL_NAME, STATE_KEYS, VALUE, VOID}
 use Rattle.protocol_records.specs.Failure.{failure_of, failure_parts, FailureFits}
@@ -16,8 +16,8 @@ use Rattle.protocol_controls.specs.declared.notification.NotificationMessageResu
 
 abbrev pub id_in : ℕ → List Field → Option NotificationMessageId
 id_in levels fs =
-    first_of (option_map (λ c. ids.CompletionId c) (optional_u32 COMPLETION_ID.number fs)) (
-    first_of (option_map (λ s. ids.SignalId s) (optional_u32 SIGNAL_ID.number fs)) (
+    first_present (option_map (λ c. ids.CompletionId c) (optional_u32 COMPLETION_ID.number fs)) (
+    first_present (option_map (λ s. ids.SignalId s) (optional_u32 SIGNAL_ID.number fs)) (
     option_map (λ s. ids.SignalName s) (optional_text SIGNAL_NAME.number fs)))
 
 -- Of these the last run stands.
@@ -26,10 +26,10 @@ notification_id_of levels fs = id_in levels (run ID fs)
 
 abbrev pub result_in : ℕ → List Field → Option NotificationMessageResult
 result_in levels fs =
-    first_of (option_map (λ v. results.Void v) (optional_record (void_of (levels - 1)) VOID.number fs)) (
-    first_of (option_map (λ v. results.Value v) (optional_record (value_of (levels - 1)) VALUE.number fs)) (
-    first_of (option_map (λ f. results.Failure f) (optional_record (failure_of (levels - 1)) FAILURE.number fs)) (
-    first_of (option_map (λ x. results.InvocationId x) (optional_text INVOCATION_ID.number fs)) (
+    first_present (option_map (λ v. results.Void v) (optional_record (void_of (levels - 1)) VOID.number fs)) (
+    first_present (option_map (λ v. results.Value v) (optional_record (value_of (levels - 1)) VALUE.number fs)) (
+    first_present (option_map (λ f. results.Failure f) (optional_record (failure_of (levels - 1)) FAILURE.number fs)) (
+    first_present (option_map (λ x. results.InvocationId x) (optional_text INVOCATION_ID.number fs)) (
     option_map (λ s. results.StateKeys s) (optional_record (state_keys_of (levels - 1)) STATE_KEYS.number fs)))))
 
 -- Of these the last run stands.

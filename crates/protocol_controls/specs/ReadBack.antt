@@ -3,7 +3,7 @@ use Rattle.std.specs.Prelude.{◌-◌, refl, ◌≡◌, ℕ, ◌<◌, ◌^◌, L
 use Rattle.std.specs.List.{AllByRecursion}
 use Rattle.std.proofs.Common.{sym, ap, ◌∙◌}
 use Rattle.protocol_wire.specs.Check.{payload_fault}
-use Rattle.protocol_wire.specs.Selection.{last_run, first_of, last_number, last_bytes, texts}
+use Rattle.protocol_wire.specs.Selection.{last_run, first_present, last_number, last_bytes, texts}
 use Rattle.protocol_wire.specs.Parts.{bytes_if, optional_bytes, optional_number, payload_of}
 use Rattle.protocol_table.specs.Table.{descriptors_of}
 use Rattle.protocol_table.specs.declared.table.RecordType.TheVariants as types
@@ -129,9 +129,9 @@ id_back : (levels : ℕ) (o : Option NotificationMessageId) → NotificationMess
 unfolding texts last_bytes last_number
 id_back levels None h = refl
 id_back levels (Some (ids.CompletionId c)) h =
-    ap (λ (o : Option ℕ). first_of (option_map (λ c. ids.CompletionId c) o) None) (optional_u32_back notification.COMPLETION_ID.number (Some c) (optional_number notification.COMPLETION_ID.number (Some c) ∷ []) refl h)
+    ap (λ (o : Option ℕ). first_present (option_map (λ c. ids.CompletionId c) o) None) (optional_u32_back notification.COMPLETION_ID.number (Some c) (optional_number notification.COMPLETION_ID.number (Some c) ∷ []) refl h)
 id_back levels (Some (ids.SignalId s)) h =
-    ap (λ (o : Option ℕ). first_of (option_map (λ s. ids.SignalId s) o) None) (optional_u32_back notification.SIGNAL_ID.number (Some s) (optional_number notification.SIGNAL_ID.number (Some s) ∷ []) refl h)
+    ap (λ (o : Option ℕ). first_present (option_map (λ s. ids.SignalId s) o) None) (optional_u32_back notification.SIGNAL_ID.number (Some s) (optional_number notification.SIGNAL_ID.number (Some s) ∷ []) refl h)
 id_back levels (Some (ids.SignalName s)) h =
     ap (λ (o : Option (List ℕ)). option_map (λ s. ids.SignalName s) o) (optional_text_back notification.SIGNAL_NAME.number (Some s) (optional_bytes notification.SIGNAL_NAME.number (Some s) ∷ []) refl)
 
@@ -176,18 +176,18 @@ result_state_keys_holds levels (Some (results.InvocationId x)) h k = tt
 result_state_keys_holds levels (Some (results.StateKeys s)) h k = (state_keys_reads levels s h k.0).sound
 
 -- of the fields of the result alone
-result_back : (levels : ℕ) (o : Option NotificationMessageResult) → NotificationMessageResultFits (levels - 1) o → AllByRecursion LengthFits (bytes_if (result_void o)) → AllByRecursion LengthFits (bytes_if (result_value o)) → AllByRecursion LengthFits (bytes_if (result_failure o)) → AllByRecursion LengthFits (bytes_if (result_state_keys o)) → result_in levels (last_run (held_among notification.RESULT (result_parts o))) ≡ o
+notification_result_back : (levels : ℕ) (o : Option NotificationMessageResult) → NotificationMessageResultFits (levels - 1) o → AllByRecursion LengthFits (bytes_if (result_void o)) → AllByRecursion LengthFits (bytes_if (result_value o)) → AllByRecursion LengthFits (bytes_if (result_failure o)) → AllByRecursion LengthFits (bytes_if (result_state_keys o)) → result_in levels (last_run (held_among notification.RESULT (result_parts o))) ≡ o
 unfolding texts last_bytes last_number
-result_back levels None h k0 k1 k2 k3 = refl
-result_back levels (Some (results.Void v)) h k0 k1 k2 k3 =
-    ap (λ (o : Option Void). first_of (option_map (λ v. results.Void v) o) None) (optional_record_back (void_of (levels - 1)) (λ r. payload_of (void_parts r)) notification.VOID.number (Some v) (optional_bytes notification.VOID.number (Some (payload_of (void_parts v))) ∷ []) refl (sym (void_reads (levels - 1) v h k0.0).value))
-result_back levels (Some (results.Value v)) h k0 k1 k2 k3 =
-    ap (λ (o : Option Value). first_of (option_map (λ v. results.Value v) o) None) (optional_record_back (value_of (levels - 1)) (λ r. payload_of (value_parts r)) notification.VALUE.number (Some v) (optional_bytes notification.VALUE.number (Some (payload_of (value_parts v))) ∷ []) refl (sym (value_reads (levels - 1) v h k1.0).value))
-result_back levels (Some (results.Failure f)) h k0 k1 k2 k3 =
-    ap (λ (o : Option Failure). first_of (option_map (λ f. results.Failure f) o) None) (optional_record_back (failure_of (levels - 1)) (λ r. payload_of (failure_parts r)) notification.FAILURE.number (Some f) (optional_bytes notification.FAILURE.number (Some (payload_of (failure_parts f))) ∷ []) refl (sym (failure_reads (levels - 1) f h k2.0).value))
-result_back levels (Some (results.InvocationId x)) h k0 k1 k2 k3 =
-    ap (λ (o : Option (List ℕ)). first_of (option_map (λ x. results.InvocationId x) o) None) (optional_text_back notification.INVOCATION_ID.number (Some x) (optional_bytes notification.INVOCATION_ID.number (Some x) ∷ []) refl)
-result_back levels (Some (results.StateKeys s)) h k0 k1 k2 k3 =
+notification_result_back levels None h k0 k1 k2 k3 = refl
+notification_result_back levels (Some (results.Void v)) h k0 k1 k2 k3 =
+    ap (λ (o : Option Void). first_present (option_map (λ v. results.Void v) o) None) (optional_record_back (void_of (levels - 1)) (λ r. payload_of (void_parts r)) notification.VOID.number (Some v) (optional_bytes notification.VOID.number (Some (payload_of (void_parts v))) ∷ []) refl (sym (void_reads (levels - 1) v h k0.0).value))
+notification_result_back levels (Some (results.Value v)) h k0 k1 k2 k3 =
+    ap (λ (o : Option Value). first_present (option_map (λ v. results.Value v) o) None) (optional_record_back (value_of (levels - 1)) (λ r. payload_of (value_parts r)) notification.VALUE.number (Some v) (optional_bytes notification.VALUE.number (Some (payload_of (value_parts v))) ∷ []) refl (sym (value_reads (levels - 1) v h k1.0).value))
+notification_result_back levels (Some (results.Failure f)) h k0 k1 k2 k3 =
+    ap (λ (o : Option Failure). first_present (option_map (λ f. results.Failure f) o) None) (optional_record_back (failure_of (levels - 1)) (λ r. payload_of (failure_parts r)) notification.FAILURE.number (Some f) (optional_bytes notification.FAILURE.number (Some (payload_of (failure_parts f))) ∷ []) refl (sym (failure_reads (levels - 1) f h k2.0).value))
+notification_result_back levels (Some (results.InvocationId x)) h k0 k1 k2 k3 =
+    ap (λ (o : Option (List ℕ)). first_present (option_map (λ x. results.InvocationId x) o) None) (optional_text_back notification.INVOCATION_ID.number (Some x) (optional_bytes notification.INVOCATION_ID.number (Some x) ∷ []) refl)
+notification_result_back levels (Some (results.StateKeys s)) h k0 k1 k2 k3 =
     ap (λ (o : Option StateKeys). option_map (λ s. results.StateKeys s) o) (optional_record_back (state_keys_of (levels - 1)) (λ r. payload_of (state_keys_parts r)) notification.STATE_KEYS.number (Some s) (optional_bytes notification.STATE_KEYS.number (Some (payload_of (state_keys_parts s))) ∷ []) refl (sym (state_keys_reads (levels - 1) s h k3.0).value))
 
 pub notification_reads : Reads types.Notification notification_of notification_parts NotificationFits
@@ -197,7 +197,7 @@ notification_reads levels v h small =
     let table = descriptors_of types.Notification in
     let lengths = lengths_fit ps small in
     let id = ap (id_in levels) (run-fields_of notification.ID ps) ∙ id_back levels v.id h.id in
-    let result = ap (result_in levels) (run-fields_of notification.RESULT ps) ∙ result_back levels v.result h.result lengths.1.1.1.0 lengths.1.1.1.1.0 lengths.1.1.1.1.1.0 lengths.1.1.1.1.1.1.1.0 in
+    let result = ap (result_in levels) (run-fields_of notification.RESULT ps) ∙ notification_result_back levels v.result h.result lengths.1.1.1.0 lengths.1.1.1.1.0 lengths.1.1.1.1.1.0 lengths.1.1.1.1.1.1.1.0 in
     read_back levels types.Notification notification_of ps v h.level small (
       optional_u32_holds below table notification.COMPLETION_ID.number (id_completion_id v.id) (refl, refl) (id_completion_id_holds (levels - 1) v.id h.id),
       (
@@ -232,7 +232,7 @@ ephemeral_result_back : (levels : ℕ) (o : Option GetStateEphemeralNotification
 unfolding texts last_bytes last_number
 ephemeral_result_back levels None h k0 k1 = refl
 ephemeral_result_back levels (Some (ephemeral_results.Void v)) h k0 k1 =
-    ap (λ (o : Option Void). first_of (option_map (λ v. ephemeral_results.Void v) o) None) (optional_record_back (void_of (levels - 1)) (λ r. payload_of (void_parts r)) get_state_ephemeral_notification.VOID.number (Some v) (optional_bytes get_state_ephemeral_notification.VOID.number (Some (payload_of (void_parts v))) ∷ []) refl (sym (void_reads (levels - 1) v h k0.0).value))
+    ap (λ (o : Option Void). first_present (option_map (λ v. ephemeral_results.Void v) o) None) (optional_record_back (void_of (levels - 1)) (λ r. payload_of (void_parts r)) get_state_ephemeral_notification.VOID.number (Some v) (optional_bytes get_state_ephemeral_notification.VOID.number (Some (payload_of (void_parts v))) ∷ []) refl (sym (void_reads (levels - 1) v h k0.0).value))
 ephemeral_result_back levels (Some (ephemeral_results.Value v)) h k0 k1 =
     ap (λ (o : Option Value). option_map (λ v. ephemeral_results.Value v) o) (optional_record_back (value_of (levels - 1)) (λ r. payload_of (value_parts r)) get_state_ephemeral_notification.VALUE.number (Some v) (optional_bytes get_state_ephemeral_notification.VALUE.number (Some (payload_of (value_parts v))) ∷ []) refl (sym (value_reads (levels - 1) v h k1.0).value))
 
@@ -262,7 +262,7 @@ proposal_result_back : (levels : ℕ) (o : Option ProposeRunCompletionResult) �
 unfolding texts last_bytes last_number
 proposal_result_back levels None h k0 = refl
 proposal_result_back levels (Some (proposal_results.Value v)) h k0 =
-    ap (λ (o : Option (List ℕ)). first_of (option_map (λ v. proposal_results.Value v) o) None) (optional_text_back propose_run_completion.VALUE.number (Some v) (optional_bytes propose_run_completion.VALUE.number (Some v) ∷ []) refl)
+    ap (λ (o : Option (List ℕ)). first_present (option_map (λ v. proposal_results.Value v) o) None) (optional_text_back propose_run_completion.VALUE.number (Some v) (optional_bytes propose_run_completion.VALUE.number (Some v) ∷ []) refl)
 proposal_result_back levels (Some (proposal_results.Failure f)) h k0 =
     ap (λ (o : Option Failure). option_map (λ f. proposal_results.Failure f) o) (optional_record_back (failure_of (levels - 1)) (λ r. payload_of (failure_parts r)) propose_run_completion.FAILURE.number (Some f) (optional_bytes propose_run_completion.FAILURE.number (Some (payload_of (failure_parts f))) ∷ []) refl (sym (failure_reads (levels - 1) f h k0.0).value))
 

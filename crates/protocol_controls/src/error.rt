@@ -1,8 +1,8 @@
 ghost use Rattle.std.specs.Prelude.{◌≡◌, ◌++◌, OnOk};
 ghost use Rattle.protocol_wire.specs.Fields.{fields};
-ghost use Rattle.protocol_wire.specs.Selection.{optional_u32 as the_optional_u32};
+ghost use Rattle.protocol_wire.specs.Selection.{optional_u32};
 ghost use Rattle.protocol_wire.specs.Parts.{part_spelling, optional_number};
-ghost use Rattle.protocol_wire.specs.Lengths.{counted};
+ghost use Rattle.protocol_wire.specs.Lengths.{counted_bytes};
 
 use bytes::ByteStr;
 use protocol_records::both;
@@ -92,7 +92,7 @@ impl Record for ErrorMessage {
 
 /// The low 32 bits of the last number of this field, if there is one.
 fn optional_u32_at(payload: &Payload<'_>, field: FieldDescriptor) -> Option<u32>
-    ensures { result ≡ the_optional_u32 field.number (fields payload.now) }
+    ensures { result ≡ optional_u32 field.number (fields payload.now) }
 {
     let number = optional_u64_at(payload, field)?;
     Some((number % (1 << 32)) as u32)
@@ -114,7 +114,7 @@ fn put_optional_u32(
 
 /// Counted where it is present, also when zero.
 fn len_optional_u32(before: u64, field: FieldDescriptor, value: Option<u32>) -> u64
-    ensures { result ≡ counted before (part_spelling (optional_number field.number value)) }
+    ensures { result ≡ counted_bytes before (part_spelling (optional_number field.number value)) }
 {
     match value {
         None => before,

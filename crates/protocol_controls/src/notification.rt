@@ -2,7 +2,7 @@ ghost use Rattle.std.specs.Prelude.{◌≡◌, ◌++◌, None, IfOk, OnOk};
 ghost use Rattle.protocol_wire.specs.Fields.{fields};
 ghost use Rattle.protocol_wire.specs.Check.{payload_fault};
 ghost use Rattle.protocol_wire.specs.Parts.{payload_of};
-ghost use Rattle.protocol_wire.specs.Lengths.{counted};
+ghost use Rattle.protocol_wire.specs.Lengths.{counted_bytes};
 ghost use Rattle.protocol_table.specs.declared.table.RecordType.TheVariants.{Notification as notification_type};
 ghost use Rattle.protocol_controls.specs.Notification.{notification_id_of, id_parts, notification_result_of, result_parts};
 
@@ -85,7 +85,7 @@ fn put_id(out: &mut Vec<u8>, one: &Option<NotificationMessageId>) -> Result<(), 
 }
 
 fn len_id(before: u64, one: &Option<NotificationMessageId>) -> u64
-    ensures { result ≡ counted before (payload_of (id_parts one.now)) }
+    ensures { result ≡ counted_bytes before (payload_of (id_parts one.now)) }
 {
     match one {
         None => before,
@@ -157,7 +157,7 @@ fn put_result(
 }
 
 fn len_result(before: u64, one: &Option<NotificationMessageResult>) -> u64
-    ensures { result ≡ counted before (payload_of (result_parts one.now)) }
+    ensures { result ≡ counted_bytes before (payload_of (result_parts one.now)) }
 {
     match one {
         None => before,

@@ -5,7 +5,8 @@ use Rattle.protocol_equality.specs.Parts.{same_text}
 use Rattle.protocol_equality.specs.Records.{same_header}
 use Rattle.protocol_equality.specs.Payloads.{same_payload}
 use Rattle.protocol_equality.specs.Calls.{Called, called_by, called_one_way}
-use Rattle.protocol_equality.specs.Passed.{CallCommandMessage, OneWayCallCommandMessage}
+use Rattle.protocol_calls.specs.declared.call_command.CallCommandMessage.{CallCommandMessage}
+use Rattle.protocol_calls.specs.declared.one_way_call_command.OneWayCallCommandMessage.{OneWayCallCommandMessage}
 use Rattle.protocol_types.specs.Texts.{quoted, escaped, list_text}
 use Rattle.protocol_records.specs.Texts.{header_text}
 use Rattle.protocol_differences.specs.Lines.{Compared, ◌before◌, field_line, text_line, optional_line, id_line, name_line}

@@ -1,7 +1,11 @@
 -- Commands about invocations and awakeables that are there already. How two of them differ, as text.
 use Rattle.std.specs.Prelude.{ℕ, false, List, codes}
 use Rattle.protocol_equality.specs.Choices.{same_signal_id, same_signal_result, same_invocation_target}
-use Rattle.protocol_equality.specs.Passed.{awakeable_result_text, signal_id_text, signal_result_text, invocation_target_text, SendSignalCommandMessage, AttachInvocationCommandMessage, GetInvocationOutputCommandMessage, CompleteAwakeableCommandMessage}
+use Rattle.protocol_calls.specs.Texts.{awakeable_result_text, signal_id_text, signal_result_text, invocation_target_text}
+use Rattle.protocol_calls.specs.declared.send_signal_command.SendSignalCommandMessage.{SendSignalCommandMessage}
+use Rattle.protocol_calls.specs.declared.attach_invocation_command.AttachInvocationCommandMessage.{AttachInvocationCommandMessage}
+use Rattle.protocol_calls.specs.declared.get_invocation_output_command.GetInvocationOutputCommandMessage.{GetInvocationOutputCommandMessage}
+use Rattle.protocol_calls.specs.declared.complete_awakeable_command.CompleteAwakeableCommandMessage.{CompleteAwakeableCommandMessage}
 use Rattle.protocol_equality.specs.Payloads.{same_awakeable_result}
 use Rattle.protocol_differences.specs.Lines.{Compared, ◌before◌, text_line, optional_line, id_line, name_line}
 

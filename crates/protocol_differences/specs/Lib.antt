@@ -5,4 +5,3 @@ pub mod Lines
 pub mod Mismatch
 pub mod Promises
 pub mod State
-pub mod Passed

@@ -5,7 +5,7 @@ use Rattle.std.proofs.Common.{sym, ◌∙◌}
 use Rattle.std.proofs.lemmas.Bool.{and_parts, and_from}
 use Rattle.protocol_types.specs.Texts.{quoted, escaped, optional_text}
 use Rattle.protocol_equality.specs.Parts.{same_text}
-use Rattle.protocol_equality.specs.Tells.{Tells}
+use Rattle.protocol_equality.specs.Tells.{DecidesErased}
 
 -- a line begins with a line feed; where the field is the same there is none
 unfoldable pub compared_line : Bool → List ℕ → List ℕ → List ℕ → List ℕ
@@ -69,6 +69,6 @@ abbrev pub name_line : List ℕ → List ℕ → Compared
 name_line = text_line (codes "name")
 
 -- nothing is written exactly where the test is true, which is where what is left of both is the same
-pub silent_told : {M : Type 0} {test : M → M → Bool} {erased : M → M} → Tells test erased → (lines : M → M → Compared)
+pub silent_told : {M : Type 0} {test : M → M → Bool} {erased : M → M} → DecidesErased test erased → (lines : M → M → Compared)
     → ((x y : M) → (lines x y).same ≡ test x y) → (x y : M) → ((lines x y).text ≡ []) ↔ (erased x ≡ erased y)
 silent_told tells lines same x y = (λ h. tells.alike x y (sym (same x y) ∙ (lines x y).shown h), λ h. (lines x y).none (same x y ∙ tells.found x y h))

@@ -1,6 +1,10 @@
 -- Commands on promises, and the effect. How two of them differ, as text.
 use Rattle.std.specs.Prelude.{ℕ, false, List, codes}
-use Rattle.protocol_equality.specs.Passed.{completion_text, GetPromiseCommandMessage, PeekPromiseCommandMessage, CompletePromiseCommandMessage, RunCommandMessage}
+use Rattle.protocol_commands.specs.Texts.{completion_text}
+use Rattle.protocol_commands.specs.declared.get_promise_command.GetPromiseCommandMessage.{GetPromiseCommandMessage}
+use Rattle.protocol_commands.specs.declared.peek_promise_command.PeekPromiseCommandMessage.{PeekPromiseCommandMessage}
+use Rattle.protocol_commands.specs.declared.complete_promise_command.CompletePromiseCommandMessage.{CompletePromiseCommandMessage}
+use Rattle.protocol_commands.specs.declared.run_command.RunCommandMessage.{RunCommandMessage}
 use Rattle.protocol_equality.specs.Payloads.{same_completion}
 use Rattle.protocol_differences.specs.Lines.{Compared, ◌before◌, text_line, optional_line, id_line, name_line}
 

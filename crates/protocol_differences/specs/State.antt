@@ -1,6 +1,13 @@
 -- Commands on the object's state. How two of them differ, as text.
 use Rattle.std.specs.Prelude.{ℕ, false, List, codes}
-use Rattle.protocol_equality.specs.Passed.{state_result_text, GetLazyStateCommandMessage, GetLazyStateKeysCommandMessage, GetEagerStateCommandMessage, GetEagerStateKeysCommandMessage, SetStateCommandMessage, ClearStateCommandMessage, ClearAllStateCommandMessage}
+use Rattle.protocol_commands.specs.Texts.{state_result_text}
+use Rattle.protocol_commands.specs.declared.get_lazy_state_command.GetLazyStateCommandMessage.{GetLazyStateCommandMessage}
+use Rattle.protocol_commands.specs.declared.get_lazy_state_keys_command.GetLazyStateKeysCommandMessage.{GetLazyStateKeysCommandMessage}
+use Rattle.protocol_commands.specs.declared.get_eager_state_command.GetEagerStateCommandMessage.{GetEagerStateCommandMessage}
+use Rattle.protocol_commands.specs.declared.get_eager_state_keys_command.GetEagerStateKeysCommandMessage.{GetEagerStateKeysCommandMessage}
+use Rattle.protocol_commands.specs.declared.set_state_command.SetStateCommandMessage.{SetStateCommandMessage}
+use Rattle.protocol_commands.specs.declared.clear_state_command.ClearStateCommandMessage.{ClearStateCommandMessage}
+use Rattle.protocol_commands.specs.declared.clear_all_state_command.ClearAllStateCommandMessage.{ClearAllStateCommandMessage}
 use Rattle.protocol_equality.specs.Records.{same_state_keys}
 use Rattle.protocol_equality.specs.Payloads.{same_content, same_state_result}
 use Rattle.protocol_records.specs.Texts.{state_keys_text, value_text}

@@ -1,7 +1,7 @@
 -- When what a command chooses among is the same: it is the same variant, which holds the same.
 use Rattle.std.specs.Prelude.{◌≡◌, Bool, true, false, nat_eq}
 use Rattle.std.proofs.Common.{ap}
-use Rattle.protocol_equality.specs.Tells.{Tells, whole}
+use Rattle.protocol_equality.specs.Tells.{DecidesErased, whole}
 use Rattle.protocol_equality.specs.Parts.{same_text, numbers_tell, texts_tell}
 use Rattle.protocol_equality.specs.Records.{same_value, value_tells, same_void, void_tells, same_failure, failure_tells, same_workflow_target, workflow_target_tells, same_idempotent_request_target, idempotent_request_target_tells}
 use Rattle.protocol_calls.specs.declared.send_signal_command.SendSignalCommandSignalId.{SendSignalCommandSignalId}
@@ -16,7 +16,7 @@ same_signal_id (signals.Idx x) (signals.Idx y) = nat_eq x y
 same_signal_id (signals.Name x) (signals.Name y) = same_text x y
 same_signal_id _ _ = false
 
-pub signal_id_tells : Tells same_signal_id (whole {A = SendSignalCommandSignalId})
+pub signal_id_tells : DecidesErased same_signal_id (whole {A = SendSignalCommandSignalId})
 signal_id_tells = record { alike = alike; found = found }
   where
     alike : (x y : SendSignalCommandSignalId) → same_signal_id x y ≡ true → x ≡ y
@@ -37,7 +37,7 @@ same_signal_result (results.Value x) (results.Value y) = same_value x y
 same_signal_result (results.Failure x) (results.Failure y) = same_failure x y
 same_signal_result _ _ = false
 
-pub signal_result_tells : Tells same_signal_result (whole {A = SendSignalCommandResult})
+pub signal_result_tells : DecidesErased same_signal_result (whole {A = SendSignalCommandResult})
 signal_result_tells = record { alike = alike; found = found }
   where
     alike : (x y : SendSignalCommandResult) → same_signal_result x y ≡ true → x ≡ y
@@ -68,7 +68,7 @@ same_invocation_target (targets.WorkflowTarget x) (targets.WorkflowTarget y) = s
 same_invocation_target (targets.IdempotentRequestTarget x) (targets.IdempotentRequestTarget y) = same_idempotent_request_target x y
 same_invocation_target _ _ = false
 
-pub invocation_target_tells : Tells same_invocation_target (whole {A = InvocationTarget})
+pub invocation_target_tells : DecidesErased same_invocation_target (whole {A = InvocationTarget})
 invocation_target_tells = record { alike = alike; found = found }
   where
     alike : (x y : InvocationTarget) → same_invocation_target x y ≡ true → x ≡ y

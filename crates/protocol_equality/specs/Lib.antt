@@ -6,4 +6,3 @@ pub mod Parts
 pub mod Payloads
 pub mod Records
 pub mod Tells
-pub mod Passed

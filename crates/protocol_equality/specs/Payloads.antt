@@ -2,7 +2,7 @@
 use Rattle.std.specs.Prelude.{◌≡◌, ℕ, Bool, true, false, List, [], Option, Some, None, refl}
 use Rattle.std.proofs.Common.{ap}
 use Rattle.std.specs.Option.{option_map}
-use Rattle.protocol_equality.specs.Tells.{Tells, parts_tell}
+use Rattle.protocol_equality.specs.Tells.{DecidesErased, parts_tell}
 use Rattle.protocol_equality.specs.Parts.{same_text, texts_tell}
 use Rattle.protocol_equality.specs.Records.{same_void, void_tells, same_failure, failure_tells}
 use Rattle.protocol_records.specs.declared.value.Value.{Value}
@@ -23,7 +23,7 @@ abbrev pub same_payload : Bool → List ℕ → List ℕ → Bool
 same_payload true x y = true
 same_payload false x y = same_text x y
 
-pub payload_tells : (ignoring : Bool) → Tells (same_payload ignoring) (erased_payload ignoring)
+pub payload_tells : (ignoring : Bool) → DecidesErased (same_payload ignoring) (erased_payload ignoring)
 payload_tells true = record { alike = λ x y h. refl; found = λ x y h. refl }
 payload_tells false = texts_tell
 
@@ -33,7 +33,7 @@ erased_value ignoring value = record { content = erased_payload ignoring value.c
 abbrev pub same_content : Bool → Value → Value → Bool
 same_content ignoring x y = same_payload ignoring x.content y.content
 
-pub content_tells : (ignoring : Bool) → Tells (same_content ignoring) (erased_value ignoring)
+pub content_tells : (ignoring : Bool) → DecidesErased (same_content ignoring) (erased_value ignoring)
 content_tells ignoring = parts_tell (λ (x : Value). x.content) (erased_value ignoring) (λ x y h i. record { content = h i }) (λ x y h. ap (λ (x : Value). x.content) h) (payload_tells ignoring)
 
 pub value_erased : (x : Value) → erased_value true (erased_value false x) ≡ erased_value true x
@@ -53,7 +53,7 @@ abbrev pub erased_output_result : Bool → OutputCommandResult → OutputCommand
 erased_output_result ignoring (outputs.Value x) = outputs.Value (erased_value ignoring x)
 erased_output_result ignoring (outputs.Failure x) = outputs.Failure x
 
-pub output_result_tells : (ignoring : Bool) → Tells (same_output_result ignoring) (erased_output_result ignoring)
+pub output_result_tells : (ignoring : Bool) → DecidesErased (same_output_result ignoring) (erased_output_result ignoring)
 output_result_tells ignoring = record { alike = alike; found = found }
   where
     alike : (x y : OutputCommandResult) → same_output_result ignoring x y ≡ true → erased_output_result ignoring x ≡ erased_output_result ignoring y
@@ -81,7 +81,7 @@ abbrev pub erased_state_result : Bool → GetEagerStateCommandResult → GetEage
 erased_state_result ignoring (states.Void x) = states.Void x
 erased_state_result ignoring (states.Value x) = states.Value (erased_value ignoring x)
 
-pub state_result_tells : (ignoring : Bool) → Tells (same_state_result ignoring) (erased_state_result ignoring)
+pub state_result_tells : (ignoring : Bool) → DecidesErased (same_state_result ignoring) (erased_state_result ignoring)
 state_result_tells ignoring = record { alike = alike; found = found }
   where
     alike : (x y : GetEagerStateCommandResult) → same_state_result ignoring x y ≡ true → erased_state_result ignoring x ≡ erased_state_result ignoring y
@@ -109,7 +109,7 @@ abbrev pub erased_completion : Bool → CompletePromiseCommandCompletion → Com
 erased_completion ignoring (completions.CompletionValue x) = completions.CompletionValue (erased_value ignoring x)
 erased_completion ignoring (completions.CompletionFailure x) = completions.CompletionFailure x
 
-pub completion_tells : (ignoring : Bool) → Tells (same_completion ignoring) (erased_completion ignoring)
+pub completion_tells : (ignoring : Bool) → DecidesErased (same_completion ignoring) (erased_completion ignoring)
 completion_tells ignoring = record { alike = alike; found = found }
   where
     alike : (x y : CompletePromiseCommandCompletion) → same_completion ignoring x y ≡ true → erased_completion ignoring x ≡ erased_completion ignoring y
@@ -137,7 +137,7 @@ abbrev pub erased_awakeable_result : Bool → CompleteAwakeableCommandResult →
 erased_awakeable_result ignoring (awakeables.Value x) = awakeables.Value (erased_value ignoring x)
 erased_awakeable_result ignoring (awakeables.Failure x) = awakeables.Failure x
 
-pub awakeable_result_tells : (ignoring : Bool) → Tells (same_awakeable_result ignoring) (erased_awakeable_result ignoring)
+pub awakeable_result_tells : (ignoring : Bool) → DecidesErased (same_awakeable_result ignoring) (erased_awakeable_result ignoring)
 awakeable_result_tells ignoring = record { alike = alike; found = found }
   where
     alike : (x y : CompleteAwakeableCommandResult) → same_awakeable_result ignoring x y ≡ true → erased_awakeable_result ignoring x ≡ erased_awakeable_result ignoring y

@@ -4,7 +4,7 @@ use Rattle.std.proofs.Common.{◌≡◌, ℕ, ◌-◌, Bool, true, false, ◌||�
 use Rattle.std.specs.Prelude.{option_map}
 use Rattle.protocol_wire.specs.Wire.{Field}
 use Rattle.protocol_wire.specs.Fields.{fields}
-use Rattle.protocol_wire.specs.Selection.{optional_u32, optional_text, optional_record, is_among, among, run, variant_of, first_of}
+use Rattle.protocol_wire.specs.Selection.{optional_u32, optional_text, optional_record, is_among, among, run, variant_of, first_present}
 use Rattle.protocol_table.specs.Table.{descriptors_of, kind_in}
 use Rattle.protocol_table.specs.declared.table.RecordType.{RecordType}
 use Rattle.protocol_table.specs.declared.table.Kind.{Kind}
@@ -36,7 +36,7 @@ some n = Some n
 never : {A : Type 0} → true ≡ false → A
 never e = absurd cc
 
-or_none : {A : Type 0} (o : Option A) → first_of o None ≡ o
+or_none : {A : Type 0} (o : Option A) → first_present o None ≡ o
 or_none None = refl
 or_none (Some x) = refl
 
@@ -52,7 +52,7 @@ module _ {E : Type 0} (number_of : E → ℕ) where
   told variants (Some k) None s among = never (sym (among k refl) ∙ s k refl)
 
   module _ {A : Type 0} (make : A → E) (number : ℕ) (is : (x : A) → number_of (make x) ≡ number) (variants : List ℕ) where
-    stands_first : (n : Option ℕ) (s : Option A) (o : Option E) → is_there s ≡ stands n number → VariantStands variants n o → VariantStands (number ∷ variants) n (first_of (option_map make s) o)
+    stands_first : (n : Option ℕ) (s : Option A) (o : Option E) → is_there s ≡ stands n number → VariantStands variants n o → VariantStands (number ∷ variants) n (first_present (option_map make s) o)
     stands_first n (Some x) o h k =
         (stands_is n number (sym h) ∙ ap some (sym (is x)), ap (λ (m : ℕ). is_among (number ∷ variants) m) (is x) ∙ ap (λ (t : Bool). t || is_among variants number) (eq-eqb number number refl))
     stands_first n None None h k = λ m e.
@@ -78,7 +78,7 @@ module _ {E : Type 0} (number_of : E → ℕ) where
       not_this n e x k same = never (sym k.1 ∙ ap (is_among variants) (sym (ap number_of same) ∙ is x) ∙ other)
 
       same_parts : (one : (x y : A) → make x ≡ make y → x ≡ y) (n m : Option ℕ) (s t : Option A) (o p : Option E) → is_there s ≡ stands n number → is_there t ≡ stands m number → VariantStands variants n o → VariantStands variants m p
-          → first_of (option_map make s) o ≡ first_of (option_map make t) p → (s ≡ t) × (o ≡ p)
+          → first_present (option_map make s) o ≡ first_present (option_map make t) p → (s ≡ t) × (o ≡ p)
       same_parts one n m (Some x) (Some y) o p h i k l same =
           (ap there (one x y (made same)), others_absent n x o h k ∙ sym (others_absent m y p i l))
         where
@@ -155,12 +155,12 @@ module _ (levels : ℕ) (t : RecordType) (variants : List ℕ) (number : ℕ) (m
 module _ {levels : ℕ} {t : RecordType} {variants : List ℕ} {A E : Type 0} {number : ℕ} {read : List Field → Option A} (number_of : E → ℕ) (v : Variant levels t variants number read) (make : A → E) (is : (x : A) → number_of (make x) ≡ number) (one : (x y : A) → make x ≡ make y → x ≡ y) where
   -- The variant, or what is read of the others.
   pub either : {others : List ℕ} {view : List Field → Option E} → Choice levels t variants number_of others view → is_among others number ≡ false
-      → Choice levels t variants number_of (number ∷ others) (λ fs. first_of (option_map make (read fs)) (view fs))
+      → Choice levels t variants number_of (number ∷ others) (λ fs. first_present (option_map make (read fs)) (view fs))
   either {others = others} {view = view} w other = record {
     there = λ a p. stands_first number_of make number is others (variant_of (Last variants a)) (read (Last variants a)) (view (Last variants a)) (v.there a p) (w.there a p);
     joins = λ a b z p q h.
         let same = same_parts number_of make number is others other one (variant_of (Last variants a)) (variant_of (Last variants b)) (read (Last variants a)) (read (Last variants b)) (view (Last variants a)) (view (Last variants b)) (v.there a p) (v.there b q) (w.there a p) (w.there b q) h in
-        λ i. first_of (option_map make (v.joins a b z p q same.0 i)) (w.joins a b z p q same.1 i);
+        λ i. first_present (option_map make (v.joins a b z p q same.0 i)) (w.joins a b z p q same.1 i);
   }
 
   none : Choice levels t variants number_of [] (λ fs. None)

@@ -41,7 +41,7 @@ use Rattle.protocol_table.specs.declared.table.get_state_ephemeral_command.TheCo
 use Rattle.protocol_table.specs.declared.table.get_state_ephemeral_notification.TheConstants as get_state_ephemeral_notification
 use Rattle.protocol_table.specs.declared.table.notification.TheConstants as notification
 use Rattle.protocol_records.specs.AwaitingOn.{AwaitingOnFits, awaiting_on_of}
-use Rattle.protocol_records.specs.End.{EndFits, end_of}
+use Rattle.protocol_records.specs.End.{EndFits, end_message_of}
 use Rattle.protocol_records.specs.Failure.{FailureFits, failure_of}
 use Rattle.protocol_records.specs.FailureMetadata.{FailureMetadataFits, failure_metadata_of}
 use Rattle.protocol_records.specs.Future.{FutureFits, future_of}
@@ -49,7 +49,7 @@ use Rattle.protocol_records.specs.Header.{HeaderFits, header_of}
 use Rattle.protocol_records.specs.InputCommand.{InputCommandFits, input_command_of}
 use Rattle.protocol_records.specs.OutputCommand.{OutputCommandFits, output_command_of, output_choice}
 use Rattle.protocol_records.specs.SleepCommand.{SleepCommandFits, sleep_command_of}
-use Rattle.protocol_records.specs.Start.{StartFits, start_of}
+use Rattle.protocol_records.specs.Start.{StartFits, start_message_of}
 use Rattle.protocol_records.specs.StateEntry.{StateEntryFits, state_entry_of}
 use Rattle.protocol_records.specs.StateKeys.{StateKeysFits, state_keys_of}
 use Rattle.protocol_records.specs.Suspension.{SuspensionFits, suspension_of}
@@ -133,7 +133,7 @@ state_keys_fits levels a fine = record {
   level = level_left levels types.StateKeys a fine;
 }
 
-pub start_fits : ReadOfBytesFits types.Start start_of StartFits
+pub start_fits : ReadOfBytesFits types.Start start_message_of StartFits
 start_fits levels a are_bytes fine = record {
   level = level_left levels types.Start a fine;
   debug_id = text_fits levels types.Start start.DEBUG_ID.number a fine refl;
@@ -156,7 +156,7 @@ suspension_v6_fits levels a fine = record {
   waiting_named_signals = texts_fit levels types.SuspensionV6 suspension_v6.WAITING_NAMED_SIGNALS.number a fine refl;
 }
 
-pub end_fits : ReadFits types.End end_of EndFits
+pub end_fits : ReadFits types.End end_message_of EndFits
 end_fits levels a fine = record {
   level = level_left levels types.End a fine;
 }

@@ -11,11 +11,11 @@ use Rattle.protocol_table.specs.declared.table.future.TheConstants as table
 use Rattle.protocol_wire.proofs.SoundAt.{level_left, records_sound}
 use Rattle.protocol_wire.proofs.Joins.{IsFine}
 use Rattle.protocol_records.specs.declared.future.CombinatorType.TheVariants.{Unknown, FirstCompleted, AllCompleted, FirstSucceededOrAllFailed, AllSucceededOrFirstFailed, AtLeastSucceeded, Other}
-use Rattle.protocol_records.specs.Future.{combinator_of, CombinatorFits, future_of, FutureFits}
+use Rattle.protocol_records.specs.Future.{read_combinator, CombinatorFits, future_of, FutureFits}
 use Rattle.protocol_records.proofs.Futures.{future_fits as layer_fits}
 use Rattle.protocol_laws.specs.ReadFits.{numbers_fit, records_fit, texts_fit, u32_fits}
 
-combinator_fits : (n : ℕ) → n < 2 ^ 32 → CombinatorFits (combinator_of n)
+combinator_fits : (n : ℕ) → n < 2 ^ 32 → CombinatorFits (read_combinator n)
 combinator_fits n lt = zeroth (eqb n 0) refl
   where
     fifth : (t : Bool) → eqb n 5 ≡ t → eqb n 0 ≡ false → eqb n 1 ≡ false → eqb n 2 ≡ false → eqb n 3 ≡ false → eqb n 4 ≡ false → CombinatorFits (cond t AtLeastSucceeded (Other n))
@@ -53,7 +53,7 @@ future_fits (suc levels) a fine =
       waiting_signals = numbers table.WAITING_SIGNALS.number (fields a);
       waiting_named_signals = texts table.WAITING_NAMED_SIGNALS.number (fields a);
       nested_futures = records (future_of levels) table.NESTED_FUTURES.number (fields a);
-      combinator_type = combinator_of (u32 table.COMBINATOR_TYPE.number (fields a));
+      combinator_type = read_combinator (u32 table.COMBINATOR_TYPE.number (fields a));
       required = u32 table.REQUIRED.number (fields a);
     }) (
       numbers_fit table.WAITING_COMPLETIONS.number (fields a),

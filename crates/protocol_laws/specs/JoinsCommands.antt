@@ -45,7 +45,7 @@ use Rattle.protocol_calls.specs.Fields.{call_command_of, idempotent_request_targ
 use Rattle.protocol_calls.specs.CompleteAwakeableCommand.{complete_awakeable_command_of}
 use Rattle.protocol_calls.specs.GetInvocationOutputCommand.{get_invocation_output_command_of}
 use Rattle.protocol_calls.specs.InvocationTarget.{target_in}
-use Rattle.protocol_calls.specs.SendSignalCommand.{send_signal_command_of, signal_id_in as send_signal_command_signal_id_in, result_in as send_signal_command_result_in}
+use Rattle.protocol_calls.specs.SendSignalCommand.{send_signal_command_of, signal_id_in, result_in}
 use Rattle.protocol_calls.specs.declared.attach_invocation_command.AttachInvocationCommandMessage.{AttachInvocationCommandMessage}
 use Rattle.protocol_calls.specs.declared.invocation_target.InvocationTarget.{InvocationTarget}
 use Rattle.protocol_calls.specs.declared.call_command.CallCommandMessage.{CallCommandMessage}
@@ -214,7 +214,7 @@ abbrev send_signal_command_signal_id_number : SendSignalCommandSignalId → ℕ
 send_signal_command_signal_id_number (signal_ids.Idx x) = send_signal_command.IDX.number
 send_signal_command_signal_id_number (signal_ids.Name x) = send_signal_command.NAME.number
 
-send_signal_command_signal_id_choice : (levels : ℕ) → Choice levels types.SendSignalCommand send_signal_command.SIGNAL_ID send_signal_command_signal_id_number send_signal_command.SIGNAL_ID (send_signal_command_signal_id_in levels)
+send_signal_command_signal_id_choice : (levels : ℕ) → Choice levels types.SendSignalCommand send_signal_command.SIGNAL_ID send_signal_command_signal_id_number send_signal_command.SIGNAL_ID (signal_id_in levels)
 send_signal_command_signal_id_choice levels =
     either send_signal_command_signal_id_number (u32_variant levels types.SendSignalCommand send_signal_command.SIGNAL_ID send_signal_command.IDX.number refl refl) (λ x. signal_ids.Idx x) (λ x. refl) (λ x y h. cc) (
     only send_signal_command_signal_id_number (text_variant levels types.SendSignalCommand send_signal_command.SIGNAL_ID send_signal_command.NAME.number refl refl) (λ x. signal_ids.Name x) (λ x. refl) (λ x y h. cc)) refl
@@ -224,7 +224,7 @@ send_signal_command_result_number (signal_results.Void x) = send_signal_command.
 send_signal_command_result_number (signal_results.Value x) = send_signal_command.VALUE.number
 send_signal_command_result_number (signal_results.Failure x) = send_signal_command.FAILURE.number
 
-send_signal_command_result_choice : (levels : ℕ) → Choice levels types.SendSignalCommand send_signal_command.RESULT send_signal_command_result_number send_signal_command.RESULT (send_signal_command_result_in levels)
+send_signal_command_result_choice : (levels : ℕ) → Choice levels types.SendSignalCommand send_signal_command.RESULT send_signal_command_result_number send_signal_command.RESULT (result_in levels)
 send_signal_command_result_choice levels =
     either send_signal_command_result_number (record_variant levels types.SendSignalCommand send_signal_command.RESULT send_signal_command.VOID.number refl types.Void void_of void_joins refl) (λ x. signal_results.Void x) (λ x. refl) (λ x y h. cc) (
     either send_signal_command_result_number (record_variant levels types.SendSignalCommand send_signal_command.RESULT send_signal_command.VALUE.number refl types.Value value_of value_joins refl) (λ x. signal_results.Value x) (λ x. refl) (λ x y h. cc) (

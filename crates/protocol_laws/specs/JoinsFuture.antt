@@ -10,7 +10,7 @@ use Rattle.protocol_wire.proofs.Joins.{number_joins, numbers_join, texts_join, r
 use Rattle.protocol_records.specs.declared.future.Future.{Future, out-Future, roll-Future}
 use Rattle.protocol_records.specs.declared.future.Future.TheOpen.{Future-F}
 use Rattle.protocol_records.specs.declared.future.Future.TheViews.{out-roll-Future}
-use Rattle.protocol_records.specs.Future.{combinator_of, future_of}
+use Rattle.protocol_records.specs.Future.{read_combinator, future_of}
 use Rattle.protocol_laws.specs.Choices.{Join, joined}
 
 abbrev layer : ℕ → List Field → Future-F Future
@@ -19,7 +19,7 @@ layer levels fs = record {
   waiting_signals = numbers future.WAITING_SIGNALS.number fs;
   waiting_named_signals = texts future.WAITING_NAMED_SIGNALS.number fs;
   nested_futures = records (future_of levels) future.NESTED_FUTURES.number fs;
-  combinator_type = combinator_of (u32 future.COMBINATOR_TYPE.number fs);
+  combinator_type = read_combinator (u32 future.COMBINATOR_TYPE.number fs);
   required = u32 future.REQUIRED.number fs;
 }
 
@@ -29,7 +29,7 @@ layers_join levels x y z h = λ i. record {
   waiting_signals = numbers_join future.WAITING_SIGNALS.number x y z (ap (λ (r : Future-F Future). r.waiting_signals) h) i;
   waiting_named_signals = texts_join future.WAITING_NAMED_SIGNALS.number x y z (ap (λ (r : Future-F Future). r.waiting_named_signals) h) i;
   nested_futures = records_join (future_of levels) future.NESTED_FUTURES.number x y z (ap (λ (r : Future-F Future). r.nested_futures) h) i;
-  combinator_type = number_joins future.COMBINATOR_TYPE.number x y z (λ o. combinator_of (low (unwrap_or o 0))) (ap (λ (r : Future-F Future). r.combinator_type) h) i;
+  combinator_type = number_joins future.COMBINATOR_TYPE.number x y z (λ o. read_combinator (low (unwrap_or o 0))) (ap (λ (r : Future-F Future). r.combinator_type) h) i;
   required = number_joins future.REQUIRED.number x y z (λ o. low (unwrap_or o 0)) (ap (λ (r : Future-F Future). r.required) h) i;
 }
 

@@ -5,7 +5,7 @@ use Rattle.std.specs.Prelude.{refl, ℕ, ◌-◌}
 use Rattle.protocol_wire.proofs.Joins.{bool_joins, numbers_join, optional_text_joins, records_join, text_joins, texts_join, u32_joins, u64_joins, optional_u32_joins, optional_u64_joins}
 use Rattle.protocol_wire.specs.Fields.{fields}
 use Rattle.protocol_records.specs.AwaitingOn.{awaiting_on_of}
-use Rattle.protocol_records.specs.End.{end_of}
+use Rattle.protocol_records.specs.End.{end_message_of}
 use Rattle.protocol_records.specs.Failure.{failure_of}
 use Rattle.protocol_records.specs.FailureMetadata.{failure_metadata_of}
 use Rattle.protocol_records.specs.Future.{future_of}
@@ -13,7 +13,7 @@ use Rattle.protocol_records.specs.Header.{header_of}
 use Rattle.protocol_records.specs.InputCommand.{input_command_of}
 use Rattle.protocol_records.specs.OutputCommand.{output_choice, output_command_of}
 use Rattle.protocol_records.specs.SleepCommand.{sleep_command_of}
-use Rattle.protocol_records.specs.Start.{start_of}
+use Rattle.protocol_records.specs.Start.{start_message_of}
 use Rattle.protocol_records.specs.StateEntry.{state_entry_of}
 use Rattle.protocol_records.specs.StateKeys.{state_keys_of}
 use Rattle.protocol_records.specs.Suspension.{suspension_of}
@@ -54,7 +54,7 @@ use Rattle.protocol_records.specs.declared.output_command.OutputCommandResult.Th
 use Rattle.protocol_controls.specs.Error.{error_of}
 use Rattle.protocol_controls.specs.GetStateEphemeralCommand.{get_state_ephemeral_command_of}
 use Rattle.protocol_controls.specs.GetStateEphemeralNotification.{get_state_ephemeral_notification_of}
-use Rattle.protocol_controls.specs.Notification.{notification_of, id_in as notification_id_in, result_in as notification_result_in}
+use Rattle.protocol_controls.specs.Notification.{notification_of, id_in, result_in}
 use Rattle.protocol_controls.specs.ProposeRunCompletion.{propose_run_completion_of}
 use Rattle.protocol_controls.specs.ProposeRunCompletionAck.{propose_run_completion_ack_of}
 use Rattle.protocol_controls.specs.declared.error.ErrorMessage.{ErrorMessage}
@@ -118,8 +118,8 @@ state_keys_joins levels a b c p q h = joined types.StateKeys (state_keys_of leve
   keys = texts_join state_keys.KEYS.number (fields a) (fields b) (fields c) (ap (λ (r : StateKeys). r.keys) h) i;
 })
 
-pub start_joins : Join types.Start start_of
-start_joins levels a b c p q h = joined types.Start (start_of levels) levels a b c p q (λ i. record {
+pub start_joins : Join types.Start start_message_of
+start_joins levels a b c p q h = joined types.Start (start_message_of levels) levels a b c p q (λ i. record {
   id = text_joins start.ID.number (fields a) (fields b) (fields c) (ap (λ (r : StartMessage). r.id) h) i;
   debug_id = text_joins start.DEBUG_ID.number (fields a) (fields b) (fields c) (ap (λ (r : StartMessage). r.debug_id) h) i;
   known_entries = u32_joins start.KNOWN_ENTRIES.number (fields a) (fields b) (fields c) (ap (λ (r : StartMessage). r.known_entries) h) i;
@@ -141,7 +141,7 @@ suspension_v6_joins levels a b c p q h = joined types.SuspensionV6 (suspension_v
   waiting_named_signals = texts_join suspension_v6.WAITING_NAMED_SIGNALS.number (fields a) (fields b) (fields c) (ap (λ (r : SuspensionMessageV6). r.waiting_named_signals) h) i;
 })
 
-pub end_joins : Join types.End end_of
+pub end_joins : Join types.End end_message_of
 end_joins levels a b c p q h = refl
 
 pub input_command_joins : Join types.InputCommand input_command_of
@@ -241,7 +241,7 @@ notification_id_number (ids.CompletionId x) = notification.COMPLETION_ID.number
 notification_id_number (ids.SignalId x) = notification.SIGNAL_ID.number
 notification_id_number (ids.SignalName x) = notification.SIGNAL_NAME.number
 
-notification_id_choice : (levels : ℕ) → Choice levels types.Notification notification.ID notification_id_number notification.ID (notification_id_in levels)
+notification_id_choice : (levels : ℕ) → Choice levels types.Notification notification.ID notification_id_number notification.ID (id_in levels)
 notification_id_choice levels =
     either notification_id_number (u32_variant levels types.Notification notification.ID notification.COMPLETION_ID.number refl refl) (λ x. ids.CompletionId x) (λ x. refl) (λ x y h. cc) (
     either notification_id_number (u32_variant levels types.Notification notification.ID notification.SIGNAL_ID.number refl refl) (λ x. ids.SignalId x) (λ x. refl) (λ x y h. cc) (
@@ -254,7 +254,7 @@ notification_result_number (notification_results.Failure x) = notification.FAILU
 notification_result_number (notification_results.InvocationId x) = notification.INVOCATION_ID.number
 notification_result_number (notification_results.StateKeys x) = notification.STATE_KEYS.number
 
-notification_result_choice : (levels : ℕ) → Choice levels types.Notification notification.RESULT notification_result_number notification.RESULT (notification_result_in levels)
+notification_result_choice : (levels : ℕ) → Choice levels types.Notification notification.RESULT notification_result_number notification.RESULT (result_in levels)
 notification_result_choice levels =
     either notification_result_number (record_variant levels types.Notification notification.RESULT notification.VOID.number refl types.Void void_of void_joins refl) (λ x. notification_results.Void x) (λ x. refl) (λ x y h. cc) (
     either notification_result_number (record_variant levels types.Notification notification.RESULT notification.VALUE.number refl types.Value value_of value_joins refl) (λ x. notification_results.Value x) (λ x. refl) (λ x y h. cc) (

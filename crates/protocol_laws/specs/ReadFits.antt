@@ -4,12 +4,12 @@ use Rattle.std.specs.List.{AllByRecursion}
 use Rattle.std.proofs.Common.{arith, sym, subst}
 use Rattle.std.proofs.lemmas.Str.{IsUtf8-nil}
 use Rattle.std.proofs.lemmas.Bool.{ltb-true}
-use Rattle.protocol_wire.specs.Wire.{Wire, varint, bytes, fixed, Field, ◌>>=◌, varint_within, varint_at, bytes_at, value_at, field_at}
+use Rattle.protocol_wire.specs.Wire.{Wire, varint, bytes, fixed, Field, ◌>>=◌, varint_within, varint_at, bytes_at, wire_value, field_at}
 use Rattle.protocol_wire.specs.Items.{first_and, items_within, items}
 use Rattle.protocol_wire.specs.Fields.{fields}
 use Rattle.protocol_wire.specs.Sound.{AreTexts, AreSound}
 use Rattle.protocol_wire.specs.Check.{payload_fault}
-use Rattle.protocol_wire.specs.Selection.{values, last_number_or, last_number, last_bytes_or, last_bytes, u64, u32, text, optional_u64, optional_u32, optional_text, each_bytes, texts, low, each_number, numbers, joined_bytes, optional_record, records, is_among, among, all_numbered, last_run, run, first_of}
+use Rattle.protocol_wire.specs.Selection.{values, last_number_or, last_number, last_bytes_or, last_bytes, u64, u32, text, optional_u64, optional_u32, optional_text, each_bytes, texts, low, each_number, numbers, joined_bytes, optional_record, records, is_among, among, all_numbered, last_run, run, first_present}
 use Rattle.protocol_table.specs.Table.{descriptors_of, kind_in}
 use Rattle.protocol_table.specs.declared.table.RecordType.{RecordType}
 use Rattle.protocol_table.specs.declared.table.Kind.TheVariants as kinds
@@ -87,8 +87,8 @@ either : (t : Bool) (o p : Option (Wire × List ℕ)) → ValueSmall o → Value
 either true o p a b = a
 either false o p a b = b
 
-value_small : (kind : ℕ) (bs : List ℕ) → AreBytes bs → ValueSmall (value_at kind bs)
-unfolding value_at varint_at
+value_small : (kind : ℕ) (bs : List ℕ) → AreBytes bs → ValueSmall (wire_value kind bs)
+unfolding wire_value varint_at
 value_small kind bs h =
     let number = plain_small (varint_within 10 bs) (varint_small 10 bs h) in
     let counted = sized_small (varint_within 10 bs) (varint_small 10 bs h) in
@@ -99,13 +99,13 @@ value_small kind bs h =
 abbrev FieldSmall : Option (Field × List ℕ) → Type 0
 FieldSmall o = IfSome o (λ x. IsSmall x.0.value × AreBytes x.1)
 
-abbrev numbered : ℕ → Wire × List ℕ → Option (Field × List ℕ)
-numbered n v = Some (record { number = n; value = v.0 }, v.1)
+abbrev field_numbered : ℕ → Wire × List ℕ → Option (Field × List ℕ)
+field_numbered n v = Some (record { number = n; value = v.0 }, v.1)
 
 abbrev valued : ℕ × List ℕ → Option (Field × List ℕ)
-valued t = value_at (t.0 % 8) t.1 >>= numbered (t.0 / 8)
+valued t = wire_value (t.0 % 8) t.1 >>= field_numbered (t.0 / 8)
 
-numbered_small : (n : ℕ) (o : Option (Wire × List ℕ)) → ValueSmall o → FieldSmall (o >>= numbered n)
+numbered_small : (n : ℕ) (o : Option (Wire × List ℕ)) → ValueSmall o → FieldSmall (o >>= field_numbered n)
 numbered_small n None s = tt
 numbered_small n (Some v) s = s
 
@@ -120,7 +120,7 @@ field_small bs h = go (varint_within 10 bs) (varint_small 10 bs h)
   where
     go : (o : Option (ℕ × List ℕ)) → IfSome o (λ x. (x.0 < 2 ^ 64) × AreBytes x.1) → FieldSmall (o >>= λ t. cond (ltb t.0 8) None (cond (ltb t.0 (2 ^ 32)) (valued t) None))
     go None s = tt
-    go (Some t) s = tag_small (valued t) (ltb t.0 8) (ltb t.0 (2 ^ 32)) (numbered_small (t.0 / 8) (value_at (t.0 % 8) t.1) (value_small (t.0 % 8) t.1 s.1))
+    go (Some t) s = tag_small (valued t) (ltb t.0 8) (ltb t.0 (2 ^ 32)) (numbered_small (t.0 / 8) (wire_value (t.0 % 8) t.1) (value_small (t.0 % 8) t.1 s.1))
 
 items_small : (k : ℕ) (bs : List ℕ) → AreBytes bs → AllByRecursion (λ f. IsSmall f.value) (items_within field_at k bs)
 unfolding items_within
@@ -271,7 +271,7 @@ chosen_record_fits levels t variants number a fine member r kind of Fits each =
     optional_record_fits (levels - 1) r (of (levels - 1)) (Fits (levels - 1)) (each (levels - 1)) number (run variants (fields a)) (run_sound levels t variants number a fine member r kind)
 
 module _ {A E : Type 0} (make : A → E) (Fits : Option E → Type 0) where
-  pub first_fits : (o : Option A) (other : Option E) → IfSome o (λ x. Fits (Some (make x))) → Fits other → Fits (first_of (option_map make o) other)
+  pub first_fits : (o : Option A) (other : Option E) → IfSome o (λ x. Fits (Some (make x))) → Fits other → Fits (first_present (option_map make o) other)
   first_fits None other h others = others
   first_fits (Some x) other h others = h
 

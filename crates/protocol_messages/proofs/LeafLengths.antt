@@ -7,7 +7,7 @@ use Rattle.std.proofs.lemmas.List.Concat.{flat_map-append}
 use Rattle.protocol_wire.specs.Wire.{Wire, bytes}
 use Rattle.protocol_wire.specs.Spelling.{varint_spelling_within, varint_spelling, tagged}
 use Rattle.protocol_wire.specs.Parts.{part_spelling, optional_number, repeated_bytes}
-use Rattle.protocol_wire.specs.Lengths.{counted}
+use Rattle.protocol_wire.specs.Lengths.{counted_bytes}
 use Rattle.protocol_wire.proofs.Lengths.{counted_more}
 use Rattle.protocol_records.specs.declared.future.Future.{Future}
 use Rattle.protocol_messages.specs.Leaves.{own_first}
@@ -35,16 +35,16 @@ unfolding tagged
 field_length n =
     ap length (append-nil (varint_spelling 8 ++ varint_spelling n)) ∙ length-append (varint_spelling 8) (varint_spelling n) ∙ ap (λ (k : ℕ). k + length (varint_spelling n)) tag_length
 
-pub without_tag : (n field : ℕ) → field ≡ counted 0 (part_spelling (optional_number 1 (Some n))) → field - 1 ≡ length (varint_spelling n)
+pub without_tag : (n field : ℕ) → field ≡ counted_bytes 0 (part_spelling (optional_number 1 (Some n))) → field - 1 ≡ length (varint_spelling n)
 without_tag n field e = omega (arith, e, field_length n, spelled_within n)
 
 -- The bytes of a node's own leaves, and then those of the leaves of the nodes in it.
 pub counted_node : {Leaf : Type 0} (spell : List Leaf → List ℕ) → ((xs ys : List Leaf) → spell (xs ++ ys) ≡ spell xs ++ spell ys) → (leaves : Future → List Leaf) (before mid after : ℕ) (own all : List Leaf) (fs nested : List Future)
-    → mid ≡ counted before (spell own) → after ≡ counted mid (spell (flat_map (λ found. found) (map leaves fs))) → fs ≡ nested → all ≡ own_first own (map leaves nested) → after ≡ counted before (spell all)
+    → mid ≡ counted_bytes before (spell own) → after ≡ counted_bytes mid (spell (flat_map (λ found. found) (map leaves fs))) → fs ≡ nested → all ≡ own_first own (map leaves nested) → after ≡ counted_bytes before (spell all)
 counted_node {Leaf} spell apart leaves before mid after own all fs nested m a same e =
     let behind = flat_map (λ found. found) (map leaves nested) in
-    a ∙ ap (λ (xs : List Future). counted mid (spell (flat_map (λ found. found) (map leaves xs)))) same
-    ∙ ap (λ (n : ℕ). counted n (spell behind)) m ∙ counted_more before (spell own) (spell behind) ∙ ap (counted before) (sym (apart own behind) ∙ ap spell (sym e))
+    a ∙ ap (λ (xs : List Future). counted_bytes mid (spell (flat_map (λ found. found) (map leaves xs)))) same
+    ∙ ap (λ (n : ℕ). counted_bytes n (spell behind)) m ∙ counted_more before (spell own) (spell behind) ∙ ap (counted_bytes before) (sym (apart own behind) ∙ ap spell (sym e))
 
 pub numbers_apart : (xs ys : List ℕ) → flat_map varint_spelling (xs ++ ys) ≡ flat_map varint_spelling xs ++ flat_map varint_spelling ys
 numbers_apart xs ys = flat_map-append varint_spelling xs ys

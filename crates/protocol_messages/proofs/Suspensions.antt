@@ -9,8 +9,7 @@ use Rattle.protocol_records.specs.declared.suspension.SuspensionMessage.{Suspens
 use Rattle.protocol_records.specs.Future.{FutureFits}
 use Rattle.protocol_records.specs.Suspension.{SuspensionFits}
 use Rattle.protocol_records.specs.SuspensionV6.{SuspensionV6Fits}
-use Rattle.protocol_records.specs.ReadBack.{suspension_reads}
-use Rattle.protocol_records.specs.ReadBack.{suspension_v6_reads}
+use Rattle.protocol_records.specs.ReadBack.{suspension_reads, suspension_v6_reads}
 use Rattle.protocol_types.specs.declared.message_type.MessageType.TheVariants as messages
 use Rattle.protocol_types.specs.declared.version.Version.{Version}
 use Rattle.protocol_stream.proofs.Fronts.{item_at-spelled}

@@ -47,7 +47,7 @@ abbrev pub HasItsType : RecordType → RawMessage → Type 0
 HasItsType t m = type_of_record t ≡ Some (message_type m.header)
 
 -- the message is of another type than the record has
-pub record IsOther (t : RecordType) (m : RawMessage) (index : ℤ) (expected actual : MessageType) (told : ℤ) : Type 0 where
+pub record IsOtherType (t : RecordType) (m : RawMessage) (index : ℤ) (expected actual : MessageType) (told : ℤ) : Type 0 where
   pub is_expected : type_of_record t ≡ Some expected
   pub is_there : actual ≡ message_type m.header
   pub other : actual ≢ expected
@@ -57,7 +57,7 @@ pub record IsOther (t : RecordType) (m : RawMessage) (index : ℤ) (expected act
 -- but want of memory hold of one message.
 abbrev pub DecodesTo : {R : Type 0} → RecordType → (ℕ → List Field → R) → ℤ → RawMessage → Result R DecodingError → Type 0
 DecodesTo t of index m (Ok r) = HasItsType t m × IsRead LEVELS t of m.payload r
-DecodesTo t of index m (Err (UnexpectedMessageType expected actual told)) = IsOther t m index expected actual told
+DecodesTo t of index m (Err (UnexpectedMessageType expected actual told)) = IsOtherType t m index expected actual told
 DecodesTo t of index m (Err (DecodeMessage ty fault)) = HasItsType t m × IsBad t m ty fault
 DecodesTo t of index m (Err OutOfMemory) = Unit {0}
 DecodesTo t of index m (Err _) = ⊥

@@ -3,7 +3,7 @@ ghost use Rattle.std.specs.Prelude.{◌≡◌, ℕ, List, length};
 ghost use Rattle.std.specs.List.{flat_map};
 ghost use Rattle.protocol_wire.specs.Spelling.{varint_spelling};
 ghost use Rattle.protocol_wire.specs.Parts.{part_spelling, nonempty, repeated_bytes, payload_of};
-ghost use Rattle.protocol_wire.specs.Lengths.{counted};
+ghost use Rattle.protocol_wire.specs.Lengths.{counted_bytes};
 ghost use Rattle.protocol_table.specs.declared.table.suspension_v6.TheConstants.{WAITING_NAMED_SIGNALS as named_signals};
 ghost use Rattle.protocol_records.specs.SuspensionV6.{suspension_v6_parts};
 ghost use Rattle.protocol_messages.specs.Leaves.{completions_of, signals_of, named_signals_of, three_lists};
@@ -33,7 +33,7 @@ fn len_number(number: u32) -> u64
 
 #[tactic(auto, using(protocol_wire::proofs::Lengths::counted_more))]
 fn count_numbers(before: u64, numbers: &[u32]) -> u64
-    ensures { result ≡ counted before (flat_map varint_spelling numbers.now) }
+    ensures { result ≡ counted_bytes before (flat_map varint_spelling numbers.now) }
 {
     let mut len = before;
     for number in numbers {
@@ -43,9 +43,9 @@ fn count_numbers(before: u64, numbers: &[u32]) -> u64
 }
 
 fn count_leaves(future: &Future, lengths: &mut LeafLengths)
-    ensures completions { lengths.new.completions ≡ counted lengths.old.completions (flat_map varint_spelling (completions_of future.now)) }
-    ensures signals { lengths.new.signals ≡ counted lengths.old.signals (flat_map varint_spelling (signals_of future.now)) }
-    ensures named_signals { lengths.new.named_signals ≡ counted lengths.old.named_signals (part_spelling (repeated_bytes named_signals.number (named_signals_of future.now))) }
+    ensures completions { lengths.new.completions ≡ counted_bytes lengths.old.completions (flat_map varint_spelling (completions_of future.now)) }
+    ensures signals { lengths.new.signals ≡ counted_bytes lengths.old.signals (flat_map varint_spelling (signals_of future.now)) }
+    ensures named_signals { lengths.new.named_signals ≡ counted_bytes lengths.old.named_signals (part_spelling (repeated_bytes named_signals.number (named_signals_of future.now))) }
 {
     lengths.completions = count_numbers(lengths.completions, future.waiting_completions.as_slice());
     lengths.signals = count_numbers(lengths.signals, future.waiting_signals.as_slice());
@@ -61,7 +61,7 @@ fn count_leaves(future: &Future, lengths: &mut LeafLengths)
 
 // The field that these bytes are packed into, left out where there is none.
 fn len_packed(before: u64, field: FieldDescriptor, count: u64) -> u64
-    ensures { (bs : List ℕ) → count ≡ counted 0 bs → result ≡ counted before (part_spelling (field.number, nonempty bs)) }
+    ensures { (bs : List ℕ) → count ≡ counted_bytes 0 bs → result ≡ counted_bytes before (part_spelling (field.number, nonempty bs)) }
 {
     if count == 0 {
         return before;
@@ -70,9 +70,9 @@ fn len_packed(before: u64, field: FieldDescriptor, count: u64) -> u64
 }
 
 fn leaf_lengths(suspension: &SuspensionMessage) -> LeafLengths
-    ensures completions { result.completions ≡ counted 0 (flat_map varint_spelling (three_lists suspension.now).waiting_completions) }
-    ensures signals { result.signals ≡ counted 0 (flat_map varint_spelling (three_lists suspension.now).waiting_signals) }
-    ensures named_signals { result.named_signals ≡ counted 0 (part_spelling (repeated_bytes named_signals.number (three_lists suspension.now).waiting_named_signals)) }
+    ensures completions { result.completions ≡ counted_bytes 0 (flat_map varint_spelling (three_lists suspension.now).waiting_completions) }
+    ensures signals { result.signals ≡ counted_bytes 0 (flat_map varint_spelling (three_lists suspension.now).waiting_signals) }
+    ensures named_signals { result.named_signals ≡ counted_bytes 0 (part_spelling (repeated_bytes named_signals.number (three_lists suspension.now).waiting_named_signals)) }
 {
     let mut lengths = LeafLengths {
         completions: 0,
@@ -87,7 +87,7 @@ fn leaf_lengths(suspension: &SuspensionMessage) -> LeafLengths
 
 /// How long the canonical spelling of the three lists is; a length that 64 bits don't hold is given as their last.
 pub(crate) fn lists_len(suspension: &SuspensionMessage) -> u64
-    ensures { result ≡ counted 0 (payload_of (suspension_v6_parts (three_lists suspension.now))) }
+    ensures { result ≡ counted_bytes 0 (payload_of (suspension_v6_parts (three_lists suspension.now))) }
 {
     let lengths = leaf_lengths(suspension);
     let len = len_packed(0, WAITING_COMPLETIONS, lengths.completions);

@@ -8,14 +8,14 @@ use Rattle.protocol_records.specs.declared.future.Future.TheOpen.{Future-F}
 use Rattle.protocol_records.specs.declared.future.Future.TheViews.{out-roll-Future}
 use Rattle.protocol_table.specs.declared.table.future.TheConstants.{WAITING_COMPLETIONS, WAITING_SIGNALS, WAITING_NAMED_SIGNALS, NESTED_FUTURES, COMBINATOR_TYPE, REQUIRED}
 use Rattle.protocol_records.specs.ReadBackFuture.{future_payload_is}
-use Rattle.protocol_records.specs.Future.{combinator_of, future_of, future_payload, layer_parts, future_parts, LayerFits, FutureFits}
+use Rattle.protocol_records.specs.Future.{read_combinator, future_of, future_payload, layer_parts, future_parts, LayerFits, FutureFits}
 
 pub future_of_is : (levels : ℕ) (fs : List Field) → 0 < levels → future_of levels fs ≡ roll-Future (record {
   waiting_completions = numbers WAITING_COMPLETIONS.number fs;
   waiting_signals = numbers WAITING_SIGNALS.number fs;
   waiting_named_signals = texts WAITING_NAMED_SIGNALS.number fs;
   nested_futures = records (future_of (levels - 1)) NESTED_FUTURES.number fs;
-  combinator_type = combinator_of (u32 COMBINATOR_TYPE.number fs);
+  combinator_type = read_combinator (u32 COMBINATOR_TYPE.number fs);
   required = u32 REQUIRED.number fs;
 })
 unfolding future_of

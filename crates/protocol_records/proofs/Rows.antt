@@ -1,6 +1,6 @@
 -- Rows of the specification, computed by the definitions.
 use Rattle.std.proofs.Common.{◌≡◌, List, [], ◌∷◌, Some, false, refl, ap, arith}
-use Rattle.protocol_wire.specs.Wire.{varint_within, varint_at, value_at, field_at}
+use Rattle.protocol_wire.specs.Wire.{varint_within, varint_at, wire_value, field_at}
 use Rattle.protocol_wire.specs.Items.{items_within, items, left_within, left}
 use Rattle.protocol_wire.specs.Fields.{fields}
 use Rattle.protocol_wire.specs.Spelling.{varint_spelling_within, varint_spelling, tagged}
@@ -26,15 +26,15 @@ sleep_spelled = refl
 
 -- the last scalar stands
 pub last_scalar : sleep_command_of LEVELS (fields (8 ∷ 1 ∷ 8 ∷ 2 ∷ [])) ≡ record { wake_up_time = 2; result_completion_id = 0; name = [] }
-unfolding varint_within varint_at value_at field_at items_within items last_number last_bytes
+unfolding varint_within varint_at wire_value field_at items_within items last_number last_bytes
 last_scalar = refl
 
 pub truncated_varint : payload_fault LEVELS types.SleepCommand (8 ∷ 10 ∷ 88 ∷ []) ≡ Some BadPayload
-unfolding varint_within varint_at value_at field_at items_within items left_within left payload_fault
+unfolding varint_within varint_at wire_value field_at items_within items left_within left payload_fault
 truncated_varint = refl
 
 pub wire_type_three : payload_fault LEVELS types.SleepCommand (11 ∷ []) ≡ Some BadPayload
-unfolding varint_within varint_at value_at field_at items_within items left_within left payload_fault
+unfolding varint_within varint_at wire_value field_at items_within items left_within left payload_fault
 wire_type_three = refl
 
 -- completion 1 or the cancellation

@@ -2,7 +2,7 @@
 use Rattle.std.specs.Prelude.{◌⊎◌, ℕ, ◌-◌, List, [], ◌∷◌, option_map, option_and_then, Option, Some, None}
 use Rattle.std.proofs.Common.{inl, inr}
 use Rattle.protocol_wire.specs.Wire.{Field}
-use Rattle.protocol_wire.specs.Selection.{optional_record, optional_text, run, first_of}
+use Rattle.protocol_wire.specs.Selection.{optional_record, optional_text, run, first_present}
 use Rattle.protocol_wire.specs.Parts.{Part, optional_bytes, payload_of}
 use Rattle.protocol_records.specs.declared.failure.Failure.{Failure}
 use Rattle.protocol_records.specs.declared.value.Value.{Value}
@@ -23,7 +23,7 @@ pub record Alternative (A : Type 0) : Type 1 where
 abbrev pub record_at : {A : Type 0} → (ℕ → List Field → A) → (A → List Part) → (ℕ → A → Type 0) → ℕ → Alternative A
 record_at of parts fits number = record { number = number; read = λ levels fs. optional_record (of levels) number fs; spelled = λ a. payload_of (parts a); fits = fits }
 
-abbrev pub value_at : ℕ → Alternative Value
+abbrev pub value_alternative : ℕ → Alternative Value
 value_at = record_at value_of value_parts ValueFits
 
 abbrev pub failure_at : ℕ → Alternative Failure
@@ -58,7 +58,7 @@ is_right (inr b) = Some b
 module _ {A B C : Type 0} (choice : EitherField A B C) where
   -- of the fields of both alone
   abbrev pub chosen_in : ℕ → List Field → Option C
-  chosen_in levels fs = first_of (option_map choice.of_first (choice.first.read (levels - 1) fs)) (option_map choice.of_second (choice.second.read (levels - 1) fs))
+  chosen_in levels fs = first_present (option_map choice.of_first (choice.first.read (levels - 1) fs)) (option_map choice.of_second (choice.second.read (levels - 1) fs))
 
   -- the last run of one of them stands
   abbrev pub chosen : ℕ → List Field → Option C

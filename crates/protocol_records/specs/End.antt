@@ -4,8 +4,8 @@ use Rattle.protocol_wire.specs.Wire.{Field}
 use Rattle.protocol_wire.specs.Parts.{Part}
 use Rattle.protocol_records.specs.declared.end.EndMessage.{EndMessage}
 
-abbrev pub end_of : ℕ → List Field → EndMessage
-end_of levels fs = record {}
+abbrev pub end_message_of : ℕ → List Field → EndMessage
+end_message_of levels fs = record {}
 
 abbrev pub end_parts : EndMessage → List Part
 end_parts v = []

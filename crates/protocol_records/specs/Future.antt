@@ -11,8 +11,8 @@ use Rattle.protocol_records.specs.declared.future.Future.{Future, out-Future, ro
 use Rattle.protocol_records.specs.declared.future.Future.TheOpen.{Future-F}
 
 -- Another number stays as it came.
-abbrev pub combinator_of : ℕ → CombinatorType
-combinator_of n =
+abbrev pub read_combinator : ℕ → CombinatorType
+read_combinator n =
     if n == 0 then Unknown else
     if n == 1 then FirstCompleted else
     if n == 2 then AllCompleted else
@@ -41,7 +41,7 @@ future_of (suc levels) fs = roll-Future (record {
   waiting_signals = numbers WAITING_SIGNALS.number fs;
   waiting_named_signals = texts WAITING_NAMED_SIGNALS.number fs;
   nested_futures = records (future_of levels) NESTED_FUTURES.number fs;
-  combinator_type = combinator_of (u32 COMBINATOR_TYPE.number fs);
+  combinator_type = read_combinator (u32 COMBINATOR_TYPE.number fs);
   required = u32 REQUIRED.number fs;
 })
 

@@ -5,7 +5,7 @@ use Rattle.protocol_wire.specs.Wire.{Field}
 use Rattle.protocol_wire.specs.Selection.{text}
 use Rattle.protocol_wire.specs.Parts.{Part, plain_bytes}
 use Rattle.protocol_table.specs.declared.table.output_command.TheConstants.{FAILURE, NAME, RESULT, VALUE}
-use Rattle.protocol_records.specs.Choice.{EitherField, ChoiceFits, choice_parts, chosen, failure_at, value_at}
+use Rattle.protocol_records.specs.Choice.{EitherField, ChoiceFits, choice_parts, chosen, failure_at, value_alternative}
 use Rattle.protocol_records.specs.declared.failure.Failure.{Failure}
 use Rattle.protocol_records.specs.declared.value.Value.{Value}
 use Rattle.protocol_records.specs.declared.output_command.OutputCommandMessage.{OutputCommandMessage}
@@ -17,7 +17,7 @@ opened (results.Value v) = inl v
 opened (results.Failure f) = inr f
 
 abbrev pub output_choice : EitherField Value Failure OutputCommandResult
-output_choice = record { numbers = RESULT; first = value_at VALUE.number; second = failure_at FAILURE.number; of_first = λ v. results.Value v; of_second = λ f. results.Failure f; opened = opened }
+output_choice = record { numbers = RESULT; first = value_alternative VALUE.number; second = failure_at FAILURE.number; of_first = λ v. results.Value v; of_second = λ f. results.Failure f; opened = opened }
 
 abbrev pub output_command_of : ℕ → List Field → OutputCommandMessage
 output_command_of levels fs = record {

@@ -5,7 +5,7 @@ use Rattle.std.proofs.Common.{sym, ap, ◌∙◌}
 use Rattle.protocol_wire.specs.Check.{payload_fault}
 use Rattle.protocol_wire.specs.Parts.{payload_of, bytes_if, optional_bytes}
 use Rattle.protocol_wire.specs.Decodes.{IsRead}
-use Rattle.protocol_wire.specs.Selection.{last_run, first_of, last_number, last_bytes, texts}
+use Rattle.protocol_wire.specs.Selection.{last_run, first_present, last_number, last_bytes, texts}
 use Rattle.protocol_table.specs.Table.{descriptors_of}
 use Rattle.protocol_table.specs.declared.table.RecordType.TheVariants as types
 use Rattle.protocol_table.specs.declared.table.value.TheConstants as value
@@ -29,10 +29,10 @@ use Rattle.protocol_records.specs.Header.{header_of, header_parts, HeaderFits}
 use Rattle.protocol_records.specs.FailureMetadata.{failure_metadata_of, failure_metadata_parts, FailureMetadataFits}
 use Rattle.protocol_records.specs.Failure.{failure_of, failure_parts, FailureFits}
 use Rattle.protocol_records.specs.StateEntry.{state_entry_of, state_entry_parts, StateEntryFits}
-use Rattle.protocol_records.specs.Start.{start_of, start_parts, StartFits}
+use Rattle.protocol_records.specs.Start.{start_message_of, start_parts, StartFits}
 use Rattle.protocol_records.specs.InputCommand.{input_command_of, input_command_parts, InputCommandFits}
 use Rattle.protocol_records.specs.SleepCommand.{sleep_command_of, sleep_command_parts, SleepCommandFits}
-use Rattle.protocol_records.specs.End.{end_of, end_parts, EndFits}
+use Rattle.protocol_records.specs.End.{end_message_of, end_parts, EndFits}
 use Rattle.protocol_records.specs.Future.{future_of, future_parts, FutureFits}
 use Rattle.protocol_records.specs.ReadBackFuture.{future_reads}
 use Rattle.protocol_records.specs.AwaitingOn.{awaiting_on_of, awaiting_on_parts, AwaitingOnFits}
@@ -130,13 +130,13 @@ state_entry_reads levels v h small =
       value = text_back state_entry.VALUE.number v.value ps refl i;
     })
 
-pub start_reads : Reads types.Start start_of start_parts StartFits
+pub start_reads : Reads types.Start start_message_of start_parts StartFits
 start_reads levels v h small =
     let ps = start_parts v in
     let below = payload_fault (levels - 1) in
     let table = descriptors_of types.Start in
     let lengths = lengths_fit ps small in
-    read_back levels types.Start start_of ps v h.level small (
+    read_back levels types.Start start_message_of ps v h.level small (
       bytes_holds below table start.ID.number v.id (refl, refl),
       (
         text_holds below table start.DEBUG_ID.number v.debug_id (refl, refl) h.debug_id,
@@ -228,8 +228,8 @@ sleep_command_reads levels v h small =
       name = text_back sleep_command.NAME.number v.name ps refl i;
     })
 
-pub end_reads : Reads types.End end_of end_parts EndFits
-end_reads levels v h small = read_back levels types.End end_of (end_parts v) v h.level small tt refl
+pub end_reads : Reads types.End end_message_of end_parts EndFits
+end_reads levels v h small = read_back levels types.End end_message_of (end_parts v) v h.level small tt refl
 
 pub awaiting_on_reads : Reads types.AwaitingOn awaiting_on_of awaiting_on_parts AwaitingOnFits
 awaiting_on_reads levels v h small =
@@ -297,12 +297,12 @@ pub void_reads : Reads types.Void void_of void_parts VoidFits
 void_reads levels v h small = read_back levels types.Void void_of (void_parts v) v h.level small tt refl
 
 -- of the fields of the result alone
-result_back : (levels : ℕ) (o : Option OutputCommandResult) → ChoiceFits output_choice (levels - 1) o → AllByRecursion LengthFits (bytes_if (first_spelled output_choice o)) → AllByRecursion LengthFits (bytes_if (second_spelled output_choice o)) → chosen_in output_choice levels (last_run (held_among output_command.RESULT (choice_parts output_choice o))) ≡ o
+output_result_back : (levels : ℕ) (o : Option OutputCommandResult) → ChoiceFits output_choice (levels - 1) o → AllByRecursion LengthFits (bytes_if (first_spelled output_choice o)) → AllByRecursion LengthFits (bytes_if (second_spelled output_choice o)) → chosen_in output_choice levels (last_run (held_among output_command.RESULT (choice_parts output_choice o))) ≡ o
 unfolding texts last_bytes last_number
-result_back levels None h k0 k1 = refl
-result_back levels (Some (results.Value v)) h k0 k1 =
-    ap (λ (o : Option Value). first_of (option_map (λ v. results.Value v) o) None) (optional_record_back (value_of (levels - 1)) (λ r. payload_of (value_parts r)) output_command.VALUE.number (Some v) (optional_bytes output_command.VALUE.number (Some (payload_of (value_parts v))) ∷ []) refl (sym (value_reads (levels - 1) v h k0.0).value))
-result_back levels (Some (results.Failure f)) h k0 k1 =
+output_result_back levels None h k0 k1 = refl
+output_result_back levels (Some (results.Value v)) h k0 k1 =
+    ap (λ (o : Option Value). first_present (option_map (λ v. results.Value v) o) None) (optional_record_back (value_of (levels - 1)) (λ r. payload_of (value_parts r)) output_command.VALUE.number (Some v) (optional_bytes output_command.VALUE.number (Some (payload_of (value_parts v))) ∷ []) refl (sym (value_reads (levels - 1) v h k0.0).value))
+output_result_back levels (Some (results.Failure f)) h k0 k1 =
     ap (λ (o : Option Failure). option_map (λ f. results.Failure f) o) (optional_record_back (failure_of (levels - 1)) (λ r. payload_of (failure_parts r)) output_command.FAILURE.number (Some f) (optional_bytes output_command.FAILURE.number (Some (payload_of (failure_parts f))) ∷ []) refl (sym (failure_reads (levels - 1) f h k1.0).value))
 
 pub output_command_reads : Reads types.OutputCommand output_command_of output_command_parts OutputCommandFits
@@ -311,7 +311,7 @@ output_command_reads levels v h small =
     let below = payload_fault (levels - 1) in
     let table = descriptors_of types.OutputCommand in
     let lengths = lengths_fit ps small in
-    let result = ap (chosen_in output_choice levels) (run-fields_of output_command.RESULT ps) ∙ result_back levels v.result h.result lengths.1.0 lengths.1.1.0 in
+    let result = ap (chosen_in output_choice levels) (run-fields_of output_command.RESULT ps) ∙ output_result_back levels v.result h.result lengths.1.0 lengths.1.1.0 in
     read_back levels types.OutputCommand output_command_of ps v h.level small (
       text_holds below table output_command.NAME.number v.name (refl, refl) h.name,
       (

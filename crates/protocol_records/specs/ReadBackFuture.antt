@@ -15,7 +15,7 @@ use Rattle.protocol_records.specs.declared.future.CombinatorType.{CombinatorType
 use Rattle.protocol_records.specs.declared.future.CombinatorType.TheVariants.{Unknown, FirstCompleted, AllCompleted, FirstSucceededOrAllFailed, AllSucceededOrFirstFailed, AtLeastSucceeded, Other}
 use Rattle.protocol_records.specs.declared.future.Future.{Future, out-Future, roll-Future, fold_out-Future}
 use Rattle.protocol_records.specs.declared.future.Future.TheViews.{roll-out-Future}
-use Rattle.protocol_records.specs.Future.{combinator_of, combinator_bits, CombinatorFits, future_of, parts_by, future_payload, future_parts, FutureFits}
+use Rattle.protocol_records.specs.Future.{read_combinator, combinator_bits, CombinatorFits, future_of, parts_by, future_payload, future_parts, FutureFits}
 
 pub future_payload_is : (f : Future) → future_payload f ≡ payload_of (future_parts f)
 unfolding future_payload future_parts
@@ -37,7 +37,7 @@ other_number m n h = go (eqb m n) refl
     go true e = absurd (h (eqb-true m n e))
     go false e = refl
 
-combinator_back : (c : CombinatorType) → CombinatorFits c → combinator_of (combinator_bits c) ≡ c
+combinator_back : (c : CombinatorType) → CombinatorFits c → read_combinator (combinator_bits c) ≡ c
 combinator_back Unknown h = refl
 combinator_back FirstCompleted h = refl
 combinator_back AllCompleted h = refl
@@ -89,7 +89,7 @@ future_payload_reads (suc k) f h small =
         waiting_signals = numbers_back WAITING_SIGNALS.number o.waiting_signals ps refl h.1 i;
         waiting_named_signals = texts_back WAITING_NAMED_SIGNALS.number o.waiting_named_signals ps refl i;
         nested_futures = records_back (future_of k) future_payload NESTED_FUTURES.number o.nested_futures ps refl (each_reads_back k types.Future future_of future_payload (FutureFits k) (λ g. future_payload_reads k g) o.nested_futures h.3 lengths.1.1.1.0) i;
-        combinator_type = (ap combinator_of (enum_back COMBINATOR_TYPE.number (combinator_bits o.combinator_type) ps refl (combinator_small o.combinator_type h.4)) ∙ combinator_back o.combinator_type h.4) i;
+        combinator_type = (ap read_combinator (enum_back COMBINATOR_TYPE.number (combinator_bits o.combinator_type) ps refl (combinator_small o.combinator_type h.4)) ∙ combinator_back o.combinator_type h.4) i;
         required = u32_back REQUIRED.number o.required ps refl h.5 i;
       }) ∙ roll-out-Future f);
     }

@@ -8,8 +8,8 @@ use Rattle.protocol_table.specs.declared.table.start.TheConstants.{ID, DEBUG_ID,
 use Rattle.protocol_records.specs.StateEntry.{state_entry_of, state_entry_parts, StateEntryFits}
 use Rattle.protocol_records.specs.declared.start.StartMessage.{StartMessage}
 
-abbrev pub start_of : ℕ → List Field → StartMessage
-start_of levels fs = record {
+abbrev pub start_message_of : ℕ → List Field → StartMessage
+start_message_of levels fs = record {
   id = text ID.number fs;
   debug_id = text DEBUG_ID.number fs;
   known_entries = u32 KNOWN_ENTRIES.number fs;

@@ -6,13 +6,13 @@ use std::alloc::{AllocError, Global};
 pub struct EndMessage {}
 
 impl Record for EndMessage {
-    ghost use Rattle.protocol_records.specs.End.{end_of, end_parts, EndFits};
+    ghost use Rattle.protocol_records.specs.End.{end_message_of, end_parts, EndFits};
     ghost use Rattle.protocol_records.specs.ReadBack.{end_reads};
     ghost use Rattle.protocol_table.specs.declared.table.RecordType.TheVariants.{End as end_type};
 
     ghost record_type = { end_type };
 
-    ghost of = { end_of };
+    ghost of = { end_message_of };
 
     ghost parts = { end_parts };
 

@@ -79,13 +79,13 @@ pub struct StartMessage {
 }
 
 impl Record for StartMessage {
-    ghost use Rattle.protocol_records.specs.Start.{start_of, start_parts, StartFits};
+    ghost use Rattle.protocol_records.specs.Start.{start_message_of, start_parts, StartFits};
     ghost use Rattle.protocol_records.specs.ReadBack.{start_reads};
     ghost use Rattle.protocol_table.specs.declared.table.RecordType.TheVariants.{Start as start_type};
 
     ghost record_type = { start_type };
 
-    ghost of = { start_of };
+    ghost of = { start_message_of };
 
     ghost parts = { start_parts };
 

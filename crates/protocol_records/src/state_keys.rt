@@ -2,7 +2,7 @@ ghost use Rattle.std.specs.Prelude.{◌≡◌, ◌++◌, OnOk, IfOk};
 ghost use Rattle.protocol_wire.specs.Fields.{fields};
 ghost use Rattle.protocol_wire.specs.Selection.{texts as the_texts};
 ghost use Rattle.protocol_wire.specs.Parts.{part_spelling, repeated_bytes};
-ghost use Rattle.protocol_wire.specs.Lengths.{counted};
+ghost use Rattle.protocol_wire.specs.Lengths.{counted_bytes};
 
 use bytes::Bytes;
 use protocol_wire::table::state_keys::KEYS;
@@ -90,7 +90,7 @@ fn put_repeated_bytes(
 /// Each of them a field.
 #[tactic(auto, using(protocol_wire::proofs::Lengths::counted_more))]
 fn len_repeated_bytes(before: u64, field: FieldDescriptor, all: &Sequence<Bytes>) -> u64
-    ensures { result ≡ counted before (part_spelling (repeated_bytes field.number all.now)) }
+    ensures { result ≡ counted_bytes before (part_spelling (repeated_bytes field.number all.now)) }
 {
     let mut len = before;
     for bytes in all.as_slice() {

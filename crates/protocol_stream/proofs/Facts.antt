@@ -7,7 +7,7 @@ use Rattle.journal_model.specs.Cause.{is_invocation_id, is_outcome}
 use Rattle.protocol_types.specs.declared.message_type.MessageType.TheVariants as types
 use Rattle.protocol_stream.specs.declared.command_facts.CompletedBy.TheVariants as by
 use Rattle.protocol_types.specs.MessageType.{named_type}
-use Rattle.protocol_stream.specs.CommandFacts.{Completes, completion_by, RequestsTyped, RequestsHaveLines}
+use Rattle.protocol_stream.specs.CommandFacts.{CompletesRequest, completion_by, RequestsTyped, RequestsHaveLines}
 
 pub requests_typed : RequestsTyped
 unfolding named_type
@@ -17,7 +17,7 @@ requests_typed _ = refl
 -- ---- of a call, by whether the id is its first
 
 module _ (call : CallRecord) (m k : ℕ) (name : Text) where
-  first_of_call : Completes (completion_by types.CallInvocationIdCompletionNotification by.InvocationId) (Request.CallService call m k name) m
+  first_of_call : CompletesRequest (completion_by types.CallInvocationIdCompletionNotification by.InvocationId) (Request.CallService call m k name) m
   first_of_call =
       let same : (m == m) ≡ true = eq-eqb m m refl in
       record {
@@ -28,7 +28,7 @@ module _ (call : CallRecord) (m k : ℕ) (name : Text) where
   other_id : (n : ℕ) → n ≢ m → (n == m) ≡ false
   other_id n other = elim (cases_Bool (n == m)) [ inl e ↦ absurd (other (eqb-true n m e)) | inr e ↦ e ]
 
-  second_of_call : k ≢ m → Completes (completion_by types.CallCompletionNotification by.Outcome) (Request.CallService call m k name) k
+  second_of_call : k ≢ m → CompletesRequest (completion_by types.CallCompletionNotification by.Outcome) (Request.CallService call m k name) k
   second_of_call other =
       let not_first : (k == m) ≡ false = other_id k other in
       record {

@@ -3,7 +3,7 @@ use Rattle.std.proofs.Common.{◌≡◌, ℕ, ◌^◌, ◌<◌, Bool, true, fals
 use Rattle.std.specs.Prelude.{if◌then◌else◌}
 use Rattle.journal_model.specs.Spelling.{frame_bytes}
 use Rattle.protocol_types.specs.declared.message_type.MessageType.{MessageType}
-use Rattle.protocol_types.specs.MessageType.{number_of, allows_ack}
+use Rattle.protocol_types.specs.MessageType.{type_number, allows_ack}
 use Rattle.protocol_stream.specs.Item.{message, item_at}
 use Rattle.protocol_stream.specs.Frame.{message_of, IsFrame}
 use Rattle.protocol_types.proofs.Types.{is_named, named_is_wire}

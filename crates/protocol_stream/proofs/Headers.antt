@@ -3,7 +3,7 @@ use Rattle.std.proofs.Common.{◌≡◌, ℕ, ◌+◌, ◌*◌, ◌/◌, ◌%◌
 use Rattle.std.specs.Prelude.{if◌then◌else◌}
 use Rattle.protocol_types.specs.declared.message_type.MessageType.{MessageType}
 use Rattle.protocol_stream.specs.declared.header.MessageHeader.{MessageHeader}
-use Rattle.protocol_types.specs.MessageType.{number_of, allows_ack, IsWireType}
+use Rattle.protocol_types.specs.MessageType.{type_number, allows_ack, IsWireType}
 use Rattle.protocol_stream.specs.Header.{message_type, message_length, requested_ack, header_of, ack_bit, word_of, header_in}
 
 -- a type with a flag has it, and another has none
@@ -11,7 +11,7 @@ abbrev HasFlag : MessageType → Option Bool → Type 0
 HasFlag ty flag = is_some flag ≡ allows_ack ty
 
 -- the header that these make, when its flag is read as this bit
-read_as : (ty : MessageType) (flag : Option Bool) (len word : ℕ) → IsWireType ty → word / 2 ^ 48 ≡ number_of ty → header_of ty (nat_eq (word / 2 ^ 47 % 2) 1) (word % 2 ^ 32) ≡ record { ty = ty; length = len; requested_ack = flag }
+read_as : (ty : MessageType) (flag : Option Bool) (len word : ℕ) → IsWireType ty → word / 2 ^ 48 ≡ type_number ty → header_of ty (nat_eq (word / 2 ^ 47 % 2) 1) (word % 2 ^ 32) ≡ record { ty = ty; length = len; requested_ack = flag }
     → header_in word ≡ Ok (record { ty = ty; length = len; requested_ack = flag })
 read_as ty flag len word t top e = rw (top, t.read) (ap (λ (h : MessageHeader). Ok h) e)
 
@@ -22,21 +22,21 @@ made ty flag bit len low e l = λ i. record { ty = ty; length = l i; requested_a
 pub header_in-parts : (ty : MessageType) (flag : Option Bool) (len : ℕ) → IsWireType ty → HasFlag ty flag → len < 2 ^ 32
     → header_in (word_of (record { ty = ty; length = len; requested_ack = flag })) ≡ Ok (record { ty = ty; length = len; requested_ack = flag })
 header_in-parts ty None len t h fits =
-    let word : ℕ = number_of ty * 2 ^ 48 + 0 + len in
-    let top : word / 2 ^ 48 ≡ number_of ty = omega arith in
+    let word : ℕ = type_number ty * 2 ^ 48 + 0 + len in
+    let top : word / 2 ^ 48 ≡ type_number ty = omega arith in
     let low : word % 2 ^ 32 ≡ len = omega arith in
     let allowed : allows_ack ty ≡ false = sym h in
     read_as ty None len word t top (made ty None (nat_eq (word / 2 ^ 47 % 2) 1) len (word % 2 ^ 32) (rw allowed refl) low)
 header_in-parts ty (Some false) len t h fits =
-    let word : ℕ = number_of ty * 2 ^ 48 + 0 + len in
-    let top : word / 2 ^ 48 ≡ number_of ty = omega arith in
+    let word : ℕ = type_number ty * 2 ^ 48 + 0 + len in
+    let top : word / 2 ^ 48 ≡ type_number ty = omega arith in
     let low : word % 2 ^ 32 ≡ len = omega arith in
     let bit : word / 2 ^ 47 % 2 ≡ 0 = omega arith in
     let allowed : allows_ack ty ≡ true = sym h in
     read_as ty (Some false) len word t top (made ty (Some false) (nat_eq (word / 2 ^ 47 % 2) 1) len (word % 2 ^ 32) (rw (allowed, bit) refl) low)
 header_in-parts ty (Some true) len t h fits =
-    let word : ℕ = number_of ty * 2 ^ 48 + 2 ^ 47 + len in
-    let top : word / 2 ^ 48 ≡ number_of ty = omega arith in
+    let word : ℕ = type_number ty * 2 ^ 48 + 2 ^ 47 + len in
+    let top : word / 2 ^ 48 ≡ type_number ty = omega arith in
     let low : word % 2 ^ 32 ≡ len = omega arith in
     let bit : word / 2 ^ 47 % 2 ≡ 1 = omega arith in
     let allowed : allows_ack ty ≡ true = sym h in

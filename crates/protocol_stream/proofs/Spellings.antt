@@ -9,7 +9,7 @@ use Rattle.protocol_wire.specs.Parts as parts
 use Rattle.protocol_wire.specs.Parts.{Part, part_spelling, payload_of}
 use Rattle.journal_model.specs.Spelling as model
 use Rattle.protocol_types.specs.declared.message_type.MessageType.{MessageType}
-use Rattle.protocol_types.specs.MessageType.{number_of, allows_ack}
+use Rattle.protocol_types.specs.MessageType.{type_number, allows_ack}
 use Rattle.protocol_stream.specs.Header.{ack_bit}
 use Rattle.protocol_stream.specs.Frame.{spelled, message_of}
 
@@ -129,8 +129,8 @@ header_is number len p =
     ap (to_be_bytes w64) same ∙ header_spelling number (len % 2 ^ 32) p (omega arith) ∙ low_length number len
 
 -- A message that requests no acknowledgement is spelled as a frame of its type's number.
-pub spelled-frame_bytes : (ty : MessageType) (payload : List ℕ) → number_of ty < 2 ^ 16 → length payload < 2 ^ 32 → spelled (message_of ty payload) ≡ model.frame_bytes ty payload
+pub spelled-frame_bytes : (ty : MessageType) (payload : List ℕ) → type_number ty < 2 ^ 16 → length payload < 2 ^ 32 → spelled (message_of ty payload) ≡ model.frame_bytes ty payload
 unfolding spelled
 spelled-frame_bytes ty payload p q =
-    ap (λ (flag : ℕ). to_be_bytes w64 (number_of ty * 2 ^ 48 + flag + length payload) ++ payload) (flag_clear (allows_ack ty))
-    ∙ ap (λ (s : List ℕ). s ++ payload) (header_spelling (number_of ty) (length payload) p q)
+    ap (λ (flag : ℕ). to_be_bytes w64 (type_number ty * 2 ^ 48 + flag + length payload) ++ payload) (flag_clear (allows_ack ty))
+    ∙ ap (λ (s : List ℕ). s ++ payload) (header_spelling (type_number ty) (length payload) p q)

@@ -16,7 +16,7 @@ use Rattle.protocol_stream.specs.declared.command_facts.Completions.TheVariants 
 use Rattle.protocol_stream.specs.declared.command_facts.Kept.{Kept}
 use Rattle.protocol_stream.specs.declared.command_facts.Kept.TheVariants as kept
 use Rattle.protocol_stream.specs.declared.command_facts.CommandFacts.{CommandFacts}
-use Rattle.protocol_types.specs.MessageType.{number_of, named_type}
+use Rattle.protocol_types.specs.MessageType.{type_number, named_type}
 
 -- whether a call from outside may bring this
 abbrev pub accepts : CompletedBy → NotificationResult → Bool
@@ -74,18 +74,18 @@ facts_of _ = None
 
 -- a request is recorded as a message of a named type
 abbrev pub RequestsTyped : Type 0
-RequestsTyped = (request : Request) → named_type (number_of (request_type request)) ≡ Some (request_type request)
+RequestsTyped = (request : Request) → named_type (type_number (request_type request)) ≡ Some (request_type request)
 
 -- an id comes by the notification of this type, and may be given what the request may be
-pub record Completes (one : Completion) (request : Request) (n : ℕ) : Type 0 where
+pub record CompletesRequest (one : Completion) (request : Request) (n : ℕ) : Type 0 where
   pub ty : one.notification ≡ completion_type request n
   pub given : (brought : NotificationResult) → accepts one.completed_by brought ≡ may_complete request n brought
 
 -- these are the completions of the ids
 abbrev pub CompleteAll : Completions → Request → List ℕ → Type 0
 CompleteAll asked.Nothing request ids = ids ≡ []
-CompleteAll (asked.One one) request (n ∷ []) = Completes one request n
-CompleteAll (asked.Two first second) request (m ∷ n ∷ []) = Completes first request m × (n ≢ m → Completes second request n)
+CompleteAll (asked.One one) request (n ∷ []) = CompletesRequest one request n
+CompleteAll (asked.Two first second) request (m ∷ n ∷ []) = CompletesRequest first request m × (n ≢ m → CompletesRequest second request n)
 CompleteAll _ request ids = ⊥
 
 abbrev pub is_answer : Kept → Bool

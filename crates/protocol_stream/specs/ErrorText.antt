@@ -29,9 +29,9 @@ encoding_text unsent.OutOfMemory = no_memory_text
 unfoldable pub unknown_type_text : ℕ → List ℕ
 unknown_type_text number = codes "unknown message type 0x" ++ hex_byte (number / 256) ++ hex_byte (number % 256)
 
-abbrev pub fault_text : Fault → List ℕ
-fault_text BadPayload = codes "its bytes are no fields of that message"
-fault_text TooDeep = codes "it is nested more than a hundred levels deep"
+abbrev pub payload_fault_text : Fault → List ℕ
+payload_fault_text BadPayload = codes "its bytes are no fields of that message"
+payload_fault_text TooDeep = codes "it is nested more than a hundred levels deep"
 
 -- the payload of a message of this type is none of its record
 unfoldable pub unread_payload_text : MessageType → (fault : List ℕ) → List ℕ
@@ -50,7 +50,7 @@ missing_field_text field = codes "a notification without " ++ field_text field
 
 abbrev pub decoding_text : DecodingError → List ℕ
 decoding_text (UnknownMessageType unknown) = unknown_type_text unknown.0
-decoding_text (DecodeMessage ty fault) = unread_payload_text ty (fault_text fault)
+decoding_text (DecodeMessage ty fault) = unread_payload_text ty (payload_fault_text fault)
 decoding_text (UnexpectedMessageType expected actual index) = asked_text expected index ++ there_text actual
 decoding_text (MissingField field) = missing_field_text field
 decoding_text OutOfMemory = no_memory_text

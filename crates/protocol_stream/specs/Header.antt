@@ -3,7 +3,7 @@ use Rattle.std.specs.Prelude.{ℕ, ◌+◌, ◌*◌, ◌/◌, ◌%◌, ◌^◌, 
 use Rattle.protocol_types.specs.declared.message_type.MessageType.{MessageType}
 use Rattle.protocol_types.specs.declared.message_type.UnknownMessageType.{UnknownMessageType}
 use Rattle.protocol_stream.specs.declared.header.MessageHeader.{MessageHeader}
-use Rattle.protocol_types.specs.MessageType.{number_of, type_numbered, allows_ack}
+use Rattle.protocol_types.specs.MessageType.{type_number, type_numbered, allows_ack}
 
 -- the type of the message that follows, and how many bytes its payload has
 abbrev pub message_type : MessageHeader → MessageType
@@ -28,7 +28,7 @@ ack_bit None = 0
 
 -- the type in the highest sixteen bits, then sixteen bits of flags, then the length
 abbrev pub word_of : MessageHeader → ℕ
-word_of header = number_of header.ty * 2 ^ 48 + ack_bit header.requested_ack + header.length
+word_of header = type_number header.ty * 2 ^ 48 + ack_bit header.requested_ack + header.length
 
 abbrev pub header_typed : ℕ → Result MessageType UnknownMessageType → Result MessageHeader UnknownMessageType
 header_typed word (Ok ty) = Ok (header_of ty (word / 2 ^ 47 % 2 == 1) (word % 2 ^ 32))

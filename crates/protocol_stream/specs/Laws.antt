@@ -24,7 +24,7 @@ use Rattle.protocol_stream.specs.declared.header.MessageHeader.{MessageHeader}
 use Rattle.protocol_stream.specs.declared.decoder.RawMessage.{RawMessage}
 use Rattle.protocol_stream.specs.declared.command_type.CommandType.{CommandType}
 use Rattle.protocol_stream.specs.declared.command_type.CommandType.TheVariants.{SendSignal, CancelInvocation}
-use Rattle.protocol_types.specs.MessageType.{number_of, allows_ack, IsWireType}
+use Rattle.protocol_types.specs.MessageType.{type_number, allows_ack, IsWireType}
 use Rattle.protocol_stream.specs.CommandType.{message_type_of, command_type_of}
 use Rattle.protocol_stream.specs.Header.{message_type, message_length, requested_ack, word_of, header_in}
 use Rattle.protocol_stream.specs.Item.{message, item_at}
@@ -81,7 +81,7 @@ abbrev pub AwaitingOnSpelled : Type 0
 AwaitingOnSpelled = (tree : AwaitTree NotificationId) (executing : Bool) → payload_of (awaiting_on_parts (awaiting_on_record tree executing)) ≡ awaiting_on_payload tree executing
 
 abbrev pub FramesSpelled : Type 0
-FramesSpelled = (ty : MessageType) (payload : List ℕ) → number_of ty < 2 ^ 16 → length payload < 2 ^ 32 → spelled (message_of ty payload) ≡ frame_bytes ty payload
+FramesSpelled = (ty : MessageType) (payload : List ℕ) → type_number ty < 2 ^ 16 → length payload < 2 ^ 32 → spelled (message_of ty payload) ≡ frame_bytes ty payload
 
 abbrev pub TerminalFailuresReadBack : Type 0
 TerminalFailuresReadBack = (failure : TerminalFailure) → failure.code < 2 ^ 16 → terminal_failure_told (failure_record failure) ≡ failure

@@ -1,7 +1,7 @@
 // What errors of bytes print.
 ghost use Rattle.std.specs.Prelude.{◌≡◌, ◌/◌, ◌%◌, Some};
 ghost use Rattle.std.specs.Fmt.{WritesOnOk};
-ghost use Rattle.protocol_stream.specs.ErrorText.{unknown_type_text, fault_text, unread_payload_text, asked_text, there_text, missing_field_text, decoding_text, encoding_text};
+ghost use Rattle.protocol_stream.specs.ErrorText.{unknown_type_text, payload_fault_text, unread_payload_text, asked_text, there_text, missing_field_text, decoding_text, encoding_text};
 
 use crate::{DecodingError, EncodingError, MessageType, NotificationField, UnknownMessageType};
 use protocol_types::HexByte;
@@ -27,7 +27,7 @@ fn write_unknown_type<W: fmt::Write>(number: u16, f: &mut fmt::Formatter<W>) -> 
 
 // What is wrong with a payload.
 fn fault_text(fault: Fault) -> &'static str
-    ensures { result.now ≡ fault_text fault }
+    ensures { result.now ≡ payload_fault_text fault }
 {
     match fault {
         Fault::BadPayload => "its bytes are no fields of that message",

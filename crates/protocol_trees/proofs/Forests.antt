@@ -4,7 +4,7 @@ use Rattle.std.specs.List.{list_any, slice_get}
 use Rattle.std.proofs.lemmas.List.{map-append}
 use Rattle.std.proofs.lemmas.List.Folds.{list_any-append}
 use Rattle.journal_model.specs.AwaitTree as Trees
-use Rattle.protocol_trees.specs.Shape.{state_meant, combinator_of, forest, node, IsLeaf, IsShaped}
+use Rattle.protocol_trees.specs.Shape.{state_meant, shape_combinator, forest, node, IsLeaf, IsShaped}
 use Rattle.protocol_trees.specs.Tally.{looked_in, has_ended_in, added, Tallies}
 use Rattle.protocol_trees.specs.Look.{IsLooked}
 use Rattle.protocol_trees.specs.declared.tree.AwaitTreeShape.{AwaitTreeShape}
@@ -74,13 +74,13 @@ module _ {Meant : Type 0} where
 
     looked_node : (shape : AwaitTreeShape) (leaves : List Meant) (children : List (Trees.AwaitTree Meant)) (tally : Tally)
         → Tallies shape tally (map states leaves ++ map (λ tree. Trees.await_state tree states) children) (list_any (λ tree. Trees.has_ended_node tree states) children)
-        → has_ended_in shape tally ≡ (Trees.has_ended (combinator_of shape) (map states leaves ++ map (λ tree. Trees.await_state tree states) children) || list_any (λ tree. Trees.has_ended_node tree states) children)
-        → (state_meant (looked_in shape tally).state ≡ Trees.await_state (node (combinator_of shape) leaves children) states)
-        × (has_ended_in shape tally ≡ Trees.has_ended_node (node (combinator_of shape) leaves children) states)
+        → has_ended_in shape tally ≡ (Trees.has_ended (shape_combinator shape) (map states leaves ++ map (λ tree. Trees.await_state tree states) children) || list_any (λ tree. Trees.has_ended_node tree states) children)
+        → (state_meant (looked_in shape tally).state ≡ Trees.await_state (node (shape_combinator shape) leaves children) states)
+        × (has_ended_in shape tally ≡ Trees.has_ended_node (node (shape_combinator shape) leaves children) states)
     looked_node shape leaves children tally h ended = (
-      state_of_node shape tally _ _ h ∙ ap (λ found. Trees.combined_state (combinator_of shape) found) (sym (all_states leaves children)),
-      ended ∙ ap (λ found. Trees.has_ended (combinator_of shape) found || list_any (λ tree. Trees.has_ended_node tree states) children) (sym (all_states leaves children))
-          ∙ ap (λ b. Trees.has_ended (combinator_of shape) (Trees.child_states (forest (map (λ leaf. Trees.Single leaf) leaves ++ children)) states) || b) (sym (all_ended leaves children)),
+      state_of_node shape tally _ _ h ∙ ap (λ found. Trees.combined_state (shape_combinator shape) found) (sym (all_states leaves children)),
+      ended ∙ ap (λ found. Trees.has_ended (shape_combinator shape) found || list_any (λ tree. Trees.has_ended_node tree states) children) (sym (all_states leaves children))
+          ∙ ap (λ b. Trees.has_ended (shape_combinator shape) (Trees.child_states (forest (map (λ leaf. Trees.Single leaf) leaves ++ children)) states) || b) (sym (all_ended leaves children)),
     )
 
     first_alone : (state : Trees.AwaitState) → Trees.first_completed (state ∷ []) ≡ state
@@ -102,9 +102,9 @@ module _ {Meant : Type 0} where
         }
 
     as_node : (shape : AwaitTreeShape) (tree : Trees.AwaitTree Meant) (leaves : List Meant) (children : List (Trees.AwaitTree Meant)) (tally : Tally)
-        → tree ≡ node (combinator_of shape) leaves children
+        → tree ≡ node (shape_combinator shape) leaves children
         → Tallies shape tally (map states leaves ++ map (λ tree. Trees.await_state tree states) children) (list_any (λ tree. Trees.has_ended_node tree states) children)
-        → has_ended_in shape tally ≡ (Trees.has_ended (combinator_of shape) (map states leaves ++ map (λ tree. Trees.await_state tree states) children) || list_any (λ tree. Trees.has_ended_node tree states) children)
+        → has_ended_in shape tally ≡ (Trees.has_ended (shape_combinator shape) (map states leaves ++ map (λ tree. Trees.await_state tree states) children) || list_any (λ tree. Trees.has_ended_node tree states) children)
         → IsLooked tree states (looked_in shape tally)
     as_node shape tree leaves children tally is h ended = let both = looked_node shape leaves children tally h ended in record {
       state = both.0 ∙ ap (λ (t : Trees.AwaitTree Meant). Trees.await_state t states) (sym is);

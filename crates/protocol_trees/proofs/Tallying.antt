@@ -8,8 +8,8 @@ use Rattle.std.proofs.lemmas.List.Folds.{list_any-append, list_all-append}
 use Rattle.std.proofs.lemmas.List.{take_more}
 use Rattle.std.proofs.lemmas.Option.{slice_get_within, get_or_from_slice_get}
 use Rattle.journal_model.specs.AwaitTree as Trees
-use Rattle.protocol_trees.specs.Shape.{state_meant, combinator_of}
-use Rattle.protocol_trees.specs.Tally.{first_of, less, required_of, added, state_in, has_ended_in, Tallies}
+use Rattle.protocol_trees.specs.Shape.{state_meant, shape_combinator}
+use Rattle.protocol_trees.specs.Tally.{first_ended_state, less, required_of, added, state_in, has_ended_in, Tallies}
 use Rattle.protocol_trees.specs.declared.tree.AwaitState.{AwaitState}
 use Rattle.protocol_trees.specs.declared.tree.AwaitState.TheVariants as states
 use Rattle.protocol_trees.specs.declared.tree.AwaitTreeShape.{AwaitTreeShape}
@@ -39,7 +39,7 @@ next_alone states.Pending = refl
 next_alone states.Succeeded = refl
 next_alone states.Failed = refl
 
-first_more : (found : List Trees.AwaitState) (first next : AwaitState) → state_meant first ≡ Trees.first_completed found → state_meant (first_of first next) ≡ Trees.first_completed (found ++ state_meant next ∷ [])
+first_more : (found : List Trees.AwaitState) (first next : AwaitState) → state_meant first ≡ Trees.first_completed found → state_meant (first_ended_state first next) ≡ Trees.first_completed (found ++ state_meant next ∷ [])
 first_more [] states.Pending next e = next_alone next
 first_more [] states.Succeeded next e = absurd cc
 first_more [] states.Failed next e = absurd cc
@@ -89,9 +89,9 @@ tallied shape tally found below one h = record {
   missing = many_more Trees.is_succeeded found (state_meant one.state) (required_of shape) tally.missing h.missing;
   lacking = many_more (λ state. not (Trees.is_failed state)) found (state_meant one.state) (required_of shape) tally.lacking h.lacking;
   ended =
-      ap (λ b. b || (Trees.ends_at_once (combinator_of shape) (state_meant one.state) || one.has_ended)) h.ended
-      ∙ swapped (list_any (Trees.ends_at_once (combinator_of shape)) found) below (Trees.ends_at_once (combinator_of shape) (state_meant one.state)) one.has_ended
-      ∙ ap (λ b. b || (below || one.has_ended)) (any_more (Trees.ends_at_once (combinator_of shape)) found (state_meant one.state) _ refl);
+      ap (λ b. b || (Trees.ends_at_once (shape_combinator shape) (state_meant one.state) || one.has_ended)) h.ended
+      ∙ swapped (list_any (Trees.ends_at_once (shape_combinator shape)) found) below (Trees.ends_at_once (shape_combinator shape) (state_meant one.state)) one.has_ended
+      ∙ ap (λ b. b || (below || one.has_ended)) (any_more (Trees.ends_at_once (shape_combinator shape)) found (state_meant one.state) _ refl);
 }
 
 -- ---- the state of a node
@@ -110,7 +110,7 @@ failed_or_succeeded true b = refl
 failed_or_succeeded false true = refl
 failed_or_succeeded false false = refl
 
-pub state_of_node : (shape : AwaitTreeShape) (tally : Tally) (found : List Trees.AwaitState) (below : Bool) → Tallies shape tally found below → state_meant (state_in shape tally) ≡ Trees.combined_state (combinator_of shape) found
+pub state_of_node : (shape : AwaitTreeShape) (tally : Tally) (found : List Trees.AwaitState) (below : Bool) → Tallies shape tally found below → state_meant (state_in shape tally) ≡ Trees.combined_state (shape_combinator shape) found
 state_of_node shapes.Single tally found below h = h.first
 state_of_node shapes.FirstCompleted tally found below h = h.first
 state_of_node shapes.Unknown tally found below h = h.first

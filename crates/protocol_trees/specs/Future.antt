@@ -6,7 +6,7 @@ use Rattle.journal_model.specs.declared.notification.NotificationId.TheVariants 
 use Rattle.protocol_records.specs.declared.future.Future.{Future, fold-Future, out-Future}
 use Rattle.protocol_records.specs.declared.future.CombinatorType.{CombinatorType}
 use Rattle.protocol_records.specs.declared.future.CombinatorType.TheVariants as combinators
-use Rattle.protocol_trees.specs.Shape.{combinator_of, node}
+use Rattle.protocol_trees.specs.Shape.{shape_combinator, node}
 use Rattle.protocol_trees.specs.declared.future.NotificationIdRef.{NotificationIdRef}
 use Rattle.protocol_trees.specs.declared.future.NotificationIdRef.TheVariants as refs
 use Rattle.protocol_trees.specs.declared.tree.AwaitTreeShape.{AwaitTreeShape}
@@ -26,7 +26,7 @@ abbrev pub ids_in : List ℕ → List ℕ → List (List ℕ) → List Notificat
 ids_in completions signals names = map ids.CompletionId completions ++ (map ids.SignalId signals ++ map ids.SignalName names)
 
 unfoldable pub future_tree : Future → Trees.AwaitTree NotificationId
-future_tree = fold-Future (Trees.AwaitTree NotificationId) (λ f. node (combinator_of (shape_in f.combinator_type f.required)) (ids_in f.waiting_completions f.waiting_signals f.waiting_named_signals) f.nested_futures)
+future_tree = fold-Future (Trees.AwaitTree NotificationId) (λ f. node (shape_combinator (shape_in f.combinator_type f.required)) (ids_in f.waiting_completions f.waiting_signals f.waiting_named_signals) f.nested_futures)
 
 abbrev pub leaves_in : Future → List NotificationId
 leaves_in f = ids_in (out-Future f).waiting_completions (out-Future f).waiting_signals (out-Future f).waiting_named_signals

@@ -5,14 +5,14 @@ use Rattle.journal_model.specs.declared.notification.NotificationId.{Notificatio
 use Rattle.protocol_records.specs.declared.future.Future.{Future, out-Future, fold_out-Future}
 use Rattle.protocol_records.specs.declared.future.CombinatorType.{CombinatorType}
 use Rattle.protocol_records.specs.declared.future.CombinatorType.TheVariants as combinators
-use Rattle.protocol_trees.specs.Shape.{combinator_of, node, IsShaped}
+use Rattle.protocol_trees.specs.Shape.{shape_combinator, node, IsShaped}
 use Rattle.protocol_trees.specs.Future.{shape_in, ids_in, leaves_in, children_in, future_tree}
 
-pub future_tree_is : (f : Future) → future_tree f ≡ node (combinator_of (shape_in (out-Future f).combinator_type (out-Future f).required)) (leaves_in f) (children_in f)
+pub future_tree_is : (f : Future) → future_tree f ≡ node (shape_combinator (shape_in (out-Future f).combinator_type (out-Future f).required)) (leaves_in f) (children_in f)
 unfolding future_tree
-future_tree_is f = fold_out-Future (Trees.AwaitTree NotificationId) (λ f. node (combinator_of (shape_in f.combinator_type f.required)) (ids_in f.waiting_completions f.waiting_signals f.waiting_named_signals) f.nested_futures) f
+future_tree_is f = fold_out-Future (Trees.AwaitTree NotificationId) (λ f. node (shape_combinator (shape_in f.combinator_type f.required)) (ids_in f.waiting_completions f.waiting_signals f.waiting_named_signals) f.nested_futures) f
 
-shaped : (combinator : CombinatorType) (required : ℕ) (leaves : List NotificationId) (children : List (Trees.AwaitTree NotificationId)) (tree : Trees.AwaitTree NotificationId) → tree ≡ node (combinator_of (shape_in combinator required)) leaves children → IsShaped (shape_in combinator required) leaves children tree
+shaped : (combinator : CombinatorType) (required : ℕ) (leaves : List NotificationId) (children : List (Trees.AwaitTree NotificationId)) (tree : Trees.AwaitTree NotificationId) → tree ≡ node (shape_combinator (shape_in combinator required)) leaves children → IsShaped (shape_in combinator required) leaves children tree
 shaped combinators.Unknown required leaves children tree e = e
 shaped combinators.FirstCompleted required leaves children tree e = e
 shaped combinators.AllCompleted required leaves children tree e = e

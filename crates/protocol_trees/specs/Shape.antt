@@ -12,14 +12,14 @@ state_meant states.Succeeded = Trees.Succeeded
 state_meant states.Failed = Trees.Failed
 
 -- how a node combines its children; one leaf combines none
-abbrev pub combinator_of : AwaitTreeShape → Trees.Combinator
-combinator_of shapes.Single = Trees.FirstCompleted
-combinator_of shapes.FirstCompleted = Trees.FirstCompleted
-combinator_of shapes.AllCompleted = Trees.AllCompleted
-combinator_of shapes.FirstSucceededOrAllFailed = Trees.FirstSucceededOrAllFailed
-combinator_of shapes.AllSucceededOrFirstFailed = Trees.AllSucceededOrFirstFailed
-combinator_of shapes.Unknown = Trees.Unknown
-combinator_of (shapes.AtLeast required) = Trees.AtLeast required
+abbrev pub shape_combinator : AwaitTreeShape → Trees.Combinator
+shape_combinator shapes.Single = Trees.FirstCompleted
+shape_combinator shapes.FirstCompleted = Trees.FirstCompleted
+shape_combinator shapes.AllCompleted = Trees.AllCompleted
+shape_combinator shapes.FirstSucceededOrAllFailed = Trees.FirstSucceededOrAllFailed
+shape_combinator shapes.AllSucceededOrFirstFailed = Trees.AllSucceededOrFirstFailed
+shape_combinator shapes.Unknown = Trees.Unknown
+shape_combinator (shapes.AtLeast required) = Trees.AtLeast required
 
 abbrev pub forest : {Meant : Type 0} → List (Trees.AwaitTree Meant) → Trees.AwaitTrees Meant
 forest [] = Trees.no_trees

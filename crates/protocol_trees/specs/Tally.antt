@@ -2,7 +2,7 @@
 use Rattle.std.specs.Prelude.{◌≡◌, ℕ, ◌-◌, ◌==◌, Bool, true, false, not, ◌||◌, ◌&&◌, if◌then◌else◌, List}
 use Rattle.std.specs.List.{list_any, list_all}
 use Rattle.journal_model.specs.AwaitTree as Trees
-use Rattle.protocol_trees.specs.Shape.{state_meant, combinator_of}
+use Rattle.protocol_trees.specs.Shape.{state_meant, shape_combinator}
 use Rattle.protocol_trees.specs.declared.tree.AwaitState.{AwaitState}
 use Rattle.protocol_trees.specs.declared.tree.AwaitState.TheVariants as states
 use Rattle.protocol_trees.specs.declared.tree.AwaitTreeShape.{AwaitTreeShape}
@@ -10,10 +10,10 @@ use Rattle.protocol_trees.specs.declared.tree.AwaitTreeShape.TheVariants as shap
 use Rattle.protocol_trees.specs.declared.tally.Tally.{Tally}
 use Rattle.protocol_trees.specs.declared.tally.Looked.{Looked}
 
-abbrev pub first_of : AwaitState → AwaitState → AwaitState
-first_of states.Pending next = next
-first_of states.Succeeded next = states.Succeeded
-first_of states.Failed next = states.Failed
+abbrev pub first_ended_state : AwaitState → AwaitState → AwaitState
+first_ended_state states.Pending next = next
+first_ended_state states.Succeeded next = states.Succeeded
+first_ended_state states.Failed next = states.Failed
 
 -- how many successes a node of this shape asks for
 abbrev pub required_of : AwaitTreeShape → ℕ
@@ -40,7 +40,7 @@ no_tally shape = record {
 -- one child more
 abbrev pub added : AwaitTreeShape → Tally → Looked → Tally
 added shape tally one = record {
-  first_completed = first_of tally.first_completed one.state;
+  first_completed = first_ended_state tally.first_completed one.state;
   is_one_succeeded = tally.is_one_succeeded || Trees.is_succeeded (state_meant one.state);
   is_one_failed = tally.is_one_failed || Trees.is_failed (state_meant one.state);
   are_all_completed = tally.are_all_completed && Trees.is_completed (state_meant one.state);
@@ -48,7 +48,7 @@ added shape tally one = record {
   are_all_failed = tally.are_all_failed && Trees.is_failed (state_meant one.state);
   missing = less tally.missing (Trees.is_succeeded (state_meant one.state));
   lacking = less tally.lacking (not (Trees.is_failed (state_meant one.state)));
-  has_ended = tally.has_ended || (Trees.ends_at_once (combinator_of shape) (state_meant one.state) || one.has_ended);
+  has_ended = tally.has_ended || (Trees.ends_at_once (shape_combinator shape) (state_meant one.state) || one.has_ended);
 }
 
 abbrev pub state_in : AwaitTreeShape → Tally → AwaitState
@@ -79,4 +79,4 @@ pub record Tallies (shape : AwaitTreeShape) (tally : Tally) (found : List Trees.
   pub all_failed : tally.are_all_failed ≡ list_all Trees.is_failed found
   pub missing : tally.missing ≡ required_of shape - Trees.many Trees.is_succeeded found
   pub lacking : tally.lacking ≡ required_of shape - Trees.many (λ state. not (Trees.is_failed state)) found
-  pub ended : tally.has_ended ≡ (list_any (Trees.ends_at_once (combinator_of shape)) found || has_ended_below)
+  pub ended : tally.has_ended ≡ (list_any (Trees.ends_at_once (shape_combinator shape)) found || has_ended_below)

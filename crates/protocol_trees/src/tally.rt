@@ -1,8 +1,8 @@
 // What the children of a node have come to, one after another.
 ghost use Rattle.std.specs.Prelude.{◌≡◌};
 ghost use Rattle.journal_model.specs.AwaitTree.{is_completed, is_succeeded, is_failed, ends_at_once};
-ghost use Rattle.protocol_trees.specs.Shape.{state_meant, combinator_of};
-ghost use Rattle.protocol_trees.specs.Tally.{first_of, less, required_of, no_tally, added, looked_in, state_in, has_ended_in};
+ghost use Rattle.protocol_trees.specs.Shape.{state_meant, shape_combinator};
+ghost use Rattle.protocol_trees.specs.Tally.{first_ended_state, less, required_of, no_tally, added, looked_in, state_in, has_ended_in};
 
 use crate::tree::{AwaitState, AwaitTreeShape};
 
@@ -29,7 +29,7 @@ pub(crate) struct Tally {
 }
 
 fn first_of(first: AwaitState, next: AwaitState) -> AwaitState
-    ensures { result ≡ first_of first next }
+    ensures { result ≡ first_ended_state first next }
 {
     match first {
         AwaitState::Pending => next,
@@ -58,7 +58,7 @@ pub(crate) fn is_completed(state: AwaitState) -> bool
 
 // Whether a child of this state ends a node at once, whatever its other children do.
 fn ends_at_once(shape: AwaitTreeShape, state: AwaitState) -> bool
-    ensures { result ≡ ends_at_once (combinator_of shape) (state_meant state) }
+    ensures { result ≡ ends_at_once (shape_combinator shape) (state_meant state) }
 {
     match shape {
         AwaitTreeShape::AllCompleted => false,

@@ -6,7 +6,7 @@ use Rattle.std.proofs.lemmas.Bool.{eqb-true, eqb-false}
 use Rattle.protocol_types.specs.declared.message_type.MessageType.{MessageType}
 use Rattle.protocol_types.specs.declared.message_type.MessageType.TheVariants.{CustomEntry}
 use Rattle.protocol_types.specs.declared.message_type.UnknownMessageType.{UnknownMessageType}
-use Rattle.protocol_types.specs.MessageType.{number_of, named_types, named_type, named_or_custom, type_numbered, IsWireType}
+use Rattle.protocol_types.specs.MessageType.{type_number, named_types, named_type, named_or_custom, type_numbered, IsWireType}
 use Rattle.protocol_types.specs.Laws.{IsUnlisted, NamesReadBack, CustomEntriesReadBack, NumbersReadBack, RestIsUnknown}
 
 -- whether a type is no custom entry
@@ -38,36 +38,36 @@ names_read_back = all_wire named_types refl
 -- ---- what is found in a list of types
 
 abbrev with_number : ℕ → List MessageType → Option MessageType
-with_number number tys = find (λ ty. nat_eq (number_of ty) number) tys
+with_number number tys = find (λ ty. nat_eq (type_number ty) number) tys
 
 abbrev Unlisted : ℕ → List MessageType → Type 0
-Unlisted number tys = AllByRecursion (λ ty. number_of ty ≢ number) tys
+Unlisted number tys = AllByRecursion (λ ty. type_number ty ≢ number) tys
 
 none_with : (number : ℕ) (tys : List MessageType) → with_number number tys ≡ None → Unlisted number tys
 none_with number [] e = tt
-none_with number (ty ∷ tys) e = go (nat_eq (number_of ty) number) refl e (λ more. none_with number tys more)
+none_with number (ty ∷ tys) e = go (nat_eq (type_number ty) number) refl e (λ more. none_with number tys more)
   where
-    go : (b : Bool) → nat_eq (number_of ty) number ≡ b → cond b (Some ty) (with_number number tys) ≡ None → (with_number number tys ≡ None → Unlisted number tys) → Unlisted number (ty ∷ tys)
+    go : (b : Bool) → nat_eq (type_number ty) number ≡ b → cond b (Some ty) (with_number number tys) ≡ None → (with_number number tys ≡ None → Unlisted number tys) → Unlisted number (ty ∷ tys)
     go true is e others = absurd cc
     go false is e others = (eqb-false _ _ is, others e)
 
 with_none : (number : ℕ) (tys : List MessageType) → Unlisted number tys → with_number number tys ≡ None
 with_none number [] h = refl
-with_none number (ty ∷ tys) h = go (nat_eq (number_of ty) number) refl (with_none number tys h.1)
+with_none number (ty ∷ tys) h = go (nat_eq (type_number ty) number) refl (with_none number tys h.1)
   where
-    go : (b : Bool) → nat_eq (number_of ty) number ≡ b → with_number number tys ≡ None → cond b (Some ty) (with_number number tys) ≡ None
+    go : (b : Bool) → nat_eq (type_number ty) number ≡ b → with_number number tys ≡ None → cond b (Some ty) (with_number number tys) ≡ None
     go true is others = absurd (h.0 (eqb-true _ _ is))
     go false is others = others
 
-found_with : (number : ℕ) (tys : List MessageType) (found : MessageType) → all_named tys ≡ true → with_number number tys ≡ Some found → (number_of found ≡ number) × (is_named found ≡ true)
+found_with : (number : ℕ) (tys : List MessageType) (found : MessageType) → all_named tys ≡ true → with_number number tys ≡ Some found → (type_number found ≡ number) × (is_named found ≡ true)
 found_with number [] found a e = absurd cc
-found_with number (ty ∷ tys) found a e = go (nat_eq (number_of ty) number) refl e (λ more. found_with number tys found (both (is_named ty) (all_named tys) a).1 more)
+found_with number (ty ∷ tys) found a e = go (nat_eq (type_number ty) number) refl e (λ more. found_with number tys found (both (is_named ty) (all_named tys) a).1 more)
   where
-    go : (b : Bool) → nat_eq (number_of ty) number ≡ b → cond b (Some ty) (with_number number tys) ≡ Some found → (with_number number tys ≡ Some found → (number_of found ≡ number) × (is_named found ≡ true))
-        → (number_of found ≡ number) × (is_named found ≡ true)
+    go : (b : Bool) → nat_eq (type_number ty) number ≡ b → cond b (Some ty) (with_number number tys) ≡ Some found → (with_number number tys ≡ Some found → (type_number found ≡ number) × (is_named found ≡ true))
+        → (type_number found ≡ number) × (is_named found ≡ true)
     go true is e others =
         let same : ty ≡ found = cc in
-        (sym (ap number_of same) ∙ eqb-true _ _ is, sym (ap is_named same) ∙ (both (is_named ty) (all_named tys) a).0)
+        (sym (ap type_number same) ∙ eqb-true _ _ is, sym (ap is_named same) ∙ (both (is_named ty) (all_named tys) a).0)
     go false is e others = others e
 
 named_type_none : (number : ℕ) → named_type number ≡ None → IsUnlisted number
@@ -78,7 +78,7 @@ named_type_unlisted : (number : ℕ) → IsUnlisted number → named_type number
 unfolding named_type
 named_type_unlisted number h = with_none number named_types h
 
-pub named_type_some : (number : ℕ) (found : MessageType) → named_type number ≡ Some found → (number_of found ≡ number) × (is_named found ≡ true)
+pub named_type_some : (number : ℕ) (found : MessageType) → named_type number ≡ Some found → (type_number found ≡ number) × (is_named found ≡ true)
 unfolding named_type
 named_type_some number found e = found_with number named_types found refl e
 
@@ -96,12 +96,12 @@ ok_is x y e = cc
 pub numbers_read_back : NumbersReadBack
 numbers_read_back number ty e = go (named_type number) refl e
   where
-    custom : (b : Bool) → cond b (Err (record { 0 = number })) (Ok (CustomEntry number)) ≡ ok ty → number_of ty ≡ number
+    custom : (b : Bool) → cond b (Err (record { 0 = number })) (Ok (CustomEntry number)) ≡ ok ty → type_number ty ≡ number
     custom true e = absurd cc
-    custom false e = sym (ap number_of (ok_is _ _ e))
+    custom false e = sym (ap type_number (ok_is _ _ e))
 
-    go : (r : Option MessageType) → named_type number ≡ r → named_or_custom number r ≡ ok ty → number_of ty ≡ number
-    go (Some found) is e = sym (ap number_of (ok_is _ _ e)) ∙ (named_type_some number found is).0
+    go : (r : Option MessageType) → named_type number ≡ r → named_or_custom number r ≡ ok ty → type_number ty ≡ number
+    go (Some found) is e = sym (ap type_number (ok_is _ _ e)) ∙ (named_type_some number found is).0
     go None is e = custom (nat_eq (bit_and number 0xFC00) 0) e
 
 pub custom_entries_read_back : CustomEntriesReadBack

@@ -5,49 +5,49 @@ use Rattle.protocol_types.specs.declared.message_type.MessageType.TheVariants.{S
 use Rattle.protocol_types.specs.declared.message_type.UnknownMessageType.{UnknownMessageType}
 
 -- the number of a type on the wire
-abbrev pub number_of : MessageType → ℕ
-number_of Start = 0x0000
-number_of Suspension = 0x0001
-number_of Error = 0x0002
-number_of End = 0x0003
-number_of AwaitingOn = 0x0004
-number_of ProposeRunCompletion = 0x0005
-number_of ProposeRunCompletionAck = 0x0006
-number_of GetStateEphemeralCommand = 0x0007
-number_of GetStateEphemeralNotification = 0x0008
-number_of InputCommand = 0x0400
-number_of OutputCommand = 0x0401
-number_of GetLazyStateCommand = 0x0402
-number_of SetStateCommand = 0x0403
-number_of ClearStateCommand = 0x0404
-number_of ClearAllStateCommand = 0x0405
-number_of GetLazyStateKeysCommand = 0x0406
-number_of GetEagerStateCommand = 0x0407
-number_of GetEagerStateKeysCommand = 0x0408
-number_of GetPromiseCommand = 0x0409
-number_of PeekPromiseCommand = 0x040a
-number_of CompletePromiseCommand = 0x040b
-number_of SleepCommand = 0x040c
-number_of CallCommand = 0x040d
-number_of OneWayCallCommand = 0x040e
-number_of SendSignalCommand = 0x040f
-number_of RunCommand = 0x0410
-number_of AttachInvocationCommand = 0x0411
-number_of GetInvocationOutputCommand = 0x0412
-number_of CompleteAwakeableCommand = 0x0413
-number_of GetLazyStateCompletionNotification = 0x8002
-number_of GetLazyStateKeysCompletionNotification = 0x8006
-number_of GetPromiseCompletionNotification = 0x8009
-number_of PeekPromiseCompletionNotification = 0x800a
-number_of CompletePromiseCompletionNotification = 0x800b
-number_of SleepCompletionNotification = 0x800c
-number_of CallCompletionNotification = 0x800d
-number_of CallInvocationIdCompletionNotification = 0x800e
-number_of RunCompletionNotification = 0x8010
-number_of AttachInvocationCompletionNotification = 0x8011
-number_of GetInvocationOutputCompletionNotification = 0x8012
-number_of SignalNotification = 0xfbff
-number_of (CustomEntry number) = number
+abbrev pub type_number : MessageType → ℕ
+type_number Start = 0x0000
+type_number Suspension = 0x0001
+type_number Error = 0x0002
+type_number End = 0x0003
+type_number AwaitingOn = 0x0004
+type_number ProposeRunCompletion = 0x0005
+type_number ProposeRunCompletionAck = 0x0006
+type_number GetStateEphemeralCommand = 0x0007
+type_number GetStateEphemeralNotification = 0x0008
+type_number InputCommand = 0x0400
+type_number OutputCommand = 0x0401
+type_number GetLazyStateCommand = 0x0402
+type_number SetStateCommand = 0x0403
+type_number ClearStateCommand = 0x0404
+type_number ClearAllStateCommand = 0x0405
+type_number GetLazyStateKeysCommand = 0x0406
+type_number GetEagerStateCommand = 0x0407
+type_number GetEagerStateKeysCommand = 0x0408
+type_number GetPromiseCommand = 0x0409
+type_number PeekPromiseCommand = 0x040a
+type_number CompletePromiseCommand = 0x040b
+type_number SleepCommand = 0x040c
+type_number CallCommand = 0x040d
+type_number OneWayCallCommand = 0x040e
+type_number SendSignalCommand = 0x040f
+type_number RunCommand = 0x0410
+type_number AttachInvocationCommand = 0x0411
+type_number GetInvocationOutputCommand = 0x0412
+type_number CompleteAwakeableCommand = 0x0413
+type_number GetLazyStateCompletionNotification = 0x8002
+type_number GetLazyStateKeysCompletionNotification = 0x8006
+type_number GetPromiseCompletionNotification = 0x8009
+type_number PeekPromiseCompletionNotification = 0x800a
+type_number CompletePromiseCompletionNotification = 0x800b
+type_number SleepCompletionNotification = 0x800c
+type_number CallCompletionNotification = 0x800d
+type_number CallInvocationIdCompletionNotification = 0x800e
+type_number RunCompletionNotification = 0x8010
+type_number AttachInvocationCompletionNotification = 0x8011
+type_number GetInvocationOutputCompletionNotification = 0x8012
+type_number SignalNotification = 0xfbff
+type_number (CustomEntry number) = number
 
 -- the types that have a name
 abbrev pub named_types : List MessageType
@@ -62,7 +62,7 @@ named_types =
 
 -- the type with a name that has this number
 unfoldable pub named_type : ℕ → Option MessageType
-named_type number = find (λ ty. number_of ty == number) named_types
+named_type number = find (λ ty. type_number ty == number) named_types
 
 -- a number of no named type is a custom entry where one of its six highest bits is set
 abbrev pub custom_type : ℕ → Result MessageType UnknownMessageType
@@ -77,15 +77,15 @@ abbrev pub type_numbered : ℕ → Result MessageType UnknownMessageType
 type_numbered number = named_or_custom number (named_type number)
 
 abbrev pub is_command : MessageType → Bool
-is_command ty = bit_and (number_of ty) 0xFC00 == 0x0400
+is_command ty = bit_and (type_number ty) 0xFC00 == 0x0400
 
 abbrev pub is_notification : MessageType → Bool
-is_notification ty = if bit_and (number_of ty) 0x8000 == 0 then false else true
+is_notification ty = if bit_and (type_number ty) 0x8000 == 0 then false else true
 
 -- a type whose number stands for it
 pub record IsWireType (ty : MessageType) : Type 0 where
-  pub number : number_of ty < 2 ^ 16
-  pub read : type_numbered (number_of ty) ≡ Ok ty
+  pub number : type_number ty < 2 ^ 16
+  pub read : type_numbered (type_number ty) ≡ Ok ty
 
 -- a proposal alone can request an acknowledgement
 abbrev pub allows_ack : MessageType → Bool

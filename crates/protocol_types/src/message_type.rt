@@ -2,7 +2,7 @@
 ghost use Rattle.std.specs.Prelude.{◌≡◌, Some};
 ghost use Rattle.std.specs.Fmt.{WritesOnOk};
 ghost use Rattle.protocol_types.specs.TypeText.{type_name, number_text, type_text};
-ghost use Rattle.protocol_types.specs.MessageType.{number_of, named_type, type_numbered, is_command, is_notification, allows_ack};
+ghost use Rattle.protocol_types.specs.MessageType.{type_number, named_type, type_numbered, is_command, is_notification, allows_ack};
 
 use std::fmt;
 use thiserror::Error;
@@ -140,7 +140,7 @@ macro_rules! name_in_table {
 }
 
 impl From<MessageType> for u16 {
-    ghost from_gives = { λ ty number. number ≡ number_of ty };
+    ghost from_gives = { λ ty number. number ≡ type_number ty };
 
     fn from(ty: MessageType) -> u16 {
         with_numbers!(number_in_table ty)

@@ -10,7 +10,7 @@ use Rattle.protocol_wire.specs.Items.{is_end}
 use Rattle.protocol_wire.specs.Fields.{fields, varints, are_varints}
 use Rattle.protocol_wire.specs.Spelling.{varint_spelling}
 use Rattle.protocol_wire.specs.Selection.{last_number_or, last_number, last_bytes_or, last_bytes, u64, u32, bool, text, low, optional_u64, optional_u32, optional_text, each_bytes, texts, each_number, numbers, joined_bytes, optional_record, records, is_among, among, last_run, run}
-use Rattle.protocol_wire.specs.Parts.{Part, plain_number, bool_number, enum_number, number_if, optional_number, nonempty, plain_bytes, bytes_if, optional_bytes, repeated_bytes, packed, numbered, fields_of}
+use Rattle.protocol_wire.specs.Parts.{Part, plain_number, bool_number, enum_number, number_if, optional_number, nonempty, plain_bytes, bytes_if, optional_bytes, repeated_bytes, packed, parts_numbered, fields_of}
 use Rattle.protocol_wire.proofs.Steps.{varint_at_shrinks, items_read, items_ended, left_read, left_ended, nil_ended}
 use Rattle.protocol_wire.proofs.Spelled.{varint-spelled}
 use Rattle.protocol_wire.proofs.Laws.{held, values-fields_of, flag, flag_again, bytes_if_view}
@@ -151,7 +151,7 @@ module _ {R : Type 0} (of : List Field → R) (write : R → List ℕ) where
 
 -- ---- one of several fields
 
-among_numbered : (variants : List ℕ) (number : ℕ) (ws : List Wire) (fs : List Field) → among variants (numbered number ws ++ fs) ≡ cond (is_among variants number) (numbered number ws) [] ++ among variants fs
+among_numbered : (variants : List ℕ) (number : ℕ) (ws : List Wire) (fs : List Field) → among variants (parts_numbered number ws ++ fs) ≡ cond (is_among variants number) (parts_numbered number ws) [] ++ among variants fs
 among_numbered variants number [] fs = go (is_among variants number)
   where
     go : (b : Bool) → among variants fs ≡ cond b [] [] ++ among variants fs
@@ -159,18 +159,18 @@ among_numbered variants number [] fs = go (is_among variants number)
     go false = refl
 among_numbered variants number (w ∷ ws) fs = go (is_among variants number) (among_numbered variants number ws fs)
   where
-    go : (b : Bool) → among variants (numbered number ws ++ fs) ≡ cond b (numbered number ws) [] ++ among variants fs
-        → cond b (record { number = number; value = w } ∷ among variants (numbered number ws ++ fs)) (among variants (numbered number ws ++ fs)) ≡ cond b (numbered number (w ∷ ws)) [] ++ among variants fs
+    go : (b : Bool) → among variants (parts_numbered number ws ++ fs) ≡ cond b (parts_numbered number ws) [] ++ among variants fs
+        → cond b (record { number = number; value = w } ∷ among variants (parts_numbered number ws ++ fs)) (among variants (parts_numbered number ws ++ fs)) ≡ cond b (parts_numbered number (w ∷ ws)) [] ++ among variants fs
     go true h = ap (λ (gs : List Field). record { number = number; value = w } ∷ gs) h
     go false h = h
 
 abbrev pub held_among : List ℕ → List Part → List Field
 held_among variants [] = []
-held_among variants (p ∷ ps) = cond (is_among variants p.0) (numbered p.0 p.1) [] ++ held_among variants ps
+held_among variants (p ∷ ps) = cond (is_among variants p.0) (parts_numbered p.0 p.1) [] ++ held_among variants ps
 
 pub among-fields_of : (variants : List ℕ) (ps : List Part) → among variants (fields_of ps) ≡ held_among variants ps
 among-fields_of variants [] = refl
-among-fields_of variants (p ∷ ps) = among_numbered variants p.0 p.1 (fields_of ps) ∙ ap (λ (gs : List Field). cond (is_among variants p.0) (numbered p.0 p.1) [] ++ gs) (among-fields_of variants ps)
+among-fields_of variants (p ∷ ps) = among_numbered variants p.0 p.1 (fields_of ps) ∙ ap (λ (gs : List Field). cond (is_among variants p.0) (parts_numbered p.0 p.1) [] ++ gs) (among-fields_of variants ps)
 
 -- The run of a oneof in a record's canonical fields: what is computed of its parts.
 pub run-fields_of : (variants : List ℕ) (ps : List Part) → run variants (fields_of ps) ≡ last_run (held_among variants ps)

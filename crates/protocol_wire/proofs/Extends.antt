@@ -1,9 +1,8 @@
 -- What is read at the front is read there whatever follows.
 use Rattle.std.proofs.Common.{◌≡◌, ℕ, zero, suc, ◌+◌, ◌-◌, ◌*◌, ◌%◌, ◌^◌, ◌<◌, ◌≤◌, Bool, true, false, cond, ltb, leb, eqb, List, [], ◌∷◌, ◌++◌, length, take, drop, Option, Some, None, refl, sym, ap, subst, ◌∙◌, arith}
-use Rattle.std.proofs.lemmas.List.{length-append}
-use Rattle.std.proofs.lemmas.List.{take-append-le, drop-append-le}
+use Rattle.std.proofs.lemmas.List.{length-append, take-append-le, drop-append-le}
 use Rattle.std.proofs.lemmas.Bool.{le-leb, leb-true}
-use Rattle.protocol_wire.specs.Wire.{Field, ◌>>=◌, varint_within, varint_at, bytes_at, value_at, field_at}
+use Rattle.protocol_wire.specs.Wire.{Field, ◌>>=◌, varint_within, varint_at, bytes_at, wire_value, field_at}
 use Rattle.protocol_wire.specs.Items.{is_end}
 use Rattle.protocol_wire.specs.Fields.{fields, are_fields}
 use Rattle.protocol_wire.proofs.Steps.{Shrinks, field_at_nil, field_at_shrinks, fields-some, fields-none, are_fields-some, are_fields-none}
@@ -49,8 +48,8 @@ bytes_at_extends c n bs = go (leb n (length bs)) refl
         let more : leb n (length (bs ++ c)) ≡ true = le-leb _ _ (omega (arith, length-append bs c)) in
         rw (more, take-append-le n bs c le, drop-append-le n bs c le) refl
 
-value_at_extends : (c : List ℕ) (kind : ℕ) (bs : List ℕ) → Extends c (value_at kind bs) (value_at kind (bs ++ c))
-unfolding value_at
+value_at_extends : (c : List ℕ) (kind : ℕ) (bs : List ℕ) → Extends c (wire_value kind bs) (wire_value kind (bs ++ c))
+unfolding wire_value
 value_at_extends c kind bs =
     extends_if c (eqb kind 0) _ _ _ _ (extends_then c (varint_at bs) _ _ _ (varint_at_extends c bs) (λ x. refl))
     (extends_if c (eqb kind 2) _ _ _ _ (extends_then c (varint_at bs) _ _ _ (varint_at_extends c bs) (λ n. extends_then c (bytes_at n.0 n.1) _ _ _ (bytes_at_extends c n.0 n.1) (λ x. refl)))
@@ -59,7 +58,7 @@ value_at_extends c kind bs =
 
 field_at_extends : (c : List ℕ) (bs : List ℕ) → Extends c (field_at bs) (field_at (bs ++ c))
 unfolding field_at
-field_at_extends c bs = extends_then c (varint_at bs) _ _ _ (varint_at_extends c bs) (λ t. extends_if c (ltb t.0 8) None _ None _ tt (extends_if c (ltb t.0 (2 ^ 32)) _ None _ None (extends_then c (value_at (t.0 % 8) t.1) _ _ _ (value_at_extends c (t.0 % 8) t.1) (λ v. refl)) tt))
+field_at_extends c bs = extends_then c (varint_at bs) _ _ _ (varint_at_extends c bs) (λ t. extends_if c (ltb t.0 8) None _ None _ tt (extends_if c (ltb t.0 (2 ^ 32)) _ None _ None (extends_then c (wire_value (t.0 % 8) t.1) _ _ _ (value_at_extends c (t.0 % 8) t.1) (λ v. refl)) tt))
 
 -- ---- payloads one behind the other
 

@@ -11,7 +11,7 @@ use Rattle.protocol_wire.specs.Fields.{fields, are_fields, are_varints}
 use Rattle.protocol_wire.specs.Spelling.{varint_spelling, tagged, ValueFits, FieldFits}
 use Rattle.protocol_table.specs.Table.{descriptors_of, kind_in}
 use Rattle.protocol_wire.specs.Check.{worse, bad_unless, fault_by, fields_fault, payload_fault}
-use Rattle.protocol_wire.specs.Parts.{Part, plain_number, bool_number, enum_number, optional_number, nonempty, plain_bytes, bytes_if, optional_bytes, repeated_bytes, packed, part_spelling, payload_of, numbered, fields_of}
+use Rattle.protocol_wire.specs.Parts.{Part, plain_number, bool_number, enum_number, optional_number, nonempty, plain_bytes, bytes_if, optional_bytes, repeated_bytes, packed, part_spelling, payload_of, parts_numbered, fields_of}
 use Rattle.protocol_table.specs.declared.table.RecordType.{RecordType}
 use Rattle.protocol_table.specs.declared.table.Kind.{Kind}
 use Rattle.protocol_table.specs.declared.table.Kind.TheVariants as kinds
@@ -87,7 +87,7 @@ module _ (below : RecordType → List ℕ → Option Fault) (descriptors : List 
   both_true true b h = (refl, h)
   both_true false b h = absurd cc
 
-  numbered_fit : (number : ℕ) (ws : List Wire) (fs : List Field) → is_field_number number ≡ true → AllByRecursion (WireHolds number) ws → AllByRecursion LengthFits ws → AllByRecursion FieldFits fs → AllByRecursion FieldFits (numbered number ws ++ fs)
+  numbered_fit : (number : ℕ) (ws : List Wire) (fs : List Field) → is_field_number number ≡ true → AllByRecursion (WireHolds number) ws → AllByRecursion LengthFits ws → AllByRecursion FieldFits fs → AllByRecursion FieldFits (parts_numbered number ws ++ fs)
   numbered_fit number [] fs valid h k others = others
   numbered_fit number (w ∷ ws) fs valid h k others =
       let v = both_true (ltb 0 number) (ltb number (2 ^ 29)) valid in
@@ -100,9 +100,9 @@ module _ (below : RecordType → List ℕ → Option Fault) (descriptors : List 
   worse_of : (a b : Option Fault) → a ≡ None → b ≡ None → worse a b ≡ None
   worse_of a b p q = rw (p, q) refl
 
-  numbered_sound : (number : ℕ) (ws : List Wire) (fs : List Field) → AllByRecursion (WireHolds number) ws → fields_fault below descriptors fs ≡ None → fields_fault below descriptors (numbered number ws ++ fs) ≡ None
+  numbered_sound : (number : ℕ) (ws : List Wire) (fs : List Field) → AllByRecursion (WireHolds number) ws → fields_fault below descriptors fs ≡ None → fields_fault below descriptors (parts_numbered number ws ++ fs) ≡ None
   numbered_sound number [] fs h others = others
-  numbered_sound number (w ∷ ws) fs h others = worse_of (fault_by below (kind_in descriptors number) w) (fields_fault below descriptors (numbered number ws ++ fs)) h.0.1 (numbered_sound number ws fs h.1 others)
+  numbered_sound number (w ∷ ws) fs h others = worse_of (fault_by below (kind_in descriptors number) w) (fields_fault below descriptors (parts_numbered number ws ++ fs)) h.0.1 (numbered_sound number ws fs h.1 others)
 
   pub parts_sound : (ps : List Part) → Hold ps → fields_fault below descriptors (fields_of ps) ≡ None
   parts_sound [] h = refl

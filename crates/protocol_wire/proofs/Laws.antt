@@ -6,7 +6,7 @@ use Rattle.protocol_wire.specs.Wire.{Wire, varint, bytes, fixed, Field}
 use Rattle.protocol_wire.specs.Fields.{fields, are_fields}
 use Rattle.protocol_wire.specs.Spelling.{tagged, spelling, field_spelling, FieldFits}
 use Rattle.protocol_wire.specs.Selection.{values, last_number_or, last_bytes_or, each_bytes, texts}
-use Rattle.protocol_wire.specs.Parts.{Part, bool_number, bytes_if, payload_of, numbered, fields_of}
+use Rattle.protocol_wire.specs.Parts.{Part, bool_number, bytes_if, payload_of, parts_numbered, fields_of}
 use Rattle.std.proofs.lemmas.List.Concat.{flat_map-cons}
 use Rattle.protocol_wire.proofs.Spelled.{fields-spelling, are_fields-spelling}
 use Rattle.protocol_wire.proofs.Steps.{fields-none, field_at_nil}
@@ -25,7 +25,7 @@ values-append number (f ∷ a) b = go (eqb f.number number) (values-append numbe
     go true h = ap (λ (ws : List Wire). f.value ∷ ws) h
     go false h = h
 
-values-numbered : (number t : ℕ) (ws : List Wire) → values number (numbered t ws) ≡ cond (eqb t number) ws []
+values-numbered : (number t : ℕ) (ws : List Wire) → values number (parts_numbered t ws) ≡ cond (eqb t number) ws []
 values-numbered number t [] = go (eqb t number)
   where
     go : (b : Bool) → ◌≡◌ {A = List Wire} [] (cond b [] [])
@@ -33,14 +33,14 @@ values-numbered number t [] = go (eqb t number)
     go false = refl
 values-numbered number t (w ∷ ws) = go (eqb t number) (values-numbered number t ws)
   where
-    go : (b : Bool) → values number (numbered t ws) ≡ cond b ws [] → cond b (w ∷ values number (numbered t ws)) (values number (numbered t ws)) ≡ cond b (w ∷ ws) []
+    go : (b : Bool) → values number (parts_numbered t ws) ≡ cond b ws [] → cond b (w ∷ values number (parts_numbered t ws)) (values number (parts_numbered t ws)) ≡ cond b (w ∷ ws) []
     go true h = ap (λ (v : List Wire). w ∷ v) h
     go false h = h
 
 pub values-fields_of : (number : ℕ) (ps : List Part) → values number (fields_of ps) ≡ held number ps
 values-fields_of number [] = refl
 values-fields_of number (p ∷ ps) =
-    values-append number (numbered p.0 p.1) (fields_of ps) ∙ ap (λ (v : List Wire). v ++ values number (fields_of ps)) (values-numbered number p.0 p.1) ∙ ap (λ (v : List Wire). cond (eqb p.0 number) p.1 [] ++ v) (values-fields_of number ps)
+    values-append number (parts_numbered p.0 p.1) (fields_of ps) ∙ ap (λ (v : List Wire). v ++ values number (fields_of ps)) (values-numbered number p.0 p.1) ∙ ap (λ (v : List Wire). cond (eqb p.0 number) p.1 [] ++ v) (values-fields_of number ps)
 
 -- ---- numbers
 
@@ -101,7 +101,7 @@ unfolding spelling
 spelling-append [] b = refl
 spelling-append (f ∷ a) b = ap (λ (x : List ℕ). field_spelling f ++ x) (spelling-append a b) ∙ sym (append_assoc (field_spelling f) (spelling a) (spelling b))
 
-part_is : (t : ℕ) (ws : List Wire) → flat_map (tagged t) ws ≡ spelling (numbered t ws)
+part_is : (t : ℕ) (ws : List Wire) → flat_map (tagged t) ws ≡ spelling (parts_numbered t ws)
 unfolding spelling
 part_is t [] = refl
 part_is t (w ∷ ws) = flat_map-cons (tagged t) w ws ∙ ap (λ (x : List ℕ). tagged t w ++ x) (part_is t ws)
@@ -110,7 +110,7 @@ pub payload_is : (ps : List Part) → payload_of ps ≡ spelling (fields_of ps)
 unfolding spelling
 payload_is [] = refl
 payload_is (p ∷ ps) =
-    ap (λ (x : List ℕ). x ++ payload_of ps) (part_is p.0 p.1) ∙ ap (λ (x : List ℕ). spelling (numbered p.0 p.1) ++ x) (payload_is ps) ∙ sym (spelling-append (numbered p.0 p.1) (fields_of ps))
+    ap (λ (x : List ℕ). x ++ payload_of ps) (part_is p.0 p.1) ∙ ap (λ (x : List ℕ). spelling (parts_numbered p.0 p.1) ++ x) (payload_is ps) ∙ sym (spelling-append (parts_numbered p.0 p.1) (fields_of ps))
 
 -- What a canonical payload needs to be read again: variants and sizes that fit.
 abbrev pub Fit : List Part → Type 0

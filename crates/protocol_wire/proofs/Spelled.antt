@@ -3,7 +3,7 @@ use Rattle.std.proofs.Common.{◌≡◌, ℕ, zero, suc, ◌+◌, ◌-◌, ◌*�
 use Rattle.std.specs.List.{AllByRecursion}
 use Rattle.std.proofs.lemmas.List.{length-append, take_at, drop_at}
 use Rattle.std.proofs.lemmas.Bool.{ltb-false, le-ltb, lt-ltb, le-leb}
-use Rattle.protocol_wire.specs.Wire.{Wire, varint, bytes, fixed, Field, varint_within, varint_at, bytes_at, value_at, field_at}
+use Rattle.protocol_wire.specs.Wire.{Wire, varint, bytes, fixed, Field, varint_within, varint_at, bytes_at, wire_value, field_at}
 use Rattle.protocol_wire.specs.Fields.{fields, are_fields}
 use Rattle.protocol_wire.specs.Spelling.{varint_spelling_within, varint_spelling, tagged, field_spelling, spelling, ValueFits, FieldFits}
 use Rattle.protocol_wire.proofs.Steps.{fields-some, are_fields-some}
@@ -45,7 +45,7 @@ bytes_at-append a b =
     rw (long, take_at a b (length a) refl, drop_at a b (length a) refl) refl
 
 -- a tag is read again
-tag_read : (number kind : ℕ) (rest : List ℕ) (v : Wire) (after : List ℕ) → 0 < number → number < 2 ^ 29 → kind < 8 → value_at kind rest ≡ Some (v, after) → field_at (varint_spelling (8 * number + kind) ++ rest) ≡ Some (record { number = number; value = v }, after)
+tag_read : (number kind : ℕ) (rest : List ℕ) (v : Wire) (after : List ℕ) → 0 < number → number < 2 ^ 29 → kind < 8 → wire_value kind rest ≡ Some (v, after) → field_at (varint_spelling (8 * number + kind) ++ rest) ≡ Some (record { number = number; value = v }, after)
 unfolding field_at
 tag_read number kind rest v after named below small e =
     let t = varint-spelled (8 * number + kind) rest (omega arith) in
@@ -55,12 +55,12 @@ tag_read number kind rest v after named below small e =
     let n : (8 * number + kind) / 8 ≡ number = omega arith in
     rw (t, not_zero, fits, k, e, n) refl
 
-number_read : (n : ℕ) (rest : List ℕ) → n < 2 ^ 64 → value_at 0 (varint_spelling n ++ rest) ≡ Some (varint n, rest)
-unfolding value_at
+number_read : (n : ℕ) (rest : List ℕ) → n < 2 ^ 64 → wire_value 0 (varint_spelling n ++ rest) ≡ Some (varint n, rest)
+unfolding wire_value
 number_read n rest fits = rw (varint-spelled n rest fits) refl
 
-bytes_read : (b rest : List ℕ) → length b < 2 ^ 64 → value_at 2 (varint_spelling (length b) ++ (b ++ rest)) ≡ Some (bytes b, rest)
-unfolding value_at
+bytes_read : (b rest : List ℕ) → length b < 2 ^ 64 → wire_value 2 (varint_spelling (length b) ++ (b ++ rest)) ≡ Some (bytes b, rest)
+unfolding wire_value
 bytes_read b rest fits = rw (varint-spelled (length b) (b ++ rest) fits, bytes_at-append b rest) refl
 
 tagged-spelled : (number : ℕ) (v : Wire) (rest : List ℕ) → 0 < number → number < 2 ^ 29 → ValueFits v → field_at (tagged number v ++ rest) ≡ Some (record { number = number; value = v }, rest)

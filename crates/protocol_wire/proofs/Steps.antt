@@ -2,7 +2,7 @@
 use Rattle.std.proofs.Common.{◌≡◌, ℕ, zero, suc, ◌+◌, ◌-◌, ◌*◌, ◌%◌, ◌^◌, ◌<◌, ◌≤◌, Bool, true, false, cond, ltb, leb, eqb, List, [], ◌∷◌, length, take, drop, Option, Some, None, refl, sym, ap, subst, arith}
 use Rattle.std.proofs.lemmas.List.{length-drop}
 use Rattle.std.proofs.lemmas.Bool.{eqb-true}
-use Rattle.protocol_wire.specs.Wire.{Field, ◌>>=◌, varint_within, varint_at, bytes_at, value_at, field_at}
+use Rattle.protocol_wire.specs.Wire.{Field, ◌>>=◌, varint_within, varint_at, bytes_at, wire_value, field_at}
 use Rattle.protocol_wire.specs.Items.{first_and, items_within, items, left_behind, left_within, left, is_end}
 use Rattle.protocol_wire.specs.Fields.{fields, are_fields, varints, are_varints}
 
@@ -87,8 +87,8 @@ weaker : {A : Type 0} (bs : List ℕ) (r : Option (A × List ℕ)) → Shrinks b
 weaker bs None h = tt
 weaker bs (Some x) h = omega arith
 
-pub value_at_no_longer : (kind : ℕ) (bs : List ℕ) → NoLonger bs (value_at kind bs)
-unfolding value_at
+pub value_at_no_longer : (kind : ℕ) (bs : List ℕ) → NoLonger bs (wire_value kind bs)
+unfolding wire_value
 value_at_no_longer kind bs =
     no_longer_if bs (eqb kind 0) _ _ (no_longer_then bs (varint_at bs) _ (weaker bs (varint_at bs) (varint_at_shrinks bs)) (λ x. omega arith))
     (no_longer_if bs (eqb kind 2) _ _ (no_longer_then bs (varint_at bs) _ (weaker bs (varint_at bs) (varint_at_shrinks bs)) (λ n. no_longer_then n.1 (bytes_at n.0 n.1) _ (bytes_at_no_longer n.0 n.1) (λ x. omega arith)))
@@ -97,7 +97,7 @@ value_at_no_longer kind bs =
 
 pub field_at_shrinks : (bs : List ℕ) → Shrinks bs (field_at bs)
 unfolding field_at
-field_at_shrinks bs = shrinks_then bs (varint_at bs) _ (varint_at_shrinks bs) (λ t. no_longer_if t.1 (ltb t.0 8) None _ tt (no_longer_if t.1 (ltb t.0 (2 ^ 32)) _ None (no_longer_then t.1 (value_at (t.0 % 8) t.1) _ (value_at_no_longer (t.0 % 8) t.1) (λ v. omega arith)) tt))
+field_at_shrinks bs = shrinks_then bs (varint_at bs) _ (varint_at_shrinks bs) (λ t. no_longer_if t.1 (ltb t.0 8) None _ tt (no_longer_if t.1 (ltb t.0 (2 ^ 32)) _ None (no_longer_then t.1 (wire_value (t.0 % 8) t.1) _ (value_at_no_longer (t.0 % 8) t.1) (λ v. omega arith)) tt))
 
 -- ---- how many steps are allowed makes no difference, once they are enough
 

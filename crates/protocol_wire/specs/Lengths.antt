@@ -2,8 +2,8 @@
 use Rattle.std.specs.Prelude.{ℕ, ◌+◌, ◌-◌, ◌^◌, min, nat_lt, List, length, Option, Some, None, if◌then◌else◌}
 
 -- The count of the bytes so far and of these behind them, as far as 64 bits go.
-abbrev pub counted : ℕ → List ℕ → ℕ
-counted before bs = min (before + length bs) (2 ^ 64 - 1)
+abbrev pub counted_bytes : ℕ → List ℕ → ℕ
+counted_bytes before bs = min (before + length bs) (2 ^ 64 - 1)
 
 -- A length, where it fits 32 bits.
 abbrev pub fitting : ℕ → Option ℕ

@@ -57,10 +57,10 @@ payload_of [] = []
 payload_of (p ∷ ps) = part_spelling p ++ payload_of ps
 
 -- The fields that the parts are.
-abbrev pub numbered : ℕ → List Wire → List Field
-numbered number [] = []
-numbered number (w ∷ ws) = record { number = number; value = w } ∷ numbered number ws
+abbrev pub parts_numbered : ℕ → List Wire → List Field
+parts_numbered number [] = []
+parts_numbered number (w ∷ ws) = record { number = number; value = w } ∷ parts_numbered number ws
 
 abbrev pub fields_of : List Part → List Field
 fields_of [] = []
-fields_of (p ∷ ps) = numbered p.0 p.1 ++ fields_of ps
+fields_of (p ∷ ps) = parts_numbered p.0 p.1 ++ fields_of ps

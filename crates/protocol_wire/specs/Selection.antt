@@ -127,9 +127,9 @@ variant_of [] = None
 variant_of (f ∷ fs) = Some f.number
 
 -- The first that is there.
-abbrev pub first_of : {A : Type 0} → Option A → Option A → Option A
-first_of None other = other
-first_of (Some x) other = Some x
+abbrev pub first_present : {A : Type 0} → Option A → Option A → Option A
+first_present None other = other
+first_present (Some x) other = Some x
 
 -- Whether what was found is a run of this number.
 abbrev pub is_run : Option (ℕ × List ℕ) → ℕ → Bool

@@ -31,8 +31,8 @@ abbrev pub bytes_at : ℕ → List ℕ → Option (List ℕ × List ℕ)
 bytes_at n bs = if nat_le n (length bs) then Some (take n bs, drop n bs) else None
 
 -- What stands behind a tag of this wire type.
-unfoldable pub value_at : ℕ → List ℕ → Option (Wire × List ℕ)
-value_at kind bs =
+unfoldable pub wire_value : ℕ → List ℕ → Option (Wire × List ℕ)
+wire_value kind bs =
     if kind == 0 then (varint_at bs >>= λ n. Some (varint n.0, n.1)) else
     if kind == 2 then (varint_at bs >>= λ n. bytes_at n.0 n.1 >>= λ x. Some (bytes x.0, x.1)) else
     if kind == 1 then (bytes_at 8 bs >>= λ x. Some (fixed, x.1)) else
@@ -40,4 +40,4 @@ value_at kind bs =
 
 -- A field: its tag, 8 times its number and the wire type, which fits 32 bits and whose number isn't 0; and the value.
 unfoldable pub field_at : List ℕ → Option (Field × List ℕ)
-field_at bs = varint_at bs >>= λ t. if nat_lt t.0 8 then None else if nat_lt t.0 (2 ^ 32) then (value_at (t.0 % 8) t.1 >>= λ v. Some (record { number = t.0 / 8; value = v.0 }, v.1)) else None
+field_at bs = varint_at bs >>= λ t. if nat_lt t.0 8 then None else if nat_lt t.0 (2 ^ 32) then (wire_value (t.0 % 8) t.1 >>= λ v. Some (record { number = t.0 / 8; value = v.0 }, v.1)) else None

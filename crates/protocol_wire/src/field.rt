@@ -1,5 +1,5 @@
 ghost use Rattle.std.specs.Prelude.{◌≡◌, ◌<◌, ◌≤◌, ◌^◌, IfSome, length, option_map};
-ghost use Rattle.protocol_wire.specs.Wire.{value_at as value_spec, field_at as field_spec, bytes_at as bytes_spec};
+ghost use Rattle.protocol_wire.specs.Wire.{wire_value, field_at as field_spec, bytes_at as bytes_spec};
 ghost use Rattle.protocol_wire.specs.Seen.{wire, field};
 
 use crate::varint::varint_at;
@@ -31,7 +31,7 @@ fn bytes_at(bytes: &[u8], count: u64) -> Option<(&[u8], &[u8])>
 
 #[tactic(auto, unfolding(crate::specs::Wire::value_at))]
 fn value_at(bytes: &[u8], kind: u64) -> Option<(Scanned<'_>, &[u8])>
-    ensures { option_map (λ x. (wire x.0, x.1.now)) result ≡ value_spec kind bytes.now }
+    ensures { option_map (λ x. (wire x.0, x.1.now)) result ≡ wire_value kind bytes.now }
 {
     if kind == 0 {
         let (number, rest) = varint_at(bytes)?;

@@ -4,7 +4,7 @@
 //! packed into one field. After an `Err` the bytes may end in a part of the field.
 
 ghost use Rattle.std.specs.Prelude.{◌≡◌, ◌++◌, ◌*◌, ◌+◌, Some, map, OnOk, option_map};
-ghost use Rattle.protocol_wire.specs.Wire.{varint as varint_value, bytes as bytes_value};
+ghost use Rattle.protocol_wire.specs.Wire.{varint, bytes as bytes_value};
 ghost use Rattle.protocol_wire.specs.Spelling.{varint_spelling, varint_spelling_within, tagged};
 ghost use Rattle.protocol_wire.specs.Parts.{part_spelling, plain_number, bool_number, enum_number, plain_bytes, optional_number, optional_bytes, repeated_bytes, packed, payload_of};
 
@@ -41,7 +41,7 @@ fn put_tagged_number(
     field: FieldDescriptor,
     value: u64,
 ) -> Result<(), AllocError>
-    ensures { OnOk result (out.new.items ≡ out.old.items ++ tagged field.number (varint_value value)) }
+    ensures { OnOk result (out.new.items ≡ out.old.items ++ tagged field.number (varint value)) }
 {
     put_varint(out, 8 * u64::from(field.number))?;
     put_varint(out, value)

@@ -6,7 +6,7 @@ ghost use Rattle.protocol_wire.specs.Fields.{fields};
 ghost use Rattle.protocol_wire.specs.Listed.{coming};
 ghost use Rattle.protocol_wire.specs.Check.{payload_fault};
 ghost use Rattle.protocol_wire.specs.Parts.{Part, payload_of};
-ghost use Rattle.protocol_wire.specs.Lengths.{counted, fitting};
+ghost use Rattle.protocol_wire.specs.Lengths.{counted_bytes, fitting};
 ghost use Rattle.protocol_wire.specs.Sound.{AreSound};
 ghost use Rattle.protocol_wire.specs.Selection.{values, texts, joined_bytes as the_joined_bytes, optional_record, records};
 ghost use Rattle.protocol_wire.specs.Decodes.{Decodes, IsRead, ErrIs};
@@ -49,7 +49,7 @@ pub trait Record: Drop + Sized {
 
     /// How long the canonical spelling is; a length that 64 bits don't hold is given as their last. It takes no memory.
     fn payload_len(&self) -> u64
-        ensures { result ≡ counted 0 (payload_of (parts self.now)) };
+        ensures { result ≡ counted_bytes 0 (payload_of (parts self.now)) };
 
     // The canonical payload is read again, to the same value.
     ghost reads: { (levels : ℕ) (r : Self) → fits levels r → length (payload_of (parts r)) < 2 ^ 64 → IsRead levels record_type of (payload_of (parts r)) r };

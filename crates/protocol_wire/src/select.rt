@@ -4,7 +4,7 @@ ghost use Rattle.std.specs.Prelude.{◌≡◌, [], Some, IfNone, ◌++◌, ◌%�
 ghost use Rattle.protocol_wire.specs.Fields.{fields, varints};
 ghost use Rattle.protocol_wire.specs.Listed.{coming};
 ghost use Rattle.protocol_wire.specs.Sound.{AreTexts};
-ghost use Rattle.protocol_wire.specs.Selection.{run, is_run as the_is_run, variant_of, is_among, among, last_number as the_last_number, last_bytes as the_last_bytes, values, u64 as the_u64, u32 as the_u32, bool as the_bool, text as the_text, numbers as the_numbers, texts as the_texts, optional_text as the_optional_text, optional_u32 as the_optional_u32, optional_u64 as the_optional_u64};
+ghost use Rattle.protocol_wire.specs.Selection.{run, is_run as the_is_run, variant_of, is_among, among, last_number as the_last_number, last_bytes as the_last_bytes, values, u64 as the_u64, u32 as the_u32, bool as the_bool, text as the_text, numbers as the_numbers, texts as the_texts, optional_text, optional_u32, optional_u64};
 
 use crate::varint::varint_at;
 use crate::{FieldDescriptor, Fields, Payload, Scanned};
@@ -47,7 +47,7 @@ fn last_bytes<'a>(all: Fields<'a>, field: FieldDescriptor) -> Option<&'a [u8]>
 
 /// The low 32 bits of the last number of this field, if there is one.
 pub(crate) fn low_number(all: Fields<'_>, field: FieldDescriptor) -> Option<u32>
-    ensures { result ≡ the_optional_u32 field.number (coming all.entry) }
+    ensures { result ≡ optional_u32 field.number (coming all.entry) }
 {
     let number = last_number(all, field)?;
     Some((number % (1 << 32)) as u32)
@@ -59,7 +59,7 @@ pub(crate) fn copied_bytes(
     all: Fields<'_>,
     field: FieldDescriptor,
 ) -> Result<Option<Bytes>, AllocError>
-    ensures { IfOk result (λ b. b ≡ the_optional_text field.number (coming all.entry)) }
+    ensures { IfOk result (λ b. b ≡ optional_text field.number (coming all.entry)) }
 {
     match last_bytes(all, field) {
         None => Ok(None),
@@ -74,7 +74,7 @@ pub(crate) fn copied_text(
     field: FieldDescriptor,
 ) -> Result<Option<ByteStr>, AllocError>
     requires { AreTexts (values field.number (coming all)) }
-    ensures { IfOk result (λ b. b ≡ the_optional_text field.number (coming all.entry)) }
+    ensures { IfOk result (λ b. b ≡ optional_text field.number (coming all.entry)) }
 {
     match last_bytes(all, field) {
         None => Ok(None),
@@ -98,7 +98,7 @@ pub fn u32_at(payload: &Payload<'_>, field: FieldDescriptor) -> u32
 
 /// The last number of this field, if there is one.
 pub fn optional_u64_at(payload: &Payload<'_>, field: FieldDescriptor) -> Option<u64>
-    ensures { result ≡ the_optional_u64 field.number (fields payload.now) }
+    ensures { result ≡ optional_u64 field.number (fields payload.now) }
 {
     last_number(payload.fields(), field)
 }
@@ -146,7 +146,7 @@ pub fn optional_text_at(
     field: FieldDescriptor,
 ) -> Result<Option<ByteStr>, AllocError>
     requires { AreTexts (values field.number (fields payload.now)) }
-    ensures { IfOk result (λ b. b ≡ the_optional_text field.number (fields payload.now)) }
+    ensures { IfOk result (λ b. b ≡ optional_text field.number (fields payload.now)) }
 {
     copied_text(alloc, payload.fields(), field)
 }

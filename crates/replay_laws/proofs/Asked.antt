@@ -9,13 +9,13 @@ use Rattle.input_laws.specs.Message.{arrivals_carried, requests_carried}
 use Rattle.input_laws.proofs.Telling.{arrivals_carried-append}
 use Rattle.input_laws.proofs.News.{requests_carried-append}
 use Rattle.live_laws.specs.MachineTurn.{HasPosition}
-use Rattle.live_laws.specs.Living.{LiveAttempt, HasReadJournal}
+use Rattle.live_laws.specs.AttemptWithMachine.{LiveAttempt, HasReadJournal}
 use Rattle.body_laws.specs.Bodies.{Body, bodies_of}
-use Rattle.body_laws.specs.Standing.{Among, has_arrived}
-use Rattle.body_laws.proofs.Standing.{arrived-before}
+use Rattle.body_laws.specs.BodySimulation.{Among, has_arrived}
+use Rattle.body_laws.proofs.BodySimulation.{arrived-before}
 use Rattle.body_laws.proofs.Steps.{requested-run}
 use Rattle.replay_laws.specs.Outcomes.{asks_run, runs}
-use Rattle.replay_laws.specs.Replaying.{asked_by}
+use Rattle.replay_laws.specs.ReplayedAttempt.{requests_asked_by}
 
 some-run : (n : ℕ) (name : List ℕ) (requests : List Request) → Among (Request.Run n name) requests → runs n requests ≡ true
 some-run n name [] a = absurd a
@@ -25,10 +25,10 @@ some-run n name (request ∷ requests) (inr a) = or-true_right (asks_run n reque
 module _ (next : Handler) (live : LiveAttempt) (at : HasPosition next live.start.given live.start.shown live.read live.unread live.calls live.machine) where
   -- over what it has read or over its journal, where its input asks for what its journal does
   pub begins_asking : BeginsRun next live.start.given (arrivals_carried live.start.journal) (requests_carried live.start.journal)
-      → requests_carried (live.read ++ live.unread) ≡ requests_carried live.start.journal → (arrivals : List Arrival) × BeginsRun next live.start.given arrivals (asked_by live)
+      → requests_carried (live.read ++ live.unread) ≡ requests_carried live.start.journal → (arrivals : List Arrival) × BeginsRun next live.start.given arrivals (requests_asked_by live)
   begins_asking of_run input = by_replay at.position.replays
     where
-      by_replay : ((at.left ≡ []) × (requests_carried live.unread ≡ [])) ⊎ (live.machine.written ≡ []) → (arrivals : List Arrival) × BeginsRun next live.start.given arrivals (asked_by live)
+      by_replay : ((at.left ≡ []) × (requests_carried live.unread ≡ [])) ⊎ (live.machine.written ≡ []) → (arrivals : List Arrival) × BeginsRun next live.start.given arrivals (requests_asked_by live)
       by_replay (inl (none, all)) = (
         arrivals_carried live.read,
         record {
@@ -52,7 +52,7 @@ module _ (next : Handler) (live : LiveAttempt) (at : HasPosition next live.start
 
   -- a run whose body it has is asked for, where no request of its input is unread
   pub body_asked : requests_carried live.unread ≡ [] → (body : Body) → Among body (bodies_of (run next live.start.given (arrivals_carried live.read) live.calls).steps)
-      → runs body.completion (asked_by live) ≡ true
+      → runs body.completion (requests_asked_by live) ≡ true
   body_asked none body a =
       let (name, r) = requested-run next live.start.given (arrivals_carried live.read) live.calls body a in
       ap (runs body.completion) asked_all
@@ -60,7 +60,7 @@ module _ (next : Handler) (live : LiveAttempt) (at : HasPosition next live.start
       ∙ or-true_left (runs body.completion (run_requests next live.start.given (arrivals_carried live.read) live.calls)) (runs body.completion at.left)
       (some-run body.completion name (run_requests next live.start.given (arrivals_carried live.read) live.calls) r)
     where
-      asked_all : asked_by live ≡ run_requests next live.start.given (arrivals_carried live.read) live.calls ++ at.left
+      asked_all : requests_asked_by live ≡ run_requests next live.start.given (arrivals_carried live.read) live.calls ++ at.left
       asked_all =
           ap (λ (some : List Request). some ++ live.machine.written)
           (requests_carried-append live.read live.unread ∙ ap (λ (some : List Request). requests_carried live.read ++ some) none ∙ append-nil (requests_carried live.read))

@@ -12,21 +12,21 @@ use Rattle.journal_model.specs.Cause.{IsAccepted}
 use Rattle.input_laws.specs.Message.{InputMessage, piece_of, arrivals_carried, requests_carried}
 use Rattle.live_laws.specs.Begun.{proposals_in, IsProposed}
 use Rattle.live_laws.specs.Live.{TurnsOfRun}
-use Rattle.live_laws.specs.Sending.{requests_sent, FollowsSo}
+use Rattle.live_laws.specs.RequestsInFlight.{requests_sent, FollowsSo}
 use Rattle.live_laws.proofs.Begun.{input_sent}
 use Rattle.live_laws.proofs.LiveTurns.{requests_sent-append, turn_follows}
 use Rattle.attempt_model.specs.Machine.{Machine}
-use Rattle.live_laws.specs.Living.{LiveAttempt, start_read, HasReadJournal, IsLiveMachine, after_reading, after_turn}
+use Rattle.live_laws.specs.AttemptWithMachine.{LiveAttempt, start_read, HasReadJournal, IsLiveMachine, after_reading, after_turn}
 use Rattle.live_laws.proofs.LiveMachines.{machine_stays, position, is_live}
 use Rattle.body_laws.specs.Bodies.{Body, Executor, bodies_of, acknowledges}
-use Rattle.body_laws.specs.Standing.{Among, has_arrived, count_proposed}
+use Rattle.body_laws.specs.BodySimulation.{Among, has_arrived, count_proposed}
 use Rattle.body_laws.proofs.Lists.{outcome, among-left, among-right}
-use Rattle.replay_laws.specs.Flying.{outcomes_in, OutcomesStand}
-use Rattle.replay_laws.specs.Living.{IsLiveExecutor, outcome_frame}
-use Rattle.replay_laws.proofs.Flying.{outcomes_are_new, others_follow}
+use Rattle.replay_laws.specs.OutcomesInFlight.{outcomes_in, OutcomesStand}
+use Rattle.replay_laws.specs.AttemptWithBodies.{IsLiveExecutor, outcome_frame}
+use Rattle.replay_laws.proofs.OutcomesInFlight.{outcomes_are_new, others_follow}
 use Rattle.replay_laws.proofs.Asked.{journal_come}
 use Rattle.replay_laws.proofs.LiveBodies.{begins_coming, body_requested}
-use Rattle.replay_laws.specs.Replaying.{asked_by, IsReplayed}
+use Rattle.replay_laws.specs.ReplayedAttempt.{requests_asked_by, IsReplayed}
 use Rattle.replay_laws.specs.Laws.{LivesStay}
 
 -- frames without an outcome propose none that is acknowledged
@@ -148,7 +148,7 @@ module _ (next : Handler) (options : RunOptions) (fallback_seed : ℕ) (id : Tex
         (λ n other p. told-on n other (acknowledges live.start.given.version) refl (proposed-split live.proposed _ (n, other) p))
 
   follows_on : (sent : List Frame) → FollowsSo next live.start.given id events live.coming
-      → TurnsOfRun next live.start.given (is_input_closed events id) live.held live.read live.unread (asked_by live) live.held sent
+      → TurnsOfRun next live.start.given (is_input_closed events id) live.held live.read live.unread (requests_asked_by live) live.held sent
       → FollowsSo next live.start.given id events (live.coming ++ sent)
   follows_on sent f turn =
       turn_follows next live.start.given id events live.coming live.held live.held live.read live.unread live.calls

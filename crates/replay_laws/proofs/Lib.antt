@@ -1,5 +1,5 @@
 pub mod Outcomes
-pub mod Flying
+pub mod OutcomesInFlight
 pub mod Asked
 pub mod LiveBodies
 pub mod Standing

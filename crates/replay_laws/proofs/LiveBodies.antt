@@ -15,21 +15,21 @@ use Rattle.input_laws.proofs.Telling.{entries_arrivals}
 use Rattle.input_laws.proofs.News.{requests_carried-append}
 use Rattle.input_laws.specs.Once.{count_of, numbers_asked}
 use Rattle.attempt_model.specs.Machine.{machine_at_start}
-use Rattle.live_laws.specs.Sending.{requests_sent, PassesOn}
+use Rattle.live_laws.specs.RequestsInFlight.{requests_sent, PassesOn}
 use Rattle.live_laws.specs.Begun.{IsProposed}
 use Rattle.live_laws.specs.MachineTurn.{HasPosition}
-use Rattle.live_laws.specs.Beginning.{start_after}
-use Rattle.live_laws.specs.Living.{LiveAttempt, handed_bytes}
+use Rattle.live_laws.specs.StartFrame.{start_after}
+use Rattle.live_laws.specs.AttemptWithMachine.{LiveAttempt, handed_bytes}
 use Rattle.live_laws.proofs.LiveMachines.{machine_begins, machine_stays, position}
 use Rattle.live_laws.proofs.Going.{later_none, none_unread}
 use Rattle.body_laws.specs.Bodies.{Body, Executor, bodies_of}
-use Rattle.body_laws.specs.Standing.{Among}
-use Rattle.body_laws.proofs.Standing.{no_bodies}
+use Rattle.body_laws.specs.BodySimulation.{Among}
+use Rattle.body_laws.proofs.BodySimulation.{no_bodies}
 use Rattle.replay_laws.specs.Outcomes.{runs}
-use Rattle.replay_laws.specs.Flying.{OutcomesStand}
-use Rattle.replay_laws.specs.Living.{IsLiveExecutor, ExecutorsBegin, ExecutorsStayLive}
+use Rattle.replay_laws.specs.OutcomesInFlight.{OutcomesStand}
+use Rattle.replay_laws.specs.AttemptWithBodies.{IsLiveExecutor, ExecutorsBegin, ExecutorsStayLive}
 use Rattle.replay_laws.proofs.Asked.{begins_asking, body_asked, journal_read}
-use Rattle.replay_laws.proofs.Flying.{outcomes_begin, outcomes_stay, begins_once}
+use Rattle.replay_laws.proofs.OutcomesInFlight.{outcomes_begin, outcomes_stay, begins_once}
 
 -- ---- the begin
 
@@ -103,8 +103,8 @@ module _ (next : Handler) (options : RunOptions) (fallback_seed : ℕ) (id : Tex
         },
       )
 
-  is_handed : (attempt most : ℕ) → IsAccepted (Event.HandOut id attempt most ∷ events)
-      → IsLiveExecutor next options fallback_seed id (Event.HandOut id attempt most ∷ events) (handed_bytes live (take most (input_left events id))) proposed e
+  is_handed : (attempt most : ℕ) → IsAccepted (Event.Feed id attempt most ∷ events)
+      → IsLiveExecutor next options fallback_seed id (Event.Feed id attempt most ∷ events) (handed_bytes live (take most (input_left events id))) proposed e
   is_handed attempt most accepted' = record {
     is_live = (machine_stays next options fallback_seed id events live accepted x.is_live).is_handed attempt most;
     machine = x.machine;
@@ -112,7 +112,7 @@ module _ (next : Handler) (options : RunOptions) (fallback_seed : ℕ) (id : Tex
     bodies = x.bodies;
     asked = elim x.asked [ inl zero ↦ inl zero | inr r ↦ inr (record { later = r.later; parts = r.parts }) ];
     texts = x.texts;
-    outcomes = brings_on (Event.HandOut id attempt most) live.coming accepted' refl refl refl;
+    outcomes = brings_on (Event.Feed id attempt most) live.coming accepted' refl refl refl;
     told = x.told;
   }
 

@@ -18,17 +18,17 @@ use Rattle.input_laws.specs.Message.{InputMessage, CarriesInput, CarriesRequest,
 use Rattle.input_laws.proofs.Telling.{entries_requests}
 use Rattle.input_laws.specs.Once.{ComeWhenAsked}
 use Rattle.input_laws.proofs.Results.{recorded_when_asked}
-use Rattle.live_laws.specs.Sending.{requests_sent}
+use Rattle.live_laws.specs.RequestsInFlight.{requests_sent}
 use Rattle.live_laws.specs.Begun.{IsBegunAfter, begun_last, begun_earlier, IsProposed, IsLater}
-use Rattle.live_laws.proofs.Beginning.{start_shows}
-use Rattle.live_laws.specs.Asking.{GiveIds, keys_are_text, are_by_text}
-use Rattle.live_laws.specs.Living.{LiveAttempt}
+use Rattle.live_laws.proofs.StartFrame.{start_shows}
+use Rattle.live_laws.specs.AskedArrivals.{GiveIds, keys_are_text, are_by_text}
+use Rattle.live_laws.specs.AttemptWithMachine.{LiveAttempt}
 use Rattle.live_laws.proofs.Recording.{ids_recorded}
 use Rattle.live_laws.proofs.Texts.{requests_text, records_text}
 use Rattle.body_laws.specs.Bodies.{Executor, acknowledges}
-use Rattle.body_laws.specs.Standing.{Among, has_arrived}
-use Rattle.replay_laws.specs.Living.{IsLiveExecutor}
-use Rattle.replay_laws.specs.Replaying.{IsOfJournal, IsBehind, CanReplay, ComesAsAsked, asked_by, IsReplayed}
+use Rattle.body_laws.specs.BodySimulation.{Among, has_arrived}
+use Rattle.replay_laws.specs.AttemptWithBodies.{IsLiveExecutor}
+use Rattle.replay_laws.specs.ReplayedAttempt.{IsOfJournal, IsBehind, CanReplay, ComesAsAsked, requests_asked_by, IsReplayed}
 use Rattle.replay_laws.specs.Laws.{LivesReplay}
 
 -- ---- its journal
@@ -77,7 +77,7 @@ module _ (next : Handler) (options : RunOptions) (fallback_seed : ℕ) (id : Tex
   same : recorded_arrivals events id ≡ arrivals_carried (live.read ++ live.unread)
   same = sym x.is_live.reads.all.arrivals
 
-  comes : ComesAsAsked (arrivals_carried live.start.journal) proposed (asked_by live) (arrivals_carried (live.read ++ live.unread))
+  comes : ComesAsAsked (arrivals_carried live.start.journal) proposed (requests_asked_by live) (arrivals_carried (live.read ++ live.unread))
   comes = record {
     first = recorded_requests events id;
     more = requests_sent live.coming;

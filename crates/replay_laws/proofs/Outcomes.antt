@@ -20,8 +20,8 @@ use Rattle.input_laws.proofs.AskedOnce.{kind_count, found_kind, kind_slept}
 use Rattle.input_laws.proofs.Results.{count-results}
 use Rattle.attempt_laws.proofs.Coming.{any-append}
 use Rattle.live_laws.proofs.Recording.{asking_open, or-nothing, own_passes}
-use Rattle.body_laws.specs.Standing.{has_arrived}
-use Rattle.body_laws.proofs.Standing.{arrived-once}
+use Rattle.body_laws.specs.BodySimulation.{has_arrived}
+use Rattle.body_laws.proofs.BodySimulation.{arrived-once}
 use Rattle.replay_laws.specs.Outcomes.{asks_run, runs, TakesOutcome, OutcomesAreTaken}
 
 -- ---- what is asked for by a run
@@ -101,14 +101,14 @@ module _ (events : List Event) (id : Text) (n : ℕ) where
   takes : (event : Event) → causes_of events event ≡ [] → begins id event ≡ false → adds_to events id event ≡ true
       → AreOnce (recorded_requests events id) (recorded_arrivals events id) → AreOnce (recorded_requests (event ∷ events) id) (recorded_arrivals (event ∷ events) id)
       → runs n (recorded_requests (event ∷ events) id) ≡ true → has_arrived (arrivals_in (entries_of_event (starting_state events id) (entries_of events id) event)) n ≡ true → TakesOutcome id n event
-  takes (Event.Complete other k result) causes old adds once now e come =
-      let tests = own_tests events (Event.Complete other k result) in
-      let passes = own_passes events (Event.Complete other k result) other causes in
+  takes (Event.Result other k result) causes old adds once now e come =
+      let tests = own_tests events (Event.Result other k result) in
+      let passes = own_passes events (Event.Result other k result) other causes in
       let same_id : other ≡ id = (bytes_eq-Decides other id).0 (or-nothing (bytes_eq other id) false refl adds) in
       completed_apart (entries_of events id) k result (once.asked k)
       (subst (λ (x : Text). is_some (open_request (entries_of events x) k) ≡ true) same_id (not-false (is_some (open_request (entries_of events other) k)) (holds-head tests passes)))
       (subst (λ (x : Text). refuses_kind (open_request (entries_of events x) k) k result ≡ false) same_id (holds-head (tail_of tests) (holds-tail tests passes)))
-      (subst (λ (m : ℕ). runs m (recorded_requests events id) ≡ true) (sym (same_number k n result come)) (runs_before (Event.Complete other k result) old (no_request events id (Event.Complete other k result) refl) e))
+      (subst (λ (m : ℕ). runs m (recorded_requests events id) ≡ true) (sym (same_number k n result come)) (runs_before (Event.Result other k result) old (no_request events id (Event.Result other k result) refl) e))
   takes (Event.Signal other (SignalKey.ByIndex k) result) causes old adds once now e come = cc
   takes (Event.Signal other (SignalKey.ByName name) result) causes old adds once now e come = cc
   takes (Event.Cancel other) causes old adds once now e come = cc
@@ -119,19 +119,19 @@ module _ (events : List Event) (id : Text) (n : ℕ) where
       let d : 1 ≤ count_of n (numbers_come (slept (entries_of events id) moment)) =
       arrived_count n (slept (entries_of events id) moment) (ap (λ (arrivals : List Arrival). has_arrived arrivals n) (sym (arrivals_arrived (slept (entries_of events id) moment))) ∙ come) in
       absurd (omega (arith, a, b, c, d))
-  takes (Event.Take other attempt (Frame.Command request)) causes old adds once now e come =
+  takes (Event.Move other attempt (Frame.Command request)) causes old adds once now e come =
       let state = state_after (recorded_requests events id) (starting_state events id) in
       absurd (read_apart state n (recorded_requests events id) request
       (subst (λ (requests : List Request). count_of n (numbers_asked requests) ≤ 1) recorded (now.asked n)) (ap (runs n) (sym recorded) ∙ e)
       (ap (λ (arrivals : List Arrival). has_arrived arrivals n) (sym (arrivals_arrived (read_answer state request))) ∙ come))
     where
-      recorded : recorded_requests (Event.Take other attempt (Frame.Command request) ∷ events) id ≡ recorded_requests events id ++ request ∷ []
+      recorded : recorded_requests (Event.Move other attempt (Frame.Command request) ∷ events) id ≡ recorded_requests events id ++ request ∷ []
       recorded =
-          requests_now (Event.Take other attempt (Frame.Command request)) events id old
+          requests_now (Event.Move other attempt (Frame.Command request)) events id old
           ∙ ap (λ (more : List Request). recorded_requests events id ++ more)
-          (one_request events id (Event.Take other attempt (Frame.Command request)) request (or-nothing (bytes_eq other id) false refl adds) refl)
-  takes (Event.Take other attempt (Frame.RunOutcome k value told)) causes old adds once now e come = (or-nothing (bytes_eq other id) false refl adds, same_number k n (result_of_value value) come)
-  takes (Event.Take other attempt frame) causes old adds once now e come = cc
+          (one_request events id (Event.Move other attempt (Frame.Command request)) request (or-nothing (bytes_eq other id) false refl adds) refl)
+  takes (Event.Move other attempt (Frame.RunOutcome k value told)) causes old adds once now e come = (or-nothing (bytes_eq other id) false refl adds, same_number k n (result_of_value value) come)
+  takes (Event.Move other attempt frame) causes old adds once now e come = cc
   takes event causes old adds once now e come = cc
 
 pub outcomes_are_taken : OutcomesAreTaken

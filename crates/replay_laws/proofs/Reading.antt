@@ -22,21 +22,21 @@ use Rattle.input_laws.proofs.AskedOnce.{kind_first}
 use Rattle.attempt_model.specs.Machine.{Machine, machine_at_start}
 use Rattle.attempt_model.specs.Attempts.{with_entry}
 use Rattle.attempt_laws.proofs.Tables.{results-append}
-use Rattle.live_laws.specs.Reading.{with_messages}
-use Rattle.live_laws.proofs.Reading.{messages-written}
+use Rattle.live_laws.specs.MachinePosition.{with_messages}
+use Rattle.live_laws.proofs.MachinePosition.{messages-written}
 use Rattle.live_laws.proofs.LiveMachines.{machine_more, holds_on, holds_more}
-use Rattle.live_laws.specs.Asking.{are_by_text}
-use Rattle.live_laws.specs.Living.{LiveAttempt, start_unread, start_read, handed_bytes, after_reading}
+use Rattle.live_laws.specs.AskedArrivals.{are_by_text}
+use Rattle.live_laws.specs.AttemptWithMachine.{LiveAttempt, start_unread, start_read, handed_bytes, after_reading}
 use Rattle.body_laws.specs.Bodies.{Body, Executor, reads_arrival, reads_outcome, bodies_of, acknowledges}
-use Rattle.body_laws.specs.Standing.{Among, has_arrived, count_bodies, count_proposed, BodiesStand}
+use Rattle.body_laws.specs.BodySimulation.{Among, has_arrived, count_bodies, count_proposed, BodiesStand}
 use Rattle.body_laws.specs.Laws.{is_early}
 use Rattle.body_laws.proofs.Lists.{count-among}
-use Rattle.body_laws.proofs.Standing.{no_bodies, with_machine, body_reads, body_comes, arrived-before, arrived-once}
+use Rattle.body_laws.proofs.BodySimulation.{no_bodies, with_machine, body_reads, body_comes, arrived-before, arrived-once}
 use Rattle.replay_laws.specs.Outcomes.{asks_run, runs}
-use Rattle.replay_laws.specs.Living.{reads_messages, AreCached}
+use Rattle.replay_laws.specs.AttemptWithBodies.{reads_messages, AreCached}
 use Rattle.replay_laws.proofs.Outcomes.{runs-asked}
 use Rattle.replay_laws.proofs.Asked.{body_asked, journal_read, journal_come}
-use Rattle.replay_laws.specs.Replaying.{IsOfJournal, IsBehind, ComesAsAsked, asked_by, IsReplayed}
+use Rattle.replay_laws.specs.ReplayedAttempt.{IsOfJournal, IsBehind, ComesAsAsked, requests_asked_by, IsReplayed}
 use Rattle.replay_laws.specs.Laws.{ReplaysBegin, ReplaysStay}
 use Rattle.replay_laws.proofs.Standing.{at, behind_none, asked_once, none_unread}
 
@@ -133,7 +133,7 @@ module _ (next : Handler) (live : LiveAttempt) (proposed : List (ℕ × NonEmpty
   -- ---- more that is to come
 
   brings : (more : List InputMessage) (coming : List Frame) → AllByRecursion (IsBehind live.start.given.version proposed) more
-      → ComesAsAsked (arrivals_carried live.start.journal) proposed (asked_by live) (arrivals_carried (live.read ++ (live.unread ++ more)))
+      → ComesAsAsked (arrivals_carried live.start.journal) proposed (requests_asked_by live) (arrivals_carried (live.read ++ (live.unread ++ more)))
       → IsReplayed next (record live { unread = live.unread ++ more; coming = coming }) proposed e
   brings more coming behind comes = record {
     start = x.start;
@@ -210,11 +210,11 @@ module _ (next : Handler) (live : LiveAttempt) (proposed : List (ℕ × NonEmpty
       (λ tree waits. (let wrong : GoesOn ≡ Waits tree = sym (at next live proposed e x).position.going ∙ waits in cc))
 
   -- a run whose body it has is asked for
-  body_requested : (body : Body) → Among body (bodies_of (run next live.start.given (arrivals_carried live.read) live.calls).steps) → runs body.completion (asked_by live) ≡ true
+  body_requested : (body : Body) → Among body (bodies_of (run next live.start.given (arrivals_carried live.read) live.calls).steps) → runs body.completion (requests_asked_by live) ≡ true
   body_requested body a = body_asked next live (at next live proposed e x) (none_unread next live proposed e x (journal_read next live x.asked body a)) body a
 
   -- and where something has come for it, by then
-  run_first : (n : ℕ) → runs n (asked_by live) ≡ true → has_arrived (arrivals_carried (live.read ++ live.unread)) n ≡ true → runs n x.comes.first ≡ true
+  run_first : (n : ℕ) → runs n (requests_asked_by live) ≡ true → has_arrived (arrivals_carried (live.read ++ live.unread)) n ≡ true → runs n x.comes.first ≡ true
   run_first n e' come =
       kind_first n (asks_run n) (runs-asked n) x.comes.first x.comes.more (asked_once next live proposed e x n)
       (x.comes.come.asked n (arrived-once (arrivals_carried (live.read ++ live.unread)) n come)) (ap (runs n) x.comes.parts ∙ e')

@@ -15,19 +15,19 @@ use Rattle.input_laws.proofs.News.{requests_carried-append}
 use Rattle.input_laws.proofs.Telling.{arrivals_carried-append}
 use Rattle.input_laws.specs.Once.{ComeWhenAsked, count_of, numbers_asked}
 use Rattle.attempt_model.specs.Results.{are_keys_text}
-use Rattle.attempt_model.specs.Standing.{IsShown}
+use Rattle.attempt_model.specs.Simulation.{IsShown}
 use Rattle.attempt_laws.proofs.Apart.{comes_once}
 use Rattle.attempt_laws.proofs.Coming.{all-front, all-both, kinds_by_asking}
-use Rattle.live_laws.specs.Reading.{IsInRun}
+use Rattle.live_laws.specs.MachinePosition.{IsInRun}
 use Rattle.live_laws.specs.MachineTurn.{HasPosition}
-use Rattle.live_laws.proofs.Reading.{none_before, none_behind, machine_position}
-use Rattle.live_laws.specs.Asking.{GiveIds, keys_are_text, are_by_text, AsksByText}
-use Rattle.live_laws.specs.Living.{LiveAttempt, HasReadJournal}
-use Rattle.live_laws.proofs.Asking.{fewer_come, fewer_give, come_as_asked}
+use Rattle.live_laws.proofs.MachinePosition.{none_before, none_behind, machine_position}
+use Rattle.live_laws.specs.AskedArrivals.{GiveIds, keys_are_text, are_by_text, AsksByText}
+use Rattle.live_laws.specs.AttemptWithMachine.{LiveAttempt, HasReadJournal}
+use Rattle.live_laws.proofs.AskedArrivals.{fewer_come, fewer_give, come_as_asked}
 use Rattle.body_laws.specs.Bodies.{Executor}
 use Rattle.replay_laws.proofs.Asked.{begins_asking}
-use Rattle.replay_laws.proofs.Flying.{begins_once}
-use Rattle.replay_laws.specs.Replaying.{IsBehind, asked_by, IsReplayed}
+use Rattle.replay_laws.proofs.OutcomesInFlight.{begins_once}
+use Rattle.replay_laws.specs.ReplayedAttempt.{IsBehind, requests_asked_by, IsReplayed}
 use Rattle.replay_laws.specs.Laws.{StandsReplayed, ReplaysStand}
 
 -- messages behind the journal carry no request
@@ -50,7 +50,7 @@ module _ (next : Handler) (live : LiveAttempt) (proposed : List (ℕ × NonEmpty
       ∙ append-nil (requests_carried live.start.journal)
 
   -- what is asked for begins the run, over what it has read or over its journal
-  pub begins_asked : (arrivals : List Arrival) × BeginsRun next live.start.given arrivals (asked_by live)
+  pub begins_asked : (arrivals : List Arrival) × BeginsRun next live.start.given arrivals (requests_asked_by live)
   begins_asked = begins_asking next live at x.start.of_run input_requests
 
   -- so each completion is asked for once
@@ -82,7 +82,7 @@ module _ (next : Handler) (live : LiveAttempt) (proposed : List (ℕ × NonEmpty
         ∙ append-nil (requests_carried live.start.journal)
 
     -- what is asked for is what it has read and what it has written
-    pub asked_read : asked_by live ≡ requests_carried live.read ++ live.machine.written
+    pub asked_read : requests_asked_by live ≡ requests_carried live.read ++ live.machine.written
     asked_read =
         ap (λ (some : List Request). some ++ live.machine.written)
         (requests_carried-append live.read live.unread ∙ ap (λ (some : List Request). requests_carried live.read ++ some) none_unread ∙ append-nil (requests_carried live.read))

@@ -12,22 +12,22 @@ use Rattle.journal_model.specs.Event.{Frame}
 use Rattle.journal_model.specs.Cause.{keys_of}
 use Rattle.input_laws.specs.Message.{InputMessage, CarriesInput, CarriesRequest, CarriesArrival, CarriesOutcome, arrivals_carried, requests_carried}
 use Rattle.attempt_model.specs.Machine.{Machine, Reply, Answered, AwaitsTree, AwaitsChild, Finished, FailedBy, reply_to}
-use Rattle.attempt_model.specs.Standing.{AreOfKind, Fits, next_call, AreReflexive}
+use Rattle.attempt_model.specs.Simulation.{AreOfKind, Fits, next_call, AreReflexive}
 use Rattle.attempt_laws.proofs.Coming.{all-both}
-use Rattle.live_laws.specs.Reading.{IsInRun}
+use Rattle.live_laws.specs.MachinePosition.{IsInRun}
 use Rattle.live_laws.specs.Replies.{SendsReply, goes_on, StandsBehind}
 use Rattle.live_laws.specs.MachineTurn.{MakesTurns}
 use Rattle.live_laws.proofs.MachineTurn.{machine_turns}
-use Rattle.live_laws.specs.Asking.{are_by_text}
-use Rattle.live_laws.specs.Living.{LiveAttempt, start_read, HasReadJournal, after_turn}
+use Rattle.live_laws.specs.AskedArrivals.{are_by_text}
+use Rattle.live_laws.specs.AttemptWithMachine.{LiveAttempt, start_read, HasReadJournal, after_turn}
 use Rattle.body_laws.specs.Bodies.{Body, Executor, without_body, body_awaited, handing_out, executes_or_awaits, reply_after, executor_reply, bodies_left, proposing}
-use Rattle.body_laws.specs.Standing.{BodiesStand, has_arrived, count_proposed, StandsWithBodies, ExecutesBody, RepliesWithBodies}
+use Rattle.body_laws.specs.BodySimulation.{BodiesStand, has_arrived, count_proposed, StandsWithBodies, ExecutesBody, RepliesWithBodies}
 use Rattle.body_laws.proofs.Lists.{outcome, among-left, proposed-append}
 use Rattle.body_laws.proofs.Progress.{none-left}
-use Rattle.body_laws.proofs.Standing.{steps-same, with_steps, body_proposes}
+use Rattle.body_laws.proofs.BodySimulation.{steps-same, with_steps, body_proposes}
 use Rattle.body_laws.proofs.Calling.{calls_simulate}
 use Rattle.replay_laws.specs.Outcomes.{runs}
-use Rattle.replay_laws.specs.Replaying.{IsBehind, ComesAsAsked, asked_by, IsReplayed}
+use Rattle.replay_laws.specs.ReplayedAttempt.{IsBehind, ComesAsAsked, requests_asked_by, IsReplayed}
 use Rattle.replay_laws.specs.Laws.{TurnsReplayed, ReplaysTurn}
 use Rattle.replay_laws.proofs.Standing.{replay_stands}
 
@@ -109,7 +109,7 @@ module _ (same_header : Call → Request → Request → Bool) (next : Handler) 
     later = x.later;
     parts = x.parts;
     later_are = x.later_are;
-    comes = asks_more (arrivals_carried live.start.journal) proposed (asked_by live) (requests_carried (live.read ++ live.unread) ++ new.machine.written) (arrivals_carried (live.read ++ live.unread)) written
+    comes = asks_more (arrivals_carried live.start.journal) proposed (requests_asked_by live) (requests_carried (live.read ++ live.unread) ++ new.machine.written) (arrivals_carried (live.read ++ live.unread)) written
         (ap (λ (some : List Request). requests_carried (live.read ++ live.unread) ++ some) grows ∙ sym (append_assoc (requests_carried (live.read ++ live.unread)) live.machine.written written)) x.comes;
     holds = start_read start;
     rest = x.rest;
@@ -132,7 +132,7 @@ module _ (same_header : Call → Request → Request → Bool) (next : Handler) 
     parts = x.parts;
     later_are = still_behind live.start.given.version proposed ((body.completion, value) ∷ []) x.later x.later_are;
     comes = proposes_more (arrivals_carried live.start.journal) proposed ((body.completion, value) ∷ []) (requests_carried (live.read ++ live.unread) ++ new.machine.written) (arrivals_carried (live.read ++ live.unread))
-        (asks_more (arrivals_carried live.start.journal) proposed (asked_by live) (requests_carried (live.read ++ live.unread) ++ new.machine.written) (arrivals_carried (live.read ++ live.unread)) []
+        (asks_more (arrivals_carried live.start.journal) proposed (requests_asked_by live) (requests_carried (live.read ++ live.unread) ++ new.machine.written) (arrivals_carried (live.read ++ live.unread)) []
         (ap (λ (some : List Request). requests_carried (live.read ++ live.unread) ++ some) behind.written ∙ sym (append_assoc (requests_carried (live.read ++ live.unread)) live.machine.written [])) x.comes);
     holds = start_read start;
     rest = x.rest;

@@ -13,18 +13,18 @@ use Rattle.journal_model.specs.Attempt.{input_bytes, is_input_closed}
 use Rattle.journal_model.specs.Cause.{IsAccepted}
 use Rattle.input_laws.specs.Message.{InputMessage, piece_of, arrivals_carried, requests_carried}
 use Rattle.live_laws.specs.Live.{TurnsOfRun}
-use Rattle.live_laws.specs.Sending.{requests_sent, FollowsSo}
+use Rattle.live_laws.specs.RequestsInFlight.{requests_sent, FollowsSo}
 use Rattle.attempt_model.specs.Machine.{Machine, machine_at_start}
-use Rattle.attempt_model.specs.Standing.{AreOfKind, Fits, next_call, AreReflexive}
-use Rattle.live_laws.specs.Beginning.{AttemptStart}
-use Rattle.live_laws.specs.Reading.{IsInRun}
-use Rattle.live_laws.specs.Asking.{are_by_text, AsksByText}
-use Rattle.live_laws.specs.Living.{LiveAttempt, attempt_begun, HasReadJournal, handed_bytes, after_reading, after_turn}
-use Rattle.body_laws.specs.Standing.{Among, has_arrived, count_proposed}
+use Rattle.attempt_model.specs.Simulation.{AreOfKind, Fits, next_call, AreReflexive}
+use Rattle.live_laws.specs.StartFrame.{AttemptStart}
+use Rattle.live_laws.specs.MachinePosition.{IsInRun}
+use Rattle.live_laws.specs.AskedArrivals.{are_by_text, AsksByText}
+use Rattle.live_laws.specs.AttemptWithMachine.{LiveAttempt, attempt_begun, HasReadJournal, handed_bytes, after_reading, after_turn}
+use Rattle.body_laws.specs.BodySimulation.{Among, has_arrived, count_proposed}
 use Rattle.body_laws.specs.Bodies.{Body, bodies_of, Executor, executor_over, ExecutorReply, Answers, Executes, AwaitsTreeOf, AwaitsChildOf, Finishes, Fails, executor_reply, proposing}
-use Rattle.replay_laws.specs.Flying.{outcomes_in}
-use Rattle.replay_laws.specs.Living.{reads_messages, AreCached, outcome_frame, IsLiveExecutor}
-use Rattle.replay_laws.specs.Replaying.{CanReplay, IsBehind, ComesAsAsked, asked_by, IsReplayed}
+use Rattle.replay_laws.specs.OutcomesInFlight.{outcomes_in}
+use Rattle.replay_laws.specs.AttemptWithBodies.{reads_messages, AreCached, outcome_frame, IsLiveExecutor}
+use Rattle.replay_laws.specs.ReplayedAttempt.{CanReplay, IsBehind, ComesAsAsked, requests_asked_by, IsReplayed}
 
 -- ---- its begin
 
@@ -40,7 +40,7 @@ ReplaysBegin = (next : Handler) (start : AttemptStart) → CanReplay next start
 -- come, and as it reads: then each outcome that is acknowledged is cached
 pub record StaysReplayed (next : Handler) (live : LiveAttempt) (proposed : List (ℕ × NonEmptyValue)) (e : Executor) : Type 0 where
   pub brings : (more : List InputMessage) (coming : List Frame) → AllByRecursion (IsBehind live.start.given.version proposed) more
-      → ComesAsAsked (arrivals_carried live.start.journal) proposed (asked_by live) (arrivals_carried (live.read ++ (live.unread ++ more)))
+      → ComesAsAsked (arrivals_carried live.start.journal) proposed (requests_asked_by live) (arrivals_carried (live.read ++ (live.unread ++ more)))
       → IsReplayed next (record live { unread = live.unread ++ more; coming = coming }) proposed e
   pub is_handed : (bytes rest : Bytes) → (live.held ++ bytes) ++ rest ≡ input_bytes (map piece_of live.unread) → IsReplayed next (handed_bytes live bytes) proposed e
   pub reads_start : live.bytes ≡ live.start.frame ++ live.held → IsReplayed next (record live { bytes = live.held }) proposed e
@@ -107,7 +107,7 @@ pub record LivesOn (next : Handler) (options : RunOptions) (fallback_seed : ℕ)
       → IsReplayed next (after_turn live (outcome_frame live.start.given.version body.completion value ∷ []) calls m) (proposed ++ (body.completion, value) ∷ []) e
       → IsLiveExecutor next options fallback_seed id events (after_turn live (outcome_frame live.start.given.version body.completion value ∷ []) calls m) (proposed ++ (body.completion, value) ∷ []) e
   pub follows : (sent : List Frame) → FollowsSo next live.start.given id events live.coming
-      → TurnsOfRun next live.start.given (is_input_closed events id) live.held live.read live.unread (asked_by live) live.held sent
+      → TurnsOfRun next live.start.given (is_input_closed events id) live.held live.read live.unread (requests_asked_by live) live.held sent
       → FollowsSo next live.start.given id events (live.coming ++ sent)
 
 abbrev pub LivesStay : Type 0

@@ -1,5 +1,5 @@
 pub mod Outcomes
-pub mod Flying
-pub mod Living
-pub mod Replaying
+pub mod OutcomesInFlight
+pub mod AttemptWithBodies
+pub mod ReplayedAttempt
 pub mod Laws

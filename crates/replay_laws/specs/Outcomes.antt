@@ -6,7 +6,7 @@ use Rattle.journal_model.specs.Request.{Request}
 use Rattle.journal_model.specs.Event.{Event, Frame}
 use Rattle.journal_model.specs.Journal.{begins, arrivals_in, entries_added, starting_state, entries_of, recorded_requests}
 use Rattle.journal_model.specs.Cause.{IsAccepted}
-use Rattle.body_laws.specs.Standing.{has_arrived}
+use Rattle.body_laws.specs.BodySimulation.{has_arrived}
 
 -- whether a request is that of a run, for this completion
 abbrev pub asks_run : ℕ → Request → Bool
@@ -18,7 +18,7 @@ runs n requests = list_any (asks_run n) requests
 
 -- an event that takes a frame in which the invocation's attempt proposes the outcome
 abbrev pub TakesOutcome : Text → ℕ → Event → Type 0
-TakesOutcome id n (Event.Take other attempt (Frame.RunOutcome k value told)) = (bytes_eq other id ≡ true) × (k ≡ n)
+TakesOutcome id n (Event.Move other attempt (Frame.RunOutcome k value told)) = (bytes_eq other id ≡ true) × (k ≡ n)
 TakesOutcome id n event = ⊥
 
 -- for a run nothing comes but what its attempt has proposed

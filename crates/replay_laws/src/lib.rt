@@ -7,8 +7,8 @@
 //! proposed, and no outcome on its way is refused since its run is not open. The functions do nothing: their contracts are the laws.
 #![tactic(auto)]
 
-ghost use Rattle.replay_laws.specs.Flying.{OthersFollow, OutcomesAreNew, OutcomesAreOpen, OutcomesBegin, OutcomesStay};
-ghost use Rattle.replay_laws.specs.Living.{ExecutorsBegin, ExecutorsStayLive};
+ghost use Rattle.replay_laws.specs.OutcomesInFlight.{OthersFollow, OutcomesAreNew, OutcomesAreOpen, OutcomesBegin, OutcomesStay};
+ghost use Rattle.replay_laws.specs.AttemptWithBodies.{ExecutorsBegin, ExecutorsStayLive};
 ghost use Rattle.replay_laws.specs.Outcomes.{OutcomesAreTaken};
 ghost use Rattle.replay_laws.specs.Laws.{LivesReplay, LivesStay, ReplaysBegin, ReplaysStand, ReplaysStay, ReplaysTurn};
 

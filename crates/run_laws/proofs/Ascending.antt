@@ -12,7 +12,7 @@ use Rattle.journal_model.specs.Refusal.{Refusal, refusal_of}
 use Rattle.journal_model.specs.State.{knows_key, knows_all_keys, known_value, known_keys}
 use Rattle.journal_model.specs.History.{Step, answers_of, requests_of, completions_of, next_completion}
 use Rattle.journal_model.specs.Await.{AwaitOutcome, WaitsFor, WokenAt, CancelledAt, cancel_request, cancel_requests, child_result, outcome_from, cancellation_outcome, awake_place, awaited_ids, is_cancelled_at, children_place, tracked_children}
-use Rattle.journal_model.specs.Run.{Handler, Invocation, Progress, Ending, GoesOn, Kind, Awaits, Ends, Answers, kind_of, name_or_empty, requests_to, after_await, carried_out, unless_refused, continued_by, run, BeginsRun}
+use Rattle.journal_model.specs.Run.{Handler, Invocation, Progress, Ending, GoesOn, Kind, Awaits, Ends, Answers, call_kind, name_or_empty, requests_to, after_await, carried_out, unless_refused, continued_by, run, BeginsRun}
 use Rattle.journal_model.specs.Cause.{do_ascend, greatest, last_completion}
 use Rattle.journal_laws.proofs.Leaving.{and-true}
 
@@ -170,7 +170,7 @@ module _ (given : Invocation) (steps : List Step) (arrivals : List Arrival) (ris
 
   refused_rises : (refusal : Option Refusal) → RunRises (unless_refused given steps arrivals call refusal).steps
   refused_rises (Some refusal) = rises
-  refused_rises None = carried_rises (kind_of call)
+  refused_rises None = carried_rises (call_kind call)
 
 continued_rises : (next : Handler) (given : Invocation) (arrivals : List Arrival) (progress : Progress) (ending : Ending) → RunRises progress.steps → RunRises (continued_by next given arrivals progress ending).steps
 continued_rises next given arrivals progress GoesOn rises =

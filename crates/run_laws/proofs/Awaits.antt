@@ -5,11 +5,11 @@ use Rattle.journal_model.specs.AwaitTree.{AwaitTree, Single, Pending, is_awake}
 use Rattle.journal_model.specs.History.{Step, place_of}
 use Rattle.journal_model.specs.Delivery.{leaf_state}
 use Rattle.journal_model.specs.Await.{WaitsFor, WokenAt, child_id, first_unknown, tracked_children, awaited_ids, awake_place, is_awake_at, is_cancelled_at, children_place, cancellation_outcome, outcome_from}
-use Rattle.journal_model.specs.Waiting.{pruned}
+use Rattle.journal_model.specs.PrunedTrees.{pruned}
 use Rattle.journal_model.specs.Run.{run}
 use Rattle.journal_model.proofs.Extension.{run-within, place_of-within}
 use Rattle.run_laws.proofs.WaitingRuns.{waited, steps_at_wait, is_over}
-use Rattle.run_laws.specs.Suspended.{Tells}
+use Rattle.run_laws.specs.Suspended.{TellsAwaitedTree}
 use Rattle.run_laws.specs.WakingLaws.{AwaitsTell, ChildrenTell, WaitsAsleep}
 use Rattle.run_laws.proofs.Waking.{least-none}
 use Rattle.run_laws.proofs.Suspending.{left_asleep}
@@ -21,7 +21,7 @@ awaits_tell next given arrivals calls requests ids left suspension going waits e
   waits = waits;
   exactly = sym exactly;
   tells =
-      subst (λ (tree : AwaitTree (Option NotificationId)). Tells given.version tree (Some suspension))
+      subst (λ (tree : AwaitTree (Option NotificationId)). TellsAwaitedTree given.version tree (Some suspension))
       (left_is
       ∙ ap (λ (steps : List Step). pruned ids (leaf_state given.options steps arrivals (place_of steps) (length arrivals))) (sym (steps_at_wait next given arrivals calls ids going waits)))
       tells;

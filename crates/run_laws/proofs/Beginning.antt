@@ -14,8 +14,8 @@ use Rattle.input_laws.proofs.Events.{unborn_open}
 
 module _ (next : Handler) (given : Invocation) (id : Text) where
   unborn_takes : (event : Event) (earlier : List Event) → causes_of earlier event ≡ [] → invocation_begun earlier id ≡ None → TakesOfRun next given id earlier event
-  unborn_takes (Event.Take other attempt frame) earlier causes unborn = λ same.
-      absurd (true≢false (sym (open_when_accepted earlier (Event.Take other attempt frame) id refl ((bytes_eq-Decides other id).1 same) causes) ∙ unborn_open earlier id unborn))
+  unborn_takes (Event.Move other attempt frame) earlier causes unborn = λ same.
+      absurd (true≢false (sym (open_when_accepted earlier (Event.Move other attempt frame) id refl ((bytes_eq-Decides other id).1 same) causes) ∙ unborn_open earlier id unborn))
   unborn_takes event earlier causes unborn = tt
 
   pub unborn_of_run : (events : List Event) → IsAccepted events → invocation_begun events id ≡ None → AllOfRun next given id events

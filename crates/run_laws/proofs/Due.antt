@@ -27,12 +27,12 @@ use Rattle.run_laws.proofs.Past.{both_true, woken_past, past_woken}
 not_live : (events : List Event) (id : Text) (attempt : ℕ) → live_attempt events id ≡ None → is_live events id attempt ≡ true → ⊥
 not_live events id attempt none live = true≢false (sym (numbered events id attempt live) ∙ ap is_some none)
 
-handed_live : (events : List Event) (id : Text) (attempt most : ℕ) → causes_of events (Event.HandOut id attempt most) ≡ [] → is_live events id attempt ≡ true
+handed_live : (events : List Event) (id : Text) (attempt most : ℕ) → causes_of events (Event.Feed id attempt most) ≡ [] → is_live events id attempt ≡ true
 handed_live events id attempt most causes =
     not-false (is_live events id attempt)
-    (holds-head (own_tests events (Event.HandOut id attempt most))
+    (holds-head (own_tests events (Event.Feed id attempt most))
     (own_hold (not (is_some (invocation_begun events id))) (is_some (invocation_begun events id) && not (is_open events id)) Cause.UnknownInvocation Cause.InvocationClosed
-    (own_tests events (Event.HandOut id attempt most)) causes))
+    (own_tests events (Event.Feed id attempt most)) causes))
 
 stopped_live : (events : List Event) (id : Text) (attempt : ℕ) → causes_of events (Event.Stop id attempt) ≡ [] → is_live events id attempt ≡ true
 stopped_live events id attempt causes =
@@ -42,7 +42,7 @@ stopped_live events id attempt causes =
     (own_tests events (Event.Stop id attempt)) causes))
 
 other_suspends : (event : Event) (id : Text) → is_of id event ≡ false → suspension_in id event ≡ None
-other_suspends (Event.Take other attempt (Frame.Suspend suspension)) id e = rw e refl
+other_suspends (Event.Move other attempt (Frame.Suspend suspension)) id e = rw e refl
 other_suspends _ id e = refl
 
 still_unsuspended : (event : Event) (earlier : List Event) (id : Text) → invocation_begun earlier id ≡ None → (is_of id event ≡ true → is_open earlier id ≡ true)
@@ -118,27 +118,27 @@ module _ (next : Handler) (given : Invocation) (id : Text) where
       by_id : (b : Bool) → bytes_eq other id ≡ b → (if b then None else suspension_of events id) ≡ Some suspension → StillWaits next given id (Event.Begin other now ∷ events) suspension
       by_id true f e = absurd (no_suspension suspension e)
       by_id false f e = other_still (Event.Begin other now) events suspension accepted.1 refl f (before e)
-  still_step (Event.Take other attempt (Frame.Suspend told)) events suspension accepted of_run e before = by_id (bytes_eq other id) refl e
+  still_step (Event.Move other attempt (Frame.Suspend told)) events suspension accepted of_run e before = by_id (bytes_eq other id) refl e
     where
       by_told : (told : Option Suspension) → other ≡ id → bytes_eq other id ≡ true → WaitsAll next given (arrivals_handed events id) (recorded_requests events id) told
-          → or_before told (suspension_of events id) ≡ Some suspension → StillWaits next given id (Event.Take other attempt (Frame.Suspend told) ∷ events) suspension
+          → or_before told (suspension_of events id) ≡ Some suspension → StillWaits next given id (Event.Move other attempt (Frame.Suspend told) ∷ events) suspension
       by_told None same f waits e = absurd waits.tells
       by_told (Some it) same f waits e =
           let is : it ≡ suspension = cc in record {
-            over = none_live (Event.Take other attempt (Frame.Suspend (Some it))) events id refl (ap (λ (b : Bool). b && true) f);
+            over = none_live (Event.Move other attempt (Frame.Suspend (Some it))) events id refl (ap (λ (b : Bool). b && true) f);
             waits =
-                waits_kept (Event.Take other attempt (Frame.Suspend (Some it))) events (Some suspension) accepted.1 refl refl refl
-                (no_request events id (Event.Take other attempt (Frame.Suspend (Some it))) refl)
+                waits_kept (Event.Move other attempt (Frame.Suspend (Some it))) events (Some suspension) accepted.1 refl refl refl
+                (no_request events id (Event.Move other attempt (Frame.Suspend (Some it))) refl)
                 (subst (λ (s : Suspension). WaitsAll next given (arrivals_handed events id) (recorded_requests events id) (Some s)) is waits);
           }
 
-      by_id : (b : Bool) → bytes_eq other id ≡ b → or_before (if b then told else None) (suspension_of events id) ≡ Some suspension → StillWaits next given id (Event.Take other attempt (Frame.Suspend told) ∷ events) suspension
+      by_id : (b : Bool) → bytes_eq other id ≡ b → or_before (if b then told else None) (suspension_of events id) ≡ Some suspension → StillWaits next given id (Event.Move other attempt (Frame.Suspend told) ∷ events) suspension
       by_id true f e = by_told told ((bytes_eq-Decides other id).0 f) f (of_run ((bytes_eq-Decides other id).0 f)) e
-      by_id false f e = other_still (Event.Take other attempt (Frame.Suspend told)) events suspension accepted.1 refl f (before e)
-  still_step (Event.Take other attempt frame) events suspension accepted of_run e before =
-      still_dead (Event.Take other attempt frame) events suspension accepted.1 refl other attempt (taken_live events other attempt frame accepted.0) refl (before e)
-  still_step (Event.HandOut other attempt most) events suspension accepted of_run e before =
-      still_dead (Event.HandOut other attempt most) events suspension accepted.1 refl other attempt (handed_live events other attempt most accepted.0) refl (before e)
+      by_id false f e = other_still (Event.Move other attempt (Frame.Suspend told)) events suspension accepted.1 refl f (before e)
+  still_step (Event.Move other attempt frame) events suspension accepted of_run e before =
+      still_dead (Event.Move other attempt frame) events suspension accepted.1 refl other attempt (taken_live events other attempt frame accepted.0) refl (before e)
+  still_step (Event.Feed other attempt most) events suspension accepted of_run e before =
+      still_dead (Event.Feed other attempt most) events suspension accepted.1 refl other attempt (handed_live events other attempt most accepted.0) refl (before e)
   still_step (Event.Stop other attempt) events suspension accepted of_run e before =
       still_dead (Event.Stop other attempt) events suspension accepted.1 refl other attempt (stopped_live events other attempt accepted.0) refl (before e)
   still_step event events suspension accepted of_run e before =

@@ -36,10 +36,10 @@ module _ (next : Handler) (given : Invocation) (id : Text) where
       (ended-more next given (arrivals_handed events id) rest (recorded_requests events id) whole)
 
   own_step : (event : Event) (events : List Event) → begins id event ≡ false → is_of id event ≡ true → is_open events id ≡ true → IsWholeAt next given id (event ∷ events) → EndedWhole (event ∷ events)
-  own_step (Event.Take other attempt Frame.End) events old f opened whole = λ closing.
-      whole_at_end (Event.Take other attempt Frame.End ∷ events) (whole ((bytes_eq-Decides other id).0 f))
-  own_step (Event.Take other attempt frame) events old f opened whole = λ closing.
-      absurd (no_end_by (Event.Take other attempt frame) events id old f opened refl closing)
+  own_step (Event.Move other attempt Frame.End) events old f opened whole = λ closing.
+      whole_at_end (Event.Move other attempt Frame.End ∷ events) (whole ((bytes_eq-Decides other id).0 f))
+  own_step (Event.Move other attempt frame) events old f opened whole = λ closing.
+      absurd (no_end_by (Event.Move other attempt frame) events id old f opened refl closing)
   own_step event events old f opened whole = λ closing. absurd (no_end_by event events id old f opened refl closing)
 
   pub ended_whole : (events : List Event) → IsAccepted events → IsWholeAlong next given id events → EndedWhole events

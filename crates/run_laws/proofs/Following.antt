@@ -49,19 +49,19 @@ module _ (next : Handler) (given : Invocation) (id : Text) where
   begins_step : (event : Event) (events : List Event) → begins id event ≡ false → TakesOfRun next given id events event
       → BeginsRun next given (recorded_arrivals events id) (recorded_requests events id)
       → BeginsRun next given (recorded_arrivals (event ∷ events) id) (recorded_requests (event ∷ events) id)
-  begins_step (Event.Take other attempt (Frame.Command request)) events e of_run begins = by_id (bytes_eq other id) refl
+  begins_step (Event.Move other attempt (Frame.Command request)) events e of_run begins = by_id (bytes_eq other id) refl
     where
       by_id : (b : Bool) → bytes_eq other id ≡ b
-          → BeginsRun next given (recorded_arrivals (Event.Take other attempt (Frame.Command request) ∷ events) id) (recorded_requests (Event.Take other attempt (Frame.Command request) ∷ events) id)
+          → BeginsRun next given (recorded_arrivals (Event.Move other attempt (Frame.Command request) ∷ events) id) (recorded_requests (Event.Move other attempt (Frame.Command request) ∷ events) id)
       by_id true f =
-          begins_now (Event.Take other attempt (Frame.Command request)) events e (request ∷ [])
-          (one_request events id (Event.Take other attempt (Frame.Command request)) request f refl)
+          begins_now (Event.Move other attempt (Frame.Command request)) events e (request ∷ [])
+          (one_request events id (Event.Move other attempt (Frame.Command request)) request f refl)
           (begins-handed events (recorded_requests events id ++ request ∷ []) (of_run ((bytes_eq-Decides other id).0 f)))
       by_id false f =
-          quiet_now (Event.Take other attempt (Frame.Command request)) events e
-          (ap requests_in (nothing_added events id (Event.Take other attempt (Frame.Command request)) f refl)) begins
-  begins_step (Event.Take other attempt frame) events e of_run begins =
-      quiet_now (Event.Take other attempt frame) events e (no_request events id (Event.Take other attempt frame) refl) begins
+          quiet_now (Event.Move other attempt (Frame.Command request)) events e
+          (ap requests_in (nothing_added events id (Event.Move other attempt (Frame.Command request)) f refl)) begins
+  begins_step (Event.Move other attempt frame) events e of_run begins =
+      quiet_now (Event.Move other attempt frame) events e (no_request events id (Event.Move other attempt frame) refl) begins
   begins_step event events e of_run begins = quiet_now event events e (no_request events id event refl) begins
 
   none-begins : (events : List Event) → recorded_requests events id ≡ [] → BeginsRun next given (recorded_arrivals events id) (recorded_requests events id)
@@ -101,9 +101,9 @@ module _ (next : Handler) (given : Invocation) (id : Text) where
 
   -- the run has ended over what was handed out, and so over all that is recorded
   ended_now : (other : Text) (attempt : ℕ) (events : List Event) → other ≡ id
-      → IsWholeRun next given (arrivals_handed events id) (recorded_requests events id) (λ ending. ending ≡ Ended) → IsAnswered (Event.Take other attempt Frame.End ∷ events)
+      → IsWholeRun next given (arrivals_handed events id) (recorded_requests events id) (λ ending. ending ≡ Ended) → IsAnswered (Event.Move other attempt Frame.End ∷ events)
   ended_now other attempt events same whole closing =
-      let event = Event.Take other attempt Frame.End in
+      let event = Event.Move other attempt Frame.End in
       let (rest, e) = handed_first events in
       let over_all : IsWholeRun next given (recorded_arrivals events id) (recorded_requests events id) (λ ending. ending ≡ Ended) =
       subst (λ (arrivals : List Arrival). IsWholeRun next given arrivals (recorded_requests events id) (λ ending. ending ≡ Ended)) (sym e)
@@ -122,8 +122,8 @@ module _ (next : Handler) (given : Invocation) (id : Text) where
 
   answered_step : (event : Event) (events : List Event) → causes_of events event ≡ [] → begins id event ≡ false → is_of id event ≡ true → is_open events id ≡ true
       → TakesOfRun next given id events event → IsAnswered (event ∷ events)
-  answered_step (Event.Take other attempt Frame.End) events causes e f opened of_run = ended_now other attempt events ((bytes_eq-Decides other id).0 f) (of_run ((bytes_eq-Decides other id).0 f))
-  answered_step (Event.Take other attempt frame) events causes e f opened of_run = λ closing. absurd (no_end_by (Event.Take other attempt frame) events id e f opened refl closing)
+  answered_step (Event.Move other attempt Frame.End) events causes e f opened of_run = ended_now other attempt events ((bytes_eq-Decides other id).0 f) (of_run ((bytes_eq-Decides other id).0 f))
+  answered_step (Event.Move other attempt frame) events causes e f opened of_run = λ closing. absurd (no_end_by (Event.Move other attempt frame) events id e f opened refl closing)
   answered_step event events causes e f opened of_run = λ closing. absurd (no_end_by event events id e f opened refl closing)
 
   IsAnswered-start : IsAnswered []

@@ -10,7 +10,7 @@ use Rattle.journal_model.specs.Notification.{Arrival, same_id, cancel_id}
 use Rattle.journal_model.specs.Request.{Request}
 use Rattle.journal_model.specs.AwaitTree.{AwaitTree, Single, Combined, AwaitTrees, no_trees, and_trees, AwaitState, Pending, is_completed, is_awake, await_state, child_states, some_has_ended_node, combined_state, has_ended}
 use Rattle.journal_model.specs.Delivery.{state_of_result}
-use Rattle.journal_model.specs.Waiting.{pruned, pruned_children, only_leaves, only_children, state_of_some}
+use Rattle.journal_model.specs.PrunedTrees.{pruned, pruned_children, only_leaves, only_children, state_of_some}
 use Rattle.journal_model.specs.Run.{Handler, Invocation, Progress, Ending, GoesOn, Waits, RefusedCall, Ended, run, is_going}
 use Rattle.journal_model.specs.Event.{Suspension, ForTree, ForAny}
 use Rattle.journal_model.specs.Attempt.{result_of, is_woken}
@@ -18,7 +18,7 @@ use Rattle.journal_model.specs.Headline.{IsWaiting, GoesPast, all_stand, all_chi
 use Rattle.journal_model.proofs.Extension.{run-within}
 use Rattle.journal_laws.proofs.Leaving.{only_leaves-awake, and-true}
 use Rattle.run_laws.specs.WakingLaws.{WokenWherePast, PastWhereWoken}
-use Rattle.run_laws.specs.Suspended.{Tells, left_of, WaitsAll}
+use Rattle.run_laws.specs.Suspended.{TellsAwaitedTree, left_of, WaitsAll}
 use Rattle.run_laws.proofs.Tallies.{run_sound}
 use Rattle.run_laws.proofs.WaitingRuns.{WaitsAt, waited, stopped_same, past_over, over_past}
 use Rattle.run_laws.proofs.Waking.{states_by, over_awake, awake_over}
@@ -118,7 +118,7 @@ any_come arrivals (id ∷ ids) e = by_test (is_completed (states_by arrivals id)
     by_test true f e later = ap (λ (b : Bool). b || list_any (λ id. list_any (λ (arrival : Arrival). same_id arrival.id id) arrivals) ids) (come_one arrivals id f)
     by_test false f e later = or_right (list_any (λ (arrival : Arrival). same_id arrival.id id) arrivals) (list_any (λ id. list_any (λ (arrival : Arrival). same_id arrival.id id) arrivals) ids) (later e)
 
-pub woken_by : (version : ℕ) (tree : AwaitTree (Option NotificationId)) (suspension : Suspension) → Tells version tree (Some suspension) → (later : List Arrival)
+pub woken_by : (version : ℕ) (tree : AwaitTree (Option NotificationId)) (suspension : Suspension) → TellsAwaitedTree version tree (Some suspension) → (later : List Arrival)
     → is_awake tree (state_of_some (states_by later)) ≡ true → is_woken later (Some suspension) ≡ true
 woken_by version tree (ForTree told) tells later awake = tells (states_by later) ∙ left_out (states_by later) tree awake
 woken_by version tree (ForAny ids) tells later awake = any_come later ids (tells.1 (states_by later) awake)
@@ -131,7 +131,7 @@ not_both version lacks has =
     let high = leb-true first version has in
     omega (arith, low, high)
 
-pub awake_by : (version : ℕ) (tree : AwaitTree (Option NotificationId)) (suspension : Suspension) → Tells version tree (Some suspension) → has_feature version features.AwaitTree ≡ true → all_stand tree ≡ true → (later : List Arrival)
+pub awake_by : (version : ℕ) (tree : AwaitTree (Option NotificationId)) (suspension : Suspension) → TellsAwaitedTree version tree (Some suspension) → has_feature version features.AwaitTree ≡ true → all_stand tree ≡ true → (later : List Arrival)
     → is_woken later (Some suspension) ≡ true → is_awake tree (state_of_some (states_by later)) ≡ true
 awake_by version tree (ForTree told) tells high stands later woken = sym (stand_awake (states_by later) tree stands) ∙ sym (tells (states_by later)) ∙ woken
 awake_by version tree (ForAny ids) tells high stands later woken = absurd (not_both version tells.0 high)

@@ -8,7 +8,7 @@ use Rattle.journal_model.specs.Journal.{object_state}
 
 abbrev written : List Event
 written =
-    Event.Take (codes "i1") 1 (Frame.Command (Request.SetState (codes "a") (codes "1") [])) ∷ Event.Take (codes "i1") 1 (Frame.Command (Request.SetState (codes "b") (codes "2") []))
+    Event.Move (codes "i1") 1 (Frame.Command (Request.SetState (codes "a") (codes "1") [])) ∷ Event.Move (codes "i1") 1 (Frame.Command (Request.SetState (codes "b") (codes "2") []))
     ∷ Event.Begin (codes "i1") 0
     ∷ Event.Invoke (record { id = codes "i1"; object = codes "o"; input = []; headers = []; version = 7; seed = 1; state = StateMode.Whole }) ∷ []
 

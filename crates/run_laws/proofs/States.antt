@@ -1,11 +1,10 @@
 -- The state of an object is in order, and its keys are text.
-use Rattle.std.proofs.Common.{ℕ, ◌≡◌, refl, Bool, true, false, not, ◌&&◌, T, if◌then◌else◌, List, [], ◌∷◌, filter, is_some, bytes_eq}
+use Rattle.std.proofs.Common.{ℕ, ◌≡◌, refl, Bool, true, false, not, ◌&&◌, T, if◌then◌else◌, List, [], ◌∷◌, filter, is_some, bytes_eq, Less, Equal, Greater}
 use Rattle.std.specs.List.{list_all}
 use Rattle.std.specs.Str.{is_utf8}
 use Rattle.std.specs.FinMap.{is_sorted}
 use Rattle.std.specs.FinMap.Entries.{put, by_order}
 use Rattle.std.specs.Ordering.{eq_by_cmp}
-use Rattle.std.proofs.Common.{Less, Equal, Greater}
 use Rattle.journal_model.specs.Notification.{Bytes, Text}
 use Rattle.journal_model.specs.Request.{Request}
 use Rattle.journal_model.specs.State.{StateMap, bytes_cmp, state_change, state_after, IsOrdered}
@@ -66,7 +65,7 @@ text_change (Request.ClearAllState name) entries e all = tt
 text_change request entries e all = all
 
 -- the key of a request that was recorded is text
-pub text_asked : (earlier : List Event) (id : Text) (attempt : ℕ) (request : Request) → causes_of earlier (Event.Take id attempt (Frame.Command request)) ≡ [] → list_all is_utf8 (keys_of request) ≡ true
+pub text_asked : (earlier : List Event) (id : Text) (attempt : ℕ) (request : Request) → causes_of earlier (Event.Move id attempt (Frame.Command request)) ≡ [] → list_all is_utf8 (keys_of request) ≡ true
 text_asked earlier id attempt request causes =
     not-false (list_all is_utf8 (keys_of request))
     (holds-head (tail_of (tail_of tests))
@@ -75,12 +74,12 @@ text_asked earlier id attempt request causes =
     (holds-tail ((not (is_some (invocation_begun earlier id)), Cause.UnknownInvocation) ∷ (is_some (invocation_begun earlier id) && not (is_open earlier id), Cause.InvocationClosed) ∷ tests) causes)))))
   where
     tests : Tests
-    tests = own_tests earlier (Event.Take id attempt (Frame.Command request))
+    tests = own_tests earlier (Event.Move id attempt (Frame.Command request))
 
 pub states_text : StatesHaveTextKeys
 states_text [] object accepted = tt
-states_text (Event.Take id attempt (Frame.Command request) ∷ earlier) object accepted =
-    by_object (is_text object (object_of earlier (Event.Take id attempt (Frame.Command request)))) (states_text earlier object accepted.1)
+states_text (Event.Move id attempt (Frame.Command request) ∷ earlier) object accepted =
+    by_object (is_text object (object_of earlier (Event.Move id attempt (Frame.Command request)))) (states_text earlier object accepted.1)
   where
     by_object : (b : Bool) → HasTextKeys (object_state earlier object) → HasTextKeys (state_after (if b then request ∷ [] else []) (object_state earlier object))
     by_object true later = text_change request (object_state earlier object) (text_asked earlier id attempt request accepted.0) later

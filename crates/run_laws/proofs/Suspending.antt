@@ -6,11 +6,11 @@ use Rattle.protocol_types.specs.Feature.{lacks_feature}
 use Rattle.protocol_types.specs.declared.feature.Feature.TheVariants as features
 use Rattle.journal_model.specs.declared.notification.NotificationId.{NotificationId}
 use Rattle.journal_model.specs.AwaitTree.{AwaitState, Pending, Succeeded, Failed, is_completed, AwaitTree, Single, Combined, AwaitTrees, no_trees, and_trees, FirstCompleted, combined_state, await_state, child_states, has_ended, has_ended_node, some_has_ended_node, is_awake}
-use Rattle.journal_model.specs.Waiting.{SameTree, pruned, earlier_or_later, only_leaves, state_of_some}
+use Rattle.journal_model.specs.PrunedTrees.{SameTree, pruned, earlier_or_later, only_leaves, state_of_some}
 use Rattle.journal_model.specs.Event.{ForTree, ForAny}
 use Rattle.journal_laws.proofs.Leaving.{or-false}
 use Rattle.journal_laws.proofs.Pruning.{pruned-awake}
-use Rattle.run_laws.specs.Suspended.{Tells, leaf_ids, leaf_ids_of_trees}
+use Rattle.run_laws.specs.Suspended.{TellsAwaitedTree, leaf_ids, leaf_ids_of_trees}
 use Rattle.run_laws.proofs.SameTrees.{same_awake}
 
 any-append : (p : NotificationId → Bool) (xs ys : List NotificationId) → list_any p (xs ++ ys) ≡ (list_any p xs || list_any p ys)
@@ -70,15 +70,15 @@ module _ (states : NotificationId → AwaitState) where
 
 -- where suspensions have lists: all ids of the tree are listed
 pub tells_ids : (version : ℕ) (tree : AwaitTree (Option NotificationId)) (ids : List NotificationId) → lacks_feature version features.AwaitTree ≡ true → is_awake tree pending ≡ false
-    → ((p : NotificationId → Bool) → list_any p (leaf_ids tree) ≡ true → list_any p ids ≡ true) → Tells version tree (Some (ForAny ids))
+    → ((p : NotificationId → Bool) → list_any p (leaf_ids tree) ≡ true → list_any p ids ≡ true) → TellsAwaitedTree version tree (Some (ForAny ids))
 tells_ids version tree ids old asleep listed = (old, λ states awake. listed (λ id. is_completed (states id)) (awake_listed states tree asleep awake))
 
 -- where they have trees: a tree that is the same but for the order and the repeats of children
-pub tells_tree : (version : ℕ) (tree : AwaitTree (Option NotificationId)) (told : AwaitTree NotificationId) → SameTree told (only_leaves (λ leaf. leaf) tree) → Tells version tree (Some (ForTree told))
+pub tells_tree : (version : ℕ) (tree : AwaitTree (Option NotificationId)) (told : AwaitTree NotificationId) → SameTree told (only_leaves (λ leaf. leaf) tree) → TellsAwaitedTree version tree (Some (ForTree told))
 tells_tree version tree told same = λ states. same_awake states same
 
 -- a single leaf is read as a node of it alone
-pub tells_leaf : (version : ℕ) (id : NotificationId) → Tells version (Single (Some id)) (Some (ForTree (Combined FirstCompleted (and_trees (Single id) no_trees))))
+pub tells_leaf : (version : ℕ) (id : NotificationId) → TellsAwaitedTree version (Single (Some id)) (Some (ForTree (Combined FirstCompleted (and_trees (Single id) no_trees))))
 tells_leaf version id = λ states. by_state (states id)
   where
     by_state : (state : AwaitState) → is_awake (Combined FirstCompleted (and_trees (Single id) no_trees)) (λ other. state) ≡ is_awake (Single id) (λ other. state)

@@ -14,14 +14,14 @@ use Rattle.run_laws.proofs.SuspensionRows.{for_one}
 use Rattle.run_laws.specs.Taken.{AllOfRun}
 
 abbrev pub take : ℕ → Frame → Event
-take attempt frame = Event.Take i1 attempt frame
+take attempt frame = Event.Move i1 attempt frame
 
 -- stopped, then suspended, woken, replayed and ended
 abbrev nap_events : List Event
 nap_events =
-    take 3 Frame.End ∷ take 3 (Frame.Command (output (codes "ok"))) ∷ Event.CloseInput i1 3 ∷ Event.HandOut i1 3 34 ∷ Event.Begin i1 10 ∷ Event.Tick 10
-    ∷ take 2 (Frame.Suspend (Some (for_one 1))) ∷ take 2 (Frame.Command (sleep)) ∷ Event.CloseInput i1 2 ∷ Event.HandOut i1 2 10 ∷ Event.Begin i1 0
-    ∷ Event.Stop i1 1 ∷ Event.HandOut i1 1 10 ∷ Event.Begin i1 0 ∷ Event.Invoke new ∷ []
+    take 3 Frame.End ∷ take 3 (Frame.Command (output (codes "ok"))) ∷ Event.Close i1 3 ∷ Event.Feed i1 3 34 ∷ Event.Begin i1 10 ∷ Event.Tick 10
+    ∷ take 2 (Frame.Suspend (Some (for_one 1))) ∷ take 2 (Frame.Command (sleep)) ∷ Event.Close i1 2 ∷ Event.Feed i1 2 10 ∷ Event.Begin i1 0
+    ∷ Event.Stop i1 1 ∷ Event.Feed i1 1 10 ∷ Event.Begin i1 0 ∷ Event.Invoke new ∷ []
 
 nap-of_run : AllOfRun Handlers.nap given i1 nap_events
 nap-of_run = (
@@ -71,12 +71,12 @@ cancelled_output = Request.Output (NonEmptyValue.Failure (record { code = 409; m
 -- a cancellation that waits for a child, and an attempt that is stopped between the two requests of one await
 abbrev pair_events : List Event
 pair_events =
-    take 3 Frame.End ∷ take 3 (Frame.Command cancelled_output) ∷ take 3 (Frame.Command (cancel_of (codes "b"))) ∷ Event.CloseInput i1 3 ∷ Event.HandOut i1 3 9999 ∷ Event.Begin i1 0
-    ∷ Event.Stop i1 2 ∷ take 2 (Frame.Command (cancel_of (codes "a"))) ∷ Event.HandOut i1 2 9999 ∷ Event.Complete i1 3 (NotificationResult.InvocationId (codes "b"))
-    ∷ Event.HandOut i1 2 3 ∷ Event.Begin i1 0
-    ∷ take 1 (Frame.Suspend (Some (ForTree (Single (CompletionId 3))))) ∷ Event.CloseInput i1 1 ∷ Event.HandOut i1 1 9999
-    ∷ Event.Cancel i1 ∷ Event.Complete i1 1 (NotificationResult.InvocationId (codes "a"))
-    ∷ take 1 (Frame.Command (asked 3 4)) ∷ take 1 (Frame.Command (asked 1 2)) ∷ Event.HandOut i1 1 9999 ∷ Event.Begin i1 0 ∷ Event.Invoke new ∷ []
+    take 3 Frame.End ∷ take 3 (Frame.Command cancelled_output) ∷ take 3 (Frame.Command (cancel_of (codes "b"))) ∷ Event.Close i1 3 ∷ Event.Feed i1 3 9999 ∷ Event.Begin i1 0
+    ∷ Event.Stop i1 2 ∷ take 2 (Frame.Command (cancel_of (codes "a"))) ∷ Event.Feed i1 2 9999 ∷ Event.Result i1 3 (NotificationResult.InvocationId (codes "b"))
+    ∷ Event.Feed i1 2 3 ∷ Event.Begin i1 0
+    ∷ take 1 (Frame.Suspend (Some (ForTree (Single (CompletionId 3))))) ∷ Event.Close i1 1 ∷ Event.Feed i1 1 9999
+    ∷ Event.Cancel i1 ∷ Event.Result i1 1 (NotificationResult.InvocationId (codes "a"))
+    ∷ take 1 (Frame.Command (asked 3 4)) ∷ take 1 (Frame.Command (asked 1 2)) ∷ Event.Feed i1 1 9999 ∷ Event.Begin i1 0 ∷ Event.Invoke new ∷ []
 
 pair-of_run : AllOfRun Handlers.pair given i1 pair_events
 pair-of_run = (

@@ -18,7 +18,7 @@ use Rattle.journal_model.specs.Refusal.{Refusal, refusal_of}
 use Rattle.journal_model.specs.History.{Step, place_of, answers_of, ids_of, next_completion, next_signal, ids_created, id_of_handle, handle_taken, takes_handle, stands_for, cancel_handle, WithinPlaces}
 use Rattle.journal_model.specs.Delivery.{known_result, known_results, deliveries, takes_id, taken_is, count_taken, takes_of, passed_at_take, front}
 use Rattle.journal_model.specs.Await.{ends_awaits, awake_place, awaited_ids, is_awake_at, is_cancelled_at, children_place, WokenAt, cancellation_outcome, outcome_from}
-use Rattle.journal_model.specs.Run.{Handler, Invocation, Progress, Ending, GoesOn, Kind, Awaits, Ends, Answers, kind_of, front_of_handle, answer_to, after_await, carried_out, unless_refused, continued_by, run}
+use Rattle.journal_model.specs.Run.{Handler, Invocation, Progress, Ending, GoesOn, Kind, Awaits, Ends, Answers, call_kind, front_of_handle, answer_to, after_await, carried_out, unless_refused, continued_by, run}
 use Rattle.journal_model.proofs.Extension.{place_of-within, least_from-found, run-within}
 use Rattle.journal_model.proofs.Handles.{id_of_handle-old, id_of_handle-none}
 use Rattle.journal_laws.proofs.Leaving.{and-true}
@@ -248,7 +248,7 @@ module _ (given : Invocation) (steps : List Step) (arrivals : List Arrival) (wit
 
   refused_sound : (call : Call) (refusal : Option Refusal) → AreSound given.options arrivals (unless_refused given steps arrivals call refusal).steps
   refused_sound call (Some refusal) = sound
-  refused_sound call None = carried_sound call (kind_of call)
+  refused_sound call None = carried_sound call (call_kind call)
 
 continued_sound : (next : Handler) (given : Invocation) (arrivals : List Arrival) (progress : Progress) (ending : Ending) → WithinPlaces (length arrivals) progress.steps
     → AreSound given.options arrivals progress.steps → AreSound given.options arrivals (continued_by next given arrivals progress ending).steps

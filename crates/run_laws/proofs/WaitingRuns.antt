@@ -7,7 +7,7 @@ use Rattle.journal_model.specs.AwaitTree.{AwaitTree}
 use Rattle.journal_model.specs.Refusal.{Refusal, refusal_of}
 use Rattle.journal_model.specs.History.{Step, answers_of}
 use Rattle.journal_model.specs.Await.{AwaitOutcome, WaitsFor, WokenAt, CancelledAt, await_outcome}
-use Rattle.journal_model.specs.Run.{Handler, Invocation, Progress, Ending, GoesOn, Waits, Kind, Awaits, Ends, Answers, kind_of, after_await, carried_out, unless_refused, after_call, continued_by, run, is_going}
+use Rattle.journal_model.specs.Run.{Handler, Invocation, Progress, Ending, GoesOn, Waits, Kind, Awaits, Ends, Answers, call_kind, after_await, carried_out, unless_refused, after_call, continued_by, run, is_going}
 use Rattle.journal_model.specs.Headline.{IsWaiting}
 use Rattle.journal_model.proofs.Extension.{continued-steps}
 use Rattle.journal_model.proofs.Continuing.{run-next, run-stopped}
@@ -27,7 +27,7 @@ pub record WaitsAt (next : Handler) (given : Invocation) (arrivals : List Arriva
   pub going : run next given arrivals before ≡ record { steps = steps; ending = GoesOn }
   pub asked : AwaitTree ℕ
   pub unrefused : refusal_of given.version (next given.input (answers_of steps)) ≡ None
-  pub awaits : kind_of (next given.input (answers_of steps)) ≡ Awaits asked
+  pub awaits : call_kind (next given.input (answers_of steps)) ≡ Awaits asked
   pub outcome : await_outcome given.options steps arrivals asked ≡ WaitsFor tree
 
 module _ (next : Handler) (given : Invocation) (arrivals : List Arrival) where
@@ -45,12 +45,12 @@ module _ (next : Handler) (given : Invocation) (arrivals : List Arrival) where
   call_waits : (n : ℕ) (steps : List Step) (tree : AwaitTree (Option NotificationId)) → run next given arrivals n ≡ record { steps = steps; ending = GoesOn }
       → (after_call given steps arrivals (next given.input (answers_of steps))).ending ≡ Waits tree
       → WaitsAt next given arrivals steps tree × ((after_call given steps arrivals (next given.input (answers_of steps))).steps ≡ steps)
-  call_waits n steps tree going e = by_refusal (refusal_of given.version (next given.input (answers_of steps))) refl (kind_of (next given.input (answers_of steps))) refl e
+  call_waits n steps tree going e = by_refusal (refusal_of given.version (next given.input (answers_of steps))) refl (call_kind (next given.input (answers_of steps))) refl e
     where
       call : Call
       call = next given.input (answers_of steps)
 
-      by_refusal : (o : Option Refusal) → refusal_of given.version (next given.input (answers_of steps)) ≡ o → (kind : Kind) → kind_of (next given.input (answers_of steps)) ≡ kind
+      by_refusal : (o : Option Refusal) → refusal_of given.version (next given.input (answers_of steps)) ≡ o → (kind : Kind) → call_kind (next given.input (answers_of steps)) ≡ kind
           → (unless_refused given steps arrivals (next given.input (answers_of steps)) o).ending ≡ Waits tree
           → WaitsAt next given arrivals steps tree × ((unless_refused given steps arrivals (next given.input (answers_of steps)) o).steps ≡ steps)
       by_refusal (Some refusal) f kind g e = absurd (subst IsWaiting (sym e) tt)

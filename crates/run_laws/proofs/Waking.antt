@@ -15,7 +15,7 @@ use Rattle.journal_model.specs.Request.{Request}
 use Rattle.journal_model.specs.History.{Step, place_of, next_completion, ids_created, WithinPlaces}
 use Rattle.journal_model.specs.Delivery.{known_result, known_results, front, first_front, or_else, state_of_result, leaf_state}
 use Rattle.journal_model.specs.Await.{ends_awaits, last_taken, least_from, is_awake_at, awake_place, awaited_ids, is_cancelled_at, tracked_children, child_result, all_known_at, children_place, first_unknown, child_id, AwaitOutcome, WaitsFor, WokenAt, cancellation_outcome, outcome_from, await_outcome}
-use Rattle.journal_model.specs.Waiting.{pruned, earlier_or_later, state_of_some}
+use Rattle.journal_model.specs.PrunedTrees.{pruned, earlier_or_later, state_of_some}
 use Rattle.journal_model.specs.Attempt.{result_of, first_result}
 use Rattle.journal_model.proofs.Extension.{place_of-within, least_from-found, least_from-agree, is_awake_at-more, is_cancelled_at-more, all_known_at-more}
 use Rattle.journal_laws.proofs.Leaving.{and-true, or-true_left, awake-more}

@@ -44,7 +44,7 @@ no_past next invocation arrivals past = by_order (order past.more_calls past.cal
 -- the nap sleeps under completion 1, and its suspension names completion 7
 abbrev wrong_events : List Event
 wrong_events =
-    take 1 (Frame.Suspend (Some (ForTree (Single (CompletionId 7))))) ∷ take 1 (Frame.Command (sleep)) ∷ Event.CloseInput i1 1 ∷ Event.HandOut i1 1 10 ∷ Event.Begin i1 0 ∷ Event.Invoke new ∷ []
+    take 1 (Frame.Suspend (Some (ForTree (Single (CompletionId 7))))) ∷ take 1 (Frame.Command (sleep)) ∷ Event.Close i1 1 ∷ Event.Feed i1 1 10 ∷ Event.Begin i1 0 ∷ Event.Invoke new ∷ []
 
 wrong-accepted : IsAccepted (Event.Tick 10 ∷ wrong_events)
 wrong-accepted = (refl, (refl, (refl, (refl, (refl, (refl, (refl, tt)))))))

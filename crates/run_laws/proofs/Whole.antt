@@ -13,29 +13,29 @@ use Rattle.input_laws.proofs.Handed.{handed_same}
 
 module _ (next : Handler) (given : Invocation) (id : Text) where
   whole_now : (events : List Event) → IsAccepted events → (attempt : ℕ) (other : Text) (frame : Frame) (IsOver : Ending → Type 0)
-      → recorded_requests (Event.Take other attempt frame ∷ events) id ≡ recorded_requests events id
+      → recorded_requests (Event.Move other attempt frame ∷ events) id ≡ recorded_requests events id
       → IsWholeRun next given (arrivals_handed events id) (recorded_requests events id) IsOver
-      → IsWholeRun next given (arrivals_handed (Event.Take other attempt frame ∷ events) id) (recorded_requests (Event.Take other attempt frame ∷ events) id) IsOver
+      → IsWholeRun next given (arrivals_handed (Event.Move other attempt frame ∷ events) id) (recorded_requests (Event.Move other attempt frame ∷ events) id) IsOver
   whole_now events accepted attempt other frame IsOver same whole =
-      subst (λ (arrivals : List Arrival). IsWholeRun next given arrivals (recorded_requests (Event.Take other attempt frame ∷ events) id) IsOver)
-      (sym (handed_same events (Event.Take other attempt frame) id accepted refl refl refl))
+      subst (λ (arrivals : List Arrival). IsWholeRun next given arrivals (recorded_requests (Event.Move other attempt frame ∷ events) id) IsOver)
+      (sym (handed_same events (Event.Move other attempt frame) id accepted refl refl refl))
       (subst (λ (requests : List Request). IsWholeRun next given (arrivals_handed events id) requests IsOver) (sym same) whole)
 
   pub whole_step : (event : Event) (events : List Event) → IsAccepted events → TakesOfRun next given id events event → IsWholeAt next given id (event ∷ events)
-  whole_step (Event.Take other attempt (Frame.Suspend suspension)) events accepted of_run = λ same.
+  whole_step (Event.Move other attempt (Frame.Suspend suspension)) events accepted of_run = λ same.
       let waiting = of_run same in
       whole_now events accepted attempt other (Frame.Suspend suspension) IsWaiting
-      (requests_now (Event.Take other attempt (Frame.Suspend suspension)) events id refl
-      ∙ ap (λ (some : List Request). recorded_requests events id ++ some) (no_request events id (Event.Take other attempt (Frame.Suspend suspension)) refl)
+      (requests_now (Event.Move other attempt (Frame.Suspend suspension)) events id refl
+      ∙ ap (λ (some : List Request). recorded_requests events id ++ some) (no_request events id (Event.Move other attempt (Frame.Suspend suspension)) refl)
       ∙ append-nil (recorded_requests events id))
       (record { calls = waiting.calls; over = subst IsWaiting (sym waiting.waits) tt; exactly = waiting.exactly })
-  whole_step (Event.Take other attempt Frame.End) events accepted of_run = λ same.
+  whole_step (Event.Move other attempt Frame.End) events accepted of_run = λ same.
       whole_now events accepted attempt other Frame.End (λ ending. ending ≡ Ended)
-      (requests_now (Event.Take other attempt Frame.End) events id refl
-      ∙ ap (λ (some : List Request). recorded_requests events id ++ some) (no_request events id (Event.Take other attempt Frame.End) refl)
+      (requests_now (Event.Move other attempt Frame.End) events id refl
+      ∙ ap (λ (some : List Request). recorded_requests events id ++ some) (no_request events id (Event.Move other attempt Frame.End) refl)
       ∙ append-nil (recorded_requests events id))
       (of_run same)
-  whole_step (Event.Take other attempt frame) events accepted of_run = tt
+  whole_step (Event.Move other attempt frame) events accepted of_run = tt
   whole_step event events accepted of_run = tt
 
   pub all-whole : (events : List Event) → IsAccepted events → AllOfRun next given id events → IsWholeAlong next given id events

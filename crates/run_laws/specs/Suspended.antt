@@ -9,16 +9,16 @@ use Rattle.journal_model.specs.AwaitTree.{AwaitTree, AwaitState, Single, Combine
 use Rattle.journal_model.specs.Request.{Request}
 use Rattle.journal_model.specs.History.{place_of}
 use Rattle.journal_model.specs.Delivery.{leaf_state}
-use Rattle.journal_model.specs.Waiting.{pruned, only_leaves, state_of_some}
+use Rattle.journal_model.specs.PrunedTrees.{pruned, only_leaves, state_of_some}
 use Rattle.journal_model.specs.Run.{Handler, Invocation, Progress, Waits, run, run_requests}
 use Rattle.journal_model.specs.Event.{Suspension, ForTree, ForAny}
 
 -- what a suspension tells of the tree that is still waited for: the same wakes it, or, in versions
 -- whose suspensions have lists, whatever wakes it is listed
-abbrev pub Tells : ℕ → AwaitTree (Option NotificationId) → Option Suspension → Type 0
-Tells version tree None = ⊥
-Tells version tree (Some (ForTree told)) = (states : NotificationId → AwaitState) → is_awake told states ≡ is_awake (only_leaves (λ leaf. leaf) tree) states
-Tells version tree (Some (ForAny ids)) =
+abbrev pub TellsAwaitedTree : ℕ → AwaitTree (Option NotificationId) → Option Suspension → Type 0
+TellsAwaitedTree version tree None = ⊥
+TellsAwaitedTree version tree (Some (ForTree told)) = (states : NotificationId → AwaitState) → is_awake told states ≡ is_awake (only_leaves (λ leaf. leaf) tree) states
+TellsAwaitedTree version tree (Some (ForAny ids)) =
     (lacks_feature version features.AwaitTree ≡ true) × ((states : NotificationId → AwaitState) → is_awake tree (state_of_some states) ≡ true → list_any (λ id. is_completed (states id)) ids ≡ true)
 
 -- the tree that a run which waits after these steps still waits for, with the leaves that stand for no id
@@ -31,7 +31,7 @@ pub record WaitsAll (next : Handler) (given : Invocation) (arrivals : List Arriv
   pub tree : AwaitTree (Option NotificationId)
   pub waits : (run next given arrivals calls).ending ≡ Waits tree
   pub exactly : requests ≡ run_requests next given arrivals calls
-  pub tells : Tells given.version (left_of given arrivals (run next given arrivals calls) tree) suspension
+  pub tells : TellsAwaitedTree given.version (left_of given arrivals (run next given arrivals calls) tree) suspension
 
 -- the ids that the leaves of a tree stand for
 abbrev mutual

@@ -17,7 +17,7 @@ IsOfRun next given arrivals requests _ = Unit {0}
 
 -- an event that takes a frame of the invocation takes one of its run
 abbrev pub TakesOfRun : Handler → Invocation → Text → List Event → Event → Type 0
-TakesOfRun next given id earlier (Event.Take invocation attempt frame) =
+TakesOfRun next given id earlier (Event.Move invocation attempt frame) =
     invocation ≡ id → IsOfRun next given (arrivals_handed earlier id) (recorded_requests earlier id) frame
 TakesOfRun next given id earlier _ = Unit {0}
 

@@ -9,12 +9,12 @@ use Rattle.journal_model.specs.AwaitTree.{AwaitTree, Single, Combined, no_trees,
 use Rattle.journal_model.specs.Request.{Request}
 use Rattle.journal_model.specs.History.{place_of}
 use Rattle.journal_model.specs.Delivery.{leaf_state}
-use Rattle.journal_model.specs.Waiting.{SameTree, only_leaves, pruned}
+use Rattle.journal_model.specs.PrunedTrees.{SameTree, only_leaves, pruned}
 use Rattle.journal_model.specs.Run.{Handler, Invocation, GoesOn, Waits, run, run_requests}
 use Rattle.journal_model.specs.Event.{Suspension, ForTree, ForAny}
 use Rattle.journal_model.specs.Attempt.{is_woken}
 use Rattle.journal_model.specs.Headline.{GoesPast, all_stand}
-use Rattle.run_laws.specs.Suspended.{Tells, left_of, WaitsAll, leaf_ids}
+use Rattle.run_laws.specs.Suspended.{TellsAwaitedTree, left_of, WaitsAll, leaf_ids}
 
 -- a suspension is awake under later arrivals wherever the run over all of them goes past its await
 abbrev pub WokenWherePast : Type 0
@@ -31,17 +31,17 @@ PastWhereWoken = (next : Handler) (given : Invocation) (first later : List Arriv
 -- a tree that is the same but for the order and the repeats of children tells what is waited for
 abbrev pub TreesTell : Type 0
 TreesTell = (version : ℕ) (tree : AwaitTree (Option NotificationId)) (told : AwaitTree NotificationId)
-    → SameTree told (only_leaves (λ leaf. leaf) tree) → Tells version tree (Some (ForTree told))
+    → SameTree told (only_leaves (λ leaf. leaf) tree) → TellsAwaitedTree version tree (Some (ForTree told))
 
 -- a single leaf is told by a node of it alone
 abbrev pub LeavesTell : Type 0
-LeavesTell = (version : ℕ) (id : NotificationId) → Tells version (Single (Some id)) (Some (ForTree (Combined FirstCompleted (and_trees (Single id) no_trees))))
+LeavesTell = (version : ℕ) (id : NotificationId) → TellsAwaitedTree version (Single (Some id)) (Some (ForTree (Combined FirstCompleted (and_trees (Single id) no_trees))))
 
 -- where suspensions tell lists, a list with all ids of a tree that is not awake by itself tells what is waited for
 abbrev pub IdsTell : Type 0
 IdsTell = (version : ℕ) (tree : AwaitTree (Option NotificationId)) (ids : List NotificationId)
     → lacks_feature version features.AwaitTree ≡ true → is_awake tree (λ leaf. Pending) ≡ false
-    → ((p : NotificationId → Bool) → list_any p (leaf_ids tree) ≡ true → list_any p ids ≡ true) → Tells version tree (Some (ForAny ids))
+    → ((p : NotificationId → Bool) → list_any p (leaf_ids tree) ≡ true → list_any p ids ≡ true) → TellsAwaitedTree version tree (Some (ForAny ids))
 
 pub record SuspensionsTell : Type 0 where
   pub trees : TreesTell
@@ -53,13 +53,13 @@ abbrev pub AwaitsTell : Type 0
 AwaitsTell = (next : Handler) (given : Invocation) (arrivals : List Arrival) (calls : ℕ) (requests : List Request) (ids left : AwaitTree (Option NotificationId)) (suspension : Suspension)
     → (run next given arrivals calls).ending ≡ GoesOn → (run next given arrivals (suc calls)).ending ≡ Waits ids → run_requests next given arrivals (suc calls) ≡ requests
     → left ≡ pruned ids (leaf_state given.options (run next given arrivals calls).steps arrivals (place_of (run next given arrivals calls).steps) (length arrivals))
-    → Tells given.version left (Some suspension) → WaitsAll next given arrivals requests (Some suspension)
+    → TellsAwaitedTree given.version left (Some suspension) → WaitsAll next given arrivals requests (Some suspension)
 
 -- and where a cancellation waits for one of its children, that child is told
 abbrev pub ChildrenTell : Type 0
 ChildrenTell = (next : Handler) (given : Invocation) (arrivals : List Arrival) (calls : ℕ) (requests : List Request) (child : Option NotificationId) (suspension : Suspension)
     → (run next given arrivals calls).ending ≡ Waits (Single child) → run_requests next given arrivals calls ≡ requests
-    → Tells given.version (Single child) (Some suspension) → WaitsAll next given arrivals requests (Some suspension)
+    → TellsAwaitedTree given.version (Single child) (Some suspension) → WaitsAll next given arrivals requests (Some suspension)
 
 -- what a run waits for is not awake by itself
 abbrev pub WaitsAsleep : Type 0

@@ -15,33 +15,33 @@ use Rattle.protocol_errors.specs.declared.error.Error.{Error}
 use Rattle.protocol_types.specs.declared.version.Version.{Version}
 use Rattle.input_laws.proofs.Events.{itself, start_same}
 use Rattle.input_laws.proofs.LiveAttempts.{live_now, closed_now}
-use Rattle.live_laws.specs.Sending.{FollowsSo}
+use Rattle.live_laws.specs.RequestsInFlight.{FollowsSo}
 use Rattle.live_laws.proofs.Keeping.{one_event}
-use Rattle.live_laws.specs.Beginning.{AttemptStart}
-use Rattle.live_laws.specs.Living.{LiveAttempt, handed_bytes, after_reading}
+use Rattle.live_laws.specs.StartFrame.{AttemptStart}
+use Rattle.live_laws.specs.AttemptWithMachine.{LiveAttempt, handed_bytes, after_reading}
 use Rattle.vm_types.specs.Options.{run_options}
 use Rattle.vm_types.specs.declared.options.VMOptions.{VMOptions}
 use Rattle.vm_attempt_laws.specs.Attempts.{Feeds, ClosesInput, output_of, Attempt}
-use Rattle.replay_laws.specs.Living.{IsLiveExecutor}
+use Rattle.replay_laws.specs.AttemptWithBodies.{IsLiveExecutor}
 use Rattle.vm_attempt_laws.specs.Bodies.{Executor}
 use Rattle.vm_attempt_laws.specs.Machine.{Written}
-use Rattle.vm_attempt_laws.specs.Sending.sent
-use Rattle.vm_attempt_laws.specs.Sending.{Sent, sent_stream, sent_frame, frame_meant, IsOfStore}
+use Rattle.vm_attempt_laws.specs.OutputOfAttempt.sent
+use Rattle.vm_attempt_laws.specs.OutputOfAttempt.{Sent, sent_stream, sent_frame, frame_meant, IsOfStore}
 use Rattle.vm_attempt_laws.proofs.Stored.{notes_of_store}
-use Rattle.vm_attempt_laws.specs.Keeping.{early_error, FailsWith, LacksMemory, ClosesEarly, StaysClosed}
-use Rattle.vm_attempt_laws.specs.Serving.{HasBodies, Serves, machine_failed}
-use Rattle.vm_attempt_laws.specs.Turning.{turns_answered}
+use Rattle.vm_attempt_laws.specs.AttemptInvariants.{early_error, FailsWith, LacksMemory, ClosesEarly, StaysClosed}
+use Rattle.vm_attempt_laws.specs.AttemptSimulation.{HasBodies, Serves, machine_failed}
+use Rattle.vm_attempt_laws.specs.TurnsInRun.{turns_answered}
 use Rattle.vm_attempt_laws.specs.Words.{item_at, Input}
-use Rattle.vm_start.specs.Failing.{out_of_memory}
+use Rattle.vm_start.specs.FailureReport.{out_of_memory}
 use Rattle.schedule_model.specs.declared.held.HeldAttempt.{HeldAttempt}
 use Rattle.schedule_model.specs.First.{with_first}
 use Rattle.schedule_model.specs.Held.{is_held, held_of}
-use Rattle.schedule_laws.specs.Attending.{Tracked, IsClosedEarly, IsServed, Attends, is_over, lacks_memory, closed_early, is_served, is_left}
-use Rattle.schedule_laws.specs.Following.{given_of, Flies, FollowsBegun, OutcomesFly, ToldOf}
+use Rattle.schedule_laws.specs.TrackedAttempt.{Tracked, IsClosedEarly, IsServed, Attends, is_over, lacks_memory, closed_early, is_served, is_left}
+use Rattle.schedule_laws.specs.InvocationInRun.{given_of, Flies, FollowsBegun, OutcomesFly, ToldOf}
 use Rattle.schedule_laws.proofs.Fits.{may_come}
-use Rattle.schedule_laws.proofs.Attending.{with_told}
+use Rattle.schedule_laws.proofs.TrackedAttempt.{with_told}
 use Rattle.schedule_laws.proofs.Outcomes.{fly_on, notes_follow, others_fly, told_none}
-use Rattle.schedule_laws.proofs.Following.{IsFlown, flown, flown_still}
+use Rattle.schedule_laws.proofs.InvocationInRun.{IsFlown, flown, flown_still}
 use Rattle.schedule_laws.proofs.Serving.{ServingLaws}
 use Rattle.schedule_laws.proofs.Staying.{over_of, fed_going, fed_failed, fed_over, closed_going, closed_failed, closed_over}
 use Rattle.schedule_laws.proofs.Telling.{told_more}
@@ -95,10 +95,10 @@ module _ {H : Type 0} (function : H → Handler) (next : Handler) (options : VMO
 
     -- ---- it is fed
 
-    module _ (count : ℕ) (given : Bytes) (changed : Attempt H) (accepted : IsAccepted (Event.HandOut id n count ∷ events)) (opened : is_input_closed events id ≡ false) (given_is : given ≡ take count (input_left events id))
+    module _ (count : ℕ) (given : Bytes) (changed : Attempt H) (accepted : IsAccepted (Event.Feed id n count ∷ events)) (opened : is_input_closed events id ≡ false) (given_is : given ≡ take count (input_left events id))
         (feeds : Feeds given one.attempt changed) where
       abbrev handing : Event
-      handing = Event.HandOut id n count
+      handing = Event.Feed id n count
 
       -- what is told of it then
       abbrev pub fed_told : Tracked
@@ -175,9 +175,9 @@ module _ {H : Type 0} (function : H → Handler) (next : Handler) (options : VMO
 
     -- ---- its input is closed
 
-    module _ (changed : Attempt H) (accepted : IsAccepted (Event.CloseInput id n ∷ events)) (closes : ClosesInput one.attempt changed) where
+    module _ (changed : Attempt H) (accepted : IsAccepted (Event.Close id n ∷ events)) (closes : ClosesInput one.attempt changed) where
       abbrev closing : Event
-      closing = Event.CloseInput id n
+      closing = Event.Close id n
 
       abbrev pub closed_told : Tracked
       closed_told = record { start = t.start; told = record t.told { is_closed = true } }

@@ -8,22 +8,22 @@ use Rattle.journal_model.specs.Attempt.{live_attempt, is_input_closed}
 use Rattle.journal_model.specs.Cause.{IsAccepted}
 use Rattle.journal_model.specs.Run.{Handler}
 use Rattle.protocol_types.specs.declared.version.Version.{Version}
-use Rattle.vm_start.specs.Failing.{out_of_memory}
+use Rattle.vm_start.specs.FailureReport.{out_of_memory}
 use Rattle.vm_types.specs.Options.{run_options}
 use Rattle.vm_types.specs.declared.options.VMOptions.{VMOptions}
 use Rattle.vm_attempt_laws.specs.Attempts.{output_of, OnlyMoves, TakesOutput, Attempt}
-use Rattle.vm_attempt_laws.specs.Sending.{Sent, sent_stream}
-use Rattle.vm_attempt_laws.specs.Serving.{HasBodies}
-use Rattle.vm_attempt_laws.specs.Turning.{turns_answered}
+use Rattle.vm_attempt_laws.specs.OutputOfAttempt.{Sent, sent_stream}
+use Rattle.vm_attempt_laws.specs.AttemptSimulation.{HasBodies}
+use Rattle.vm_attempt_laws.specs.TurnsInRun.{turns_answered}
 use Rattle.vm_attempt_laws.specs.Words.{Input}
 use Rattle.schedule_model.specs.Attempts.{Advances, Gathers}
 use Rattle.schedule_model.specs.declared.held.HeldAttempt.{HeldAttempt}
 use Rattle.schedule_model.specs.First.{with_first}
 use Rattle.schedule_model.specs.Held.{is_held, held_of}
-use Rattle.schedule_laws.specs.Attending.{Tracked, IsServed, IsLeft, Attends, is_over, lacks_memory, closed_early, is_served, is_left}
-use Rattle.schedule_laws.specs.Following.{Flies, FollowsBegun, ToldOf}
-use Rattle.schedule_laws.proofs.Attending.{told_of, with_told, with_same_told}
-use Rattle.schedule_laws.proofs.Following.{flown, flown_still, quiet_changed, retold}
+use Rattle.schedule_laws.specs.TrackedAttempt.{Tracked, IsServed, IsLeft, Attends, is_over, lacks_memory, closed_early, is_served, is_left}
+use Rattle.schedule_laws.specs.InvocationInRun.{Flies, FollowsBegun, ToldOf}
+use Rattle.schedule_laws.proofs.TrackedAttempt.{told_of, with_told, with_same_told}
+use Rattle.schedule_laws.proofs.InvocationInRun.{flown, flown_still, quiet_changed, retold}
 use Rattle.schedule_laws.proofs.Serving.{ServingLaws}
 use Rattle.schedule_laws.proofs.Staying.{moved_going, moved_failed, moved_over}
 

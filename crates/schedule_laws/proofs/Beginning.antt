@@ -16,40 +16,40 @@ use Rattle.protocol_types.specs.declared.version.Version.{Version}
 use Rattle.protocol_types.specs.declared.version.Version.TheVariants as versions_are
 use Rattle.input_laws.proofs.Events.{itself, not_begun, start_same}
 use Rattle.input_laws.proofs.Handed.{begun_is}
-use Rattle.live_laws.specs.Sending.{FollowsSo}
+use Rattle.live_laws.specs.RequestsInFlight.{FollowsSo}
 use Rattle.live_laws.proofs.Keeping.{one_event}
 use Rattle.live_laws.proofs.Schedules.{begins_of_run}
-use Rattle.live_laws.specs.Beginning.{AttemptStart, start_after}
-use Rattle.live_laws.specs.Living.{attempt_begun}
+use Rattle.live_laws.specs.StartFrame.{AttemptStart, start_after}
+use Rattle.live_laws.specs.AttemptWithMachine.{attempt_begun}
 use Rattle.vm_types.specs.Options.{run_options}
 use Rattle.vm_types.specs.declared.options.VMOptions.{VMOptions}
 use Rattle.vm_attempt_laws.specs.Attempts.{Feeds, output_of}
-use Rattle.vm_attempt_laws.specs.Reading.{IsRunOf}
-use Rattle.vm_attempt_laws.specs.Sending.{frame_meant}
-use Rattle.replay_laws.specs.Living.{IsLiveExecutor}
+use Rattle.vm_attempt_laws.specs.InputOfAttempt.{IsRunOf}
+use Rattle.vm_attempt_laws.specs.OutputOfAttempt.{frame_meant}
+use Rattle.replay_laws.specs.AttemptWithBodies.{IsLiveExecutor}
 use Rattle.vm_attempt_laws.specs.Bodies.{executor_over}
-use Rattle.vm_attempt_laws.specs.Keeping.{LacksMemory, HasNoBodies, attempt_started}
-use Rattle.vm_attempt_laws.specs.Serving.{HasBodies, HasNotRead, HasRead, Serves}
-use Rattle.vm_attempt_laws.specs.Turning.{turns_answered}
+use Rattle.vm_attempt_laws.specs.AttemptInvariants.{LacksMemory, HasNoBodies, attempt_started}
+use Rattle.vm_attempt_laws.specs.AttemptSimulation.{HasBodies, HasNotRead, HasRead, Serves}
+use Rattle.vm_attempt_laws.specs.TurnsInRun.{turns_answered}
 use Rattle.vm_attempt_laws.specs.Words.{machine_at_start, CarriesInput, Input, InputMessage}
 use Rattle.store_calls.specs.declared.begun.BegunAttempt.{BegunAttempt}
-use Rattle.store_calls.specs.Standing.{Standing, Adds}
-use Rattle.store_calls.specs.Calls.{Begins}
+use Rattle.store_calls.specs.AbstractStore.{Standing, Adds}
+use Rattle.store_calls.specs.Calls.{BeginsStoredAttempt}
 use Rattle.schedule_model.specs.Attempts.{has_stopped}
 use Rattle.schedule_model.specs.declared.held.HeldAttempt.{HeldAttempt}
 use Rattle.schedule_model.specs.Held.{is_held, held_of}
 use Rattle.schedule_model.specs.Schedule.{HoldsBegun}
 use Rattle.schedule_model.proofs.Firsts.{first_push_none, first_push_other}
 use Rattle.schedule_model.proofs.Holding.{some_is, some_none, is_held_by, not_held_number, not_held_invocation}
-use Rattle.schedule_model.specs.Fitting.{InvocationFits}
-use Rattle.schedule_laws.specs.Attending.{Tracked, IsServed, Attends, AttendsAs, is_served}
-use Rattle.schedule_laws.specs.Following.{ReplaysInLine, HoldsOf, given_of, Flies, FollowsBegun, FollowsWhere, FollowsTold, Follows, ToldOf}
-use Rattle.schedule_laws.specs.Turned.{start_of, told_start}
+use Rattle.schedule_model.specs.ArgumentBounds.{InvocationFits}
+use Rattle.schedule_laws.specs.TrackedAttempt.{Tracked, IsServed, Attends, AttendsAs, is_served}
+use Rattle.schedule_laws.specs.InvocationInRun.{ReplaysInLine, HoldsOf, given_of, Flies, FollowsBegun, FollowsWhere, FollowsTold, Follows, ToldOf}
+use Rattle.schedule_laws.specs.Turned.{attempt_start_of, told_start}
 use Rattle.schedule_laws.proofs.Fits.{apart, unborn_fits}
 use Rattle.schedule_laws.specs.FittingLaws.{CanStart, IsFedWell}
 use Rattle.schedule_laws.proofs.Beginnings.{can_start, fed_begun}
-use Rattle.schedule_laws.proofs.Attending.{aside, none_told, told_at, told_other, with_told}
-use Rattle.schedule_laws.proofs.Following.{same_held}
+use Rattle.schedule_laws.proofs.TrackedAttempt.{aside, none_told, told_at, told_other, with_told}
+use Rattle.schedule_laws.proofs.InvocationInRun.{same_held}
 use Rattle.schedule_laws.proofs.Others.{into, other_on}
 use Rattle.schedule_laws.proofs.Outcomes.{none_fly}
 use Rattle.schedule_laws.proofs.Serving.{ServingLaws}
@@ -331,40 +331,40 @@ module _ {H : Type 0} (function : H → Handler) (next : Handler) (options : VMO
     -- ---- whatever invocation it is of
 
     module _ (now : ℕ) (moment : now < 2 ^ 64) (answer : BegunAttempt) (s t : Standing) (held : List (HeldAttempt H)) (f : FollowsTold function next options id told s held) where
-      own_accepted : Begins id now answer s t → IsAccepted (Event.Begin id now ∷ s.events)
+      own_accepted : BeginsStoredAttempt id now answer s t → IsAccepted (Event.Begin id now ∷ s.events)
       own_accepted b = subst IsAccepted b.leaves.events t.accepted
 
-      own_begun : Begins id now answer s t → (new : NewInvocation) × (invocation_begun s.events id ≡ Some new)
+      own_begun : BeginsStoredAttempt id now answer s t → (new : NewInvocation) × (invocation_begun s.events id ≡ Some new)
       own_begun b = begun_some (invocation_begun s.events id) (begun_is s.events (Event.Begin id now) id (itself id) (own_accepted b).0)
 
       follows_own : (new : NewInvocation) → invocation_begun s.events id ≡ Some new → FollowsBegun function next options id told s.events (s.outputs id) held new
       follows_own new is = subst (λ (o : Option NewInvocation). FollowsWhere function next options id told s.events (s.outputs id) held o) is f
 
-      into_own : (again : ToldOf) (more : List (HeldAttempt H)) (new : NewInvocation) → invocation_begun s.events id ≡ Some new → Begins id now answer s t
+      into_own : (again : ToldOf) (more : List (HeldAttempt H)) (new : NewInvocation) → invocation_begun s.events id ≡ Some new → BeginsStoredAttempt id now answer s t
           → FollowsBegun function next options id again (Event.Begin id now ∷ s.events) (Some []) more new → FollowsTold function next options id again t more
       into_own again more new is b g =
           into function next options id again t (Event.Begin id now ∷ s.events) (Some []) more b.leaves.events b.leaves.own
           (subst (λ (o : Option NewInvocation). FollowsWhere function next options id again (Event.Begin id now ∷ s.events) (Some []) more o) (sym is) g)
 
-      pub unheld_own : Begins id now answer s t → FollowsTold function next options id told t held
+      pub unheld_own : BeginsStoredAttempt id now answer s t → FollowsTold function next options id told t held
       unheld_own b =
           let (new, is) = own_begun b in
           into_own told held new is b (begun_alone now moment s new is (own_accepted b) (Some []) held (follows_own new is))
 
       -- it was told of the attempt that it was handed its start frame
-      pub held_own : (handler : H) (more : List (HeldAttempt H)) → ReplaysInLine options → function handler ≡ next → Begins id now answer s t → HoldsBegun options id handler answer held more
+      pub held_own : (handler : H) (more : List (HeldAttempt H)) → ReplaysInLine options → function handler ≡ next → BeginsStoredAttempt id now answer s t → HoldsBegun options id handler answer held more
           → (new : NewInvocation) → invocation_begun s.events id ≡ Some new
-          → FollowsTold function next options id (with_told told answer.number (record { start = start_of options id s.events now new; told = told_start (start_of options id s.events now new) })) t more
+          → FollowsTold function next options id (with_told told answer.number (record { start = attempt_start_of options id s.events now new; told = told_start (attempt_start_of options id s.events now new) })) t more
       held_own handler more in_line brings b h new is =
-          into_own (with_told told answer.number (record { start = start_of options id s.events now new; told = told_start (start_of options id s.events now new) })) more new is b
+          into_own (with_told told answer.number (record { start = attempt_start_of options id s.events now new; told = told_start (attempt_start_of options id s.events now new) })) more new is b
           (begun_held now moment s new is (own_accepted b) handler answer held more in_line brings b.number b.version b.start h (follows_own new is))
 
-    pub unheld : (other : Text) (now : ℕ) (answer : BegunAttempt) (s t : Standing) (held : List (HeldAttempt H)) → now < 2 ^ 64 → Begins other now answer s t
+    pub unheld : (other : Text) (now : ℕ) (answer : BegunAttempt) (s t : Standing) (held : List (HeldAttempt H)) → now < 2 ^ 64 → BeginsStoredAttempt other now answer s t
         → FollowsTold function next options id told s held → FollowsTold function next options id told t held
     unheld other now answer s t held moment b f = by_id (bytes_eq other id) refl
       where
         by_id : (x : Bool) → bytes_eq other id ≡ x → FollowsTold function next options id told t held
-        by_id true e = unheld_own now moment answer s t held f (subst (λ (x : Text). Begins x now answer s t) ((bytes_eq-Decides other id).0 e) b)
+        by_id true e = unheld_own now moment answer s t held f (subst (λ (x : Text). BeginsStoredAttempt x now answer s t) ((bytes_eq-Decides other id).0 e) b)
         by_id false e = other_on function next options id told laws (Event.Begin other now) s t held e b.leaves.events (b.leaves.others id e) f
 
     -- what is told where an attempt is begun, and held: of this invocation, or of another one
@@ -373,30 +373,30 @@ module _ {H : Type 0} (function : H → Handler) (next : Handler) (options : VMO
       pub follows : FollowsTold function next options id again t more
       pub same : (m : ℕ) (tracked : Tracked) → told m ≡ Some tracked → again m ≡ Some tracked
       pub own : other ≡ id → (new : NewInvocation) → invocation_begun s.events id ≡ Some new
-          → again number ≡ Some (record { start = start_of options id s.events now new; told = told_start (start_of options id s.events now new) })
+          → again number ≡ Some (record { start = attempt_start_of options id s.events now new; told = told_start (attempt_start_of options id s.events now new) })
 
     pub begun : (other : Text) (handler : H) (now : ℕ) (answer : BegunAttempt) (s t : Standing) (held more : List (HeldAttempt H)) → now < 2 ^ 64 → ReplaysInLine options
-        → (other ≡ id → function handler ≡ next) → Begins other now answer s t → HoldsBegun options other handler answer held more
+        → (other ≡ id → function handler ≡ next) → BeginsStoredAttempt other now answer s t → HoldsBegun options other handler answer held more
         → FollowsTold function next options id told s held → BegunNow other answer.number now s t more
     begun other handler now answer s t held more moment in_line brings b h f = by_id (bytes_eq other id) refl
       where
         by_id : (x : Bool) → bytes_eq other id ≡ x → BegunNow other answer.number now s t more
         by_id true e =
             let same : other ≡ id = (bytes_eq-Decides other id).0 e in
-            let own : Begins id now answer s t = subst (λ (x : Text). Begins x now answer s t) same b in
+            let own : BeginsStoredAttempt id now answer s t = subst (λ (x : Text). BeginsStoredAttempt x now answer s t) same b in
             let (new, is) = own_begun now moment answer s t held f own in
             let none : told answer.number ≡ None = (
             (subst (λ (o : Option NewInvocation). FollowsWhere function next options id told s.events (s.outputs id) held o) is f).numbered answer.number (let number = own.number in omega (arith, number))
             ).1 in
             record {
-              again = with_told told answer.number (record { start = start_of options id s.events now new; told = told_start (start_of options id s.events now new) });
+              again = with_told told answer.number (record { start = attempt_start_of options id s.events now new; told = told_start (attempt_start_of options id s.events now new) });
               follows = held_own now moment answer s t held f handler more in_line (brings same) own (subst (λ (x : Text). HoldsBegun options x handler answer held more) same h) new is;
               same = λ m tracked is_told.
-                  told_other told answer.number (record { start = start_of options id s.events now new; told = told_start (start_of options id s.events now new) }) m
+                  told_other told answer.number (record { start = attempt_start_of options id s.events now new; told = told_start (attempt_start_of options id s.events now new) }) m
                   (λ it. some_none (sym is_told ∙ ap told it ∙ none)) ∙ is_told;
               own = λ here other_new other_is.
-                  told_at told answer.number (record { start = start_of options id s.events now new; told = told_start (start_of options id s.events now new) })
-                  ∙ ap (λ (one : NewInvocation). Some (record { start = start_of options id s.events now one; told = told_start (start_of options id s.events now one) })) (some_is new other_new (sym is ∙ other_is));
+                  told_at told answer.number (record { start = attempt_start_of options id s.events now new; told = told_start (attempt_start_of options id s.events now new) })
+                  ∙ ap (λ (one : NewInvocation). Some (record { start = attempt_start_of options id s.events now one; told = told_start (attempt_start_of options id s.events now one) })) (some_is new other_new (sym is ∙ other_is));
             }
         by_id false e =
             let one : HeldAttempt H = record { invocation = other; number = answer.number; attempt = h.attempt } in

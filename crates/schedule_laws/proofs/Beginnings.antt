@@ -32,13 +32,13 @@ use Rattle.input_laws.proofs.Telling.{entries_requests}
 use Rattle.run_laws.specs.Keys.{HasTextKeys}
 use Rattle.run_laws.proofs.States.{states_ordered, states_text}
 use Rattle.live_laws.specs.Begun.{journal_after}
-use Rattle.live_laws.specs.Beginning.{AttemptStart, ShowsStart, IsBegunAs, start_after}
-use Rattle.live_laws.proofs.Beginning.{start_shows}
-use Rattle.vm_input_laws.proofs.Passed.{of_asked}
-use Rattle.vm_input_laws.specs.Reading.{MessageFits}
-use Rattle.vm_input_laws.specs.Standing.{IsEntry}
+use Rattle.live_laws.specs.StartFrame.{AttemptStart, ShowsStart, IsBegunAs, start_after}
+use Rattle.live_laws.proofs.StartFrame.{start_shows}
+use Rattle.vm_input_laws.proofs.Arrivals.{of_asked}
+use Rattle.vm_input_laws.specs.MessagesBehindJournal.{MessageFits}
+use Rattle.vm_input_laws.specs.InputPhases.{IsEntry}
 use Rattle.vm_start.specs.Starts.{AreText}
-use Rattle.schedule_laws.specs.Fitting.{AcceptedFits, AllFit}
+use Rattle.schedule_laws.specs.EventBounds.{AcceptedFits, AllFit}
 use Rattle.schedule_laws.specs.FittingLaws.{CanStart, AttemptsAreFedWell, AttemptsCanStart}
 use Rattle.schedule_laws.proofs.Fits.{EntryFits, entries_fit, invocation_fits, input_short, has_own_id, not_long}
 
@@ -128,11 +128,11 @@ module _ (id : Text) (events : List Event) where
       (subst (λ (x : Text). (is_open events x && places_used_up (entries_of events x) (map Arrived (slept (entries_of events x) now))) ≡ false) same none)
 
   added_few : (event : Event) → causes_of events event ≡ [] → AcceptedFits id event → length all < 2 ^ 32 - 1 → length (all ++ added_by events id event) < 2 ^ 32 - 1
-  added_few (Event.Complete other n value) causes fits few =
-      few_if all (bytes_eq other id || false) (entries_of_event (starting_state events id) all (Event.Complete other n value))
+  added_few (Event.Result other n value) causes fits few =
+      few_if all (bytes_eq other id || false) (entries_of_event (starting_state events id) all (Event.Result other n value))
       (λ e. let same : other ≡ id = (bytes_eq-Decides other id).0 (or_false (bytes_eq other id) e) in
-      let own : causes_of events (Event.Complete id n value) ≡ [] = subst (λ (x : Text). causes_of events (Event.Complete x n value) ≡ []) same causes in
-      let tests = tests_of events (Event.Complete id n value) in
+      let own : causes_of events (Event.Result id n value) ≡ [] = subst (λ (x : Text). causes_of events (Event.Result x n value) ≡ []) same causes in
+      let tests = tests_of events (Event.Result id n value) in
       holds-head (tail_of (tail_of (tail_of (tail_of tests)))) (holds-tail (tail_of (tail_of (tail_of tests))) (holds-tail (tail_of (tail_of tests)) (holds-tail (tail_of tests) (holds-tail tests own))))) few
   added_few (Event.Signal other key value) causes fits few =
       few_if all (bytes_eq other id || false) (entries_of_event (starting_state events id) all (Event.Signal other key value))
@@ -147,21 +147,21 @@ module _ (id : Text) (events : List Event) where
       let tests = tests_of events (Event.Cancel id) in
       holds-head (tail_of (tail_of tests)) (holds-tail (tail_of tests) (holds-tail tests own))) few
   added_few (Event.Tick now) causes fits few = few_if all (is_open events id) (map Arrived (slept all now)) (λ e. ticked_few now causes e) few
-  added_few (Event.Take other attempt (Frame.Command request)) causes fits few =
-      few_if all (bytes_eq other id || false) (entries_of_event (starting_state events id) all (Event.Take other attempt (Frame.Command request)))
+  added_few (Event.Move other attempt (Frame.Command request)) causes fits few =
+      few_if all (bytes_eq other id || false) (entries_of_event (starting_state events id) all (Event.Move other attempt (Frame.Command request)))
       (λ e. let same : other ≡ id = (bytes_eq-Decides other id).0 (or_false (bytes_eq other id) e) in
-      let own : causes_of events (Event.Take id attempt (Frame.Command request)) ≡ [] = subst (λ (x : Text). causes_of events (Event.Take x attempt (Frame.Command request)) ≡ []) same causes in
-      let tests = tests_of events (Event.Take id attempt (Frame.Command request)) in
+      let own : causes_of events (Event.Move id attempt (Frame.Command request)) ≡ [] = subst (λ (x : Text). causes_of events (Event.Move x attempt (Frame.Command request)) ≡ []) same causes in
+      let tests = tests_of events (Event.Move id attempt (Frame.Command request)) in
       holds-head (tail_of (tail_of (tail_of (tail_of (tail_of tests)))))
       (holds-tail (tail_of (tail_of (tail_of (tail_of tests)))) (holds-tail (tail_of (tail_of (tail_of tests))) (holds-tail (tail_of (tail_of tests)) (holds-tail (tail_of tests) (holds-tail tests own)))))) few
-  added_few (Event.Take other attempt (Frame.RunOutcome n value is_acknowledged)) causes fits few =
-      few_if all (bytes_eq other id || false) (entries_of_event (starting_state events id) all (Event.Take other attempt (Frame.RunOutcome n value is_acknowledged)))
+  added_few (Event.Move other attempt (Frame.RunOutcome n value is_acknowledged)) causes fits few =
+      few_if all (bytes_eq other id || false) (entries_of_event (starting_state events id) all (Event.Move other attempt (Frame.RunOutcome n value is_acknowledged)))
       (λ e. let same : other ≡ id = (bytes_eq-Decides other id).0 (or_false (bytes_eq other id) e) in
-      let own : causes_of events (Event.Take id attempt (Frame.RunOutcome n value is_acknowledged)) ≡ [] = subst (λ (x : Text). causes_of events (Event.Take x attempt (Frame.RunOutcome n value is_acknowledged)) ≡ []) same causes in
-      let tests = tests_of events (Event.Take id attempt (Frame.RunOutcome n value is_acknowledged)) in
+      let own : causes_of events (Event.Move id attempt (Frame.RunOutcome n value is_acknowledged)) ≡ [] = subst (λ (x : Text). causes_of events (Event.Move x attempt (Frame.RunOutcome n value is_acknowledged)) ≡ []) same causes in
+      let tests = tests_of events (Event.Move id attempt (Frame.RunOutcome n value is_acknowledged)) in
       holds-head (tail_of (tail_of (tail_of (tail_of tests))))
       (holds-tail (tail_of (tail_of (tail_of tests))) (holds-tail (tail_of (tail_of tests)) (holds-tail (tail_of tests) (holds-tail tests own))))) few
-  added_few (Event.Take other attempt frame) causes fits few = few_if all (bytes_eq other id || false) [] (λ e. refl) few
+  added_few (Event.Move other attempt frame) causes fits few = few_if all (bytes_eq other id || false) [] (λ e. refl) few
   added_few event causes fits few = few_if all (is_of id event || false) [] (λ e. refl) few
 
 entries_few : (id : Text) (events : List Event) → IsAccepted events → AllFit id events → length (entries_of events id) < 2 ^ 32 - 1

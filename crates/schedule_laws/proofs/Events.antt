@@ -13,22 +13,22 @@ use Rattle.journal_model.specs.Headline.{run_of}
 use Rattle.protocol_types.specs.declared.version.Version.{Version}
 use Rattle.input_laws.proofs.Events.{begun_same, start_same}
 use Rattle.input_laws.proofs.LiveAttempts.{live_now, none_live, closed_now}
-use Rattle.live_laws.specs.Sending.{FollowsSo, PassesOn}
+use Rattle.live_laws.specs.RequestsInFlight.{FollowsSo, PassesOn}
 use Rattle.live_laws.proofs.Keeping.{one_event}
 use Rattle.vm_types.specs.Options.{run_options}
 use Rattle.vm_types.specs.declared.options.VMOptions.{VMOptions}
 use Rattle.vm_attempt_laws.specs.Attempts.{output_of, Attempt}
-use Rattle.vm_attempt_laws.specs.Sending.sent
-use Rattle.vm_attempt_laws.specs.Sending.{Sent, sent_stream, frame_meant, IsOfStore}
-use Rattle.vm_attempt_laws.specs.Serving.{Serves}
+use Rattle.vm_attempt_laws.specs.OutputOfAttempt.sent
+use Rattle.vm_attempt_laws.specs.OutputOfAttempt.{Sent, sent_stream, frame_meant, IsOfStore}
+use Rattle.vm_attempt_laws.specs.AttemptSimulation.{Serves}
 use Rattle.schedule_model.specs.declared.held.HeldAttempt.{HeldAttempt}
 use Rattle.schedule_model.specs.Held.{held_of}
 use Rattle.schedule_model.proofs.Holding.{some_none}
-use Rattle.schedule_laws.specs.Fitting.{AcceptedFits, AllFit}
-use Rattle.schedule_laws.specs.Attending.{Tracked, IsServed, Attends, AttendsAs, is_over, lacks_memory, closed_early, is_served, is_left}
-use Rattle.schedule_laws.specs.Following.{given_of, Flies, FollowsBegun, FollowsWhere, FollowsIn, OutcomesFly, ToldOf}
+use Rattle.schedule_laws.specs.EventBounds.{AcceptedFits, AllFit}
+use Rattle.schedule_laws.specs.TrackedAttempt.{Tracked, IsServed, Attends, AttendsAs, is_over, lacks_memory, closed_early, is_served, is_left}
+use Rattle.schedule_laws.specs.InvocationInRun.{given_of, Flies, FollowsBegun, FollowsWhere, FollowsIn, OutcomesFly, ToldOf}
 use Rattle.schedule_laws.proofs.Fits.{may_come}
-use Rattle.schedule_laws.proofs.Attending.{aside}
+use Rattle.schedule_laws.proofs.TrackedAttempt.{aside}
 use Rattle.schedule_laws.proofs.Outcomes.{fly_on}
 use Rattle.schedule_laws.proofs.Serving.{ServingLaws}
 

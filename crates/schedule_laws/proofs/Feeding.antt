@@ -3,9 +3,9 @@ use Rattle.std.proofs.Common.{◌≡◌, refl, sym, ap, ◌∙◌, ℕ, zero, su
 use Rattle.journal_model.specs.Notification.{Bytes, Text}
 use Rattle.journal_model.specs.Event.{Event}
 use Rattle.journal_model.specs.Attempt.{input_left}
-use Rattle.due_laws.proofs.Handing.{part_is_handed}
-use Rattle.store_calls.specs.Standing.{Standing}
-use Rattle.schedule_model.specs.Feeding.{given_in, IsAskedFor, HandsOutEach}
+use Rattle.due_laws.proofs.InputParts.{part_is_handed}
+use Rattle.store_calls.specs.AbstractStore.{Standing}
+use Rattle.schedule_model.specs.InputFeed.{given_in, IsAskedFor, HandsOutEach}
 
 -- bytes in front of others are the first ones, if they are so many, or nothing stands behind them
 first_taken : (n : ℕ) (xs ys : Bytes) → length xs ≤ n → (length xs ≡ n) ⊎ (ys ≡ []) → take n (xs ++ ys) ≡ xs

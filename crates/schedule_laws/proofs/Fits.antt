@@ -10,24 +10,24 @@ use Rattle.journal_model.specs.declared.notification.NotificationResult.{Notific
 use Rattle.journal_model.specs.Notification.{Bytes, Text, Arrival}
 use Rattle.journal_model.specs.Request.{Request}
 use Rattle.journal_model.specs.declared.notification.SignalKey.{SignalKey}
-use Rattle.journal_model.specs.State.{StateMap, value_at, state_keys, state_after}
+use Rattle.journal_model.specs.State.{StateMap, value_of_key, state_keys, state_after}
 use Rattle.journal_model.specs.Value.{result_of_value}
 use Rattle.journal_model.specs.Delivery.{value_or_void}
 use Rattle.journal_model.specs.Spelling.{varint, varint_groups, input_payload, request_payload, notification_payload}
 use Rattle.journal_model.specs.declared.value.NonEmptyValue.{NonEmptyValue}
 use Rattle.journal_model.specs.Event.{Event, Frame}
-use Rattle.journal_model.specs.Journal.{Entry, Recorded, Arrived, is_of, is_open, begins, invoked_by, invocation_begun, starting_state, entries_of, requests_in, arrivals_in, recorded_arrivals, completion, id_of_signal, asks_for, request_asking, is_awaited, open_request, sleeps_in, by_moment, sorted_by_moment, is_over, slept, read_answer}
+use Rattle.journal_model.specs.Journal.{Entry, Recorded, Arrived, is_of, is_open, begins, invoked_by, invocation_begun, starting_state, entries_of, requests_in, arrivals_in, recorded_arrivals, completion, id_of_signal, asks_for, request_asking, is_awaited, open_request, sleeps_in, by_moment, sorted_by_moment, is_sleep_over, slept, read_answer}
 use Rattle.journal_model.specs.Cause.{causes_of, tests_of, own_tests, is_run, entry_payload, is_too_long, IsAccepted}
 use Rattle.journal_laws.proofs.ObjectState.{tail_of, holds-head, holds-tail, begun_before, find-passes, not-false, open_when_accepted, requests_in-append}
 use Rattle.input_laws.specs.Message.{InputMessage, CarriesInput, CarriesRequest, CarriesArrival, CarriesOutcome, arrivals_carried, IsBroughtBy}
 use Rattle.input_laws.proofs.Events.{added_by, entries_now, entries_first, unborn_open}
 use Rattle.input_laws.proofs.Telling.{arrivals_carried-append}
 use Rattle.live_laws.proofs.Recording.{own_passes}
-use Rattle.vm_request_laws.specs.Fitting.{RequestFits}
-use Rattle.vm_input_laws.proofs.Passed.{of_asked}
-use Rattle.vm_input_laws.specs.Reading.{ArrivalFits, IsAsked, IsNotificationType, MayCome}
-use Rattle.schedule_model.specs.Fitting.{InvocationFits, ResultFits, signal_arrival, cancellation}
-use Rattle.schedule_laws.specs.Fitting.{AcceptedFits, AllFit}
+use Rattle.vm_request_laws.specs.RequestBounds.{RequestFits}
+use Rattle.vm_input_laws.proofs.Arrivals.{of_asked}
+use Rattle.vm_input_laws.specs.MessagesBehindJournal.{ArrivalFits, IsCompletionAsked, IsNotificationType, MayCome}
+use Rattle.schedule_model.specs.ArgumentBounds.{InvocationFits, ResultFits, signal_arrival, cancellation}
+use Rattle.schedule_laws.specs.EventBounds.{AcceptedFits, AllFit}
 use Rattle.schedule_laws.specs.FittingLaws.{MessagesMayCome, UnbornFit}
 
 -- ---- ids
@@ -44,10 +44,10 @@ not_same other id far = by_test (bytes_eq other id) refl
 
 pub other_fits : (id : Text) (event : Event) → is_of id event ≡ false → AcceptedFits id event
 other_fits id (Event.Invoke new) e = λ same. absurd (apart new.id id e same)
-other_fits id (Event.Complete other n value) e = λ same. absurd (apart other id e same)
+other_fits id (Event.Result other n value) e = λ same. absurd (apart other id e same)
 other_fits id (Event.Signal other key value) e = λ same. absurd (apart other id e same)
 other_fits id (Event.Begin other now) e = λ same. absurd (apart other id e same)
-other_fits id (Event.Take other attempt frame) e = λ same. absurd (apart other id e same)
+other_fits id (Event.Move other attempt frame) e = λ same. absurd (apart other id e same)
 other_fits id event e = tt
 
 -- ---- an invocation that was not begun has no events
@@ -111,7 +111,7 @@ input_short (event ∷ earlier) accepted id new e = input_short earlier accepted
 -- an arrival that can be told, behind these entries
 pub record ArrivalCome (all : List Entry) (arrival : Arrival) : Type 0 where
   pub fits : ArrivalFits arrival
-  pub asked : IsAsked all arrival.id
+  pub asked : IsCompletionAsked all arrival.id
 
 abbrev pub EntryFits : List Entry → Entry → Type 0
 EntryFits all (Recorded request) = RequestFits request
@@ -125,7 +125,7 @@ any_more test (request ∷ some) more e = by_test (test request) e (any_more tes
     by_test true e later = refl
     by_test false e later = later e
 
-asked_more : (all more : List Entry) (id : NotificationId) → IsAsked all id → IsAsked (all ++ more) id
+asked_more : (all more : List Entry) (id : NotificationId) → IsCompletionAsked all id → IsCompletionAsked (all ++ more) id
 asked_more all more (CompletionId n) asked =
     ap (λ (requests : List Request). list_any (asks_for n) requests) (requests_in-append all more) ∙ any_more (asks_for n) (requests_in all) (requests_in more) asked
 asked_more all more _ asked = tt
@@ -234,8 +234,8 @@ requests_fit all (Arrived arrival ∷ entries) fit = requests_fit all entries fi
 slept_fit : (all : List Entry) (now : ℕ) → AllByRecursion (EntryFits all) all → AllByRecursion (EntryFits all) (map Arrived (slept all now))
 slept_fit all now fit =
     let sleeps = sleeps_fit all (requests_in all) (requests_fit all all fit) (λ n e. e) in
-    sleeps_over all (filter (is_over all now) (sorted_by_moment (sleeps_in (requests_in all))))
-    (filter_all (SleepFits all) (is_over all now) (sorted_by_moment (sleeps_in (requests_in all))) (sorted_all (SleepFits all) (sleeps_in (requests_in all)) sleeps))
+    sleeps_over all (filter (is_sleep_over all now) (sorted_by_moment (sleeps_in (requests_in all))))
+    (filter_all (SleepFits all) (is_sleep_over all now) (sorted_by_moment (sleeps_in (requests_in all))) (sorted_all (SleepFits all) (sleeps_in (requests_in all)) sleeps))
 
 -- ---- what one event adds
 
@@ -297,7 +297,7 @@ command_fits : (all : List Entry) (state : StateMap) (request : Request) → Req
 command_fits all state (Request.GetLazyState key n name) fits long = (
   fits,
   (
-    answer_come all (Request.GetLazyState key n name) n (value_or_void (value_at state key)) (itself_asked n) (value_fits n (value_at state key) fits.fits.result_completion_id) long,
+    answer_come all (Request.GetLazyState key n name) n (value_or_void (value_of_key state key)) (itself_asked n) (value_fits n (value_of_key state key) fits.fits.result_completion_id) long,
     tt,
   ),
 )
@@ -312,7 +312,7 @@ command_fits all state (Request.GetLazyStateKeys n name) fits long = (
 command_fits all state request fits long = (fits, tt)
 
 -- a signal is asked for by none
-signal_asked : (all : List Entry) (key : SignalKey) → IsAsked all (id_of_signal key)
+signal_asked : (all : List Entry) (key : SignalKey) → IsCompletionAsked all (id_of_signal key)
 signal_asked all (SignalKey.ByIndex n) = tt
 signal_asked all (SignalKey.ByName name) = tt
 
@@ -328,9 +328,9 @@ module _ (id : Text) (events : List Event) where
   abbrev all : List Entry
   all = entries_of events id
 
-  completed : (n : ℕ) (value : NotificationResult) → causes_of events (Event.Complete id n value) ≡ [] → ResultFits (completion n value) → ArrivalCome all (completion n value)
+  completed : (n : ℕ) (value : NotificationResult) → causes_of events (Event.Result id n value) ≡ [] → ResultFits (completion n value) → ArrivalCome all (completion n value)
   completed n value causes fits =
-      let tests = tests_of events (Event.Complete id n value) in
+      let tests = tests_of events (Event.Result id n value) in
       let one = holds-tail (tail_of tests) (holds-tail tests causes) in
       let opened : not (is_some (open_request all n)) ≡ false = holds-head (tail_of (tail_of tests)) one in
       let long : (is_too_long (notification_payload (completion n value)) || false) ≡ false =
@@ -356,11 +356,11 @@ module _ (id : Text) (events : List Event) where
   cancelled = record { fits = record { fits = record { level = omega arith; id = omega arith; result = record { level = omega arith } }; short = omega arith }; asked = tt }
 
   -- the outcome of a run that is open
-  run_ended : (attempt n : ℕ) (value : NonEmptyValue) (told : Bool) → causes_of events (Event.Take id attempt (Frame.RunOutcome n value told)) ≡ [] → ResultFits (completion n (result_of_value value))
+  run_ended : (attempt n : ℕ) (value : NonEmptyValue) (told : Bool) → causes_of events (Event.Move id attempt (Frame.RunOutcome n value told)) ≡ [] → ResultFits (completion n (result_of_value value))
       → ArrivalCome all (completion n (result_of_value value))
   run_ended attempt n value told causes fits =
-      let tests = own_tests events (Event.Take id attempt (Frame.RunOutcome n value told)) in
-      let own = holds-tail tests (own_passes events (Event.Take id attempt (Frame.RunOutcome n value told)) id causes) in
+      let tests = own_tests events (Event.Move id attempt (Frame.RunOutcome n value told)) in
+      let own = holds-tail tests (own_passes events (Event.Move id attempt (Frame.RunOutcome n value told)) id causes) in
       let opened : not (is_run (open_request all n)) ≡ false = holds-head (tail_of tests) own in
       let long : (is_too_long (notification_payload (completion n (result_of_value value))) || false) ≡ false =
       holds-head (tail_of (tail_of (tail_of tests))) (holds-tail (tail_of (tail_of tests)) (holds-tail (tail_of tests) own)) in
@@ -372,22 +372,22 @@ module _ (id : Text) (events : List Event) where
         asked = open_asks all n (run_some (open_request all n) (not-false (is_run (open_request all n)) opened));
       }
 
-  own_command : (attempt : ℕ) (request : Request) → causes_of events (Event.Take id attempt (Frame.Command request)) ≡ [] → RequestFits request
+  own_command : (attempt : ℕ) (request : Request) → causes_of events (Event.Move id attempt (Frame.Command request)) ≡ [] → RequestFits request
       → let added = Recorded request ∷ map Arrived (read_answer (state_after (requests_in all) (starting_state events id)) request) in AllByRecursion (EntryFits (all ++ added)) added
   own_command attempt request causes fits =
-      let tests = own_tests events (Event.Take id attempt (Frame.Command request)) in
+      let tests = own_tests events (Event.Move id attempt (Frame.Command request)) in
       command_fits all (state_after (requests_in all) (starting_state events id)) request fits
       (holds-head (tail_of (tail_of (tail_of (tail_of tests))))
       (holds-tail (tail_of (tail_of (tail_of tests)))
-      (holds-tail (tail_of (tail_of tests)) (holds-tail (tail_of tests) (holds-tail tests (own_passes events (Event.Take id attempt (Frame.Command request)) id causes))))))
+      (holds-tail (tail_of (tail_of tests)) (holds-tail (tail_of tests) (holds-tail tests (own_passes events (Event.Move id attempt (Frame.Command request)) id causes))))))
 
   -- it fits over all entries with its own: the answer of a lazy read is asked for by the request in front of it
   added_fit : (event : Event) → causes_of events event ≡ [] → AcceptedFits id event → AllByRecursion (EntryFits all) all → AllByRecursion (EntryFits (all ++ added_by events id event)) (added_by events id event)
-  added_fit (Event.Complete other n value) causes fits before =
-      if_adds (EntryFits (all ++ added_by events id (Event.Complete other n value))) (bytes_eq other id || false) (Arrived (completion n value) ∷ [])
+  added_fit (Event.Result other n value) causes fits before =
+      if_adds (EntryFits (all ++ added_by events id (Event.Result other n value))) (bytes_eq other id || false) (Arrived (completion n value) ∷ [])
       (λ e. let same : other ≡ id = (bytes_eq-Decides other id).0 (or_false (bytes_eq other id) e) in
-      entries_more all (added_by events id (Event.Complete other n value)) (Arrived (completion n value) ∷ [])
-      (completed n value (subst (λ (x : Text). causes_of events (Event.Complete x n value) ≡ []) same causes) (fits same), tt))
+      entries_more all (added_by events id (Event.Result other n value)) (Arrived (completion n value) ∷ [])
+      (completed n value (subst (λ (x : Text). causes_of events (Event.Result x n value) ≡ []) same causes) (fits same), tt))
   added_fit (Event.Signal other key value) causes fits before =
       if_adds (EntryFits (all ++ added_by events id (Event.Signal other key value))) (bytes_eq other id || false) (Arrived (signal_arrival key value) ∷ [])
       (λ e. let same : other ≡ id = (bytes_eq-Decides other id).0 (or_false (bytes_eq other id) e) in
@@ -399,19 +399,19 @@ module _ (id : Text) (events : List Event) where
   added_fit (Event.Tick now) causes fits before =
       if_adds (EntryFits (all ++ added_by events id (Event.Tick now))) (is_open events id) (map Arrived (slept all now))
       (λ e. entries_more all (added_by events id (Event.Tick now)) (map Arrived (slept all now)) (slept_fit all now before))
-  added_fit (Event.Take other attempt (Frame.Command request)) causes fits before =
+  added_fit (Event.Move other attempt (Frame.Command request)) causes fits before =
       let added = Recorded request ∷ map Arrived (read_answer (state_after (requests_in all) (starting_state events id)) request) in
-      if_adds (EntryFits (all ++ added_by events id (Event.Take other attempt (Frame.Command request)))) (bytes_eq other id || false) added
+      if_adds (EntryFits (all ++ added_by events id (Event.Move other attempt (Frame.Command request)))) (bytes_eq other id || false) added
       (λ e. let same : other ≡ id = (bytes_eq-Decides other id).0 (or_false (bytes_eq other id) e) in
       subst (λ (more : List Entry). AllByRecursion (EntryFits (all ++ more)) added) (sym (ap (λ (b : Bool). if b then added else []) e))
-      (own_command attempt request (subst (λ (x : Text). causes_of events (Event.Take x attempt (Frame.Command request)) ≡ []) same causes) (fits same)))
-  added_fit (Event.Take other attempt (Frame.RunOutcome n value is_acknowledged)) causes fits before =
-      if_adds (EntryFits (all ++ added_by events id (Event.Take other attempt (Frame.RunOutcome n value is_acknowledged)))) (bytes_eq other id || false)
+      (own_command attempt request (subst (λ (x : Text). causes_of events (Event.Move x attempt (Frame.Command request)) ≡ []) same causes) (fits same)))
+  added_fit (Event.Move other attempt (Frame.RunOutcome n value is_acknowledged)) causes fits before =
+      if_adds (EntryFits (all ++ added_by events id (Event.Move other attempt (Frame.RunOutcome n value is_acknowledged)))) (bytes_eq other id || false)
       (Arrived (completion n (result_of_value value)) ∷ [])
       (λ e. let same : other ≡ id = (bytes_eq-Decides other id).0 (or_false (bytes_eq other id) e) in
-      entries_more all (added_by events id (Event.Take other attempt (Frame.RunOutcome n value is_acknowledged))) (Arrived (completion n (result_of_value value)) ∷ [])
-      (run_ended attempt n value is_acknowledged (subst (λ (x : Text). causes_of events (Event.Take x attempt (Frame.RunOutcome n value is_acknowledged)) ≡ []) same causes) (fits same), tt))
-  added_fit (Event.Take other attempt frame) causes fits before = if_adds (EntryFits (all ++ added_by events id (Event.Take other attempt frame))) (bytes_eq other id || false) [] (λ e. tt)
+      entries_more all (added_by events id (Event.Move other attempt (Frame.RunOutcome n value is_acknowledged))) (Arrived (completion n (result_of_value value)) ∷ [])
+      (run_ended attempt n value is_acknowledged (subst (λ (x : Text). causes_of events (Event.Move x attempt (Frame.RunOutcome n value is_acknowledged)) ≡ []) same causes) (fits same), tt))
+  added_fit (Event.Move other attempt frame) causes fits before = if_adds (EntryFits (all ++ added_by events id (Event.Move other attempt frame))) (bytes_eq other id || false) [] (λ e. tt)
   added_fit event causes fits before = if_adds (EntryFits (all ++ added_by events id event)) (is_of id event || false) [] (λ e. tt)
 
 pub entries_fit : (id : Text) (events : List Event) → IsAccepted events → AllFit id events → AllByRecursion (EntryFits (entries_of events id)) (entries_of events id)
@@ -439,7 +439,7 @@ recorded_come id events accepted fits = arrivals_come (entries_of events id) (en
 
 -- an outcome that is acknowledged was taken, so its number can be told
 outcome_small : (entries : List Entry) (id : Text) (event : Event) (number : ℕ) (value : NonEmptyValue) → AcceptedFits id event → IsBroughtBy entries id event (CarriesOutcome number value) → number < 2 ^ 32
-outcome_small entries id (Event.Take other attempt (Frame.RunOutcome taken outcome true)) number value fits brought =
+outcome_small entries id (Event.Move other attempt (Frame.RunOutcome taken outcome true)) number value fits brought =
     subst (λ (n : ℕ). n < 2 ^ 32) brought.1 (fits ((bytes_eq-Decides other id).0 brought.0)).id
 outcome_small entries id event number value fits brought = absurd brought
 

@@ -15,10 +15,10 @@ use Rattle.journal_model.specs.Cause.{IsAccepted, causes_of}
 use Rattle.journal_model.specs.declared.cause.Cause.{Cause}
 use Rattle.protocol_types.specs.declared.message_type.MessageType.{MessageType}
 use Rattle.store_refusals.specs.declared.refusal.Refusal.TheVariants as refusal
-use Rattle.store_refusals.specs.Refused.{first_of}
+use Rattle.store_refusals.specs.Refused.{refusal_of_first_cause}
 use Rattle.store_calls.specs.declared.begun.BegunAttempt.{BegunAttempt}
-use Rattle.store_calls.specs.Standing.{Standing}
-use Rattle.store_calls.specs.Calls.{Begins}
+use Rattle.store_calls.specs.AbstractStore.{Standing}
+use Rattle.store_calls.specs.Calls.{BeginsStoredAttempt}
 use Rattle.journal_laws.proofs.Isolation.{IsToldAlike, frames_of-view, version_of-view, told_alike}
 use Rattle.journal_laws.proofs.ObjectState.{accepted_followed, open_when_accepted}
 use Rattle.journal_laws.proofs.Refusing.{first_cause, left_alike, refused_alike}
@@ -58,7 +58,7 @@ stand_alone isolated events id others views starts =
 pub keep_state : AllKeepState
 keep_state events id accepted = accepted_followed events accepted id
 
-first_is : (causes : List Cause) → first_of causes ≡ option_map (λ c. refusal.Cause c) (first_cause causes)
+first_is : (causes : List Cause) → refusal_of_first_cause causes ≡ option_map (λ c. refusal.Cause c) (first_cause causes)
 first_is [] = refl
 first_is (cause ∷ causes) = refl
 
@@ -98,7 +98,7 @@ answer_alone events others id kept kept' views starts =
 -- ---- what its own events are answered
 
 -- one that begins is open
-begins_open : (id : Text) (now : ℕ) (begun : BegunAttempt) (old new : Standing) → Begins id now begun old new → is_open old.events id ≡ true
+begins_open : (id : Text) (now : ℕ) (begun : BegunAttempt) (old new : Standing) → BeginsStoredAttempt id now begun old new → is_open old.events id ≡ true
 begins_open id now begun old new it =
     let accepted : IsAccepted (Event.Begin id now ∷ old.events) = subst IsAccepted it.leaves.events new.accepted in
     open_when_accepted old.events (Event.Begin id now) id refl (itself id) accepted.0

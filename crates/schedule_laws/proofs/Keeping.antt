@@ -5,7 +5,7 @@ use Rattle.journal_model.specs.declared.invocation.NewInvocation.{NewInvocation}
 use Rattle.journal_model.specs.declared.notification.NotificationResult.{NotificationResult}
 use Rattle.journal_model.specs.Notification.{Bytes, Text}
 use Rattle.journal_model.specs.declared.notification.SignalKey.{SignalKey}
-use Rattle.journal_model.specs.Event.{Event as ModelEvent}
+use Rattle.journal_model.specs.Event.{Event}
 use Rattle.journal_model.specs.Journal.{is_of, invocation_begun, completion}
 use Rattle.journal_model.specs.Attempt.{live_attempt, is_input_closed, is_live}
 use Rattle.journal_model.specs.Cause.{causes_of, tests_of, IsAccepted}
@@ -14,18 +14,18 @@ use Rattle.journal_laws.proofs.ObjectState.{tail_of, holds-head, holds-tail, not
 use Rattle.vm_types.specs.declared.options.VMOptions.{VMOptions}
 use Rattle.store_refusals.specs.declared.refusal.Refusal.{Refusal}
 use Rattle.store_refusals.specs.declared.refusal.Refusal.TheVariants.{OutOfMemory}
-use Rattle.store_calls.specs.Standing.{Standing, Stays, Adds}
+use Rattle.store_calls.specs.AbstractStore.{Standing, StaysStanding, Adds}
 use Rattle.store_calls.specs.declared.begun.BegunAttempt.{BegunAttempt}
-use Rattle.store_calls.specs.Calls.{Invokes, Completes, Signals, Cancels, Ticks, Begins, BeginsAttempt, Stops}
+use Rattle.store_calls.specs.Calls.{Invokes, CompletesCall, Signals, Cancels, Ticks, BeginsStoredAttempt, BeginsAttempt, Stops}
 use Rattle.store_calls.proofs.Live.{live_when}
 use Rattle.store_calls.proofs.Taking.{bytes_stay}
-use Rattle.schedule_model.specs.Fitting.{ResultFits, signal_arrival}
-use Rattle.schedule_laws.specs.Following.{FollowsWhere, FollowsTold, ToldOf}
+use Rattle.schedule_model.specs.ArgumentBounds.{ResultFits, signal_arrival}
+use Rattle.schedule_laws.specs.InvocationInRun.{FollowsWhere, FollowsTold, ToldOf}
 use Rattle.schedule_laws.proofs.Advancing.{gathered}
 use Rattle.schedule_laws.proofs.Beginning.{made, unheld}
 use Rattle.schedule_laws.proofs.Events.{IsPlain, where_on}
 use Rattle.schedule_laws.proofs.Fits.{apart}
-use Rattle.schedule_laws.proofs.Following.{same_held}
+use Rattle.schedule_laws.proofs.InvocationInRun.{same_held}
 use Rattle.schedule_laws.proofs.Moving.{stopped, rested, moved}
 use Rattle.schedule_laws.proofs.Others.{into, stands_still, other_on}
 use Rattle.schedule_laws.proofs.Schedules.{with_same, some_none, held_with, held_other_invocation}
@@ -42,20 +42,20 @@ never true = refl
 never false = refl
 
 -- an attempt that is handed bytes, or whose input is closed, is live
-pub handed_live : (events : List ModelEvent) (id : Text) (n most : ℕ) → causes_of events (ModelEvent.HandOut id n most) ≡ [] → live_attempt events id ≡ Some n
+pub handed_live : (events : List Event) (id : Text) (n most : ℕ) → causes_of events (Event.Feed id n most) ≡ [] → live_attempt events id ≡ Some n
 handed_live events id n most causes =
-    let tests = tests_of events (ModelEvent.HandOut id n most) in
+    let tests = tests_of events (Event.Feed id n most) in
     live_when events id n (not-false (is_live events id n) (holds-head (tail_of (tail_of tests)) (holds-tail (tail_of tests) (holds-tail tests causes))))
 
-pub closed_live : (events : List ModelEvent) (id : Text) (n : ℕ) → causes_of events (ModelEvent.CloseInput id n) ≡ [] → live_attempt events id ≡ Some n
+pub closed_live : (events : List Event) (id : Text) (n : ℕ) → causes_of events (Event.Close id n) ≡ [] → live_attempt events id ≡ Some n
 closed_live events id n causes =
-    let tests = tests_of events (ModelEvent.CloseInput id n) in
+    let tests = tests_of events (Event.Close id n) in
     live_when events id n (not-false (is_live events id n) (holds-head (tail_of (tail_of tests)) (holds-tail (tail_of tests) (holds-tail tests causes))))
 
 -- and the input of one that is handed bytes was not closed
-pub handed_open : (events : List ModelEvent) (id : Text) (n most : ℕ) → causes_of events (ModelEvent.HandOut id n most) ≡ [] → is_input_closed events id ≡ false
+pub handed_open : (events : List Event) (id : Text) (n most : ℕ) → causes_of events (Event.Feed id n most) ≡ [] → is_input_closed events id ≡ false
 handed_open events id n most causes =
-    let tests = tests_of events (ModelEvent.HandOut id n most) in
+    let tests = tests_of events (Event.Feed id n most) in
     holds-head (tail_of (tail_of (tail_of tests))) (holds-tail (tail_of (tail_of tests)) (holds-tail (tail_of tests) (holds-tail tests causes)))
 
 -- of a live attempt something waits
@@ -67,43 +67,43 @@ module _ {H : Type 0} (function : H → Handler) (next : Handler) (options : VMO
   abbrev In : Standing → List (HeldAttempt H) → Type 0
   In s held = FollowsTold function next options id told s held
 
-  pub same_state : (s t : Standing) (held more : List (HeldAttempt H)) → Stays s t → more ≡ held → In s held → In t more
+  pub same_state : (s t : Standing) (held more : List (HeldAttempt H)) → StaysStanding s t → more ≡ held → In s held → In t more
   same_state s t held more stays same f = subst (λ (hs : List (HeldAttempt H)). In t hs) (sym same) (stands_still function next options id told s t held stays f)
 
   -- ---- a result, a signal, a cancellation and a tick
 
-  complete_plain : (other : Text) (n : ℕ) (value : NotificationResult) → IsPlain id (ModelEvent.Complete other n value)
-  complete_plain other n value = record { old = refl; going = refl; asks = refl; closes = never (is_of id (ModelEvent.Complete other n value)) }
+  complete_plain : (other : Text) (n : ℕ) (value : NotificationResult) → IsPlain id (Event.Result other n value)
+  complete_plain other n value = record { old = refl; going = refl; asks = refl; closes = never (is_of id (Event.Result other n value)) }
 
-  completed : (other : Text) (n : ℕ) (value : NotificationResult) (s t : Standing) (held : List (HeldAttempt H)) → ResultFits (completion n value) → Adds (ModelEvent.Complete other n value) s t → In s held → In t held
+  completed : (other : Text) (n : ℕ) (value : NotificationResult) (s t : Standing) (held : List (HeldAttempt H)) → ResultFits (completion n value) → Adds (Event.Result other n value) s t → In s held → In t held
   completed other n value s t held fits adds f =
-      let accepted : IsAccepted (ModelEvent.Complete other n value ∷ s.events) = subst IsAccepted adds.events t.accepted in
-      into function next options id told t (ModelEvent.Complete other n value ∷ s.events) (s.outputs id) held adds.events (adds.outputs id)
-      (where_on function next options id (ModelEvent.Complete other n value) s.events (complete_plain other n value) accepted.0 accepted.1 (λ same. fits) laws told (s.outputs id) (s.outputs id) held
+      let accepted : IsAccepted (Event.Result other n value ∷ s.events) = subst IsAccepted adds.events t.accepted in
+      into function next options id told t (Event.Result other n value ∷ s.events) (s.outputs id) held adds.events (adds.outputs id)
+      (where_on function next options id (Event.Result other n value) s.events (complete_plain other n value) accepted.0 accepted.1 (λ same. fits) laws told (s.outputs id) (s.outputs id) held
       (λ frames. refl) (λ now is. is) f)
 
-  signal_plain : (other : Text) (key : SignalKey) (value : NotificationResult) → IsPlain id (ModelEvent.Signal other key value)
-  signal_plain other key value = record { old = refl; going = refl; asks = refl; closes = never (is_of id (ModelEvent.Signal other key value)) }
+  signal_plain : (other : Text) (key : SignalKey) (value : NotificationResult) → IsPlain id (Event.Signal other key value)
+  signal_plain other key value = record { old = refl; going = refl; asks = refl; closes = never (is_of id (Event.Signal other key value)) }
 
-  signalled : (other : Text) (key : SignalKey) (value : NotificationResult) (s t : Standing) (held : List (HeldAttempt H)) → ResultFits (signal_arrival key value) → Adds (ModelEvent.Signal other key value) s t → In s held → In t held
+  signalled : (other : Text) (key : SignalKey) (value : NotificationResult) (s t : Standing) (held : List (HeldAttempt H)) → ResultFits (signal_arrival key value) → Adds (Event.Signal other key value) s t → In s held → In t held
   signalled other key value s t held fits adds f =
-      let accepted : IsAccepted (ModelEvent.Signal other key value ∷ s.events) = subst IsAccepted adds.events t.accepted in
-      into function next options id told t (ModelEvent.Signal other key value ∷ s.events) (s.outputs id) held adds.events (adds.outputs id)
-      (where_on function next options id (ModelEvent.Signal other key value) s.events (signal_plain other key value) accepted.0 accepted.1 (λ same. fits) laws told (s.outputs id) (s.outputs id) held
+      let accepted : IsAccepted (Event.Signal other key value ∷ s.events) = subst IsAccepted adds.events t.accepted in
+      into function next options id told t (Event.Signal other key value ∷ s.events) (s.outputs id) held adds.events (adds.outputs id)
+      (where_on function next options id (Event.Signal other key value) s.events (signal_plain other key value) accepted.0 accepted.1 (λ same. fits) laws told (s.outputs id) (s.outputs id) held
       (λ frames. refl) (λ now is. is) f)
 
-  cancel_plain : (other : Text) → IsPlain id (ModelEvent.Cancel other)
-  cancel_plain other = record { old = refl; going = refl; asks = refl; closes = never (is_of id (ModelEvent.Cancel other)) }
+  cancel_plain : (other : Text) → IsPlain id (Event.Cancel other)
+  cancel_plain other = record { old = refl; going = refl; asks = refl; closes = never (is_of id (Event.Cancel other)) }
 
-  cancelled : (other : Text) (s t : Standing) (held : List (HeldAttempt H)) → Adds (ModelEvent.Cancel other) s t → In s held → In t held
+  cancelled : (other : Text) (s t : Standing) (held : List (HeldAttempt H)) → Adds (Event.Cancel other) s t → In s held → In t held
   cancelled other s t held adds f =
-      let accepted : IsAccepted (ModelEvent.Cancel other ∷ s.events) = subst IsAccepted adds.events t.accepted in
-      into function next options id told t (ModelEvent.Cancel other ∷ s.events) (s.outputs id) held adds.events (adds.outputs id)
-      (where_on function next options id (ModelEvent.Cancel other) s.events (cancel_plain other) accepted.0 accepted.1 tt laws told (s.outputs id) (s.outputs id) held
+      let accepted : IsAccepted (Event.Cancel other ∷ s.events) = subst IsAccepted adds.events t.accepted in
+      into function next options id told t (Event.Cancel other ∷ s.events) (s.outputs id) held adds.events (adds.outputs id)
+      (where_on function next options id (Event.Cancel other) s.events (cancel_plain other) accepted.0 accepted.1 tt laws told (s.outputs id) (s.outputs id) held
       (λ frames. refl) (λ now is. is) f)
 
-  ticked : (now : ℕ) (s t : Standing) (held : List (HeldAttempt H)) → Adds (ModelEvent.Tick now) s t → In s held → In t held
-  ticked now s t held adds f = other_on function next options id told laws (ModelEvent.Tick now) s t held refl adds.events (adds.outputs id) f
+  ticked : (now : ℕ) (s t : Standing) (held : List (HeldAttempt H)) → Adds (Event.Tick now) s t → In s held → In t held
+  ticked now s t held adds f = other_on function next options id told laws (Event.Tick now) s t held refl adds.events (adds.outputs id) f
 
   -- ---- what is done with an attempt that is held
 
@@ -119,7 +119,7 @@ module _ {H : Type 0} (function : H → Handler) (next : Handler) (options : VMO
   Own one changed s t held x = held_of held x one.number ≡ Some one → In t (with_first (is_held x one.number) held (record one { attempt = changed }))
 
   -- nothing has changed but how its output stands
-  gathered_own : (one : HeldAttempt H) (changed : Attempt H) (s t : Standing) (held : List (HeldAttempt H)) → Stays s t → Gathers one.attempt changed → In s held → Own one changed s t held id
+  gathered_own : (one : HeldAttempt H) (changed : Attempt H) (s t : Standing) (held : List (HeldAttempt H)) → StaysStanding s t → Gathers one.attempt changed → In s held → Own one changed s t held id
   gathered_own one changed s t held stays gathers f there =
       stands_still function next options id told s t (with_first (is_held id one.number) held (record one { attempt = changed })) stays (by_begun (invocation_begun s.events id) f)
     where
@@ -141,7 +141,7 @@ module _ {H : Type 0} (function : H → Handler) (next : Handler) (options : VMO
 
   -- an attempt that was not changed
   pub unchanged : (one : HeldAttempt H) (attempt : Attempt H) (s t : Standing) (held : List (HeldAttempt H)) → held_of held one.invocation one.number ≡ Some one → attempt ≡ one.attempt
-      → Stays s t → In s held → In t (with_attempt held one attempt)
+      → StaysStanding s t → In s held → In t (with_attempt held one attempt)
   unchanged one attempt s t held there same stays f =
       same_state s t held (with_attempt held one attempt) stays (ap (λ (a : Attempt H). with_attempt held one a) same ∙ with_same (is_held one.invocation one.number) held one there) f
 
@@ -153,7 +153,7 @@ module _ {H : Type 0} (function : H → Handler) (next : Handler) (options : VMO
   kept_invoke one _ s t held fits d f = absurd d
 
   pub kept_result : (other : Text) (n : ℕ) (value : NotificationResult) (answer : Reply) (s t : Standing) (held : List (HeldAttempt H)) → ResultFits (completion n value)
-      → RepliesPlace (λ result. Completes other n value result s t) answer → In s held → In t held
+      → RepliesPlace (λ result. CompletesCall other n value result s t) answer → In s held → In t held
   kept_result other n value (reply.Placed place) s t held fits d f = completed other n value s t held fits d.1 f
   kept_result other n value (reply.Refused (refusal.Store why)) s t held fits d f = stands_still function next options id told s t held d.stays f
   kept_result other n value _ s t held fits d f = absurd d
@@ -187,7 +187,7 @@ module _ {H : Type 0} (function : H → Handler) (next : Handler) (options : VMO
 
   -- a begin whose attempt is not held
   pub kept_refused : (other : Text) (now : ℕ) (why : Refusal) (s t : Standing) (held more : List (HeldAttempt H)) → now < 2 ^ 64
-      → (BeginsAttempt other now (Err why) s t × (more ≡ held)) ⊎ ((begun : BegunAttempt) × (why ≡ OutOfMemory) × Begins other now begun s t × (more ≡ held)) → In s held → In t more
+      → (BeginsAttempt other now (Err why) s t × (more ≡ held)) ⊎ ((begun : BegunAttempt) × (why ≡ OutOfMemory) × BeginsStoredAttempt other now begun s t × (more ≡ held)) → In s held → In t more
   kept_refused other now why s t held more moment d f =
       elim d [
         | inl r ↦ same_state s t held more r.0.stays r.1 f
@@ -198,7 +198,7 @@ module _ {H : Type 0} (function : H → Handler) (next : Handler) (options : VMO
   pub kept_parts : (other : Text) (n count : ℕ) (parts : List Bytes) (s t : Standing) (held : List (HeldAttempt H)) → bytes_eq other id ≡ false → HandsOutEach other n count parts s t → In s held → In t held
   kept_parts other n count [] s t held far hands f = subst (λ (m : Standing). In m held) (sym hands) f
   kept_parts other n count (last ∷ earlier) s t held far hands f =
-      other_on function next options id told laws (ModelEvent.HandOut other n (length last)) hands.0 t held far hands.3.1.events (hands.3.1.outputs id) (kept_parts other n count earlier s hands.0 held far hands.1 f)
+      other_on function next options id told laws (Event.Feed other n (length last)) hands.0 t held far hands.3.1.events (hands.3.1.outputs id) (kept_parts other n count earlier s hands.0 held far hands.1 f)
 
   -- then no further one does
   pub kept_stopped : (other : Text) (n count : ℕ) (parts : List Bytes) (why : Option Refusal) (s t : Standing) (held : List (HeldAttempt H)) → StopsHandingOut other n count parts why s t → In s held → In t held
@@ -216,6 +216,6 @@ module _ {H : Type 0} (function : H → Handler) (next : Handler) (options : VMO
       (took_each function next options id told laws one.invocation one.number now d.0 put.0 put.2.between more here put.2.taken
       (moved function next options id told laws one bytes changed s put.0 held there put.1 d.4 f))
   kept_move count one (reply.Refused (refusal.Store why)) s t held changed there d f =
-      let stays : Stays s t = bytes_stay (is_live s.events one.invocation one.number) one.invocation one.number why s t d.0 in
+      let stays : StaysStanding s t = bytes_stay (is_live s.events one.invocation one.number) one.invocation one.number why s t d.0 in
       by_invocation one changed s t held there (λ same. gathered_own one changed s t held stays d.1 f) (λ far. stands_still function next options id told s t held stays f)
   kept_move count one _ s t held changed there d f = absurd d

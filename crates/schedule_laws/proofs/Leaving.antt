@@ -6,12 +6,12 @@ use Rattle.journal_model.specs.Run.{Handler}
 use Rattle.run_laws.proofs.Holding.{headline, holds_wakes}
 use Rattle.vm_types.specs.Options.{run_options}
 use Rattle.vm_types.specs.declared.options.VMOptions.{VMOptions}
-use Rattle.store_calls.specs.Standing.{Standing}
+use Rattle.store_calls.specs.AbstractStore.{Standing}
 use Rattle.store_refusals.specs.declared.refusal.Refusal.{Refusal}
 use Rattle.store_refusals.specs.declared.refusal.Refusal.TheVariants.{OutOfMemory}
 use Rattle.store_steps.specs.Taken.{lies_in_frame}
 use Rattle.store_calls.specs.Frames.{Rests}
-use Rattle.schedule_laws.specs.Following.{ReplaysInLine, HoldsOf, given_of, Follows}
+use Rattle.schedule_laws.specs.InvocationInRun.{ReplaysInLine, HoldsOf, given_of, Follows}
 use Rattle.schedule_laws.specs.Laws.{KeptByEach, NoneRefused, RefusesNoFrame, RefuseNoFrame, HoldsHeadline, HoldsNeverLate, HoldsWakesExactly}
 use Rattle.schedule_laws.proofs.Beginning.{holds_follows, follows_holds}
 use Rattle.schedule_laws.proofs.Schedules.{found_is, held_is, held_with}

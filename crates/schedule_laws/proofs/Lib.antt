@@ -1,13 +1,13 @@
 pub mod Fits
 pub mod Beginnings
-pub mod Handing
+pub mod HandedInput
 pub mod OutcomesFit
 pub mod Serving
 pub mod Staying
-pub mod Attending
+pub mod TrackedAttempt
 pub mod Telling
 pub mod Outcomes
-pub mod Following
+pub mod InvocationInRun
 pub mod Events
 pub mod Others
 pub mod Acting

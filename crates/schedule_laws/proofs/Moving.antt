@@ -12,32 +12,32 @@ use Rattle.journal_model.specs.Cause.{causes_of, is_of_frame, IsAccepted}
 use Rattle.journal_model.specs.declared.cause.Cause.{Cause}
 use Rattle.journal_model.specs.Headline.{arrivals_handed}
 use Rattle.journal_model.specs.Run.{Handler}
-use Rattle.live_laws.specs.Sending.{SendsOfRun}
+use Rattle.live_laws.specs.RequestsInFlight.{SendsOfRun}
 use Rattle.vm_types.specs.declared.options.VMOptions.{VMOptions}
 use Rattle.store_refusals.specs.declared.refusal.Refusal.{Refusal}
 use Rattle.store_refusals.specs.declared.refusal.Refusal.TheVariants as refusal
 use Rattle.store_refusals.specs.Refused.{is_circumstance, IsRefused}
 use Rattle.store_steps.specs.Taken.{lies_in_frame}
-use Rattle.store_calls.specs.Standing.{Standing, Leaves}
+use Rattle.store_calls.specs.AbstractStore.{Standing, LeavesWaiting}
 use Rattle.store_calls.specs.Calls.{PutsBehind}
 use Rattle.store_calls.specs.Frames.{LeavesRefused, RefusesFrame, Rests}
 use Rattle.store_calls.proofs.Live.{live_when}
-use Rattle.schedule_laws.specs.Following.{given_of, Flies, FollowsBegun, FollowsWhere, FollowsTold, OutcomesFly, ToldOf}
+use Rattle.schedule_laws.specs.InvocationInRun.{given_of, Flies, FollowsBegun, FollowsWhere, FollowsTold, OutcomesFly, ToldOf}
 use Rattle.schedule_laws.proofs.Advancing.{advanced}
 use Rattle.schedule_laws.proofs.Events.{IsPlain, where_on}
 use Rattle.schedule_laws.proofs.Fits.{apart}
-use Rattle.schedule_laws.proofs.Following.{same_held}
+use Rattle.schedule_laws.proofs.InvocationInRun.{same_held}
 use Rattle.schedule_laws.proofs.Others.{into, stands_still, other_on}
 use Rattle.schedule_laws.proofs.Outcomes.{first_open}
 use Rattle.schedule_laws.proofs.Schedules.{some_none, held_other_invocation}
-use Rattle.vm_attempt_laws.proofs.Reading.{none_lie_in_frames}
+use Rattle.vm_attempt_laws.proofs.InputAndOutput.{none_lie_in_frames}
 use Rattle.schedule_laws.proofs.Serving.{ServingLaws}
 use Rattle.schedule_laws.proofs.Taking.{first_on_its_way}
 use Rattle.schedule_laws.specs.Attempts.{output_of, Attempt}
-use Rattle.vm_output_laws.proofs.Taking.{lies_as}
+use Rattle.vm_output_laws.proofs.FrameSoundness.{lies_as}
 use Rattle.schedule_laws.specs.Schedules.{HeldAttempt, with_first, is_held, held_of, with_attempt}
 use Rattle.schedule_model.specs.Attempts.{Advances}
-use Rattle.vm_attempt_laws.specs.Sending.{Sent, frame_meant, IsOfStore}
+use Rattle.vm_attempt_laws.specs.OutputOfAttempt.{Sent, frame_meant, IsOfStore}
 
 never : (b : Bool) → (b && false) ≡ false
 never true = refl
@@ -83,8 +83,8 @@ module _ {H : Type 0} (function : H → Handler) (next : Handler) (options : VMO
             opened = first_open id s.events (frame_meant f.version it.first) (map (frame_meant f.version) it.others) s.accepted
                 (subst (λ (frames : List Sent). OutcomesFly id s.events (map (frame_meant f.version) frames)) it.frames (f.outcomes n live));
           }) in
-          lies_not (causes_of s.events (Event.Take id n r.frame)) why
-          (ap (λ (frame : Frame). list_any is_of_frame (causes_of s.events (Event.Take id n frame))) it.frame_is ∙ not_in.causes n) r.cause
+          lies_not (causes_of s.events (Event.Move id n r.frame)) why
+          (ap (λ (frame : Frame). list_any is_of_frame (causes_of s.events (Event.Move id n frame))) it.frame_is ∙ not_in.causes n) r.cause
 
   stop_plain : (n : ℕ) → IsPlain id (Event.Stop id n)
   stop_plain n = record { old = refl; going = refl; asks = refl; closes = never (is_of id (Event.Stop id n)) }
@@ -92,17 +92,17 @@ module _ {H : Type 0} (function : H → Handler) (next : Handler) (options : VMO
   module _ (laws : ServingLaws function next options) where
     -- ---- a stop
 
-    stopped_own : (n : ℕ) (s t : Standing) (held : List (HeldAttempt H)) → Leaves (Event.Stop id n) id None s t → FollowsTold function next options id told s held → FollowsTold function next options id told t held
+    stopped_own : (n : ℕ) (s t : Standing) (held : List (HeldAttempt H)) → LeavesWaiting (Event.Stop id n) id None s t → FollowsTold function next options id told s held → FollowsTold function next options id told t held
     stopped_own n s t held leaves f =
         let accepted : IsAccepted (Event.Stop id n ∷ s.events) = subst IsAccepted leaves.events t.accepted in
         into function next options id told t (Event.Stop id n ∷ s.events) None held leaves.events leaves.own
         (where_on function next options id (Event.Stop id n) s.events (stop_plain n) accepted.0 accepted.1 tt laws told (s.outputs id) None held (λ frames. refl) (λ now is. some_none (sym is)) f)
 
-    pub stopped : (other : Text) (n : ℕ) (s t : Standing) (held : List (HeldAttempt H)) → Leaves (Event.Stop other n) other None s t → FollowsTold function next options id told s held → FollowsTold function next options id told t held
+    pub stopped : (other : Text) (n : ℕ) (s t : Standing) (held : List (HeldAttempt H)) → LeavesWaiting (Event.Stop other n) other None s t → FollowsTold function next options id told s held → FollowsTold function next options id told t held
     stopped other n s t held leaves f = by_id (bytes_eq other id) refl
       where
         by_id : (b : Bool) → bytes_eq other id ≡ b → FollowsTold function next options id told t held
-        by_id true e = stopped_own n s t held (subst (λ (x : Text). Leaves (Event.Stop x n) x None s t) ((bytes_eq-Decides other id).0 e) leaves) f
+        by_id true e = stopped_own n s t held (subst (λ (x : Text). LeavesWaiting (Event.Stop x n) x None s t) ((bytes_eq-Decides other id).0 e) leaves) f
         by_id false e = other_on function next options id told laws (Event.Stop other n) s t held e leaves.events (leaves.others id e) f
 
     -- ---- where no further frame is taken

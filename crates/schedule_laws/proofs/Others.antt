@@ -7,11 +7,11 @@ use Rattle.journal_model.specs.Attempt.{closes_input}
 use Rattle.journal_model.specs.Cause.{IsAccepted}
 use Rattle.journal_model.specs.Run.{Handler}
 use Rattle.input_laws.proofs.Handed.{other_begins, other_asks}
-use Rattle.live_laws.specs.Sending.{PassesOn}
+use Rattle.live_laws.specs.RequestsInFlight.{PassesOn}
 use Rattle.vm_types.specs.declared.options.VMOptions.{VMOptions}
-use Rattle.store_calls.specs.Standing.{Standing, Stays}
+use Rattle.store_calls.specs.AbstractStore.{Standing, StaysStanding}
 use Rattle.schedule_model.specs.declared.held.HeldAttempt.{HeldAttempt}
-use Rattle.schedule_laws.specs.Following.{FollowsIn, FollowsTold, ToldOf}
+use Rattle.schedule_laws.specs.InvocationInRun.{FollowsIn, FollowsTold, ToldOf}
 use Rattle.schedule_laws.proofs.Events.{IsPlain, where_on}
 use Rattle.schedule_laws.proofs.Fits.{other_fits}
 use Rattle.schedule_laws.proofs.Serving.{ServingLaws}
@@ -30,7 +30,7 @@ other_plain id event e = record {
 
 other_passes : (id : Text) (event : Event) → is_of id event ≡ false → (frames : List Frame) → PassesOn id event frames frames
 other_passes id (Event.Begin other now) e frames = (λ same. absurd (true≢false (sym same ∙ e)), λ far. refl)
-other_passes id (Event.Take other attempt frame) e frames = (λ same. absurd (true≢false (sym same ∙ e)), λ far. refl)
+other_passes id (Event.Move other attempt frame) e frames = (λ same. absurd (true≢false (sym same ∙ e)), λ far. refl)
 other_passes id event e frames = refl
 
 module _ {H : Type 0} (function : H → Handler) (next : Handler) (options : VMOptions) (id : Text) (told : ToldOf) where
@@ -42,7 +42,7 @@ module _ {H : Type 0} (function : H → Handler) (next : Handler) (options : VMO
       (subst (λ (some : List Event). FollowsIn function next options id told some output held) (sym e) f)
 
   -- nothing has changed
-  pub stands_still : (s t : Standing) (held : List (HeldAttempt H)) → Stays s t → FollowsTold function next options id told s held → FollowsTold function next options id told t held
+  pub stands_still : (s t : Standing) (held : List (HeldAttempt H)) → StaysStanding s t → FollowsTold function next options id told s held → FollowsTold function next options id told t held
   stands_still s t held stays f = into t s.events (s.outputs id) held stays.events (stays.outputs id) f
 
   module _ (laws : ServingLaws function next options) where

@@ -10,17 +10,17 @@ use Rattle.journal_model.specs.Headline.{arrivals_handed}
 use Rattle.journal_model.specs.Run.{Handler, Invocation, BeginsRun}
 use Rattle.protocol_types.specs.declared.version.Version.{Version}
 use Rattle.std.specs.List.{AllByRecursion}
-use Rattle.live_laws.specs.Sending.{requests_sent, SendsOfRun, FollowsSo, PassesOn}
+use Rattle.live_laws.specs.RequestsInFlight.{requests_sent, SendsOfRun, FollowsSo, PassesOn}
 use Rattle.live_laws.specs.TurnWrites.{IsNote, notes}
-use Rattle.live_laws.proofs.Sending.{sends-append}
+use Rattle.live_laws.proofs.RequestsInFlight.{sends-append}
 use Rattle.live_laws.proofs.TurnWrites.{writes_send}
-use Rattle.replay_laws.proofs.Flying.{outcomes_stay, others_follow, outcomes_are_open}
+use Rattle.replay_laws.proofs.OutcomesInFlight.{outcomes_stay, others_follow, outcomes_are_open}
 use Rattle.vm_attempt_laws.specs.Bodies.{outcomes_in}
-use Rattle.vm_attempt_laws.specs.Keeping.{TellsBy}
-use Rattle.vm_attempt_laws.specs.Sending.{Sent, frame_meant}
+use Rattle.vm_attempt_laws.specs.AttemptInvariants.{TellsBy}
+use Rattle.vm_attempt_laws.specs.OutputOfAttempt.{Sent, frame_meant}
 use Rattle.vm_attempt_laws.specs.Words.{Error}
-use Rattle.vm_output_laws.specs.Taking.{IsOpenOutcome}
-use Rattle.schedule_laws.specs.Following.{OutcomesFly}
+use Rattle.vm_output_laws.specs.FrameSoundness.{IsOpenOutcome}
+use Rattle.schedule_laws.specs.InvocationInRun.{OutcomesFly}
 
 -- ---- none is on its way
 

@@ -8,25 +8,25 @@ use Rattle.journal_model.specs.Journal.{invocation_begun}
 use Rattle.journal_model.specs.Attempt.{live_attempt, input_left}
 use Rattle.journal_model.specs.Cause.{IsAccepted}
 use Rattle.journal_model.specs.Run.{Handler}
-use Rattle.live_laws.specs.Beginning.{AttemptStart}
+use Rattle.live_laws.specs.StartFrame.{AttemptStart}
 use Rattle.vm_types.specs.declared.options.VMOptions.{VMOptions}
-use Rattle.due_laws.proofs.Handing.{part_is_taken}
+use Rattle.due_laws.proofs.InputParts.{part_is_taken}
 use Rattle.store_refusals.specs.declared.refusal.Refusal.{Refusal}
-use Rattle.store_calls.specs.Standing.{Standing, Stays, Adds}
+use Rattle.store_calls.specs.AbstractStore.{Standing, StaysStanding, Adds}
 use Rattle.store_calls.specs.Calls.{HandsOut}
-use Rattle.vm_attempt_laws.specs.Telling.{Told}
+use Rattle.vm_attempt_laws.specs.TurnReports.{Told}
 use Rattle.schedule_model.specs.declared.event.EventRefusal.{EventRefusal}
 use Rattle.schedule_laws.specs.Attempts.{Feeds, ClosesInput, Turns, Attempt, Turn, RunOutcome}
-use Rattle.schedule_laws.specs.Attending.{Tracked, Attends}
-use Rattle.schedule_laws.specs.Following.{ReplaysInLine, FollowsBegun, FollowsWhere, FollowsTold, ToldOf}
+use Rattle.schedule_laws.specs.TrackedAttempt.{Tracked, Attends}
+use Rattle.schedule_laws.specs.InvocationInRun.{ReplaysInLine, FollowsBegun, FollowsWhere, FollowsTold, ToldOf}
 use Rattle.schedule_laws.specs.Laws.{BeginsTold, DoesFeeding, KeepsTold}
 use Rattle.schedule_laws.specs.Schedules.event
 use Rattle.schedule_laws.specs.Schedules.refusal
 use Rattle.schedule_laws.specs.Schedules.reply
 use Rattle.schedule_laws.specs.Schedules.{Event, Reply, HeldAttempt, with_first, is_held, held_of, with_attempt, BeginDoes, IfHeld, UnlessMismatch, tells_mismatch, given_in, HandsOutEach, StopsHandingOut, FeedsEach, FeedsOne, FeedsParts, ClosesOne, StopsOne, TurnsOne, MovesOne, Does, Brings, FitsEvent}
-use Rattle.schedule_laws.specs.Turned.{Tells, TurnTellsNow, is_of_attempt}
+use Rattle.schedule_laws.specs.Turned.{TellsAttempt, TurnTellsNow, is_of_attempt}
 use Rattle.schedule_laws.proofs.Acting.{fed, closed}
-use Rattle.schedule_laws.proofs.Attending.{told_at, told_of, told_other, with_told}
+use Rattle.schedule_laws.proofs.TrackedAttempt.{told_at, told_of, told_other, with_told}
 use Rattle.schedule_laws.proofs.Beginning.{begun}
 use Rattle.schedule_laws.proofs.Keeping.{handed_live, handed_open, closed_live, kept_cancel, kept_invoke, kept_move, kept_parts, kept_refused, kept_result, kept_signal, kept_stop, kept_stopped, kept_tick, other_changed, same_state, some_waits}
 use Rattle.schedule_laws.proofs.Others.{into, stands_still, other_on}
@@ -85,11 +85,11 @@ module _ {H : Type 0} (function : H → Handler) (next : Handler) (options : VMO
         → (t0 : Tracked) × (told one.number ≡ Some t0) × Attends function next options id s.events new f.version f.coming one.number t0 one.attempt
     tracked_in new f = told_of function next options id told s.events new f.version f.coming one.number one.attempt (told one.number) refl (f.attends one.number one there)
 
-    pub fed_own : (bytes : Bytes) → bytes ≡ take (length bytes) (input_left s.events id) → Adds (ModelEvent.HandOut id one.number (length bytes)) s t → Feeds bytes one.attempt changed
+    pub fed_own : (bytes : Bytes) → bytes ≡ take (length bytes) (input_left s.events id) → Adds (ModelEvent.Feed id one.number (length bytes)) s t → Feeds bytes one.attempt changed
         → FollowsTold function next options id told s held → Now (SaysFed bytes)
     fed_own bytes bytes_are adds feeds f = by_begun (invocation_begun s.events id) refl f
       where
-        accepted : IsAccepted (ModelEvent.HandOut id one.number (length bytes) ∷ s.events)
+        accepted : IsAccepted (ModelEvent.Feed id one.number (length bytes) ∷ s.events)
         accepted = subst IsAccepted adds.events t.accepted
 
         live : live_attempt s.events id ≡ Some one.number
@@ -102,18 +102,18 @@ module _ {H : Type 0} (function : H → Handler) (next : Handler) (options : VMO
             let (t0, so, at) = tracked_in new f in
             let after : Told = record t0.told { bytes = t0.told.bytes ++ bytes } in
             told_now function next options id told one.number (SaysFed bytes) t changed_to t0 after so
-            (into function next options id (with_told told one.number (record { start = t0.start; told = after })) t (ModelEvent.HandOut id one.number (length bytes) ∷ s.events) (s.outputs id) changed_to adds.events
+            (into function next options id (with_told told one.number (record { start = t0.start; told = after })) t (ModelEvent.Feed id one.number (length bytes) ∷ s.events) (s.outputs id) changed_to adds.events
             (adds.outputs id)
-            (subst (λ (o : Option NewInvocation). FollowsWhere function next options id (with_told told one.number (record { start = t0.start; told = after })) (ModelEvent.HandOut id one.number (length bytes) ∷ s.events)
+            (subst (λ (o : Option NewInvocation). FollowsWhere function next options id (with_told told one.number (record { start = t0.start; told = after })) (ModelEvent.Feed id one.number (length bytes) ∷ s.events)
             (s.outputs id) changed_to o) (sym is)
             (fed function next options id laws told s.events (s.outputs id) held new one.number one waits live waits_is there f t0 at (length bytes) bytes changed accepted
             (handed_open s.events id one.number (length bytes) accepted.0) bytes_are feeds)))
             refl
 
-    pub closed_own : Adds (ModelEvent.CloseInput id one.number) s t → ClosesInput one.attempt changed → FollowsTold function next options id told s held → Now SaysClosed
+    pub closed_own : Adds (ModelEvent.Close id one.number) s t → ClosesInput one.attempt changed → FollowsTold function next options id told s held → Now SaysClosed
     closed_own adds closes f = by_begun (invocation_begun s.events id) refl f
       where
-        accepted : IsAccepted (ModelEvent.CloseInput id one.number ∷ s.events)
+        accepted : IsAccepted (ModelEvent.Close id one.number ∷ s.events)
         accepted = subst IsAccepted adds.events t.accepted
 
         live : live_attempt s.events id ≡ Some one.number
@@ -126,13 +126,13 @@ module _ {H : Type 0} (function : H → Handler) (next : Handler) (options : VMO
             let (t0, so, at) = tracked_in new f in
             let after : Told = record t0.told { is_closed = true } in
             told_now function next options id told one.number SaysClosed t changed_to t0 after so
-            (into function next options id (with_told told one.number (record { start = t0.start; told = after })) t (ModelEvent.CloseInput id one.number ∷ s.events) (s.outputs id) changed_to adds.events (adds.outputs id)
-            (subst (λ (o : Option NewInvocation). FollowsWhere function next options id (with_told told one.number (record { start = t0.start; told = after })) (ModelEvent.CloseInput id one.number ∷ s.events) (s.outputs id)
+            (into function next options id (with_told told one.number (record { start = t0.start; told = after })) t (ModelEvent.Close id one.number ∷ s.events) (s.outputs id) changed_to adds.events (adds.outputs id)
+            (subst (λ (o : Option NewInvocation). FollowsWhere function next options id (with_told told one.number (record { start = t0.start; told = after })) (ModelEvent.Close id one.number ∷ s.events) (s.outputs id)
             changed_to o) (sym is)
             (closed function next options id laws told s.events (s.outputs id) held new one.number one waits live waits_is there f t0 at changed accepted closes)))
             refl
 
-    pub turned_own : (ran : RunOutcome) (turn : Turn) → ReplaysInLine options → Turns function ran one.attempt turn changed → Stays s t → FollowsTold function next options id told s held → Now (SaysTurned next ran turn)
+    pub turned_own : (ran : RunOutcome) (turn : Turn) → ReplaysInLine options → Turns function ran one.attempt turn changed → StaysStanding s t → FollowsTold function next options id told s held → Now (SaysTurned next ran turn)
     turned_own ran turn in_line turns stays f = by_begun (invocation_begun s.events id) refl f
       where
         by_begun : (o : Option NewInvocation) → invocation_begun s.events id ≡ o → FollowsWhere function next options id told s.events (s.outputs id) held o → Now (SaysTurned next ran turn)
@@ -191,10 +191,10 @@ module _ {H : Type 0} (function : H → Handler) (next : Handler) (options : VMO
   Keeps one answer bytes s t more = KeepsTold function next options id one answer bytes s t more told
 
   -- of attempts that are not meant
-  not_meant : (start : AttemptStart) (one : Event H) (answer : Reply) (bytes : Bytes) (t : Told) → Tells next start false one answer bytes t t
+  not_meant : (start : AttemptStart) (one : Event H) (answer : Reply) (bytes : Bytes) (t : Told) → TellsAttempt next start false one answer bytes t t
   not_meant start one answer bytes t = refl
 
-  not_done : (b : Bool) (start : AttemptStart) (one : Event H) (why : EventRefusal) (bytes : Bytes) (t : Told) → Tells next start b one (reply.Refused why) bytes t t
+  not_done : (b : Bool) (start : AttemptStart) (one : Event H) (why : EventRefusal) (bytes : Bytes) (t : Told) → TellsAttempt next start b one (reply.Refused why) bytes t t
   not_done false start one why bytes t = refl
   not_done true start (event.Turn other n ran) why bytes t = refl
   not_done true start (event.Close other n) why bytes t = refl
@@ -203,7 +203,7 @@ module _ {H : Type 0} (function : H → Handler) (next : Handler) (options : VMO
 
   -- nothing more
   quiet : (one : Event H) (answer : Reply) (bytes : Bytes) (s t : Standing) (more : List (HeldAttempt H))
-      → ((m : ℕ) (tracked : Tracked) → Tells next tracked.start (is_of_attempt id m one) one answer bytes tracked.told tracked.told) → BeginsTold options id one answer s.events told
+      → ((m : ℕ) (tracked : Tracked) → TellsAttempt next tracked.start (is_of_attempt id m one) one answer bytes tracked.told tracked.told) → BeginsTold options id one answer s.events told
       → FollowsTold function next options id told t more → Keeps one answer bytes s t more
   quiet one answer bytes s t more tells begins f = record { now = told; follows = f; tells = λ m tracked is. (tracked.told, is ∙ whole tracked, tells m tracked); begins = begins }
 
@@ -211,7 +211,7 @@ module _ {H : Type 0} (function : H → Handler) (next : Handler) (options : VMO
   refused_begins (event.Begin other handler now) why s = tt
   refused_begins one why s = tt
 
-  refused : (one : Event H) (why : EventRefusal) (answer : Reply) (bytes : Bytes) (s t : Standing) (held more : List (HeldAttempt H)) → answer ≡ reply.Refused why → Stays s t → more ≡ held
+  refused : (one : Event H) (why : EventRefusal) (answer : Reply) (bytes : Bytes) (s t : Standing) (held more : List (HeldAttempt H)) → answer ≡ reply.Refused why → StaysStanding s t → more ≡ held
       → FollowsTold function next options id told s held → Keeps one answer bytes s t more
   refused one why answer bytes s t held more is stays same f =
       subst (λ (said : Reply). Keeps one said bytes s t more) (sym is)
@@ -223,11 +223,11 @@ module _ {H : Type 0} (function : H → Handler) (next : Handler) (options : VMO
       → FollowsTold function next options id told t more → Keeps one answer bytes s t more
   elsewhere one answer bytes s t more none begins f =
       quiet one answer bytes s t more
-      (λ m tracked. subst (λ (b : Bool). Tells next tracked.start b one answer bytes tracked.told tracked.told) (sym (none m)) (not_meant tracked.start one answer bytes tracked.told)) begins f
+      (λ m tracked. subst (λ (b : Bool). TellsAttempt next tracked.start b one answer bytes tracked.told tracked.told) (sym (none m)) (not_meant tracked.start one answer bytes tracked.told)) begins f
 
   -- of this one
   meant : (one : Event H) (answer : Reply) (bytes : Bytes) (n : ℕ) (Says : Tracked → Told → Type 0) (s t : Standing) (more : List (HeldAttempt H)) → ((m : ℕ) → is_of_attempt id m one ≡ (n == m))
-      → ((again : ToldOf) → BeginsTold options id one answer s.events again) → ((tracked : Tracked) (after : Told) → Says tracked after → Tells next tracked.start true one answer bytes tracked.told after)
+      → ((again : ToldOf) → BeginsTold options id one answer s.events again) → ((tracked : Tracked) (after : Told) → Says tracked after → TellsAttempt next tracked.start true one answer bytes tracked.told after)
       → OwnNow function next options id told n Says t more → Keeps one answer bytes s t more
   meant one answer bytes n Says s t more which begins says it = record {
     now = it.again;
@@ -237,18 +237,18 @@ module _ {H : Type 0} (function : H → Handler) (next : Handler) (options : VMO
   }
     where
       by_number : (m : ℕ) (tracked : Tracked) → told m ≡ Some tracked → (b : Bool) → (n == m) ≡ b
-          → (after : Told) × (it.again m ≡ Some (record { start = tracked.start; told = after })) × Tells next tracked.start (is_of_attempt id m one) one answer bytes tracked.told after
+          → (after : Told) × (it.again m ≡ Some (record { start = tracked.start; told = after })) × TellsAttempt next tracked.start (is_of_attempt id m one) one answer bytes tracked.told after
       by_number m tracked is true e =
           let same : n ≡ m = eqb-true n m e in
           let own = it.own tracked (ap told same ∙ is) in (
             own.0,
             ap it.again (sym same) ∙ own.1,
-            subst (λ (b : Bool). Tells next tracked.start b one answer bytes tracked.told own.0) (sym (which m ∙ e)) (says tracked own.0 own.2),
+            subst (λ (b : Bool). TellsAttempt next tracked.start b one answer bytes tracked.told own.0) (sym (which m ∙ e)) (says tracked own.0 own.2),
           )
       by_number m tracked is false e = (
         tracked.told,
         it.others m (λ same. true≢false (sym (eq-eqb n m (sym same)) ∙ e)) ∙ is ∙ whole tracked,
-        subst (λ (b : Bool). Tells next tracked.start b one answer bytes tracked.told tracked.told) (sym (which m ∙ e)) (not_meant tracked.start one answer bytes tracked.told),
+        subst (λ (b : Bool). TellsAttempt next tracked.start b one answer bytes tracked.told tracked.told) (sym (which m ∙ e)) (not_meant tracked.start one answer bytes tracked.told),
       )
 
   both_false : (a b : Bool) → a ≡ false → (a && b) ≡ false
@@ -265,7 +265,7 @@ module _ {H : Type 0} (function : H → Handler) (next : Handler) (options : VMO
 
   by_invocation : (one : HeldAttempt H) (changed : Attempt H) (said : Event H) (answer : Reply) (bytes : Bytes) (Says : Tracked → Told → Type 0) (s t : Standing) (held : List (HeldAttempt H))
       → held_of held one.invocation one.number ≡ Some one → ((m : ℕ) → is_of_attempt id m said ≡ (bytes_eq one.invocation id && (one.number == m)))
-      → ((again : ToldOf) → BeginsTold options id said answer s.events again) → ((tracked : Tracked) (after : Told) → Says tracked after → Tells next tracked.start true said answer bytes tracked.told after)
+      → ((again : ToldOf) → BeginsTold options id said answer s.events again) → ((tracked : Tracked) (after : Told) → Says tracked after → TellsAttempt next tracked.start true said answer bytes tracked.told after)
       → (one.invocation ≡ id → Own one changed Says t held id) → (bytes_eq one.invocation id ≡ false → FollowsTold function next options id told t held) → Keeps said answer bytes s t (with_attempt held one changed)
   by_invocation one changed said answer bytes Says s t held there which begins says own others = by_id (bytes_eq one.invocation id) refl
     where
@@ -337,7 +337,7 @@ module _ {H : Type 0} (function : H → Handler) (next : Handler) (options : VMO
 
   -- the store refuses, and the attempt is as it was
   refuses_held : (said : Event H) (why : Refusal) (bytes : Bytes) (one : HeldAttempt H) (changed : Attempt H) (s t : Standing) (held : List (HeldAttempt H)) → held_of held one.invocation one.number ≡ Some one
-      → changed ≡ one.attempt → Stays s t → FollowsTold function next options id told s held → Keeps said (reply.Refused (refusal.Store why)) bytes s t (with_attempt held one changed)
+      → changed ≡ one.attempt → StaysStanding s t → FollowsTold function next options id told s held → Keeps said (reply.Refused (refusal.Store why)) bytes s t (with_attempt held one changed)
   refuses_held said why bytes one changed s t held there same stays f =
       refused said (refusal.Store why) (reply.Refused (refusal.Store why)) bytes s t held (with_attempt held one changed) refl stays
       (ap (λ (a : Attempt H). with_attempt held one a) same ∙ with_same (is_held one.invocation one.number) held one there) f
@@ -351,8 +351,8 @@ module _ {H : Type 0} (function : H → Handler) (next : Handler) (options : VMO
   closed_held : (other : Text) (n : ℕ) (answer : Reply) (bytes : Bytes) (s t : Standing) (held : List (HeldAttempt H)) → ByHeld ClosesOne (event.Close other n) other n answer bytes s t held
   closed_held other n reply.Done bytes s t held one changed it d f =
       by_invocation one changed (event.Close other n) reply.Done bytes SaysClosed s t held it.0 (meets_of other n held one it) (λ again. tt) (λ tracked after says. says)
-      (λ same found. closed_own function next options id laws told one changed s t held found (subst (λ (x : Text). Adds (ModelEvent.CloseInput x one.number) s t) same d.0) d.1 f)
-      (λ far. other_on function next options id told laws (ModelEvent.CloseInput one.invocation one.number) s t held far d.0.events (d.0.outputs id) f)
+      (λ same found. closed_own function next options id laws told one changed s t held found (subst (λ (x : Text). Adds (ModelEvent.Close x one.number) s t) same d.0) d.1 f)
+      (λ far. other_on function next options id told laws (ModelEvent.Close one.invocation one.number) s t held far d.0.events (d.0.outputs id) f)
   closed_held other n (reply.Refused (refusal.Store why)) bytes s t held one changed it d f = refuses_held (event.Close other n) why bytes one changed s t held it.0 d.1 d.0.stays f
   closed_held other n answer bytes s t held one changed it d f = absurd d
 

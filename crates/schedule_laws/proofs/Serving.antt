@@ -2,12 +2,12 @@
 use Rattle.journal_model.specs.Run.{Handler}
 use Rattle.protocol_types.specs.declared.version.Version.{Version}
 use Rattle.vm_types.specs.declared.options.VMOptions.{VMOptions}
-use Rattle.replay_laws.specs.Living.{ExecutorsBegin, ExecutorsStayLive}
+use Rattle.replay_laws.specs.AttemptWithBodies.{ExecutorsBegin, ExecutorsStayLive}
 use Rattle.replay_laws.specs.Laws.{LivesReplay, LivesStay}
-use Rattle.vm_attempt_laws.specs.Keeping.{BeginsServing, StaysServing, FeedsServing, ClosesServing, TakesServing, OversStay}
+use Rattle.vm_attempt_laws.specs.AttemptInvariants.{BeginsServing, StaysServing, FeedsServing, ClosesServing, TakesServing, OversStay}
 use Rattle.vm_attempt_laws.specs.Laws.{OfEach}
-use Rattle.vm_attempt_laws.specs.Telling.{TurnsTell}
-use Rattle.vm_attempt_laws.specs.Turning.{TurnServes}
+use Rattle.vm_attempt_laws.specs.TurnReports.{TurnsTell}
+use Rattle.vm_attempt_laws.specs.TurnsInRun.{TurnServes}
 
 pub record ServingLaws {H : Type 0} (function : H → Handler) (next : Handler) (options : VMOptions) : Type 0 where
   pub begins : (version : Version) → BeginsServing function next version options

@@ -1,20 +1,20 @@
 -- An attempt that is over, or whose machine has failed, stays so, and tells it in each turn.
 use Rattle.std.proofs.Common.{◌≡◌, ◌⊎◌, inl, inr, ◌∙◌, Bool, true, false, Option, Some, None, Result, Ok, Err, refl, sym, ap, subst}
-use Rattle.vm_input_laws.proofs.Passed.{failed_fed}
+use Rattle.vm_input_laws.proofs.Staying.{failed_fed}
 use Rattle.journal_model.specs.Notification.{Bytes}
 use Rattle.journal_model.specs.Run.{Handler}
 use Rattle.journal_model.specs.declared.handler.Input.{Input}
 use Rattle.protocol_errors.specs.declared.error.Error.{Error}
-use Rattle.vm_start.specs.Failing.{IsCopy, out_of_memory}
+use Rattle.vm_start.specs.FailureReport.{IsCopy, out_of_memory}
 use Rattle.vm_attempt_laws.specs.Attempts.finishes
 use Rattle.vm_attempt_laws.specs.Attempts.{Feeds, FeedsUnless, ClosesInput, ClosesUnless, OnlyMoves, again, FinishesBy, TakesOutcome, GivesInput, ReadsOrAsks, TurnsWhere, TurnsUnless, TurnsOn, Turns, ran_or_failed, Attempt, Finish, Turn}
 use Rattle.vm_attempt_laws.specs.Bodies.{RunOutcome}
-use Rattle.vm_attempt_laws.specs.Keeping.{IsLast}
+use Rattle.vm_attempt_laws.specs.AttemptInvariants.{IsLast}
 use Rattle.vm_attempt_laws.specs.Machine.outcomes
 use Rattle.vm_attempt_laws.specs.Machine.phases
-use Rattle.vm_attempt_laws.specs.Machine.{CallOutcome, CoreVM, IsFed, IsReady, MachineState, Phase, is_waiting, input_closed, with_input, ClosesWhere, ClosesInput as ClosesMachine}
-use Rattle.vm_attempt_laws.specs.Serving.{AnswersKept, IsOver, finished, machine_failed}
-use Rattle.schedule_laws.specs.Attending.{IsOverBy, by_finish, by_error}
+use Rattle.vm_attempt_laws.specs.Machine.{CallOutcome, CoreVM, IsFed, TellsReady, MachineState, Phase, is_waiting, input_closed, with_input, ClosesWhere, ClosesInput as ClosesMachine}
+use Rattle.vm_attempt_laws.specs.AttemptSimulation.{AnswersKept, IsOver, finished, machine_failed}
+use Rattle.schedule_laws.specs.TrackedAttempt.{IsOverBy, by_finish, by_error}
 use Rattle.schedule_laws.specs.Turned.{IsAgain}
 
 same_finish : (a b : Finish) → Some a ≡ Some b → a ≡ b
@@ -112,7 +112,7 @@ module _ {H : Type 0} where
     turns_new (Some finish) before turn after is none turns = none_some before.over finish none is
     turns_new None before turn after is none turns = turns
 
-    refuses : (ready : Result Bool Error) (kept : Error) (before : Attempt H) (turn : Turn) (after : Attempt H) → IsReady (phases.Failed kept) ready → TurnsWhere function ran ready before turn after
+    refuses : (ready : Result Bool Error) (kept : Error) (before : Attempt H) (turn : Turn) (after : Attempt H) → TellsReady (phases.Failed kept) ready → TurnsWhere function ran ready before turn after
         → (error : Error) × (turn ≡ Turn.Failed error) × IsCopy kept error × (after ≡ before)
     refuses (Ok ready) kept before turn after is turns = absurd is
     refuses (Err error) kept before turn after is turns = (error, turns.0, is, turns.1)
@@ -122,7 +122,7 @@ module _ {H : Type 0} where
         → (error : Error) × (turn ≡ Turn.Failed error) × IsCopy kept error × (after ≡ before)
     turned_failed kept before turn after none failed turns =
         let on = turns_new before.over before turn after refl none turns in
-        refuses on.ready kept before turn after (subst (λ (p : Phase). IsReady p on.ready) failed on.is_ready) on.turns
+        refuses on.ready kept before turn after (subst (λ (p : Phase). TellsReady p on.ready) failed on.is_ready) on.turns
 
     says_again : (over : Option Finish) (last : Turn) (finish : Finish) (before : Attempt H) (turn : Turn) (after : Attempt H) → before.over ≡ over → before.over ≡ Some finish → last ≡ again finish
         → TurnsUnless function ran over before turn after → IsAgain last turn × (after ≡ before)

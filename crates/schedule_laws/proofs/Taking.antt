@@ -12,22 +12,22 @@ use Rattle.protocol_types.specs.Version.{version_number}
 use Rattle.protocol_types.specs.declared.version.Version.{Version}
 use Rattle.protocol_stream.specs.Item.{Item}
 use Rattle.input_laws.proofs.Events.{itself}
-use Rattle.vm_attempt_laws.proofs.Reading.{streams_are_read}
+use Rattle.vm_attempt_laws.proofs.InputAndOutput.{streams_are_read}
 use Rattle.vm_attempt_laws.specs.Attempts.{output_of}
-use Rattle.vm_attempt_laws.specs.Sending.sent
-use Rattle.vm_attempt_laws.specs.Sending.{Sent, Asks, Proposes, Awaits, Suspends, Fails, Ends, is_recorded, sent_stream, sent_message, frame_meant, IsOfStore}
+use Rattle.vm_attempt_laws.specs.OutputOfAttempt.sent
+use Rattle.vm_attempt_laws.specs.OutputOfAttempt.{Sent, Asks, Proposes, Awaits, Suspends, Fails, Ends, is_recorded, sent_stream, sent_message, frame_meant, IsOfStore}
 use Rattle.vm_types.specs.declared.options.VMOptions.{VMOptions}
-use Rattle.store_frames.specs.Meaning.{frame_of}
+use Rattle.store_frames.specs.FrameMeanings.{frame_of}
 use Rattle.store_steps.specs.declared.frame.FrameReply.{FrameReply}
 use Rattle.store_steps.specs.Taken.{does_end}
-use Rattle.store_calls.specs.Standing.{Standing}
+use Rattle.store_calls.specs.AbstractStore.{Standing}
 use Rattle.store_calls.specs.Frames.{IsNext, TakesEach, TakesFrame, frame_in, rest_after}
 use Rattle.store_calls.proofs.Live.{taken_live}
 use Rattle.schedule_model.specs.declared.held.HeldAttempt.{HeldAttempt}
 use Rattle.schedule_model.specs.Held.{held_of}
 use Rattle.schedule_model.proofs.Holding.{some_is, some_none}
-use Rattle.schedule_laws.specs.Fitting.{FrameFits}
-use Rattle.schedule_laws.specs.Following.{Flies, FollowsWhere, FollowsIn, FollowsTold, ToldOf}
+use Rattle.schedule_laws.specs.EventBounds.{FrameFits}
+use Rattle.schedule_laws.specs.InvocationInRun.{Flies, FollowsWhere, FollowsIn, FollowsTold, ToldOf}
 use Rattle.schedule_laws.proofs.Events.{IsPlain, begun_on}
 use Rattle.schedule_laws.proofs.Fits.{apart, not_same}
 use Rattle.schedule_laws.proofs.OutcomesFit.{outcome_fits}
@@ -86,8 +86,8 @@ module _ {H : Type 0} (function : H → Handler) (next : Handler) (options : VMO
         others_fit = T.fit;
       }
 
-  take_plain : (n : ℕ) (frame : Frame) → IsPlain id (Event.Take id n frame)
-  take_plain n frame = record { old = refl; going = refl; asks = refl; closes = never (is_of id (Event.Take id n frame)) }
+  take_plain : (n : ℕ) (frame : Frame) → IsPlain id (Event.Move id n frame)
+  take_plain n frame = record { old = refl; going = refl; asks = refl; closes = never (is_of id (Event.Move id n frame)) }
 
   module _ (laws : ServingLaws function next options) where
     -- a frame of the attempt that is held
@@ -97,7 +97,7 @@ module _ {H : Type 0} (function : H → Handler) (next : Handler) (options : VMO
         into function next options id told t (event ∷ s.events) (rest_after (does_end reply) takes.rest) held takes.leaves.events takes.leaves.own (by_begun (invocation_begun s.events id) refl f)
       where
         event : Event
-        event = Event.Take id n takes.frame
+        event = Event.Move id n takes.frame
 
         accepted : IsAccepted (event ∷ s.events)
         accepted = subst IsAccepted takes.leaves.events t.accepted
@@ -136,7 +136,7 @@ module _ {H : Type 0} (function : H → Handler) (next : Handler) (options : VMO
     took_other : (other : Text) (n : ℕ) (reply : FrameReply) (s t : Standing) (held : List (HeldAttempt H)) → other ≢ id → TakesFrame other n reply s t
         → FollowsTold function next options id told s held → FollowsTold function next options id told t held
     took_other other n reply s t held far takes f =
-        other_on function next options id told laws (Event.Take other n takes.frame) s t held (not_same other id far) takes.leaves.events (takes.leaves.others id (not_same other id far)) f
+        other_on function next options id told laws (Event.Move other n takes.frame) s t held (not_same other id far) takes.leaves.events (takes.leaves.others id (not_same other id far)) f
 
     pub took : (other : Text) (n : ℕ) (one : HeldAttempt H) (reply : FrameReply) (s t : Standing) (held : List (HeldAttempt H)) → held_of held other n ≡ Some one → TakesFrame other n reply s t
         → FollowsTold function next options id told s held → FollowsTold function next options id told t held

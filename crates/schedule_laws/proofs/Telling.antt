@@ -5,12 +5,12 @@ use Rattle.journal_model.specs.Attempt.{Piece}
 use Rattle.journal_model.specs.Run.{run_requests}
 use Rattle.vm_attempt_laws.specs.Attempts.{Attempt, Turn}
 use Rattle.vm_attempt_laws.specs.Bodies.{Body, NonEmptyValue, RunOutcome}
-use Rattle.vm_attempt_laws.specs.Keeping.{IsLast}
-use Rattle.vm_attempt_laws.specs.Running.{ExecutesFirst}
-use Rattle.vm_attempt_laws.specs.Sending.{Sent, frame_meant}
-use Rattle.vm_attempt_laws.specs.Serving.{AnswersKept, HasNotRead, HasRead, IsOver, Serves}
-use Rattle.vm_attempt_laws.specs.Telling.{Told, HasCome, TurnTells, IsTold, GoesOnTold, TellsOne}
-use Rattle.vm_attempt_laws.specs.Turning.{turns_answered, TurnsBehind}
+use Rattle.vm_attempt_laws.specs.AttemptInvariants.{IsLast}
+use Rattle.vm_attempt_laws.specs.BodyExecution.{ExecutesFirst}
+use Rattle.vm_attempt_laws.specs.OutputOfAttempt.{Sent, frame_meant}
+use Rattle.vm_attempt_laws.specs.AttemptSimulation.{AnswersKept, HasNotRead, HasRead, IsOver, Serves}
+use Rattle.vm_attempt_laws.specs.TurnReports.{Told, HasCome, TurnTells, IsAttemptTold, GoesOnTold, TellsOne}
+use Rattle.vm_attempt_laws.specs.TurnsInRun.{turns_answered, TurnsBehind}
 use Rattle.vm_attempt_laws.specs.Words.{after_turn, arrivals_carried, Bytes, Handler, Input, input_bytes, InputMessage, item_at, LiveAttempt, piece_of, Request, requests_carried, Version, VMOptions}
 
 -- ---- bytes
@@ -36,7 +36,7 @@ told_more before frame held given kept read some was are =
 -- ---- turns
 
 module _ {H : Type 0} (function : H → Handler) (next : Handler) (version : Version) (options : VMOptions) (is_closed : Bool) (live : LiveAttempt) (before : Attempt H) (proposed : List (ℕ × NonEmptyValue)) (ran : RunOutcome)
-    (told : Told) (s : Serves function next version options live is_closed before) (t : IsTold live before is_closed proposed told) where
+    (told : Told) (s : Serves function next version options live is_closed before) (t : IsAttemptTold live before is_closed proposed told) where
   abbrev pub come : HasCome live.start told.bytes
   come = record { read = live.read; kept = live.held; parts = t.bytes; whole = ap item_at (sym s.bytes) ∙ s.whole }
 
@@ -61,10 +61,10 @@ module _ {H : Type 0} (function : H → Handler) (next : Handler) (version : Ver
 
   -- what is told now is so of the attempt where it goes on; else it tells by which turn it is over
   abbrev pub IsToldBehind : (sent : List Sent) (turn : Turn) (after : Attempt H) → Behind sent turn after → Told → Type 0
-  IsToldBehind sent Turn.Answered after b now = (now.over ≡ told.over) × IsTold (after_turn live (map (frame_meant version) sent) b.0 b.1) after is_closed proposed now
+  IsToldBehind sent Turn.Answered after b now = (now.over ≡ told.over) × IsAttemptTold (after_turn live (map (frame_meant version) sent) b.0 b.1) after is_closed proposed now
   IsToldBehind sent Turn.RanBody after b now =
-      (now.over ≡ told.over) × IsTold (after_turn live (map (frame_meant version) sent) live.calls b.machine) after is_closed (proposed ++ (b.body.completion, b.value) ∷ []) now
-  IsToldBehind sent Turn.Waiting after b now = (now.over ≡ told.over) × IsTold (after_turn live (map (frame_meant version) sent) live.calls b.1.0) after is_closed proposed now
+      (now.over ≡ told.over) × IsAttemptTold (after_turn live (map (frame_meant version) sent) live.calls b.machine) after is_closed (proposed ++ (b.body.completion, b.value) ∷ []) now
+  IsToldBehind sent Turn.Waiting after b now = (now.over ≡ told.over) × IsAttemptTold (after_turn live (map (frame_meant version) sent) live.calls b.1.0) after is_closed proposed now
   IsToldBehind sent turn after b now = now.over ≡ Some turn
 
   pub record TellsBehind (sent : List Sent) (turn : Turn) (after : Attempt H) (b : Behind sent turn after) : Type 0 where

@@ -12,35 +12,35 @@ use Rattle.journal_model.specs.Headline.{run_of}
 use Rattle.protocol_errors.specs.declared.error.Error.{Error}
 use Rattle.protocol_types.specs.Version.{version_number}
 use Rattle.protocol_types.specs.declared.version.Version.{Version}
-use Rattle.live_laws.specs.Sending.{requests_sent, FollowsSo}
+use Rattle.live_laws.specs.RequestsInFlight.{requests_sent, FollowsSo}
 use Rattle.input_laws.specs.Message.{arrivals_carried}
-use Rattle.live_laws.specs.Beginning.{AttemptStart}
-use Rattle.live_laws.specs.Living.{after_turn}
-use Rattle.vm_start.specs.Failing.{IsCopy, out_of_memory}
+use Rattle.live_laws.specs.StartFrame.{AttemptStart}
+use Rattle.live_laws.specs.AttemptWithMachine.{after_turn}
+use Rattle.vm_start.specs.FailureReport.{IsCopy, out_of_memory}
 use Rattle.vm_types.specs.Options.{run_options}
 use Rattle.vm_types.specs.declared.options.VMOptions.{VMOptions}
-use Rattle.replay_laws.specs.Flying.{OutcomesStand}
-use Rattle.replay_laws.specs.Living.{IsLiveExecutor}
+use Rattle.replay_laws.specs.OutcomesInFlight.{OutcomesStand}
+use Rattle.replay_laws.specs.AttemptWithBodies.{IsLiveExecutor}
 use Rattle.replay_laws.specs.Laws.{LivesOn}
 use Rattle.vm_attempt_laws.specs.Attempts.{output_of, Turns, Attempt, Turn}
 use Rattle.vm_attempt_laws.specs.Bodies.{IsReplayed, outcome_frame, outcomes_in, RunOutcome}
-use Rattle.vm_attempt_laws.specs.Keeping.{IsLast, LacksMemory}
+use Rattle.vm_attempt_laws.specs.AttemptInvariants.{IsLast, LacksMemory}
 use Rattle.vm_attempt_laws.specs.Machine.phases
-use Rattle.vm_attempt_laws.specs.Sending.sent
-use Rattle.vm_attempt_laws.specs.Sending.{Sent, frame_meant, IsOfStore}
-use Rattle.vm_attempt_laws.specs.Serving.{AnswersKept, IsOver}
-use Rattle.vm_attempt_laws.specs.Telling.{Told, HasCome, FailsSo, early, lacks, TurnTells, GoesOnTold}
-use Rattle.vm_attempt_laws.specs.Turning.{ProposesAs, RunsOne, TurnKeeps, TurnsBehind}
+use Rattle.vm_attempt_laws.specs.OutputOfAttempt.sent
+use Rattle.vm_attempt_laws.specs.OutputOfAttempt.{Sent, frame_meant, IsOfStore}
+use Rattle.vm_attempt_laws.specs.AttemptSimulation.{AnswersKept, IsOver}
+use Rattle.vm_attempt_laws.specs.TurnReports.{Told, HasCome, FailsSo, early, lacks, TurnTells, GoesOnTold}
+use Rattle.vm_attempt_laws.specs.TurnsInRun.{ProposesAs, RunsOne, TurnKeeps, TurnsBehind}
 use Rattle.schedule_model.specs.declared.held.HeldAttempt.{HeldAttempt}
 use Rattle.schedule_model.specs.First.{with_first}
 use Rattle.schedule_model.specs.Held.{is_held, held_of}
-use Rattle.schedule_laws.specs.Attending.{Tracked, IsOverBy, by_error, IsClosedEarly, IsServed, IsLeft, Attends, is_over, lacks_memory, closed_early, is_served, is_left}
-use Rattle.schedule_laws.specs.Following.{ReplaysInLine, given_of, FollowsBegun, OutcomesFly, ToldOf}
+use Rattle.schedule_laws.specs.TrackedAttempt.{Tracked, IsOverBy, by_error, IsClosedEarly, IsServed, IsLeft, Attends, is_over, lacks_memory, closed_early, is_served, is_left}
+use Rattle.schedule_laws.specs.InvocationInRun.{ReplaysInLine, given_of, FollowsBegun, OutcomesFly, ToldOf}
 use Rattle.schedule_laws.specs.Turned.{TurnTellsNow}
 use Rattle.schedule_laws.proofs.Acting.{all_append, meant_append, written_behind}
-use Rattle.schedule_laws.proofs.Attending.{with_told}
+use Rattle.schedule_laws.proofs.TrackedAttempt.{with_told}
 use Rattle.schedule_laws.proofs.Outcomes.{others_fly}
-use Rattle.schedule_laws.proofs.Following.{IsFlown, beside, flown, quiet_changed}
+use Rattle.schedule_laws.proofs.InvocationInRun.{IsFlown, beside, flown, quiet_changed}
 use Rattle.schedule_laws.proofs.Serving.{ServingLaws}
 use Rattle.schedule_laws.proofs.Staying.{ends_by, turned_failed, turned_over}
 use Rattle.schedule_laws.proofs.Telling.{TellsBehind, left_behind, tells_behind}

@@ -9,11 +9,11 @@ use Rattle.journal_model.specs.Journal.{invocation_begun, entries_of}
 use Rattle.journal_model.specs.Cause.{IsAccepted}
 use Rattle.journal_model.specs.Run.{Handler}
 use Rattle.input_laws.specs.Message.{InputMessage, CarriesInput, IsBroughtBy}
-use Rattle.live_laws.specs.Beginning.{AttemptStart, ShowsStart, IsBegunAs, start_after}
-use Rattle.live_laws.specs.Living.{LiveAttempt, IsLiveMachine}
-use Rattle.vm_input_laws.specs.Reading.{MayCome}
-use Rattle.vm_input_laws.specs.Standing.{IsInputOf, CanBegin}
-use Rattle.schedule_laws.specs.Fitting.{AllFit}
+use Rattle.live_laws.specs.StartFrame.{AttemptStart, ShowsStart, IsBegunAs, start_after}
+use Rattle.live_laws.specs.AttemptWithMachine.{LiveAttempt, IsLiveMachine}
+use Rattle.vm_input_laws.specs.MessagesBehindJournal.{MayCome}
+use Rattle.vm_input_laws.specs.InputPhases.{IsInputOf, CanBegin}
+use Rattle.schedule_laws.specs.EventBounds.{AllFit}
 
 -- what an event brings to the live attempt may come behind its journal
 abbrev pub MessagesMayCome : Type 0

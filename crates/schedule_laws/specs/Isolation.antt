@@ -12,13 +12,13 @@ use Rattle.journal_model.specs.Attempt.{attempts_begun, live_attempt, input_left
 use Rattle.journal_model.specs.Headline.{arrivals_handed}
 use Rattle.journal_model.specs.Cause.{causes_of, IsAccepted}
 use Rattle.protocol_types.specs.Version.{version_number}
-use Rattle.store_refusals.specs.Refused.{first_of}
+use Rattle.store_refusals.specs.Refused.{refusal_of_first_cause}
 use Rattle.store_steps.specs.declared.frame.FrameReply.{FrameReply}
 use Rattle.store_steps.specs.Taken.{IsReply}
 use Rattle.store_calls.specs.declared.begun.BegunAttempt.{BegunAttempt}
-use Rattle.store_calls.specs.Standing.{Standing}
-use Rattle.store_calls.specs.Calls.{Begins, Cancels, Completes, Signals}
-use Rattle.schedule_model.specs.Feeding.{given_in, IsAskedFor, HandsOutEach}
+use Rattle.store_calls.specs.AbstractStore.{Standing}
+use Rattle.store_calls.specs.Calls.{BeginsStoredAttempt, Cancels, CompletesCall, Signals}
+use Rattle.schedule_model.specs.InputFeed.{given_in, IsAskedFor, HandsOutEach}
 
 -- The same stands of an invocation behind two lists of events: how it was begun and the state of its object then, its entries, how it was
 -- closed and what it answers, whether it is open, whether it is due, how many attempts were begun, which of them is live, the frames that
@@ -57,7 +57,7 @@ IsOwn id event = invocation_of event ≡ Some id
 pub record AnswersAlike (events others : List Event) (id : Text) : Type 0 where
   pub state : (new : NewInvocation) → invocation_begun events id ≡ Some new → is_open events id ≡ true → object_state events new.object ≡ object_state others new.object
   pub start : (now : ℕ) → is_open events id ≡ true → start_payload events id now ≡ start_payload others id now
-  pub refusal : (event : Event) → IsOwn id event → first_of (causes_of events event) ≡ first_of (causes_of others event)
+  pub refusal : (event : Event) → IsOwn id event → refusal_of_first_cause (causes_of events event) ≡ refusal_of_first_cause (causes_of others event)
 
 -- while an invocation is open, its object's state is its starting state changed by its recorded requests
 abbrev pub KeepsState : List Event → Text → Type 0
@@ -81,13 +81,13 @@ IsAlike events others id = StandsAlike events others id × AnswersAlike events o
 
 -- What two stores reply to one event of an invocation that both accept is the same: to a begin, a feed, a result, a signal, a cancellation, and a frame.
 pub record RepliesAlike (id : Text) (old other : Standing) : Type 0 where
-  pub begun : (now : ℕ) (one two : BegunAttempt) (new more : Standing) → Begins id now one old new → Begins id now two other more
+  pub begun : (now : ℕ) (one two : BegunAttempt) (new more : Standing) → BeginsStoredAttempt id now one old new → BeginsStoredAttempt id now two other more
       → (one.number ≡ two.number) × (version_number one.version ≡ version_number two.version) × (one.start ≡ two.start)
   -- a feed that is not refused, in whatever parts the store hands out what is asked for
   pub handed : (attempt count : ℕ) (parts others : List Bytes) (new more : Standing) → HandsOutEach id attempt count parts old new → IsAskedFor count parts
       → HandsOutEach id attempt count others other more → IsAskedFor count others → given_in parts ≡ given_in others
-  pub placed : (completion : ℕ) (brought : NotificationResult) (place at : ℕ) (new more : Standing) → Completes id completion brought (Ok place) old new
-      → Completes id completion brought (Ok at) other more → place ≡ at
+  pub placed : (completion : ℕ) (brought : NotificationResult) (place at : ℕ) (new more : Standing) → CompletesCall id completion brought (Ok place) old new
+      → CompletesCall id completion brought (Ok at) other more → place ≡ at
   pub signalled : (key : SignalKey) (brought : NotificationResult) (place at : ℕ) (new more : Standing) → Signals id key brought (Ok place) old new → Signals id key brought (Ok at) other more
       → place ≡ at
   pub cancelled : (place at : ℕ) (new more : Standing) → Cancels id (Ok place) old new → Cancels id (Ok at) other more → place ≡ at

@@ -10,17 +10,17 @@ use Rattle.journal_model.specs.Run.{Handler}
 use Rattle.journal_model.specs.Headline.{Headline, NeverLate, WakesExactly}
 use Rattle.vm_types.specs.Options.{run_options}
 use Rattle.vm_types.specs.declared.options.VMOptions.{VMOptions}
-use Rattle.store_calls.specs.Standing.{Standing}
+use Rattle.store_calls.specs.AbstractStore.{Standing}
 use Rattle.store_refusals.specs.declared.refusal.Refusal.{Refusal}
 use Rattle.store_steps.specs.Taken.{lies_in_frame}
-use Rattle.vm_attempt_laws.specs.Telling.{Told}
+use Rattle.vm_attempt_laws.specs.TurnReports.{Told}
 use Rattle.schedule_laws.specs.Attempts.{Attempt}
-use Rattle.schedule_laws.specs.Attending.{Tracked}
-use Rattle.schedule_laws.specs.Following.{ReplaysInLine, HoldsOf, given_of, ToldOf, FollowsTold, Follows}
+use Rattle.schedule_laws.specs.TrackedAttempt.{Tracked}
+use Rattle.schedule_laws.specs.InvocationInRun.{ReplaysInLine, HoldsOf, given_of, ToldOf, FollowsTold, Follows}
 use Rattle.schedule_laws.specs.Schedules.event
 use Rattle.schedule_laws.specs.Schedules.reply
 use Rattle.schedule_laws.specs.Schedules.{Event, Reply, HeldAttempt, held_of, with_attempt, given_in, FeedsParts, MovesOne, Does, Scheduled, AppliesAll, Brings, FitsEvent}
-use Rattle.schedule_laws.specs.Turned.{Tells, is_of_attempt, start_of, told_start}
+use Rattle.schedule_laws.specs.Turned.{TellsAttempt, is_of_attempt, attempt_start_of, told_start}
 
 -- ---- what is answered of frames
 
@@ -40,7 +40,7 @@ RefuseNoFrame id _ replies = Unit {0}
 abbrev pub BeginsTold : {H : Type 0} → VMOptions → Text → Event H → Reply → (earlier : List model.Event) → (now : ToldOf) → Type 0
 BeginsTold options id (event.Begin other handler now) (reply.Begun number) earlier told =
     other ≡ id → (new : NewInvocation) → invocation_begun earlier id ≡ Some new
-    → told number ≡ Some (record { start = start_of options id earlier now new; told = told_start (start_of options id earlier now new) })
+    → told number ≡ Some (record { start = attempt_start_of options id earlier now new; told = told_start (attempt_start_of options id earlier now new) })
 BeginsTold options id one answer earlier told = Unit {0}
 
 module _ {H : Type 0} (function : H → Handler) where
@@ -67,7 +67,7 @@ module _ {H : Type 0} (function : H → Handler) where
     pub now : ToldOf
     pub follows : FollowsTold function next options id now new more
     pub tells : (number : ℕ) (t : Tracked) → told number ≡ Some t
-        → (after : Told) × (now number ≡ Some (record { start = t.start; told = after })) × Tells next t.start (is_of_attempt id number one) one answer bytes t.told after
+        → (after : Told) × (now number ≡ Some (record { start = t.start; told = after })) × TellsAttempt next t.start (is_of_attempt id number one) one answer bytes t.told after
     pub begins : BeginsTold options id one answer old.events now
 
   abbrev pub ToldByEach : Type 0

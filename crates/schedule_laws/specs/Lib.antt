@@ -1,8 +1,8 @@
-pub mod Fitting
-pub mod Handing
+pub mod EventBounds
+pub mod HandedInput
 pub mod FittingLaws
-pub mod Attending
-pub mod Following
+pub mod TrackedAttempt
+pub mod InvocationInRun
 pub mod Turned
 pub mod Laws
 pub mod Schedules

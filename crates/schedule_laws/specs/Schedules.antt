@@ -1,7 +1,7 @@
 -- Schedules and their events, passed on, so that crates above name this one alone.
 pub use Rattle.schedule_model.specs.First.{with_first}
-pub use Rattle.schedule_model.specs.Feeding.{given_in, HandsOutEach, StopsHandingOut, FeedsEach, FeedsParts}
-pub use Rattle.schedule_model.specs.Fitting.{FitsEvent}
+pub use Rattle.schedule_model.specs.InputFeed.{given_in, HandsOutEach, StopsHandingOut, FeedsEach, FeedsParts}
+pub use Rattle.schedule_model.specs.ArgumentBounds.{FitsEvent}
 pub use Rattle.schedule_model.specs.Held.{is_held, held_of, with_attempt}
 pub use Rattle.schedule_model.specs.Outcomes.{tells_mismatch}
 pub use Rattle.schedule_model.specs.Schedule.{RepliesDone, RepliesPlace, RepliesCount, BeginDoes, IfHeld, UnlessMismatch, FeedsOne, ClosesOne, StopsOne, TurnsOne, MovesOne, Does, Brings, Scheduled, AppliesAll, Applies}

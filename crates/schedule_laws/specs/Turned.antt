@@ -5,13 +5,13 @@ use Rattle.journal_model.specs.Notification.{Bytes, Text}
 use Rattle.journal_model.specs.Event as model
 use Rattle.journal_model.specs.Journal.{invocation_begun}
 use Rattle.journal_model.specs.Run.{Handler}
-use Rattle.live_laws.specs.Beginning.{AttemptStart, start_after}
+use Rattle.live_laws.specs.StartFrame.{AttemptStart, start_after}
 use Rattle.protocol_errors.specs.declared.error.Error.{Error}
-use Rattle.vm_start.specs.Failing.{IsCopy, out_of_memory}
+use Rattle.vm_start.specs.FailureReport.{IsCopy, out_of_memory}
 use Rattle.vm_types.specs.Options.{run_options}
 use Rattle.vm_types.specs.declared.options.VMOptions.{VMOptions}
 use Rattle.vm_attempt_laws.specs.Bodies.{RunOutcome}
-use Rattle.vm_attempt_laws.specs.Telling.{Told, told_nothing, HasCome, TurnTells}
+use Rattle.vm_attempt_laws.specs.TurnReports.{Told, told_nothing, HasCome, TurnTells}
 use Rattle.schedule_laws.specs.Attempts.{Turn}
 use Rattle.schedule_laws.specs.Schedules.event
 use Rattle.schedule_laws.specs.Schedules.reply
@@ -36,11 +36,11 @@ TurnTellsNow next start told None ran turn now = TellsNoMemory told turn now ⊎
 
 -- What is told of the attempt behind one more event, by its reply: a turn tells where its run stands, it is told that no more of its input comes,
 -- and these bytes of it were fed. Whether the event is its own is said by a number of it.
-abbrev pub Tells : {H : Type 0} → Handler → AttemptStart → (is_own : Bool) → Event H → Reply → (bytes : Bytes) → (told now : Told) → Type 0
-Tells next start true (event.Turn id number ran) (reply.Turned turn) bytes told now = TurnTellsNow next start told told.over ran turn now
-Tells next start true (event.Close id number) reply.Done bytes told now = now ≡ record told { is_closed = true }
-Tells next start true (event.Feed id number count) (reply.Fed fed why) bytes told now = now ≡ record told { bytes = told.bytes ++ bytes }
-Tells next start is_own one answer bytes told now = now ≡ told
+abbrev pub TellsAttempt : {H : Type 0} → Handler → AttemptStart → (is_own : Bool) → Event H → Reply → (bytes : Bytes) → (told now : Told) → Type 0
+TellsAttempt next start true (event.Turn id number ran) (reply.Turned turn) bytes told now = TurnTellsNow next start told told.over ran turn now
+TellsAttempt next start true (event.Close id number) reply.Done bytes told now = now ≡ record told { is_closed = true }
+TellsAttempt next start true (event.Feed id number count) (reply.Fed fed why) bytes told now = now ≡ record told { bytes = told.bytes ++ bytes }
+TellsAttempt next start is_own one answer bytes told now = now ≡ told
 
 -- whether an event of a schedule is done with this attempt
 abbrev pub is_of_attempt : {H : Type 0} → Text → ℕ → Event H → Bool
@@ -52,14 +52,14 @@ is_of_attempt id number one = false
 -- So it is of each event behind its begin.
 abbrev pub TurnsTellEach : {H : Type 0} → Handler → AttemptStart → Text → ℕ → List (Event H) → List Reply → (handed : List Bytes) → Told → Type 0
 TurnsTellEach next start id number (one ∷ events) (answer ∷ replies) (bytes ∷ handed) told =
-    (now : Told) × Tells next start (is_of_attempt id number one) one answer bytes told now × TurnsTellEach next start id number events replies handed now
+    (now : Told) × TellsAttempt next start (is_of_attempt id number one) one answer bytes told now × TurnsTellEach next start id number events replies handed now
 TurnsTellEach next start id number events replies handed told = Unit {0}
 
 -- ---- of each attempt
 
 -- as the last attempt of an invocation is begun, behind these accepted events
-abbrev pub start_of : VMOptions → Text → List model.Event → (now : ℕ) → NewInvocation → AttemptStart
-start_of options id earlier now new = start_after (run_options options) options.fallback_random_seed earlier id now new
+abbrev pub attempt_start_of : VMOptions → Text → List model.Event → (now : ℕ) → NewInvocation → AttemptStart
+attempt_start_of options id earlier now new = start_after (run_options options) options.fallback_random_seed earlier id now new
 
 -- of an attempt that has begun so it was told that it was handed its start frame
 abbrev pub told_start : AttemptStart → Told
@@ -69,8 +69,8 @@ told_start start = record told_nothing { bytes = start.frame }
 abbrev pub BegunTells : {H : Type 0} → Handler → VMOptions → Text → Event H → Reply → (bytes : Bytes) → (events : List (Event H)) → List Reply → (handed : List Bytes) → (earlier : List model.Event) → Type 0
 BegunTells next options id (event.Begin other handler now) (reply.Begun number) bytes events replies handed earlier =
     other ≡ id → (new : NewInvocation) → invocation_begun earlier id ≡ Some new
-    → (bytes ≡ (start_of options id earlier now new).frame)
-    × TurnsTellEach next (start_of options id earlier now new) id number events replies handed (told_start (start_of options id earlier now new))
+    → (bytes ≡ (attempt_start_of options id earlier now new).frame)
+    × TurnsTellEach next (attempt_start_of options id earlier now new) id number events replies handed (told_start (attempt_start_of options id earlier now new))
 BegunTells next options id one answer bytes events replies handed earlier = Unit {0}
 
 -- So it is of each begin of the invocation, where each event has added these to the accepted events.

@@ -7,7 +7,7 @@
 //! laws.
 #![tactic(auto)]
 
-ghost use Rattle.schedule_laws.specs.Handing.{HandsOutInput};
+ghost use Rattle.schedule_laws.specs.HandedInput.{HandsOutInput};
 ghost use Rattle.schedule_laws.specs.FittingLaws.{AttemptsAreFedWell, AttemptsCanStart, MessagesMayCome};
 ghost use Rattle.schedule_laws.specs.Isolation.{AllAnswerAlone, AllKeepState, AllReplyAlike, AllStandAlone};
 ghost use Rattle.schedule_laws.specs.Laws.{FollowsHolds, FramesAreTaken, HoldsFollows, HoldsHeadline, HoldsNeverLate, HoldsTold, HoldsWakesExactly, KeptByEach, LeavesHolds, NoneRefused, ToldByEach};

@@ -10,7 +10,7 @@ use Rattle.schedule_model.specs.declared.event.Reply.TheVariants as reply
 use Rattle.schedule_model.specs.declared.event.EventRefusal.TheVariants as refusal
 use Rattle.schedule_model.specs.declared.held.HeldAttempt.{HeldAttempt}
 use Rattle.schedule_model.specs.First.{with_first, IsFirstAt}
-use Rattle.store_calls.specs.Standing.{Standing}
+use Rattle.store_calls.specs.AbstractStore.{Standing}
 use Rattle.store_calls.proofs.Taking.{same_stays}
 use Rattle.schedule_model.specs.Held.{is_held, held_of, with_attempt}
 use Rattle.schedule_model.specs.Schedule.{IfHeld, Scheduled, Applies}

@@ -4,8 +4,8 @@ use Rattle.journal_model.specs.Run.{Handler}
 use Rattle.protocol_errors.specs.declared.error.Error.{Error}
 use Rattle.vm_start.specs.declared.phase.Phase.{Phase}
 use Rattle.vm_start.specs.declared.phase.Phase.TheVariants as phases
-use Rattle.vm_attempt.specs.Feeding.{IsReady}
-use Rattle.vm_attempt.specs.Turning.{again, Turns, TurnsUnless}
+use Rattle.vm_attempt.specs.MachineInput.{TellsReady}
+use Rattle.vm_attempt.specs.TurnOutcomes.{again, Turns, TurnsUnless}
 use Rattle.vm_attempt.specs.declared.attempt.Attempt.{Attempt}
 use Rattle.vm_attempt.specs.declared.run_outcome.RunOutcome.{RunOutcome}
 use Rattle.vm_attempt.specs.declared.turn.Finish.{Finish}
@@ -32,6 +32,6 @@ module _ {H : Type 0} where
       let kept = closed_if is_closed seen in
       subst (λ (over : Option Finish). TurnsUnless function ran over kept turn kept) (sym (closed_over is_closed seen ∙ f.going)) (record {
         ready = Err again.0;
-        is_ready = subst (λ (phase : Phase). IsReady phase (Err again.0)) (sym (closed_phase is_closed seen ∙ f.failed)) again.1;
+        is_ready = subst (λ (phase : Phase). TellsReady phase (Err again.0)) (sym (closed_phase is_closed seen ∙ f.failed)) again.1;
         turns = (again.2, refl);
       })

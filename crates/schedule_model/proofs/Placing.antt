@@ -11,7 +11,7 @@ use Rattle.schedule_model.specs.Held.{is_held, held_of, with_attempt}
 use Rattle.schedule_model.proofs.Firsts.{first_found, first_missing, first_at, with_first_at}
 use Rattle.schedule_model.proofs.Holding.{held_is}
 use Rattle.schedule_model.specs.declared.places.AttemptPlaces.{AttemptPlaces}
-use Rattle.schedule_model.specs.Places.{first_of, place_in, Notes}
+use Rattle.schedule_model.specs.Places.{place_kept, place_in, Notes}
 use Rattle.schedule_model.specs.Indexed.{IsIndexed}
 use Rattle.schedule_model.specs.Lends.{held_as}
 
@@ -25,7 +25,7 @@ abbrev at_place : ℕ → ℕ → Option ℕ
 at_place found len = cond (ltb found len) (Some found) None
 
 one_more : (passes : Bool) (found len : ℕ) → found ≤ len
-    → at_place (cond (eqb found len) (len + cond passes 0 1) found) (len + 1) ≡ (if passes then first_of (at_place found len) len else at_place found len)
+    → at_place (cond (eqb found len) (len + cond passes 0 1) found) (len + 1) ≡ (if passes then place_kept (at_place found len) len else at_place found len)
 one_more true found len le = grind (arith, common_steps)
 one_more false found len le = grind (arith, common_steps)
 
@@ -38,7 +38,7 @@ module _ {A : Type 0} (test : A → Bool) where
       by_test true found len le = omega arith
       by_test false found len le = omega (arith, le)
 
-  pub position_push : (xs : List A) (x : A) → position test (xs ++ x ∷ []) ≡ (if test x then first_of (position test xs) (length xs) else position test xs)
+  pub position_push : (xs : List A) (x : A) → position test (xs ++ x ∷ []) ≡ (if test x then place_kept (position test xs) (length xs) else position test xs)
   position_push xs x =
       ap₂ at_place (position_or_len_push test xs x) (length-append xs (x ∷ [])) ∙ one_more (test x) (position_or_len test xs) (length xs) (within xs)
 
@@ -48,7 +48,7 @@ module _ {H : Type 0} where
       → Notes one.invocation one.number place old new → after ≡ held ++ one ∷ [] → IsIndexed new after
   indexed_push old new before held after one place indexed same at notes pushed id n =
       notes id n
-      ∙ ap₂ (λ (o : Option ℕ) (k : ℕ). if is_held id n one then first_of o k else o) (indexed id n ∙ ap (position (is_held id n)) (sym same)) at
+      ∙ ap₂ (λ (o : Option ℕ) (k : ℕ). if is_held id n one then place_kept o k else o) (indexed id n ∙ ap (position (is_held id n)) (sym same)) at
       ∙ sym (position_push (is_held id n) held one)
       ∙ ap (position (is_held id n)) (sym pushed)
 

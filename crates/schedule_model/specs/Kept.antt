@@ -1,9 +1,9 @@
 -- What memory has of an attempt that is held.
 use Rattle.std.specs.Prelude.{◌≡◌, Bool, true, false, [], Some, None}
 use Rattle.protocol_errors.specs.declared.error.Error.{Error}
-use Rattle.vm_start.specs.Failing.{IsCopy}
+use Rattle.vm_start.specs.FailureReport.{IsCopy}
 use Rattle.vm_start.specs.declared.phase.Phase.TheVariants as phases
-use Rattle.vm_attempt.specs.Feeding.{input_closed}
+use Rattle.vm_attempt.specs.MachineInput.{input_closed}
 use Rattle.vm_attempt.specs.Output.{output_of}
 use Rattle.vm_attempt.specs.declared.attempt.Attempt.{Attempt}
 use Rattle.vm_attempt.specs.declared.turn.Finish.{Finish}

@@ -9,7 +9,7 @@ use Rattle.vm_attempt.specs.declared.run_outcome.RunOutcome.{RunOutcome}
 use Rattle.schedule_model.specs.declared.event.Event.{Event}
 use Rattle.schedule_model.specs.declared.event.Reply.{Reply}
 use Rattle.schedule_model.specs.declared.held.HeldAttempt.{HeldAttempt}
-use Rattle.store_calls.specs.Standing.{Standing}
+use Rattle.store_calls.specs.AbstractStore.{Standing}
 use Rattle.schedule_model.specs.Held.{is_held, held_of}
 use Rattle.schedule_model.specs.Schedule.{IfHeld, FeedsOne, ClosesOne, MovesOne, TurnsOne, Scheduled, Applies, AppliesAll}
 

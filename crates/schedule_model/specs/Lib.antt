@@ -1,14 +1,14 @@
 pub mod First
 pub mod Held
 pub mod Kept
-pub mod Feeding
+pub mod InputFeed
 pub mod Schedule
-pub mod Fitting
+pub mod ArgumentBounds
 pub mod Laws
 pub mod Names
 pub mod Outcomes
 pub mod Attempts
-pub mod Coding
+pub mod HeldCode
 pub mod Places
 pub mod Indexed
 pub mod Lends

@@ -4,7 +4,7 @@ use Rattle.store_refusals.specs.Names as store
 use Rattle.schedule_model.specs.declared.event.EventRefusal.{EventRefusal}
 use Rattle.schedule_model.specs.declared.event.EventRefusal.TheVariants.{Store, JournalMismatchOutcome, AttemptNotHeld}
 
-abbrev pub name_of : EventRefusal → List ℕ
-name_of (Store refusal) = store.name_of refusal
-name_of JournalMismatchOutcome = codes "X1"
-name_of AttemptNotHeld = codes "X2"
+abbrev pub event_refusal_name_of : EventRefusal → List ℕ
+event_refusal_name_of (Store refusal) = store.refusal_name_of refusal
+event_refusal_name_of JournalMismatchOutcome = codes "X1"
+event_refusal_name_of AttemptNotHeld = codes "X2"

@@ -8,7 +8,7 @@ use Rattle.vm_types.specs.declared.options.VMOptions.{VMOptions}
 use Rattle.vm_attempt.specs.declared.attempt.Attempt.{Attempt}
 use Rattle.vm_attempt.specs.Attempt as attempts
 use Rattle.vm_attempt.specs.Output.{output_of, Gathers, Advances}
-use Rattle.vm_attempt.specs.Turning.{Turns}
+use Rattle.vm_attempt.specs.TurnOutcomes.{Turns}
 use Rattle.vm_attempt.specs.declared.run_outcome.RunOutcome.{RunOutcome}
 use Rattle.schedule_model.specs.declared.event.Event.{Event}
 use Rattle.schedule_model.specs.declared.event.Event.TheVariants as event
@@ -19,10 +19,10 @@ use Rattle.schedule_model.specs.declared.event.EventRefusal.TheVariants as refus
 use Rattle.schedule_model.specs.declared.held.HeldAttempt.{HeldAttempt}
 use Rattle.store_steps.specs.declared.frame.FrameReply.{FrameReply}
 use Rattle.store_calls.specs.declared.begun.BegunAttempt.{BegunAttempt}
-use Rattle.store_calls.specs.Standing.{Standing, Stays}
-use Rattle.store_calls.specs.Calls.{Invokes, Completes, Signals, Cancels, Ticks, Begins, BeginsAttempt, HandsOut, ClosesInput, Stops}
+use Rattle.store_calls.specs.AbstractStore.{Standing, StaysStanding}
+use Rattle.store_calls.specs.Calls.{Invokes, CompletesCall, Signals, Cancels, Ticks, BeginsStoredAttempt, BeginsAttempt, HandsOut, ClosesInput, Stops}
 use Rattle.store_calls.specs.Frames.{Accepts}
-use Rattle.schedule_model.specs.Feeding.{given_in, FeedsParts}
+use Rattle.schedule_model.specs.InputFeed.{given_in, FeedsParts}
 use Rattle.schedule_model.specs.Held.{held_of, with_attempt}
 use Rattle.schedule_model.specs.Outcomes.{tells_mismatch}
 
@@ -64,9 +64,9 @@ module _ {H : Type 0} where
   -- where memory is refused to the scheduler or to the attempt, it stays begun, and nobody holds it
   abbrev pub BeginDoes : VMOptions → Text → H → ℕ → Standing → List (HeldAttempt H) → Reply → Standing → List (HeldAttempt H) → Type 0
   BeginDoes options id handler now old held (reply.Begun number) new more =
-      (begun : BegunAttempt) × (number ≡ begun.number) × Begins id now begun old new × HoldsBegun options id handler begun held more
+      (begun : BegunAttempt) × (number ≡ begun.number) × BeginsStoredAttempt id now begun old new × HoldsBegun options id handler begun held more
   BeginDoes options id handler now old held (reply.Refused (refusal.Store why)) new more =
-      (BeginsAttempt id now (Err why) old new × (more ≡ held)) ⊎ ((begun : BegunAttempt) × (why ≡ OutOfMemory) × Begins id now begun old new × (more ≡ held))
+      (BeginsAttempt id now (Err why) old new × (more ≡ held)) ⊎ ((begun : BegunAttempt) × (why ≡ OutOfMemory) × BeginsStoredAttempt id now begun old new × (more ≡ held))
   BeginDoes options id handler now old held _ new more = ⊥
 
   -- ---- what is done with an attempt that is held
@@ -89,7 +89,7 @@ module _ {H : Type 0} where
 
   -- it makes a turn, whose body ends with this outcome if it executes one, and the store is not asked
   abbrev pub TurnsOne : (H → Handler) → RunOutcome → HeldAttempt H → Standing → Reply → Standing → Attempt H → Type 0
-  TurnsOne function outcome one old (reply.Turned turn) new changed = Turns function outcome one.attempt turn changed × Stays old new
+  TurnsOne function outcome one old (reply.Turned turn) new changed = Turns function outcome one.attempt turn changed × StaysStanding old new
   TurnsOne function outcome one old _ new changed = ⊥
 
   -- the next bytes go from it to the store, so many at most, and whole frames are taken; bytes that the store refuses stay first in line
@@ -103,7 +103,7 @@ module _ {H : Type 0} where
 
   -- an event is refused before anything is asked, and nothing changes
   abbrev pub RefusesAtOnce : EventRefusal → Standing → List (HeldAttempt H) → Reply → Standing → List (HeldAttempt H) → Type 0
-  RefusesAtOnce why old held answer new more = (answer ≡ reply.Refused why) × Stays old new × (more ≡ held)
+  RefusesAtOnce why old held answer new more = (answer ≡ reply.Refused why) × StaysStanding old new × (more ≡ held)
 
   -- the attempt that is held is changed in its place; one that is not held is refused before the store is asked
   abbrev pub IfHeld : (HeldAttempt H → Standing → Reply → Standing → Attempt H → Type 0) → Option (HeldAttempt H)
@@ -123,7 +123,7 @@ module _ {H : Type 0} where
   abbrev pub Does : (H → Handler) → VMOptions → Event H → Standing → List (HeldAttempt H) → Reply → Standing → List (HeldAttempt H) → Type 0
   Does function options (event.Invoke one) old held answer new more = RepliesDone (λ result. Invokes one result old new) answer × (more ≡ held)
   Does function options (event.Result id completion value) old held answer new more =
-      RepliesPlace (λ result. Completes id completion value result old new) answer × (more ≡ held)
+      RepliesPlace (λ result. CompletesCall id completion value result old new) answer × (more ≡ held)
   Does function options (event.Signal id key value) old held answer new more =
       RepliesPlace (λ result. Signals id key value result old new) answer × (more ≡ held)
   Does function options (event.Cancel id) old held answer new more = RepliesPlace (λ result. Cancels id result old new) answer × (more ≡ held)

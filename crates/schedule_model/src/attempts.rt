@@ -26,7 +26,7 @@ impl<H> Model for HeldAttempts<H> {
     ghost use Rattle.std.specs.Prelude.{List};
     ghost use Rattle.std.specs.Coded.{coded_list};
     ghost use Rattle.schedule_model.specs.declared.held.HeldAttempt.{HeldAttempt as Held};
-    ghost use Rattle.schedule_model.specs.Coding.{held_code};
+    ghost use Rattle.schedule_model.specs.HeldCode.{held_code};
     ghost use Rattle.schedule_model.specs.Indexed.{IsIndexed};
 
     ghost Value = { List (Held H) };

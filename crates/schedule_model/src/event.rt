@@ -1,6 +1,6 @@
 //! What may happen next, and what it came to.
 ghost use Rattle.std.specs.Prelude.{◌≡◌};
-ghost use Rattle.schedule_model.specs.Names.{name_of};
+ghost use Rattle.schedule_model.specs.Names.{event_refusal_name_of};
 
 use bytes::ByteStr;
 use journal_model::{NewInvocation, NotificationResult, SignalKey};
@@ -82,7 +82,7 @@ pub enum EventRefusal {
 impl EventRefusal {
     /// The name as it is printed.
     pub fn name(self) -> &'static str
-        ensures { result.now ≡ name_of self }
+        ensures { result.now ≡ event_refusal_name_of self }
     {
         match self {
             EventRefusal::Store(refusal) => refusal.name(),

@@ -12,7 +12,7 @@ ghost use Rattle.protocol_records.specs.InputCommand.{InputCommandFits};
 ghost use Rattle.protocol_laws.specs.Records.{id_record, result_record};
 ghost use Rattle.protocol_stream.specs.Records.{arrived_failure_record, header_record, input_record, pair_record};
 ghost use Rattle.protocol_wire.specs.declared.record.TheConstants.{LEVELS};
-ghost use Rattle.schedule_model.specs.Fitting.{ResultFits, signal_arrival};
+ghost use Rattle.schedule_model.specs.ArgumentBounds.{ResultFits, signal_arrival};
 
 use bytes::ByteStr;
 use journal_model::{Failure, Header, NewInvocation, NotificationResult, SignalKey};

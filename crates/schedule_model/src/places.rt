@@ -1,6 +1,5 @@
 // Where attempts stand, by invocation and number.
-ghost use Rattle.std.specs.Prelude.{◌≡◌, ℕ, List, OnOk, OnErr};
-ghost use Rattle.std.specs.Prelude.{nat_eq, bytes_eq, Some, None, Option};
+ghost use Rattle.std.specs.Prelude.{◌≡◌, ℕ, List, OnOk, OnErr, nat_eq, bytes_eq, Some, None, Option};
 ghost use Rattle.indexmap.specs.IndexMap.{get};
 ghost use Rattle.schedule_model.specs.Places.{Notes, number_in, place_in};
 

@@ -14,7 +14,7 @@ use Rattle.schedule_model.specs.Held.{held_of, with_attempt}
 use Rattle.schedule_model.specs.Lends.{held_as}
 use Rattle.schedule_model.specs.Schedule.{IfHeld, UnlessMismatch}
 use Rattle.schedule_model.specs.Attempts.{Attempt}
-use Rattle.store_calls.specs.Standing.{Standing}
+use Rattle.store_calls.specs.AbstractStore.{Standing}
 use Rattle.store_calls.proofs.Taking.{same_stays}
 use Rattle.journal_store.specs.Stored.{Stored}
 use Rattle.journal_store.specs.Stands.{Endures, Leads}

@@ -5,15 +5,15 @@ use Rattle.journal_model.specs.Notification.{Bytes, Text}
 use Rattle.journal_model.specs.Event.{Event}
 use Rattle.store_refusals.specs.declared.refusal.Refusal.{Refusal}
 use Rattle.store_steps.specs.declared.frame.FrameReply.{FrameReply}
-use Rattle.store_calls.specs.Standing.{Standing, Stays}
+use Rattle.store_calls.specs.AbstractStore.{Standing, StaysStanding}
 use Rattle.store_calls.specs.Calls.{PutsBehind}
 use Rattle.store_calls.specs.Frames.{Accepts, TakesEach}
 use Rattle.store_calls.proofs.Taking.{before_still, same_put, same_taken}
 use Rattle.journal_store.specs.Stands.{KeepsAll, Outlasts}
-use Rattle.journal_store.specs.Accepting.{OutlastsFrames}
+use Rattle.journal_store.specs.OutputAcceptance.{OutlastsFrames}
 use Rattle.scheduler.specs.Scheduled.{OutlastsRest}
 
-same_lasts : (id : Text) (n : ℕ) (why : Option Refusal) (m k : Standing) → Stays m k → (database : State) → OutlastsFrames id n why k database → OutlastsFrames id n why m database
+same_lasts : (id : Text) (n : ℕ) (why : Option Refusal) (m k : Standing) → StaysStanding m k → (database : State) → OutlastsFrames id n why k database → OutlastsFrames id n why m database
 same_lasts id n None m k same database it = subst (λ (events : List Event). Outlasts events database) same.events it
 same_lasts id n (Some why) m k same database it = λ trees may. elim (it trees may) [
   | inl kept ↦ inl (subst (λ (events : List Event). KeepsAll events trees) same.events kept)

@@ -14,7 +14,7 @@ use Rattle.store_steps.specs.declared.frame.FrameReply.{FrameReply}
 use Rattle.schedule_model.specs.Schedule.{MovesOne}
 use Rattle.schedule_model.specs.Attempts.{Attempt, output_of, Advances, Gathers, ShowsFirst}
 use Rattle.vm_attempt.proofs.Advancing.{gathered_advances, lets_first_go, shown_count, shown_bytes, without}
-use Rattle.store_calls.specs.Standing.{Standing, Stays}
+use Rattle.store_calls.specs.AbstractStore.{Standing, StaysStanding}
 use Rattle.store_calls.specs.Calls.{PutsBehind, RefusesBytes}
 use Rattle.store_calls.specs.Frames.{Accepts, AcceptsFirst, Rests}
 use Rattle.store_calls.proofs.Taking.{live_or_over, same_stays}
@@ -57,7 +57,7 @@ shown_cause g count bytes one between shows old new len frames replies many (Som
     (replies, many, subst (λ (some : Bytes). TellsWhyUnwritten g old new (TriesFrameOf one.invocation one.number some replies) why) shows.first tells)
 
 -- memory was refused, and nothing has changed
-pub memory_refuses : (id : Text) (n : ℕ) (s t : Standing) → Stays s t → RefusesBytes (is_live s.events id n) id n OutOfMemory s t
+pub memory_refuses : (id : Text) (n : ℕ) (s t : Standing) → StaysStanding s t → RefusesBytes (is_live s.events id n) id n OutOfMemory s t
 memory_refuses id n s t stays = by_live (is_live s.events id n)
   where
     by_live : (b : Bool) → RefusesBytes b id n OutOfMemory s t

@@ -7,13 +7,13 @@ use Rattle.sqlite.proofs.StateLemmas.{survives_then}
 use Rattle.journal_model.specs.Notification.{Bytes}
 use Rattle.store_refusals.specs.declared.refusal.Refusal.{Refusal}
 use Rattle.store_refusals.proofs.Causes.{tells_later}
-use Rattle.store_calls.specs.Standing.{Standing}
+use Rattle.store_calls.specs.AbstractStore.{Standing}
 use Rattle.store_calls.specs.Calls.{HandsOut}
 use Rattle.schedule_model.specs.Attempts.{Attempt}
 use Rattle.schedule_model.specs.declared.event.Reply.TheVariants as reply
 use Rattle.schedule_model.specs.declared.event.EventRefusal.TheVariants as refusal
 use Rattle.schedule_model.specs.declared.held.HeldAttempt.{HeldAttempt}
-use Rattle.schedule_model.specs.Feeding.{given_in, IsAskedAgain, IsAskedFor, HandsOutEach, FeedsEach}
+use Rattle.schedule_model.specs.InputFeed.{given_in, IsAskedAgain, IsAskedFor, HandsOutEach, FeedsEach}
 use Rattle.schedule_model.specs.Schedule.{FeedsOne}
 use Rattle.journal_store.specs.Causes.{TellsWhy}
 use Rattle.journal_store.specs.Stored.{Stored}

@@ -10,18 +10,18 @@ use Rattle.store_live.specs.Attempts.{Attempts}
 use Rattle.store_refusals.specs.declared.refusal.Refusal.{Refusal}
 use Rattle.store_refusals.specs.declared.refusal.Refusal.TheVariants.{OutOfMemory}
 use Rattle.journal_store.specs.Stored.{Stored}
-use Rattle.journal_store.specs.Stands.{Stands as StandsFor, Leads, Endures, EnduresAlways, IsQuiet, Outlasts, Settles, output_of}
+use Rattle.journal_store.specs.Stands.{Stands, Leads, Endures, EnduresAlways, IsQuiet, Outlasts, Settles, output_of}
 use Rattle.schedule_model.specs.declared.event.Event.{Event}
 use Rattle.schedule_model.specs.declared.event.Event.TheVariants as event
 use Rattle.schedule_model.specs.declared.event.Reply.{Reply}
 use Rattle.schedule_model.specs.declared.event.Reply.TheVariants as reply
 use Rattle.schedule_model.specs.declared.event.EventRefusal.TheVariants as refusal
 use Rattle.schedule_model.specs.declared.held.HeldAttempt.{HeldAttempt}
-use Rattle.store_calls.specs.Standing.{Standing}
+use Rattle.store_calls.specs.AbstractStore.{Standing}
 use Rattle.schedule_model.specs.Schedule.{Scheduled, Does, Applies}
-use Rattle.schedule_model.specs.Fitting.{FitsEvent}
+use Rattle.schedule_model.specs.ArgumentBounds.{FitsEvent}
 use Rattle.scheduler.specs.declared.scheduler.Scheduler.{Scheduler}
-use Rattle.scheduler.specs.Scheduled.{IsScheduled, IsWritten, OutlastsEvent, AppliesWith, CommitsNothing, IsTakenUp, LastsBy, LeadsBy, Performs, Spares, SparesWhere, TakesLive, TellsCauseOf, refusal_told, reply_to}
+use Rattle.scheduler.specs.Scheduled.{IsScheduled, IsEventWritten, OutlastsEvent, AppliesWith, CommitsNothing, IsTakenUp, LastsBy, LeadsBy, Performs, Spares, SparesWhere, TakesLive, TellsCauseOf, refusal_told, reply_to}
 use Rattle.scheduler.proofs.Replying.{told_refused}
 use Rattle.journal_store.specs.Attempts.{BeginsSome}
 use Rattle.journal_store.proofs.Enduring.{always_endures, endures_so, quiet_endures}
@@ -40,7 +40,7 @@ module _ {H S : Type 0} (g : Ghosts S) where
       )
 
   -- a read leaves what it stands for
-  pub read_still : (s : Scheduled H) (old : Scheduler H S) (store : Stored S) → IsScheduled g s old → StandsFor s.standing.events (state g store.connection) store.live.attempts
+  pub read_still : (s : Scheduled H) (old : Scheduler H S) (store : Stored S) → IsScheduled g s old → Stands s.standing.events (state g store.connection) store.live.attempts
       → store.live ≡ old.store.live → IsScheduled g s (record old { store = store })
   read_still s old store is stands live = record {
     standing = record { stands = stands; outputs = λ id. is.standing.outputs id ∙ ap (λ (l : Attempts). output_of l.attempts id) (sym live) };
@@ -80,7 +80,7 @@ module _ {H S : Type 0} (g : Ghosts S) (function : H → Handler) where
 
   module _ (one : Event H) (old : Scheduler H S) where
     -- nothing of it is written
-    pub performs_quiet : (answer : Reply) (new : Scheduler H S) → (IsWritten one answer → ⊥) → new.options ≡ old.options → FitsEvent one → TakesLive one answer old.store → SparesAtOnce answer old new
+    pub performs_quiet : (answer : Reply) (new : Scheduler H S) → (IsEventWritten one answer → ⊥) → new.options ≡ old.options → FitsEvent one → TakesLive one answer old.store → SparesAtOnce answer old new
         → CommitsNothing g one old.store new.store → IsQuiet g old.store new.store → IfSome (refusal_told answer) (TellsCauseOf g one old.held answer old.store new.store) → LeadsBy g function one answer old new
         → Performs g function one answer old new
     performs_quiet answer new never options fits live spares nothing quiet cause does = record {
@@ -95,18 +95,18 @@ module _ {H S : Type 0} (g : Ghosts S) (function : H → Handler) where
     }
 
     -- all is as it was
-    performs_nothing : (answer : Reply) → (IsWritten one answer → ⊥) → FitsEvent one → TakesLive one answer old.store → CommitsNothing g one old.store old.store
+    performs_nothing : (answer : Reply) → (IsEventWritten one answer → ⊥) → FitsEvent one → TakesLive one answer old.store → CommitsNothing g one old.store old.store
         → IfSome (refusal_told answer) (TellsCauseOf g one old.held answer old.store old.store) → LeadsBy g function one answer old old → Performs g function one answer old old
     performs_nothing answer never fits live nothing cause does =
         performs_quiet answer old never refl fits live (record { unheld = λ is. refl; mismatch = λ is. refl }) nothing (same_quiet g old.store) cause does
 
     -- nobody holds the attempt that it names
-    pub performs_unheld : (IsWritten one (reply.Refused refusal.AttemptNotHeld) → ⊥) → FitsEvent one → TakesLive one (reply.Refused refusal.AttemptNotHeld) old.store → CommitsNothing g one old.store old.store
+    pub performs_unheld : (IsEventWritten one (reply.Refused refusal.AttemptNotHeld) → ⊥) → FitsEvent one → TakesLive one (reply.Refused refusal.AttemptNotHeld) old.store → CommitsNothing g one old.store old.store
         → LeadsBy g function one (reply.Refused refusal.AttemptNotHeld) old old → Performs g function one (reply.Refused refusal.AttemptNotHeld) old old
     performs_unheld never fits live nothing does = performs_nothing (reply.Refused refusal.AttemptNotHeld) never fits live nothing tt does
 
     -- the outcome of a turn tells a mismatch
-    pub performs_mismatch : (IsWritten one (reply.Refused refusal.JournalMismatchOutcome) → ⊥) → FitsEvent one → TakesLive one (reply.Refused refusal.JournalMismatchOutcome) old.store → CommitsNothing g one old.store old.store
+    pub performs_mismatch : (IsEventWritten one (reply.Refused refusal.JournalMismatchOutcome) → ⊥) → FitsEvent one → TakesLive one (reply.Refused refusal.JournalMismatchOutcome) old.store → CommitsNothing g one old.store old.store
         → LeadsBy g function one (reply.Refused refusal.JournalMismatchOutcome) old old → Performs g function one (reply.Refused refusal.JournalMismatchOutcome) old old
     performs_mismatch never fits live nothing does = performs_nothing (reply.Refused refusal.JournalMismatchOutcome) never fits live nothing tt does
 
@@ -130,9 +130,9 @@ module _ {H S : Type 0} (g : Ghosts S) (function : H → Handler) where
       stored_spares (Ok done) = spares_taken_up (says done) old new (taken done)
       stored_spares (Err why) = spares_taken_up (reply.Refused (refusal.Store why)) old new tt
 
-      module _ (never : (why : Refusal) → IsWritten one (reply.Refused (refusal.Store why)) → ⊥)
+      module _ (never : (why : Refusal) → IsEventWritten one (reply.Refused (refusal.Store why)) → ⊥)
           (outlasts : (answer : Reply) (t : Standing) (database : State) → Outlasts t.events database → OutlastsEvent one answer t database) where
-        stored_lasts : (told : Result A Refusal) → OnOk told (Settles g (Did told) old.store store) → IsWritten one (reply_to says told) → LastsBy g function one (reply_to says told) old new
+        stored_lasts : (told : Result A Refusal) → OnOk told (Settles g (Did told) old.store store) → IsEventWritten one (reply_to says told) → LastsBy g function one (reply_to says told) old new
         stored_lasts (Ok done) settled written clean s is =
             let it = settled clean s is in
             (it.0, it.1, (so (Ok done) s it.0 it.2, outlasts (says done) it.0 (state g store.connection) it.3))

@@ -7,7 +7,7 @@ use Rattle.journal_model.specs.Notification.{Text}
 use Rattle.journal_model.specs.Run.{Handler}
 use Rattle.vm_types.specs.declared.options.VMOptions.{VMOptions}
 use Rattle.store_refusals.specs.declared.refusal.Refusal.TheVariants.{OutOfMemory}
-use Rattle.store_calls.specs.Standing.{Standing}
+use Rattle.store_calls.specs.AbstractStore.{Standing}
 use Rattle.journal_store.specs.Stands.{Endures}
 use Rattle.schedule_model.specs.Attempts.{RunOutcome}
 use Rattle.schedule_model.specs.declared.event.Event.{Event}

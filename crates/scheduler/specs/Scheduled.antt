@@ -9,9 +9,9 @@ use Rattle.journal_model.specs.Run.{Handler}
 use Rattle.vm_types.specs.declared.options.VMOptions.{VMOptions}
 use Rattle.store_refusals.specs.declared.refusal.Refusal.{Refusal}
 use Rattle.store_refusals.specs.declared.refusal.Refusal.TheVariants.{OutOfMemory}
-use Rattle.store_refusals.specs.Prepared.{Tells}
+use Rattle.store_refusals.specs.Prepared.{TellsOrRefuses}
 use Rattle.store_invocations.specs.Rows.{Decides, known_tests}
-use Rattle.journal_store.specs.Accepting.{OutlastsFrames}
+use Rattle.journal_store.specs.OutputAcceptance.{OutlastsFrames}
 use Rattle.journal_store.specs.Causes.{TellsWhy, TellsWhyUnwritten, TriesEvent, TriesFrameOf}
 use Rattle.journal_store.specs.Stored.{Stored}
 use Rattle.journal_store.specs.Words.{attempt_of, has_number}
@@ -29,9 +29,9 @@ use Rattle.schedule_model.specs.Held.{held_of}
 use Rattle.store_steps.specs.declared.frame.FrameReply.{FrameReply}
 use Rattle.store_calls.specs.Calls.{HandsOut}
 use Rattle.store_calls.specs.Frames.{Rests}
-use Rattle.store_calls.specs.Standing.{Standing}
+use Rattle.store_calls.specs.AbstractStore.{Standing}
 use Rattle.schedule_model.specs.Schedule.{Scheduled, MovesOne, Does}
-use Rattle.schedule_model.specs.Fitting.{FitsEvent}
+use Rattle.schedule_model.specs.ArgumentBounds.{FitsEvent}
 use Rattle.scheduler.specs.declared.scheduler.Scheduler.{Scheduler}
 
 abbrev pub IsDone : Reply → Type 0
@@ -56,15 +56,15 @@ HasTakenFrames (reply.Moved bytes frames why) = frames ≢ 0
 HasTakenFrames _ = ⊥
 
 -- an event is answered so that something of it was written
-abbrev pub IsWritten : {H : Type 0} → scheduled.Event H → Reply → Type 0
-IsWritten (event.Invoke one) answer = IsDone answer
-IsWritten (event.Result id completion value) answer = IsPlaced answer
-IsWritten (event.Signal id key value) answer = IsPlaced answer
-IsWritten (event.Cancel id) answer = IsPlaced answer
-IsWritten (event.Tick now) answer = HasTicked answer
-IsWritten (event.Begin id handler now) answer = HasBegun answer
-IsWritten (event.Move id attempt count) answer = HasTakenFrames answer
-IsWritten _ answer = ⊥
+abbrev pub IsEventWritten : {H : Type 0} → scheduled.Event H → Reply → Type 0
+IsEventWritten (event.Invoke one) answer = IsDone answer
+IsEventWritten (event.Result id completion value) answer = IsPlaced answer
+IsEventWritten (event.Signal id key value) answer = IsPlaced answer
+IsEventWritten (event.Cancel id) answer = IsPlaced answer
+IsEventWritten (event.Tick now) answer = HasTicked answer
+IsEventWritten (event.Begin id handler now) answer = HasBegun answer
+IsEventWritten (event.Move id attempt count) answer = HasTakenFrames answer
+IsEventWritten _ answer = ⊥
 
 -- ---- a part of a feed
 
@@ -81,8 +81,8 @@ refused_behind fed why = if fed == 0 then reply.Refused (refusal.Store why) else
 -- ---- a live attempt
 
 -- this attempt is the live one of the invocation
-abbrev pub IsLive : {S : Type 0} → Text → (attempt : ℕ) → Stored S → Type 0
-IsLive id attempt store = has_number attempt (attempt_of store.live.attempts id) ≡ true
+abbrev pub IsLiveAttempt : {S : Type 0} → Text → (attempt : ℕ) → Stored S → Type 0
+IsLiveAttempt id attempt store = has_number attempt (attempt_of store.live.attempts id) ≡ true
 
 -- it is done, or nobody holds the attempt
 abbrev pub IsDoneIfHeld : Reply → Type 0
@@ -98,8 +98,8 @@ IsMovedIfHeld _ = ⊥
 
 -- Whatever the store stands for: a stop of a live attempt that is held is never refused, nor are its bytes but for want of memory.
 abbrev pub TakesLive : {H S : Type 0} → scheduled.Event H → Reply → Stored S → Type 0
-TakesLive (event.Stop id attempt) answer store = IsLive id attempt store → IsDoneIfHeld answer
-TakesLive (event.Move id attempt count) answer store = IsLive id attempt store → IsMovedIfHeld answer
+TakesLive (event.Stop id attempt) answer store = IsLiveAttempt id attempt store → IsDoneIfHeld answer
+TakesLive (event.Move id attempt count) answer store = IsLiveAttempt id attempt store → IsMovedIfHeld answer
 TakesLive _ answer store = Unit {0}
 
 -- ---- an event that is refused before the store is asked
@@ -148,7 +148,7 @@ TellsCauseOfMove g count one _ old new why = TellsWhy g old new why
 -- one of the next frame of the attempt that is held. A turn asks nothing.
 abbrev pub TellsCauseOf : {H S : Type 0} → Ghosts S → scheduled.Event H → (held : List (HeldAttempt H)) → Reply → Stored S → Stored S → Refusal → Type 0
 TellsCauseOf g (event.Invoke one) held answer old new why = TellsWhyUnwritten g old new (TriesEvent (Event.Invoke one)) why
-TellsCauseOf g (event.Result id completion value) held answer old new why = TellsWhyUnwritten g old new (TriesEvent (Event.Complete id completion value)) why
+TellsCauseOf g (event.Result id completion value) held answer old new why = TellsWhyUnwritten g old new (TriesEvent (Event.Result id completion value)) why
 TellsCauseOf g (event.Signal id key value) held answer old new why = TellsWhyUnwritten g old new (TriesEvent (Event.Signal id key value)) why
 TellsCauseOf g (event.Cancel id) held answer old new why = TellsWhyUnwritten g old new (TriesEvent (Event.Cancel id)) why
 TellsCauseOf g (event.Tick now) held answer old new why = TellsWhyUnwritten g old new (TriesEvent (Event.Tick now)) why
@@ -208,7 +208,7 @@ module _ {H S : Type 0} (g : Ghosts S) (function : H → Handler) where
   -- all that is promised of an event, of which `apply` says what each clause is for
   pub record Performs (one : scheduled.Event H) (answer : Reply) (old new : Scheduler H S) : Type 0 where
     pub does : LeadsBy one answer old new
-    pub lasts : IsWritten one answer → LastsBy one answer old new
+    pub lasts : IsEventWritten one answer → LastsBy one answer old new
     pub options : new.options ≡ old.options
     pub fits : FitsEvent one
     pub live : TakesLive one answer old.store
@@ -228,7 +228,7 @@ module _ {H S : Type 0} (g : Ghosts S) where
   abbrev pub TellsAlways : {A : Type 0} → (List Event → A → Type 0) → Result A Refusal → Scheduler H S → Scheduler H S → Type 0
   TellsAlways IsTold result old new =
       HasCleanDisk (state g new.store.connection) → (s : Scheduled H) → IsScheduled s old
-      → Tells (IsTold s.standing.events) result × IsScheduled s new
+      → TellsOrRefuses (IsTold s.standing.events) result × IsScheduled s new
 
   -- Of whatever it stood for a scheduler tells this where its accepted events know the invocation, and is refused where they do not; and
   -- it stands for that then.

@@ -1,5 +1,5 @@
 -- Schedules and their events, passed on, so that crates above name this one alone.
-pub use Rattle.schedule_model.specs.Names.{name_of}
+pub use Rattle.schedule_model.specs.Names.{event_refusal_name_of}
 pub use Rattle.schedule_model.specs.Schedule.{Scheduled, Applies, AppliesAll, Brings, Does}
 pub use Rattle.schedule_model.specs.declared.event.Event.TheVariants as event
 pub use Rattle.schedule_model.specs.declared.event.Event.{Event}

@@ -4,7 +4,7 @@ ghost use Rattle.journal_store.specs.Stands.{Endures, Leads};
 ghost use Rattle.schedule_model.specs.Attempts.{has_stopped, IsMadeAndFed};
 ghost use Rattle.schedule_model.specs.Lends.{held_as};
 ghost use Rattle.schedule_model.specs.Schedule.{MovesOne};
-ghost use Rattle.scheduler.specs.Scheduled.{HasTakenFrames, IsLive, IsMovedIfHeld, IsTakenUp, LeadsMoved, MovesSome, TellsCauseOfMove, refusal_told};
+ghost use Rattle.scheduler.specs.Scheduled.{HasTakenFrames, IsLiveAttempt, IsMovedIfHeld, IsTakenUp, LeadsMoved, MovesSome, TellsCauseOfMove, refusal_told};
 
 use bytes::{ByteStr, Bytes};
 use journal_model::Handler;
@@ -68,7 +68,7 @@ pub(crate) fn move_output<H: Handler + Drop, S: Alter + Drop>(
     ensures does { Leads S.Store (λ s t. MovesOne count (held_as invocation.now number attempt.old) s result t attempt.new) store.old store.new }
     ensures settled { HasTakenFrames result → LeadsMoved S.Store invocation.now number result (λ s t. MovesOne count (held_as invocation.now number attempt.old) s result t attempt.new) store.old store.new }
     ensures held { IsTakenUp result }
-    ensures live { IsLive invocation.now number store.old → IsMovedIfHeld result }
+    ensures live { IsLiveAttempt invocation.now number store.old → IsMovedIfHeld result }
     ensures cause { IfSome (refusal_told result) (TellsCauseOfMove S.Store count (held_as invocation.now number attempt.old) result store.old store.new) }
     ensures crash { Endures S.Store (MovesSome count (held_as invocation.now number attempt.old)) store.old store.new }
 {

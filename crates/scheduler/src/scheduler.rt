@@ -14,8 +14,8 @@ ghost use Rattle.journal_store.specs.Attempts.{BeginsSome};
 ghost use Rattle.journal_store.specs.Causes.{TellsWhy, TellsWhyUnwritten, TriesEvent};
 ghost use Rattle.journal_store.specs.Stands.{Endures, EnduresAlways, IsQuiet, Leads, Settles};
 ghost use Rattle.schedule_model.specs.Schedule.{BeginDoes, Applies, Scheduled};
-ghost use Rattle.schedule_model.specs.Fitting.{FitsEvent};
-ghost use Rattle.scheduler.specs.Scheduled.{AppliesWith, HasBegun, IsScheduled, IsTakenUp, IsWritten, OutlastsEvent, Performs, Spares, TakesLive, TellsAlways, TellsCauseOf, TellsOf, refusal_told};
+ghost use Rattle.schedule_model.specs.ArgumentBounds.{FitsEvent};
+ghost use Rattle.scheduler.specs.Scheduled.{AppliesWith, HasBegun, IsScheduled, IsTakenUp, IsEventWritten, OutlastsEvent, Performs, Spares, TakesLive, TellsAlways, TellsCauseOf, TellsOf, refusal_told};
 
 use crate::feeding::feed_in;
 use crate::held::{make, move_output};
@@ -252,7 +252,7 @@ impl<H: Handler + Drop, S: Alter + Drop> Scheduler<H, S> {
         ensures does { HasCleanDisk (state S.Store self.new.store.connection) → (old : Scheduled H) → IsScheduled S.Store old self.old → (new : Scheduled H) × IsScheduled S.Store new self.new × Applies H.next_call self.old.options event result old new }
         ensures options { self.new.options ≡ self.old.options }
         // What is answered as written lasts: whatever a crash leaves from then on, the tables keep it.
-        ensures settled { IsWritten event result → HasCleanDisk (state S.Store self.new.store.connection) → (old : Scheduled H) → IsScheduled S.Store old self.old → (new : Scheduled H) × IsScheduled S.Store new self.new × Applies H.next_call self.old.options event result old new × OutlastsEvent event result new.standing (state S.Store self.new.store.connection) }
+        ensures settled { IsEventWritten event result → HasCleanDisk (state S.Store self.new.store.connection) → (old : Scheduled H) → IsScheduled S.Store old self.old → (new : Scheduled H) × IsScheduled S.Store new self.new × Applies H.next_call self.old.options event result old new × OutlastsEvent event result new.standing (state S.Store self.new.store.connection) }
         ensures fits { FitsEvent event }
         // A stop of a live attempt that is held is never refused, nor are its bytes but for want of memory, whatever the store stands for.
         ensures live { TakesLive event result self.old.store }

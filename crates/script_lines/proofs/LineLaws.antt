@@ -25,7 +25,7 @@ use Rattle.script_lines.specs.declared.line.Line.{Line}
 use Rattle.script_lines.specs.declared.line.Line.TheVariants.{Invoke, Result as ResultLine, Signal, Cancel, Tick, Begin, Feed, Close, Turn, Move, Stop, Due, Show, State}
 use Rattle.script_lines.specs.Word.{text_word, IsText, IsWordByte, mode_word, handler_word, target_word, IsTarget, value_word, IsValue, coded_word, IsCoded, outcome_word, IsOutcome}
 use Rattle.script_lines.specs.Line.{words_of, spelled, IsLine, outcome_words}
-use Rattle.script_lines.specs.Reading.{then_read, invoke_of, result_of, signal_of, cancel_of, tick_of, begin_of, feed_of, close_of, turns_of, turn_of, ending_turn_of, move_of, stop_of, show_of, state_of, of_none, of_one, of_two, of_three, of_six, of_turn, command_of, arguments_of, line_of}
+use Rattle.script_lines.specs.LineReader.{then_read, invoke_of, result_of, signal_of, cancel_of, tick_of, begin_of, feed_of, close_of, turns_of, turn_line, ending_turn_of, move_of, stop_of, show_of, state_word, of_none, of_one, of_two, of_three, of_six, of_turn, command_of, arguments_of, line_of}
 use Rattle.script_lines.proofs.WordLaws.{number_32, number_64, text_reading, mode_reading, handler_reading, read_step, chosen, tested}
 use Rattle.script_lines.proofs.TargetLaws.{target_reading}
 use Rattle.script_lines.proofs.ValueLaws.{value_reading}
@@ -134,8 +134,8 @@ turns_again attempt count a least c =
     let some : eqb count 0 ≡ false = ne_eqb count 0 (λ e. omega arith) in
     rw (number_32.again attempt a, number_32.again count c, some) refl
 
-turn_takes : (id attempt count : List ℕ) (line : Line) → turn_of id attempt count ≡ Some line → Spells (codes "turn" ∷ id ∷ attempt ∷ count ∷ []) line
-unfolding turn_of
+turn_takes : (id attempt count : List ℕ) (line : Line) → turn_line id attempt count ≡ Some line → Spells (codes "turn" ∷ id ∷ attempt ∷ count ∷ []) line
+unfolding turn_line
 turn_takes id attempt count line e =
     let t = read_step e in let i = read_step t.2 in
     let counts = turns_take attempt count t.0 t.1 in
@@ -182,8 +182,8 @@ show_takes id line e =
     let it = text_reading.takes id i.0 i.1 in
     made _ (Show i.0) line i.2 (record { is_line = it.0; same = next refl (next it.1 refl) })
 
-state_takes : (object : List ℕ) (line : Line) → state_of object ≡ Some line → Spells (codes "state" ∷ object ∷ []) line
-unfolding state_of
+state_takes : (object : List ℕ) (line : Line) → state_word object ≡ Some line → Spells (codes "state" ∷ object ∷ []) line
+unfolding state_word
 state_takes object line e =
     let o = read_step e in
     let ot = text_reading.takes object o.0 o.1 in
@@ -278,7 +278,7 @@ arguments_take MoveCommand words line e = let w = three_words move_of words line
 arguments_take StopCommand words line e = let w = two_words stop_of words line e in retold _ words _ line w.2 (stop_takes w.0 w.1 line w.3)
 arguments_take DueCommand words line e = let w = no_words Due words line e in retold _ words _ line w.0 (subst (λ (l : Line). Spells (codes "due" ∷ []) l) w.1 (record { is_line = tt; same = refl }))
 arguments_take ShowCommand words line e = let w = one_words show_of words line e in retold _ words _ line w.1 (show_takes w.0 line w.2)
-arguments_take StateCommand words line e = let w = one_words state_of words line e in retold _ words _ line w.1 (state_takes w.0 line w.2)
+arguments_take StateCommand words line e = let w = one_words state_word words line e in retold _ words _ line w.1 (state_takes w.0 line w.2)
 
 line_takes : (words : List (List ℕ)) (line : Line) → line_of words ≡ Some line → Spells words line
 unfolding line_of
@@ -291,7 +291,7 @@ line_takes (word ∷ words) line e =
 -- ---- what is spelled so is read
 
 line_again : (line : Line) → IsLine line → line_of (words_of line) ≡ Some line
-unfolding line_of then_read command_of arguments_of of_none of_one of_two of_three of_six of_turn invoke_of result_of signal_of cancel_of tick_of begin_of feed_of close_of turn_of ending_turn_of move_of stop_of show_of state_of
+unfolding line_of then_read command_of arguments_of of_none of_one of_two of_three of_six of_turn invoke_of result_of signal_of cancel_of tick_of begin_of feed_of close_of turn_line ending_turn_of move_of stop_of show_of state_word
 line_again (Invoke id object version state seed input) h =
     rw (text_reading.again id h.0, text_reading.again object h.1, number_32.again version h.2, mode_reading.again state tt, number_64.again seed h.3, text_reading.again input h.4) refl
 line_again (ResultLine id completion value) h = rw (text_reading.again id h.0, number_32.again completion h.1, value_reading.again value h.2) refl

@@ -6,7 +6,7 @@ use Rattle.std.proofs.lemmas.List.Elements.{All-from_recursion, recursion_from_A
 use Rattle.script_lines.specs.declared.outcome.LineOutcome.{LineOutcome}
 use Rattle.script_lines.specs.declared.outcome.LineOutcome.TheVariants.{Success, Failure, Retry}
 use Rattle.script_lines.specs.Word.{IsWordByte, IsCoded, coded_word, outcome_word, IsOutcome}
-use Rattle.script_lines.specs.Reading.{then_read, printable_of, at_colon, coded_of, outcome_in, outcome_of}
+use Rattle.script_lines.specs.LineReader.{then_read, printable_of, at_colon, coded_of, outcome_in, outcome_of}
 use Rattle.script_lines.proofs.WordLaws.{IsReading, printable_takes, printable_again, read_step, chosen}
 use Rattle.script_lines.proofs.ValueLaws.{colon_takes, colon_again, coded_takes, coded_again, kind_is}
 

@@ -5,7 +5,7 @@ use Rattle.std.proofs.lemmas.Option.{none-some, same_Some}
 use Rattle.journal_model.specs.declared.notification.SignalKey.{SignalKey}
 use Rattle.journal_model.specs.declared.notification.SignalKey.TheVariants.{ByIndex, ByName}
 use Rattle.script_lines.specs.Word.{text_word, number_word, target_word, IsTarget}
-use Rattle.script_lines.specs.Reading.{then_read, number_below, signal_number_of, named_target_of, target_from, target_of}
+use Rattle.script_lines.specs.LineReader.{then_read, number_below, signal_number_of, named_target_of, target_from, target_of}
 use Rattle.script_lines.proofs.WordLaws.{IsReading, number_32, text_reading, read_step, chosen}
 
 -- a number is read where one is spelled

@@ -15,7 +15,7 @@ use Rattle.std.proofs.lemmas.List.Sums.{split_at_first, passes_at_first}
 use Rattle.script_lines.specs.declared.value.LineValue.{LineValue}
 use Rattle.script_lines.specs.declared.value.LineValue.TheVariants.{Void, Value, Failure, InvocationId}
 use Rattle.script_lines.specs.Word.{IsWordByte, IsCoded, coded_word, value_word, IsValue}
-use Rattle.script_lines.specs.Reading.{then_read, printable_of, at_colon, coded_of, value_in, value_of}
+use Rattle.script_lines.specs.LineReader.{then_read, printable_of, at_colon, coded_of, value_in, value_of}
 use Rattle.script_lines.proofs.WordLaws.{IsReading, number_16, printable_takes, printable_again, read_step, chosen}
 
 -- ---- at the first colon

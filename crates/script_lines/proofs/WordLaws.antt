@@ -16,7 +16,7 @@ use Rattle.script_lines.specs.declared.word.StateMode.TheVariants.{Whole, Hidden
 use Rattle.script_lines.specs.declared.word.HandlerName.{HandlerName}
 use Rattle.script_lines.specs.declared.word.HandlerName.TheVariants.{Nap, Nap99, Race, Both, Ask, Pair, Twice, Keys, Read, Effect, Go, Hook, Quorum}
 use Rattle.script_lines.specs.Word.{text_word, IsWordByte, IsText, mode_word, handler_word}
-use Rattle.script_lines.specs.Reading.{then_read, is_word_byte, number_below, printable_of, text_of, mode_of, handler_of}
+use Rattle.script_lines.specs.LineReader.{then_read, is_word_byte, number_below, printable_of, text_read, mode_of, handler_of}
 
 -- reading is the other way round from spelling
 pub record IsReading {A : Type 0} (read : List ℕ → Option A) (spelled : A → List ℕ) (IsValue : A → Type 0) : Type 0 where
@@ -171,8 +171,8 @@ pub printable_again : (text : List ℕ) → AllByRecursion IsWordByte text → p
 unfolding printable_of
 printable_again text h = rw (printable_to text h) refl
 
-text_takes : (word text : List ℕ) → text_of word ≡ Some text → IsText text × (word ≡ text_word text)
-unfolding text_of
+text_takes : (word text : List ℕ) → text_read word ≡ Some text → IsText text × (word ≡ text_word text)
+unfolding text_read
 text_takes word text e =
     elim (chosen (bytes_eq word (codes "-")) (Some []) (cond (ltb 0 (length word)) (printable_of word) None) (Some text) e) [
       | inl dash ↦
@@ -194,15 +194,15 @@ text_takes word text e =
           ]
     ]
 
-text_again : (text : List ℕ) → IsText text → text_of (text_word text) ≡ Some text
-unfolding text_of
+text_again : (text : List ℕ) → IsText text → text_read (text_word text) ≡ Some text
+unfolding text_read
 text_again [] h = refl
 text_again (byte ∷ bytes) h =
     let other : bytes_eq (byte ∷ bytes) (codes "-") ≡ false = not_true _ (λ e. h.no_dash ((bytes_eq-Decides (byte ∷ bytes) (codes "-")).0 e)) in
     let long : ltb 0 (length (byte ∷ bytes)) ≡ true = lt-ltb _ _ (omega arith) in
     rw (other, long) (printable_again (byte ∷ bytes) (recursion_from_All IsWordByte (byte ∷ bytes) h.bytes))
 
-pub text_reading : IsReading text_of text_word IsText
+pub text_reading : IsReading text_read text_word IsText
 text_reading = record { takes = text_takes; again = text_again }
 
 ascii : (bytes : List ℕ) → AllByRecursion IsWordByte bytes → (i : ℕ) → get_or bytes i 0 < 128

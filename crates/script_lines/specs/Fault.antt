@@ -10,9 +10,9 @@ status_of LineOutOfMemory = 2
 status_of TextOutOfMemory = 2
 status_of OutputUnwritable = 2
 
-abbrev pub fault_text : ScriptFault → List ℕ
-fault_text (LineNotUnderstood number) = codes "line " ++ decimal number ++ codes ": not understood"
-fault_text ScriptUnreadable = codes "script cannot be read"
-fault_text LineOutOfMemory = codes "script cannot be read"
-fault_text TextOutOfMemory = codes "output cannot be written"
-fault_text OutputUnwritable = codes "output cannot be written"
+abbrev pub line_fault_text : ScriptFault → List ℕ
+line_fault_text (LineNotUnderstood number) = codes "line " ++ decimal number ++ codes ": not understood"
+line_fault_text ScriptUnreadable = codes "script cannot be read"
+line_fault_text LineOutOfMemory = codes "script cannot be read"
+line_fault_text TextOutOfMemory = codes "output cannot be written"
+line_fault_text OutputUnwritable = codes "output cannot be written"

@@ -1,6 +1,6 @@
 pub mod Word
 pub mod Line
-pub mod Reading
+pub mod LineReader
 pub mod Script
 pub mod ScriptLines
 pub mod Text

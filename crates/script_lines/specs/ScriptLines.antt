@@ -9,5 +9,5 @@ abbrev pub lines_left : ScriptLines → List (ℕ × List ℕ)
 lines_left lines = numbered_from (lines.passed + 1) lines.lines
 
 -- a line and its number
-abbrev pub numbered : NumberedLine → ℕ × List ℕ
-numbered line = (line.number, line.bytes.now)
+abbrev pub line_numbered : NumberedLine → ℕ × List ℕ
+line_numbered line = (line.number, line.bytes.now)

@@ -12,9 +12,9 @@ use Rattle.script_lines.specs.declared.outcome.LineOutcome.{LineOutcome}
 use Rattle.script_lines.specs.declared.outcome.LineOutcome.TheVariants as outcome
 
 -- what a reader answers: the value that the bytes spell, and nothing where they spell none
-abbrev pub Reads : {A : Type 0} → (A → List ℕ) → (A → Type 0) → List ℕ → Option A → Type 0
-Reads spelled IsValue bytes (Some value) = IsValue value × (bytes ≡ spelled value)
-Reads spelled IsValue bytes None = (value : _) → IsValue value → bytes ≢ spelled value
+abbrev pub ReadsWord : {A : Type 0} → (A → List ℕ) → (A → Type 0) → List ℕ → Option A → Type 0
+ReadsWord spelled IsValue bytes (Some value) = IsValue value × (bytes ≡ spelled value)
+ReadsWord spelled IsValue bytes None = (value : _) → IsValue value → bytes ≢ spelled value
 
 -- a text's word: its bytes, and a dash for the empty text
 abbrev pub text_word : List ℕ → List ℕ

@@ -39,9 +39,9 @@ impl ScriptFault {
 }
 
 impl fmt::Display for ScriptFault {
-    ghost use Rattle.script_lines.specs.Fault.{fault_text};
+    ghost use Rattle.script_lines.specs.Fault.{line_fault_text};
 
-    ghost output = { λ fault. Some (fault_text fault) };
+    ghost output = { λ fault. Some (line_fault_text fault) };
 
     fn fmt<W: fmt::Write>(&self, f: &mut fmt::Formatter<W>) -> fmt::Result {
         match self {

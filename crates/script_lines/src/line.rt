@@ -3,10 +3,10 @@
 
 ghost use Rattle.std.specs.Prelude.{◌≡◌, ◌==◌, map, IfOk};
 ghost use Rattle.std.specs.List.{slice_split};
-ghost use Rattle.script_lines.specs.Word.{Reads};
+ghost use Rattle.script_lines.specs.Word.{ReadsWord};
 ghost use Rattle.script_lines.specs.Line.{spelled, IsLine};
 ghost use Rattle.script_lines.specs.declared.line.Line.TheVariants as line;
-ghost use Rattle.script_lines.specs.Reading.{Gives, invoke_of, result_of, signal_of, cancel_of, tick_of, begin_of, feed_of, close_of, turns_of, turn_of, ending_turn_of, move_of, stop_of, show_of, state_of, of_none, of_one, of_two, of_three, of_six, of_turn, line_of};
+ghost use Rattle.script_lines.specs.LineReader.{Gives, invoke_of, result_of, signal_of, cancel_of, tick_of, begin_of, feed_of, close_of, turns_of, turn_line, ending_turn_of, move_of, stop_of, show_of, state_word, of_none, of_one, of_two, of_three, of_six, of_turn, line_of};
 
 use crate::outcome::{LineOutcome, parse_outcome};
 use crate::target::parse_target;
@@ -226,7 +226,7 @@ fn parse_plain_turn(
     attempt: &[u8],
     count: &[u8],
 ) -> Result<Line, LineError>
-    ensures { Gives result (turn_of id.now attempt.now count.now) }
+    ensures { Gives result (turn_line id.now attempt.now count.now) }
 {
     let (attempt, count) = parse_turns(attempt, count).ok_or(LineError::NotUnderstood)?;
     let id = parse_text(alloc, id)?;
@@ -321,7 +321,7 @@ fn parse_show(alloc: Global, arguments: &[&[u8]]) -> Result<Line, LineError>
 }
 
 fn parse_state(alloc: Global, arguments: &[&[u8]]) -> Result<Line, LineError>
-    ensures { Gives result (of_one state_of (map (λ word. word.now) arguments.now)) }
+    ensures { Gives result (of_one state_word (map (λ word. word.now) arguments.now)) }
 {
     let [object] = arguments else {
         return Err(LineError::NotUnderstood);
@@ -364,7 +364,7 @@ fn parse_words(alloc: Global, words: &[&[u8]]) -> Result<Line, LineError>
 
 /// The line that the bytes spell, without its line feed; `None` where they spell no line.
 pub fn parse_line(alloc: Global, bytes: &[u8]) -> Result<Option<Line>, AllocError>
-    ensures { IfOk result (Reads spelled IsLine bytes.now) }
+    ensures { IfOk result (ReadsWord spelled IsLine bytes.now) }
 {
     let words = words_between(alloc, bytes)?;
     match parse_words(alloc, &words) {

@@ -1,6 +1,6 @@
 //! The word of how the body of a run ends: `ok:TEXT`, `fail:CODE:TEXT` or `retry:CODE:TEXT`. Behind the last colon a text may be empty.
 
-ghost use Rattle.script_lines.specs.Reading.{Gives, outcome_in, outcome_of};
+ghost use Rattle.script_lines.specs.LineReader.{Gives, outcome_in, outcome_of};
 
 use crate::value::{parse_coded, split_at_colon};
 use crate::word::{LineError, parse_printable};

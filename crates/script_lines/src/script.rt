@@ -49,9 +49,9 @@ impl<'a> Iterator for ScriptLines<'a> {
     type Item = NumberedLine<'a>;
 
     ghost use Rattle.std.specs.Iterator.{YieldsFirstBy, item_count};
-    ghost use Rattle.script_lines.specs.ScriptLines.{lines_left, numbered};
+    ghost use Rattle.script_lines.specs.ScriptLines.{lines_left, line_numbered};
 
-    ghost next_gives = { YieldsFirstBy numbered lines_left };
+    ghost next_gives = { YieldsFirstBy line_numbered lines_left };
 
     ghost remaining = { item_count lines_left };
 

@@ -1,7 +1,7 @@
 //! The word of a signal: `#N` for its number, or else its name.
 
 ghost use Rattle.std.specs.Prelude.{◌≡◌};
-ghost use Rattle.script_lines.specs.Reading.{Gives, signal_number_of, named_target_of, target_of};
+ghost use Rattle.script_lines.specs.LineReader.{Gives, signal_number_of, named_target_of, target_of};
 
 use crate::word::{LineError, parse_text, parse_u32};
 use journal_model::SignalKey;

@@ -2,7 +2,7 @@
 
 ghost use Rattle.std.specs.Prelude.{◌≡◌, ◌==◌, ◌<◌, None, Some, IfSome, MatchOption, length};
 ghost use Rattle.std.specs.List.{position};
-ghost use Rattle.script_lines.specs.Reading.{Gives, at_colon, coded_of, value_of, value_in};
+ghost use Rattle.script_lines.specs.LineReader.{Gives, at_colon, coded_of, value_of, value_in};
 
 use crate::word::{LineError, parse_printable, parse_u16};
 use bytes::{ByteStr, Bytes};

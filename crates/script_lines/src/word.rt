@@ -4,7 +4,7 @@ ghost use Rattle.std.specs.Prelude.{◌≡◌, ◌^◌};
 ghost use Rattle.std.specs.List.{list_all};
 ghost use Rattle.script_lines.specs.declared.word.LineError.TheVariants.{Memory};
 ghost use Rattle.script_lines.specs.Word.{handler_word};
-ghost use Rattle.script_lines.specs.Reading.{Gives, is_word_byte, number_below, printable_of, text_of, mode_of, handler_of, command_of};
+ghost use Rattle.script_lines.specs.LineReader.{Gives, is_word_byte, number_below, printable_of, text_read, mode_of, handler_of, command_of};
 
 use bytes::{ByteStr, Bytes};
 use itoa::Buffer;
@@ -153,9 +153,9 @@ pub fn parse_printable(alloc: Global, bytes: &[u8]) -> Result<ByteStr, LineError
 }
 
 /// The text that a word spells.
-#[tactic(auto, unfolding(crate::specs::Reading::text_of))]
+#[tactic(auto, unfolding(crate::specs::Reading::text_read))]
 pub fn parse_text(alloc: Global, word: &[u8]) -> Result<ByteStr, LineError>
-    ensures { Gives result (text_of word.now) }
+    ensures { Gives result (text_read word.now) }
 {
     if word == b"-".as_slice() {
         return Ok(ByteStr::new());

@@ -13,7 +13,7 @@ use Rattle.sqlite_keyed.proofs.ListLemmas.{map-map, map_same, filter-map, filter
 use Rattle.sqlite_sql.specs.Program.{overlay, IsProgramAnswer}
 use Rattle.std.specs.Option.{unwrap_or}
 use Rattle.sql_tables.specs.Content.{HasRows}
-use Rattle.sql_tables.specs.Statements.{first_of, rows_of}
+use Rattle.sql_tables.specs.Statements.{first_row_query, rows_of}
 
 pub no_let : (db : Trees) (tree : ℕ) → overlay db [] tree ≡ db tree
 no_let db tree = elim (nat_le (2 ^ 31) tree) as (λ b. unwrap_or (cond {A = Option (List Row)} b None None) (db tree) ≡ db tree) [ true ↦ refl | false ↦ refl ]
@@ -47,7 +47,7 @@ module _ (tree : ℕ) (tests project : List Term) (order : List (Term × Key)) (
   }
 
   -- of which only the first is asked for
-  pub first_answered : IsAnswer (first_of q) db params rows → (all : List Row) × IsListOf q params (filter (passes params tests) (db tree)) all × (rows ≡ take 1 all)
+  pub first_answered : IsAnswer (first_row_query q) db params rows → (all : List Row) × IsListOf q params (filter (passes params tests) (db tree)) all × (rows ≡ take 1 all)
   first_answered a = (
     map (λ (o : Output). o.1) a.ordered,
     record {

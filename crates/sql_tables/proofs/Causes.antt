@@ -18,7 +18,7 @@ use Rattle.sqlite_trees.specs.declared.store.Store.{Ghosts}
 use Rattle.sql_tables.specs.declared.read.ReadError.{ReadError}
 use Rattle.sql_tables.specs.declared.read.RowError.{RowError}
 use Rattle.sql_tables.specs.declared.read.RowError.TheVariants.{Foreign, OutOfMemory}
-use Rattle.sql_tables.specs.Reading.{read_error}
+use Rattle.sql_tables.specs.CellReads.{read_error}
 use Rattle.sql_tables.specs.Causes.{HasFailed, IsCause, IsReadable, IsStatementText, TellsReadCause, is_shut_error}
 
 failed_wider : (a b c d : State) → a.faults ≤ b.faults → c.faults ≤ d.faults → HasFailed b c → HasFailed a d

@@ -14,13 +14,13 @@ use Rattle.sqlite.specs.Rows.{Outcome}
 use Rattle.sqlite.specs.State.{text_of}
 use Rattle.sqlite.specs.Listing.{understood}
 use Rattle.sqlite.proofs.Callers.{IsPlain, command_of}
-use Rattle.sql_tables.specs.Causes.{ComesTo, Statement, enforced}
+use Rattle.sql_tables.specs.Causes.{StatementComesTo, Statement, enforced}
 use Rattle.sql_tables.specs.Columns.{NoneRefers, table_at}
 use Rattle.sqlite.specs.Command.TheVariants.{Delete, Insert, Update}
 use Rattle.sqlite.specs.Term.{Term, col, eval_all}
 use Rattle.sqlite.specs.Effect.{Database, value_rows}
 use Rattle.sqlite_value.specs.declared.keys.Order.{Order}
-use Rattle.sql_tables.specs.Changes.{Changes, KeepsOthers}
+use Rattle.sql_tables.specs.Changes.{ChangesTable, KeepsOthers}
 use Rattle.sql_tables.specs.Content.{HasRows}
 use Rattle.sql_tables.specs.Statements.{program_of, rows_of}
 use Rattle.sql_tables.proofs.Answers.{passes}
@@ -32,7 +32,7 @@ module _ (schema : Schema) (free : NoneRefers schema) (limit : Option ℕ) (one 
   here = record { schema = schema; trees = db.trees }
 
   -- what a text comes to that is this command
-  pub comes_as : (command : Command) → command_of (understood schema one.sql) ≡ command → (out : Outcome (Tally × Database)) → ComesTo limit one db out
+  pub comes_as : (command : Command) → command_of (understood schema one.sql) ≡ command → (out : Outcome (Tally × Database)) → StatementComesTo limit one db out
       → (text : List ℕ) × Does limit enforced one.params here text None command out
   comes_as command is out comes =
       let c = comes.0 in
@@ -43,10 +43,10 @@ module _ (schema : Schema) (free : NoneRefers schema) (limit : Option ℕ) (one 
       (text, subst (λ s. Does limit enforced one.params (record db { schema = s }) text None command out) has (subst₂ (λ r k. Does limit enforced one.params db text r k out) bare.0 said comes.2))
 
   module _ (tree : ℕ) (name : List ℕ) (columns : List Column) (uniques : List (List ℕ)) (orders : List Order) (at : ℕ) (found : slice_get schema.tables at ≡ Some (table_at tree name columns uniques orders))
-      (tally : Tally) (after : Database) (comes : ComesTo limit one db (Ok (tally, after))) where
+      (tally : Tally) (after : Database) (comes : StatementComesTo limit one db (Ok (tally, after))) where
     -- a row of these columns is added
     pub insert_comes : (terms : List Term) (width : ℕ) (cells : Row) → command_of (understood schema one.sql) ≡ Insert at (Values terms width)
-        → value_rows one.params width (length terms / width) terms ≡ (Null ∷ cells) ∷ [] → cast_all columns cells ≡ cells → Changes schema tree (λ rows. rows ++ cells ∷ []) db after
+        → value_rows one.params width (length terms / width) terms ≡ (Null ∷ cells) ∷ [] → cast_all columns cells ≡ cells → ChangesTable schema tree (λ rows. rows ++ cells ∷ []) db after
     insert_comes terms width cells is values casts =
         let does = comes_as (Insert at (Values terms width)) is (Ok (tally, after)) comes in
         insert_changed schema one.params Enforced db after tree name columns uniques orders terms width cells values casts
@@ -54,7 +54,7 @@ module _ (schema : Schema) (free : NoneRefers schema) (limit : Option ℕ) (one 
 
     -- the rows that pass are removed
     pub delete_comes : (tests : List Term) (keeps : Row → Bool) → command_of (understood schema one.sql) ≡ Delete at (program_of (rows_of tree tests (col 1 0 ∷ []) []))
-        → ((r : Row) → not (passes one.params tests r) ≡ keeps (drop 1 r)) → Changes schema tree (filter keeps) db after
+        → ((r : Row) → not (passes one.params tests r) ≡ keeps (drop 1 r)) → ChangesTable schema tree (filter keeps) db after
     delete_comes tests keeps is same =
         let does = comes_as (Delete at (program_of (rows_of tree tests (col 1 0 ∷ []) []))) is (Ok (tally, after)) comes in
         delete_changed schema one.params Enforced db after tree name columns uniques orders tests keeps same

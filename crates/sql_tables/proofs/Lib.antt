@@ -8,7 +8,7 @@ pub mod Ordered
 pub mod Places
 pub mod Queries
 pub mod Readable
-pub mod Reading
+pub mod RowReads
 pub mod Refusals
 pub mod Refused
 pub mod Rows

@@ -29,12 +29,12 @@ use Rattle.sqlite.specs.Command.TheVariants.{Select}
 use Rattle.sqlite.specs.State.{State}
 use Rattle.sqlite.specs.Listing.{understood, reads_listing}
 use Rattle.sqlite.proofs.Callers.{IsPlain, command_of}
-use Rattle.sql_tables.specs.Asking.{IsAnswer}
+use Rattle.sql_tables.specs.QueryAnswers.{IsAnswer}
 use Rattle.sql_tables.specs.Content.{HasRows}
-use Rattle.sql_tables.specs.Statements.{IsFirst, by_columns, cells_cmp, first_of, rows_of, program_of}
+use Rattle.sql_tables.specs.Statements.{IsFirst, by_columns, cells_cmp, first_row_query, rows_of, program_of}
 use Rattle.sql_tables.proofs.Answers.{IsListOf, answered, first_answered, no_let, passes}
 use Rattle.sql_tables.proofs.Queries.{answer_as}
-use Rattle.sql_tables.proofs.Reading.{no_more, permuted}
+use Rattle.sql_tables.proofs.RowReads.{no_more, permuted}
 
 -- ---- rows that are told apart by their cells have one order
 
@@ -166,7 +166,7 @@ no_rows f (x ∷ xs) e = absurd cc
 
 pub first_read : (tree : ℕ) (tests project : List Term) (cs : List ℕ) (db : Trees) (params : Row) (rows : List Row) (keeps : Row → Bool) (pick : Row → Row)
     → ((r : Row) → passes params tests r ≡ keeps (drop 1 r)) → ((r : Row) → eval_all project (params ∷ r ∷ []) ≡ pick (drop 1 r)) → ((r : Row) (c : ℕ) → column r (suc c) ≡ column (drop 1 r) c)
-    → IsProgramAnswer [] (first_of (rows_of tree tests project (by_columns (map suc cs)))) db params rows → (held : List Row) → HasRows (db tree) held
+    → IsProgramAnswer [] (first_row_query (rows_of tree tests project (by_columns (map suc cs)))) db params rows → (held : List Row) → HasRows (db tree) held
     → (found : Option Row) × IsFirst (cells_cmp cs) (filter keeps held) found × (rows ≡ map pick (option_to_list found))
 first_read tree tests project cs db params rows keeps pick same shown keyed answer held h =
     let it = first_answered tree tests project (by_columns (map suc cs)) (overlay db []) params rows (answer Null) in
@@ -196,7 +196,7 @@ first_read tree tests project cs db params rows keeps pick same shown keyed answ
 -- the first of the records, by these of its cells
 module _ {X : Type 0} (schema : Schema) (sql : List ℕ) (params : Row) (old : State) (rows : List Row) (tree : ℕ) (tests project : List Term) (cs : List ℕ) (names : List (List ℕ)) where
   pub record_first : old.now.schema ≡ schema → IsPlain (understood schema sql) → reads_listing schema sql ≡ false
-      → command_of (understood schema sql) ≡ Select (program_of (first_of (rows_of tree tests project (by_columns (map suc cs))))) names
+      → command_of (understood schema sql) ≡ Select (program_of (first_row_query (rows_of tree tests project (by_columns (map suc cs))))) names
       → (keeps : Row → Bool) (pick : Row → Row) → ((r : Row) → passes params tests r ≡ keeps (drop 1 r)) → ((r : Row) → eval_all project (params ∷ r ∷ []) ≡ pick (drop 1 r)) → ((r : Row) (c : ℕ) → column r (suc c) ≡ column (drop 1 r) c)
       → (cells : X → Row) (test : X → Bool) → ((x : X) → keeps (cells x) ≡ test x) → ((x : X) → pick (cells x) ≡ cells x)
       → IsAnswer sql params old rows → (held : List X) → HasRows (old.now.trees tree) (map cells held)

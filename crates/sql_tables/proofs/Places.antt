@@ -33,7 +33,7 @@ use Rattle.sqlite.specs.declared.error.Error.{Error}
 use Rattle.sqlite.specs.Effect.{Database, value_rows}
 use Rattle.sqlite.specs.Listing.{understood}
 use Rattle.sqlite.proofs.Callers.{IsPlain, command_of}
-use Rattle.sql_tables.specs.Causes.{ComesTo, IsRefusedFor, Statement, enforced}
+use Rattle.sql_tables.specs.Causes.{StatementComesTo, IsRefusedFor, Statement, enforced}
 use Rattle.sql_tables.specs.Columns.{NoneRefers, table_at}
 use Rattle.sql_tables.specs.Content.{HasRows}
 use Rattle.sql_tables.specs.Statements.{program_of, rows_of}
@@ -51,7 +51,7 @@ pub record AreTyped (columns : List Column) (cells : Row) : Type 0 where
   pub present : (id : Value) → are_present None 0 columns (id ∷ cells) ≡ true
 
 -- a refusal, or a row that cannot be stored
-pub refused_as : (limit : Option ℕ) (one : Statement) (db : Database) (cause : Error) → IsRefusedFor limit one db cause → (stop : Option Error) × ComesTo limit one db (Err stop) × (cause ≡ told stop)
+pub refused_as : (limit : Option ℕ) (one : Statement) (db : Database) (cause : Error) → IsRefusedFor limit one db cause → (stop : Option Error) × StatementComesTo limit one db (Err stop) × (cause ≡ told stop)
 refused_as limit one db cause (inl refused) = (Some cause, refused, refl)
 refused_as limit one db cause (inr (is, refused)) = (None, refused, is)
 

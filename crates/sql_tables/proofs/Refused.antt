@@ -18,8 +18,8 @@ use Rattle.sqlite.specs.Does.{Does}
 use Rattle.sqlite.specs.Listing.{understood}
 use Rattle.sqlite.specs.State.{State, EndsScope, Escapes, Executes, ExecutesIn, ExecutesInside, Fails, IsMisplaced, IsStatement, IsUnchanged, Runs, RunsCommand, Writes, is_pragma, mode_of, shows_rows, text_of}
 use Rattle.sqlite.proofs.Callers.{IsPlain, command_of}
-use Rattle.sql_tables.specs.Asking.{HasRun}
-use Rattle.sql_tables.specs.Causes.{AreMade, ComesTo, IsCause, IsCauseToWrite, IsRefusedFor, IsStatementText, RefusesToRun, Statement, is_shut_error}
+use Rattle.sql_tables.specs.QueryAnswers.{HasRun}
+use Rattle.sql_tables.specs.Causes.{AreMade, StatementComesTo, IsCause, IsCauseToWrite, IsRefusedFor, IsStatementText, RefusesToRun, Statement, is_shut_error}
 use Rattle.sql_tables.proofs.Causes.{failed_cause, not_run_cause, same_text, values}
 use Rattle.sql_tables.proofs.Readable.{IsWhole}
 
@@ -124,7 +124,7 @@ module _ (schema : Schema) (sql : List ℕ) (params : Row) (old new : State) (ha
 
   -- what the rules made of it
   comes_to : (c : Compiled) (st : IsStatement old sql params c) (out : _) → IsTrue old.is_open
-      → Does old.step_limit (mode_of old) (timed params c.formats st.now) old.now (text_of sql c) c.returning c.command out → ComesTo old.step_limit one old.now out
+      → Does old.step_limit (mode_of old) (timed params c.formats st.now) old.now (text_of sql c) c.returning c.command out → StatementComesTo old.step_limit one old.now out
   comes_to c st out opened does =
       (c, st.is, subst (λ r. Does old.step_limit (mode_of old) r old.now (text_of sql c) c.returning c.command out) (values schema sql params old has it.text c st.now st.is opened) does)
 

@@ -1,7 +1,7 @@
 -- Rows under INSERT and DELETE, in any order.
 use Rattle.std.proofs.Common.{◌≡◌, ◌≤◌, ℤ, inl, inr, Bool, true, false, not, cond, ◌&&◌, ◌||◌, Ordering, Less, Equal, Greater, is_eq, List, [], ◌∷◌, ◌++◌, map, filter, length, drop, refl, sym, ap, subst, ◌∙◌, arith, append-nil}
 use Rattle.std.specs.List.{AllByRecursion, list_any}
-use Rattle.std.specs.Ordering.{match_ordering}
+use Rattle.std.specs.Ordering.{match_ordering, int_cmp, int_eq}
 use Rattle.std.specs.List.Sorted.{IsPermutation}
 use Rattle.std.proofs.lemmas.List.Sorted.{IsPermutation-refl, IsPermutation-sym, IsPermutation-trans, IsPermutation-cons, IsPermutation-middle, IsPermutation-map, IsPermutation-append_comm, IsPermutation-append_left, IsPermutation-append, length_permutation}
 use Rattle.std.proofs.lemmas.Cmp.{tied_itself}
@@ -15,7 +15,6 @@ use Rattle.sqlite_trees.specs.View.{is_int}
 use Rattle.sqlite_trees.proofs.ListLemmas.{all-permutation, all-filter, filter_same, IsPermutation-filter}
 use Rattle.sqlite_keyed.proofs.ListLemmas.{filter-map, filter_none, none_from_any, map-map, all_map}
 use Rattle.sqlite_keyed.proofs.KeyedLemmas.{same_int}
-use Rattle.std.specs.Ordering.{int_cmp, int_eq}
 use Rattle.sqlite_rules.specs.Edit.{id_in, is_taken, without_all, put_all, are_fresh}
 use Rattle.sqlite_rules.specs.Calls.{ids_of}
 use Rattle.sqlite_rules.specs.Lists.{Has}

@@ -32,7 +32,7 @@ use Rattle.sqlite.specs.Schema.{Schema}
 use Rattle.sql_tables.specs.Columns.{NoneRefers, table_at}
 use Rattle.sql_tables.specs.Statements.{rows_of, program_of}
 use Rattle.sql_tables.specs.Content.{HasRows}
-use Rattle.sql_tables.specs.Changes.{Changes, KeepsOthers}
+use Rattle.sql_tables.specs.Changes.{ChangesTable, KeepsOthers}
 use Rattle.sql_tables.proofs.Rows.{deleted, rows_filter, rows_put, rows_update}
 use Rattle.sql_tables.proofs.Answers.{passes, answered, shows, no_let}
 use Rattle.sql_tables.proofs.Writes.{cast_null, cast_int, insert_runs, delete_runs, update_runs}
@@ -52,7 +52,7 @@ module _ (schema : Schema) (params : Row) (keys : Keys) (old new : Database) (tr
 
   -- a row of these columns is added
   pub insert_changed : (terms : List Term) (width : ℕ) (cells : Row) → value_rows params width (length terms / width) terms ≡ (Null ∷ cells) ∷ [] → cast_all columns cells ≡ cells
-      → Wrote (IsSource before params (Values terms width)) (edit_of old.trees table [] Chosen 0) → Changes schema tree (λ rows. rows ++ cells ∷ []) old new
+      → Wrote (IsSource before params (Values terms width)) (edit_of old.trees table [] Chosen 0) → ChangesTable schema tree (λ rows. rows ++ cells ∷ []) old new
   insert_changed terms width cells values casts r =
       let db = old.trees in
       let row : Row = Int (next_rowid (db tree)) ∷ cells in
@@ -67,7 +67,7 @@ module _ (schema : Schema) (params : Row) (keys : Keys) (old new : Database) (tr
 
   -- the rows that pass are removed
   pub delete_changed : (tests : List Term) (keeps : Row → Bool) → ((r : Row) → not (passes params tests r) ≡ keeps (drop 1 r))
-      → Wrote (Answers before (program_of (rows_of tree tests (col 1 0 ∷ []) [])) params) (λ rows. edit_of old.trees table (ids_of rows) Given 0 []) → Changes schema tree (filter keeps) old new
+      → Wrote (Answers before (program_of (rows_of tree tests (col 1 0 ∷ []) [])) params) (λ rows. edit_of old.trees table (ids_of rows) Given 0 []) → ChangesTable schema tree (filter keeps) old new
   delete_changed tests keeps same r =
       let db = old.trees in
       let answer = answered tree tests (col 1 0 ∷ []) [] (overlay db []) params r.1 (r.2.answer Null) in
@@ -133,14 +133,14 @@ module _ (schema : Schema) (free : NoneRefers schema) (sql : List ℕ) (params :
 
   pub insert_changes : (terms : List Term) (width : ℕ) (cells : Row) → command_of (understood schema sql) ≡ Insert at (Values terms width)
       → value_rows params width (length terms / width) terms ≡ (Null ∷ cells) ∷ [] → cast_all columns cells ≡ cells
-      → Changes schema tree (λ rows. rows ++ cells ∷ []) old.now new.now
+      → ChangesTable schema tree (λ rows. rows ++ cells ∷ []) old.now new.now
   insert_changes terms width cells is values casts =
       insert_changed schema params keys_of old.now new.now tree name columns uniques orders terms width cells values casts
       (insert_runs schema free sql params old new has plain count ran tree name columns uniques orders at found terms width is)
 
   pub delete_changes : (tests : List Term) (keeps : Row → Bool) → command_of (understood schema sql) ≡ Delete at (program_of (rows_of tree tests (col 1 0 ∷ []) []))
       → ((r : Row) → not (passes params tests r) ≡ keeps (drop 1 r))
-      → Changes schema tree (filter keeps) old.now new.now
+      → ChangesTable schema tree (filter keeps) old.now new.now
   delete_changes tests keeps is same =
       delete_changed schema params keys_of old.now new.now tree name columns uniques orders tests keeps same
       (delete_runs schema free sql params old new has plain count ran tree name columns uniques orders at found (program_of (rows_of tree tests (col 1 0 ∷ []) [])) is)

@@ -28,7 +28,7 @@ use Rattle.sqlite.specs.Rows.{Outcome, Part, Then}
 use Rattle.sqlite.specs.State.{text_of}
 use Rattle.sqlite.specs.declared.error.Error.{Error}
 use Rattle.sqlite.proofs.Callers.{IsPlain, command_of, statement_of}
-use Rattle.sql_tables.specs.Causes.{ComesTo, IsRefusedFor, Statement, enforced}
+use Rattle.sql_tables.specs.Causes.{StatementComesTo, IsRefusedFor, Statement, enforced}
 use Rattle.sql_tables.proofs.Making.{IsIndexing, IsMaking}
 
 -- the text alone, without a value
@@ -37,7 +37,7 @@ alone sql = record { sql = sql; params = [] }
 
 -- SQL's rules make nothing of it but a database
 abbrev pub IsNeverRefused : Option ℕ → Statement → Database → Type 0
-IsNeverRefused limit one db = (stop : Option Error) → ComesTo limit one db (Err stop) → ⊥
+IsNeverRefused limit one db = (stop : Option Error) → StatementComesTo limit one db (Err stop) → ⊥
 
 pub never_refused : (limit : Option ℕ) (one : Statement) (db : Database) → IsNeverRefused limit one db → (cause : Error) → IsRefusedFor limit one db cause → ⊥
 never_refused limit one db never cause (inl refused) = never (Some cause) refused
@@ -55,7 +55,7 @@ defined Makes makes stop (inr (after, is, gives)) = absurd cc
 
 -- a text that is understood as that command makes what the command does
 known : (limit : Option ℕ) (schema : Schema) (sql : List ℕ) (command : Command) → command_of (understood schema sql) ≡ command → statement_of sql (understood schema sql) ≡ sql → IsPlain (understood schema sql)
-    → (db : Database) → db.schema ≡ schema → (out : Outcome (Tally × Database)) → ComesTo limit (alone sql) db out → Does limit enforced [] db sql None command out
+    → (db : Database) → db.schema ≡ schema → (out : Outcome (Tally × Database)) → StatementComesTo limit (alone sql) db out → Does limit enforced [] db sql None command out
 known limit schema sql command is text plain db has out (c, understands, does) =
     let read : understood schema sql ≡ Ok c = subst (λ (s : Schema). understood s sql ≡ Ok c) has understands in
     let its : c.command ≡ command = sym (ap command_of read) ∙ is in

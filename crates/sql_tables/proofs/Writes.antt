@@ -17,7 +17,7 @@ use Rattle.sqlite.specs.Rowids.TheVariants.{Chosen, Given}
 use Rattle.sqlite.specs.Tree.{Trees}
 use Rattle.sqlite_rules.specs.Edit.{Edit, edit_of, Applies, taken_by}
 use Rattle.sqlite_rules.specs.Calls.{ids_of}
-use Rattle.sqlite_rules.specs.Action.{work_for, Writes as WritesBy}
+use Rattle.sqlite_rules.specs.Action.{work_for, Writes}
 use Rattle.sqlite.specs.Effect.{Database, IsSource, Answers}
 use Rattle.sqlite.specs.Rows.{Task, Written, Inserts, Deletes, Updates}
 use Rattle.sqlite.specs.Does.{Tally, Does, OnRows, AtPlace, WritesRows}
@@ -59,7 +59,7 @@ none_works schema keys depth tree olds news (t ∷ tables) none =
     ∙ none_works schema keys depth tree olds news tables none.1
 
 -- where no table refers to another, a write is its one step
-once : (schema : Schema) → NoneRefers schema → (keys : Keys) (db next : Trees) (edit : Edit) → WritesBy schema keys db edit (Ok next) → Applies schema keys db edit next
+once : (schema : Schema) → NoneRefers schema → (keys : Keys) (db next : Trees) (edit : Edit) → Writes schema keys db edit (Ok next) → Applies schema keys db edit next
 once schema free keys db next edit written = one_step schema keys db next edit (none_works schema keys 0 edit.table.tree (taken_by db edit) edit.news schema.tables free) written
 
 module _ (schema : Schema) (free : NoneRefers schema) (limit : Option ℕ) (keys : Keys) (tree : ℕ) (name : List ℕ) (columns : List Column) (uniques : List (List ℕ)) (orders : List Order) (params : Row) where

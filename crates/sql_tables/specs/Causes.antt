@@ -73,23 +73,23 @@ abbrev pub enforced : Mode
 enforced = record { keys = Enforced; in_doubt = false; may_wait = false }
 
 -- what SQL's own rules make of it over a database: another database, or a refusal
-abbrev pub ComesTo : Option ℕ → Statement → Database → Part (Tally × Database)
-ComesTo limit one db out = (c : Compiled) × (understood db.schema one.sql ≡ Ok c) × Does limit enforced one.params db (text_of one.sql c) c.returning c.command out
+abbrev pub StatementComesTo : Option ℕ → Statement → Database → Part (Tally × Database)
+StatementComesTo limit one db out = (c : Compiled) × (understood db.schema one.sql ≡ Ok c) × Does limit enforced one.params db (text_of one.sql c) c.returning c.command out
 
 -- they refuse it for this; that a row cannot be stored is told as one too big
 abbrev pub IsRefusedFor : Option ℕ → Statement → Database → Error → Type 0
-IsRefusedFor limit one db cause = ComesTo limit one db (Err (Some cause)) ⊎ ((cause ≡ SqliteFailure code.TooBig) × ComesTo limit one db (Err None))
+IsRefusedFor limit one db cause = StatementComesTo limit one db (Err (Some cause)) ⊎ ((cause ≡ SqliteFailure code.TooBig) × StatementComesTo limit one db (Err None))
 
 -- each in turn makes this of what the one before it made
 abbrev pub AreMade : Option ℕ → List Statement → Database → Database → Type 0
 AreMade limit [] old new = new ≡ old
-AreMade limit (one ∷ more) old new = (tally : Tally) × (mid : Database) × ComesTo limit one old (Ok (tally, mid)) × AreMade limit more mid new
+AreMade limit (one ∷ more) old new = (tally : Tally) × (mid : Database) × StatementComesTo limit one old (Ok (tally, mid)) × AreMade limit more mid new
 
 -- one of them is refused for this, over what those before it made
 abbrev pub AreRefused : Option ℕ → List Statement → Database → Error → Type 0
 AreRefused limit [] db cause = ⊥
 AreRefused limit (one ∷ more) db cause =
-    IsRefusedFor limit one db cause ⊎ ((tally : Tally) × (mid : Database) × ComesTo limit one db (Ok (tally, mid)) × AreRefused limit more mid cause)
+    IsRefusedFor limit one db cause ⊎ ((tally : Tally) × (mid : Database) × StatementComesTo limit one db (Ok (tally, mid)) × AreRefused limit more mid cause)
 
 -- what a question may be refused for; or the connection was open, and SQL's rules refuse one of these statements over its tables
 unfoldable pub IsCauseToWrite : List Statement → State → State → Error → Type 0
@@ -100,8 +100,8 @@ abbrev pub TellsWriteCause : List Statement → State → State → Error → Ty
 TellsWriteCause statements old new cause = HasCleanDisk new → IsCauseToWrite statements old new cause
 
 -- statements were run that SQL's rules do not refuse
-abbrev pub TellsCause : State → State → Error → Type 0
-TellsCause old new cause = HasCleanDisk new → IsCause old new cause
+abbrev pub TellsErrorCause : State → State → Error → Type 0
+TellsErrorCause old new cause = HasCleanDisk new → IsCause old new cause
 
 -- a transaction that is over runs nothing; in one that is not the statement was refused so
 abbrev pub RefusesToRun : List ℕ → Row → State → State → Error → Type 0

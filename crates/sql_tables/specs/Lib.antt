@@ -1,9 +1,9 @@
-pub mod Asking
+pub mod QueryAnswers
 pub mod Causes
 pub mod Cells
 pub mod Changes
 pub mod Columns
 pub mod Content
-pub mod Reading
+pub mod CellReads
 pub mod Refusals
 pub mod Statements

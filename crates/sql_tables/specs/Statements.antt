@@ -31,8 +31,8 @@ rows_of tree filter project order = record {
 }
 
 -- the first of them
-abbrev pub first_of : Query → Query
-first_of q = record q { limit = lit (Int (pos 1)) }
+abbrev pub first_row_query : Query → Query
+first_row_query q = record q { limit = lit (Int (pos 1)) }
 
 abbrev pub program_of : Query → Program
 program_of q = record { lets = []; body = q }

@@ -5,7 +5,7 @@ ghost use Rattle.sqlite.specs.Held.{state};
 ghost use Rattle.sqlite.specs.State.{HasCleanDisk, KeepsCommit, Survives};
 ghost use Rattle.sqlite.specs.Values.{bound};
 ghost use Rattle.sqlite.specs.declared.error.Error.{Error as SqlError};
-ghost use Rattle.sql_tables.specs.Asking.{HasRun, IsAnswer, IsKept};
+ghost use Rattle.sql_tables.specs.QueryAnswers.{HasRun, IsAnswer, AreTablesKept};
 ghost use Rattle.sql_tables.specs.Causes.{IsQuestion, RefusesToRun, TellsReadCause};
 
 use crate::read::ReadError;
@@ -22,7 +22,7 @@ pub fn rows_by<S: Alter>(
     ensures answers { HasCleanDisk (state S.Store conn.new) → IfOk result (λ rows. IsTrue (state S.Store conn.old).is_open × IsAnswer sql.now (bound params.now) (state S.Store conn.old) rows.items) }
     ensures refused { IfErr result (λ e. (cause : SqlError) × (e ≡ ReadError.Refused cause)) }
     ensures cause { IsQuestion sql.now (bound params.now) (state S.Store conn.old) → IfErr result (TellsReadCause (state S.Store conn.old) (state S.Store conn.new)) }
-    ensures kept { IsKept (state S.Store conn.old) (state S.Store conn.new) }
+    ensures kept { AreTablesKept (state S.Store conn.old) (state S.Store conn.new) }
     ensures idle { (state S.Store conn.new).in_transaction ≡ false }
     ensures crash { Survives (state S.Store conn.old) (state S.Store conn.new) (λ _. ⊥) }
 {

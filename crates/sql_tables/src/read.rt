@@ -5,7 +5,7 @@ ghost use Rattle.sqlite.specs.Values.{or_null};
 ghost use Rattle.sqlite_value.specs.declared.value.Value.TheVariants.{Blob, Null, Text as Words};
 ghost use Rattle.sqlite_value.specs.Order.{column};
 ghost use Rattle.sql_tables.specs.Cells.{IsLong, IsShort, flag_cell, long_cell, short_cell};
-ghost use Rattle.sql_tables.specs.Reading.{IsCell, IsForeign};
+ghost use Rattle.sql_tables.specs.CellReads.{IsCell, IsForeign};
 
 use bytes::{ByteStr, Bytes};
 use sqlite::types::ValueRef;
@@ -45,7 +45,7 @@ impl From<AllocError> for RowError {
 
 impl From<RowError> for ReadError {
     ghost use Rattle.std.specs.Prelude.{◌≡◌};
-    ghost use Rattle.sql_tables.specs.Reading.{read_error};
+    ghost use Rattle.sql_tables.specs.CellReads.{read_error};
 
     ghost from_gives = { λ row e. e ≡ read_error row };
 

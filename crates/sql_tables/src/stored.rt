@@ -7,7 +7,7 @@ ghost use Rattle.sqlite.specs.Held.{state};
 ghost use Rattle.sqlite.specs.State.{HasCleanDisk, Survives};
 ghost use Rattle.sqlite.specs.Values.{bound};
 ghost use Rattle.sqlite_value.specs.Order.{Row as Cells};
-ghost use Rattle.sql_tables.specs.Asking.{IsAnswer, IsKept, IsOther};
+ghost use Rattle.sql_tables.specs.QueryAnswers.{IsAnswer, AreTablesKept, IsOtherRow};
 ghost use Rattle.sql_tables.specs.Causes.{IsQuestion, TellsReadCause};
 
 use crate::query::rows_by;
@@ -62,9 +62,9 @@ pub fn one_by<R: Stored, S: Alter>(
 ) -> Result<Option<R>, ReadError>
     requires { (state S.Store conn.old).in_transaction ≡ false }
     ensures answers { HasCleanDisk (state S.Store conn.new) → IfOk result (λ o. IsTrue (state S.Store conn.old).is_open × IsAnswer sql.now (bound params.now) (state S.Store conn.old) (map R.Stored.cells (option_to_list o)) × IfSome o R.Stored.fits) }
-    ensures foreign { HasCleanDisk (state S.Store conn.new) → IfErr result (λ e. e ≡ ReadError.Foreign → IsTrue (state S.Store conn.old).is_open × IsOther sql.now (bound params.now) (state S.Store conn.old) (λ rows. (o : Option R) × IfSome o R.Stored.fits × (map R.Stored.cells (option_to_list o) ≡ rows))) }
+    ensures foreign { HasCleanDisk (state S.Store conn.new) → IfErr result (λ e. e ≡ ReadError.Foreign → IsTrue (state S.Store conn.old).is_open × IsOtherRow sql.now (bound params.now) (state S.Store conn.old) (λ rows. (o : Option R) × IfSome o R.Stored.fits × (map R.Stored.cells (option_to_list o) ≡ rows))) }
     ensures cause { IsQuestion sql.now (bound params.now) (state S.Store conn.old) → IfErr result (TellsReadCause (state S.Store conn.old) (state S.Store conn.new)) }
-    ensures kept { IsKept (state S.Store conn.old) (state S.Store conn.new) }
+    ensures kept { AreTablesKept (state S.Store conn.old) (state S.Store conn.new) }
     ensures idle { (state S.Store conn.new).in_transaction ≡ false }
     ensures crash { Survives (state S.Store conn.old) (state S.Store conn.new) (λ _. ⊥) }
 {
@@ -82,9 +82,9 @@ pub fn all_by<R: Stored, S: Alter>(
 ) -> Result<Vec<R>, ReadError>
     requires { (state S.Store conn.old).in_transaction ≡ false }
     ensures answers { HasCleanDisk (state S.Store conn.new) → IfOk result (λ xs. IsTrue (state S.Store conn.old).is_open × IsAnswer sql.now (bound params.now) (state S.Store conn.old) (map R.Stored.cells xs.items) × AllByRecursion R.Stored.fits xs.items) }
-    ensures foreign { HasCleanDisk (state S.Store conn.new) → IfErr result (λ e. e ≡ ReadError.Foreign → IsTrue (state S.Store conn.old).is_open × IsOther sql.now (bound params.now) (state S.Store conn.old) (λ rows. (xs : List R) × AllByRecursion R.Stored.fits xs × (map R.Stored.cells xs ≡ rows))) }
+    ensures foreign { HasCleanDisk (state S.Store conn.new) → IfErr result (λ e. e ≡ ReadError.Foreign → IsTrue (state S.Store conn.old).is_open × IsOtherRow sql.now (bound params.now) (state S.Store conn.old) (λ rows. (xs : List R) × AllByRecursion R.Stored.fits xs × (map R.Stored.cells xs ≡ rows))) }
     ensures cause { IsQuestion sql.now (bound params.now) (state S.Store conn.old) → IfErr result (TellsReadCause (state S.Store conn.old) (state S.Store conn.new)) }
-    ensures kept { IsKept (state S.Store conn.old) (state S.Store conn.new) }
+    ensures kept { AreTablesKept (state S.Store conn.old) (state S.Store conn.new) }
     ensures idle { (state S.Store conn.new).in_transaction ≡ false }
     ensures crash { Survives (state S.Store conn.old) (state S.Store conn.new) (λ _. ⊥) }
 {

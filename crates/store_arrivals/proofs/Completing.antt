@@ -20,7 +20,7 @@ use Rattle.store_refusals.specs.declared.refusal.Refusal.TheVariants as refusal
 use Rattle.store_refusals.specs.Refused.{IsRefused}
 use Rattle.store_invocations.specs.Rows.{Decides}
 use Rattle.store_arrivals.specs.declared.asking.AskedCompletion.{AskedCompletion}
-use Rattle.store_arrivals.specs.Asked.{asked_by, completion_for, type_for}
+use Rattle.store_arrivals.specs.Asked.{completion_asked_by, completion_for, type_for}
 
 same_either_way : (m n : ℕ) → (n == m) ≡ (m == n)
 same_either_way m n = both_ways (n == m) (m == n) (λ e. eq-eqb m n (sym (eqb-true n m e))) (λ e. eq-eqb n m (sym (eqb-true m n e)))
@@ -46,13 +46,13 @@ by_first true brought = by_accept (is_invocation_id brought) types.CallInvocatio
 by_first false brought = by_accept (is_outcome brought) types.CallCompletionNotification
 
 request_given : (request : Request) (n : ℕ) (brought : NotificationResult)
-    → Decides (tests_if (Some request) n brought) (λ ty. ty ≡ completion_type request n) (type_for (completion_for (asked_by n request)) brought)
+    → Decides (tests_if (Some request) n brought) (λ ty. ty ≡ completion_type request n) (type_for (completion_for (completion_asked_by n request)) brought)
 request_given (Request.GetPromise key k name) n brought = by_accept (is_outcome brought) types.GetPromiseCompletionNotification
 request_given (Request.PeekPromise key k name) n brought = by_accept (is_void brought || is_outcome brought) types.PeekPromiseCompletionNotification
 request_given (Request.CompletePromise key value k name) n brought = by_accept (is_void brought || is_failure brought) types.CompletePromiseCompletionNotification
 request_given (Request.CallService call m k name) n brought =
     subst (λ (b : Bool). IsTyped (if b then is_invocation_id brought else is_outcome brought) (if b then types.CallInvocationIdCompletionNotification else types.CallCompletionNotification)
-    (type_for (completion_for (asked_by n (Request.CallService call m k name))) brought))
+    (type_for (completion_for (completion_asked_by n (Request.CallService call m k name))) brought))
     (sym (same_either_way m n)) (by_first (m == n) brought)
 request_given (Request.OneWayCall call time k name) n brought = by_accept (is_invocation_id brought) types.CallInvocationIdCompletionNotification
 request_given (Request.AttachInvocation target k name) n brought = by_accept (is_outcome brought) types.AttachInvocationCompletionNotification
@@ -61,7 +61,7 @@ request_given _ n brought = inl refl
 
 -- ---- of the request whose completion is open
 
-pub not_open : (n : ℕ) (brought : NotificationResult) (o : Option Request) → None ≡ option_map (asked_by n) o
+pub not_open : (n : ℕ) (brought : NotificationResult) (o : Option Request) → None ≡ option_map (completion_asked_by n) o
     → IsRefused (those_that_hold (tests_if o n brought)) (refusal.Cause Cause.CompletionNotOpen)
 not_open n brought None e = inl refl
 not_open n brought (Some request) e = cc
@@ -73,18 +73,18 @@ asking_of_open entries n request e = by_test (is_awaited entries n) e
     by_test true e = e
     by_test false e = cc
 
-pub given : (entries : List Entry) (n : ℕ) (brought : NotificationResult) (asked : AskedCompletion) → Some asked ≡ option_map (asked_by n) (open_request entries n)
+pub given : (entries : List Entry) (n : ℕ) (brought : NotificationResult) (asked : AskedCompletion) → Some asked ≡ option_map (completion_asked_by n) (open_request entries n)
     → Decides (tests_if (open_request entries n) n brought) (λ ty. ty ≡ notification_type entries (CompletionId n)) (type_for (completion_for asked) brought)
 given entries n brought asked e = by_request (open_request entries n) refl e
   where
-    by_request : (o : Option Request) → open_request entries n ≡ o → Some asked ≡ option_map (asked_by n) o
+    by_request : (o : Option Request) → open_request entries n ≡ o → Some asked ≡ option_map (completion_asked_by n) o
         → Decides (tests_if o n brought) (λ ty. ty ≡ notification_type entries (CompletionId n)) (type_for (completion_for asked) brought)
     by_request None is e = cc
     by_request (Some request) is e =
-        let same : asked ≡ asked_by n request = cc in
+        let same : asked ≡ completion_asked_by n request = cc in
         let same_type : completion_type request n ≡ notification_type entries (CompletionId n) =
         ap (λ (o : Option Request). type_of_completion o n) (sym (asking_of_open entries n request is)) in
         subst (λ (a : AskedCompletion). Decides (tests_if (Some request) n brought) (λ ty. ty ≡ notification_type entries (CompletionId n)) (type_for (completion_for a) brought))
         (sym same)
-        (subst (λ (k : MessageType). Decides (tests_if (Some request) n brought) (λ ty. ty ≡ k) (type_for (completion_for (asked_by n request)) brought))
+        (subst (λ (k : MessageType). Decides (tests_if (Some request) n brought) (λ ty. ty ≡ k) (type_for (completion_for (completion_asked_by n request)) brought))
         same_type (request_given request n brought))

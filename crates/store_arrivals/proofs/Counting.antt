@@ -7,7 +7,7 @@ use Rattle.sqlite_keyed.specs.Lists.{sort_by}
 use Rattle.journal_model.specs.Notification.{Text}
 use Rattle.journal_model.specs.declared.invocation.NewInvocation.{NewInvocation}
 use Rattle.journal_model.specs.Event.{Event}
-use Rattle.journal_model.specs.Journal.{invoked_by, invocation_begun, is_open, is_over, requests_in, sleeps_in, sorted_by_moment, slept, entries_of}
+use Rattle.journal_model.specs.Journal.{invoked_by, invocation_begun, is_open, is_sleep_over, requests_in, sleeps_in, sorted_by_moment, slept, entries_of}
 use Rattle.journal_model.specs.Attempt.{completions_of_tick, count_slept}
 use Rattle.journal_model.specs.Cause.{IsAccepted}
 use Rattle.store_tables.specs.Records.{is_sleep_of}
@@ -120,14 +120,14 @@ all_counted (Event.Invoke new ∷ earlier) rows accepted of_begun =
         by_test true same = subst (λ (x : Text). filter (is_sleep_of x) (filter (is_other new.id) rows) ≡ []) ((bytes_eq-Decides new.id id).0 same) (none_left new.id rows)
         by_test false apart = left_of new.id id rows apart
             ∙ of_begun id (ap (λ (b : Bool). if b then Some new else invocation_begun earlier id) apart ∙ none)
-all_counted (Event.Complete x n result ∷ earlier) rows accepted of_begun = all_counted earlier rows accepted.1 of_begun
+all_counted (Event.Result x n result ∷ earlier) rows accepted of_begun = all_counted earlier rows accepted.1 of_begun
 all_counted (Event.Signal x key result ∷ earlier) rows accepted of_begun = all_counted earlier rows accepted.1 of_begun
 all_counted (Event.Cancel x ∷ earlier) rows accepted of_begun = all_counted earlier rows accepted.1 of_begun
 all_counted (Event.Tick now ∷ earlier) rows accepted of_begun = all_counted earlier rows accepted.1 of_begun
 all_counted (Event.Begin x now ∷ earlier) rows accepted of_begun = all_counted earlier rows accepted.1 of_begun
-all_counted (Event.HandOut x n most ∷ earlier) rows accepted of_begun = all_counted earlier rows accepted.1 of_begun
-all_counted (Event.CloseInput x n ∷ earlier) rows accepted of_begun = all_counted earlier rows accepted.1 of_begun
-all_counted (Event.Take x n frame ∷ earlier) rows accepted of_begun = all_counted earlier rows accepted.1 of_begun
+all_counted (Event.Feed x n most ∷ earlier) rows accepted of_begun = all_counted earlier rows accepted.1 of_begun
+all_counted (Event.Close x n ∷ earlier) rows accepted of_begun = all_counted earlier rows accepted.1 of_begun
+all_counted (Event.Move x n frame ∷ earlier) rows accepted of_begun = all_counted earlier rows accepted.1 of_begun
 all_counted (Event.Stop x n ∷ earlier) rows accepted of_begun = all_counted earlier rows accepted.1 of_begun
 
 -- ---- those that the tick ends
@@ -144,7 +144,7 @@ slept_among : (events : List Event) (now : ℕ) (rows : List SleepRow) (news : L
 slept_among events now rows [] those = refl
 slept_among events now rows (new ∷ news) those =
     ap₂ (λ (a b : ℕ). a + b)
-    (ap length (those new.id) ∙ as_many new.id (is_open events new.id) (filter (is_over (entries_of events new.id) now) (sorted_by_moment (sleeps_in (requests_in (entries_of events new.id))))))
+    (ap length (those new.id) ∙ as_many new.id (is_open events new.id) (filter (is_sleep_over (entries_of events new.id) now) (sorted_by_moment (sleeps_in (requests_in (entries_of events new.id))))))
     (slept_among events now rows news those)
 
 -- an invocation that was not begun has none

@@ -7,7 +7,7 @@ use Rattle.journal_model.specs.Notification.{Text, Arrival}
 use Rattle.journal_model.specs.declared.notification.NotificationId.TheVariants.{CompletionId}
 use Rattle.journal_model.specs.Request.{Request}
 use Rattle.journal_model.specs.Event.{Event}
-use Rattle.journal_model.specs.Journal.{Entry, Recorded, Arrived, asks_for as is_asking, is_open, requests_in, request_asking, sleeps_in, sorted_by_moment, is_over, slept, entries_of, arrivals_in, recorded_arrivals}
+use Rattle.journal_model.specs.Journal.{Entry, Recorded, Arrived, asks_for, is_open, requests_in, request_asking, sleeps_in, sorted_by_moment, is_sleep_over, slept, entries_of, arrivals_in, recorded_arrivals}
 use Rattle.journal_model.specs.Attempt.{notification_type, type_of_completion}
 use Rattle.journal_model.specs.Cause.{IsAccepted, is_empty}
 use Rattle.journal_laws.proofs.ObjectState.{requests_in-append}
@@ -54,7 +54,7 @@ module _ (events : List Event) (now : ℕ) (r : Records) (accepted : IsAccepted 
   ending id =
       filter-map (λ x. bytes_eq x id) id_of (those_ended now r)
       ∙ ap (map id_of) (found id)
-      ∙ by_open id (is_open events id) (filter (is_over (entries_of events id) now) (sorted_by_moment (sleeps_in (requests_in (entries_of events id)))))
+      ∙ by_open id (is_open events id) (filter (is_sleep_over (entries_of events id) now) (sorted_by_moment (sleeps_in (requests_in (entries_of events id)))))
 
 pub all_ending : AllEndingGrouped
 all_ending = ending
@@ -70,7 +70,7 @@ type_asleep (Some _) n e = cc
 type_of_end : (entries more : List Entry) (n : ℕ) → requests_in more ≡ [] → is_sleep (request_asking entries n) ≡ true
     → notification_type (entries ++ more) (CompletionId n) ≡ SleepCompletionNotification
 type_of_end entries more n nothing e =
-    ap (λ (requests : List Request). type_of_completion (find (is_asking n) requests) n)
+    ap (λ (requests : List Request). type_of_completion (find (asks_for n) requests) n)
     (requests_in-append entries more ∙ ap (λ (rest : List Request). requests_in entries ++ rest) nothing ∙ append-nil (requests_in entries))
     ∙ type_asleep (request_asking entries n) n e
 
@@ -104,10 +104,10 @@ all_asleep events id accepted =
 -- what a tick adds to an open invocation, of the sleeps that it ends of it
 pub rows_of_tick : AllRowsEnded
 rows_of_tick events now id accepted opened =
-    let ended = filter (is_over (entries_of events id) now) (sorted_by_moment (sleeps_in (requests_in (entries_of events id)))) in
+    let ended = filter (is_sleep_over (entries_of events id) now) (sorted_by_moment (sleeps_in (requests_in (entries_of events id)))) in
     ap (λ (all : List Entry). rows_from id all (1 + length (entries_of events id)) (map Arrived (slept (entries_of events id) now))) (sym (append-nil (entries_of events id)))
     ∙ rows_ended id (entries_of events id) [] (1 + length (entries_of events id)) (length (recorded_arrivals events id)) ended refl
     (ap (λ (all : List Entry). length (arrivals_in all)) (append-nil (entries_of events id)))
-    (all-filter (λ (sleep : ℕ × ℕ). is_sleep (request_asking (entries_of events id) sleep.1) ≡ true) (is_over (entries_of events id) now) (sorted_by_moment (sleeps_in (requests_in (entries_of events id))))
+    (all-filter (λ (sleep : ℕ × ℕ). is_sleep (request_asking (entries_of events id) sleep.1) ≡ true) (is_sleep_over (entries_of events id) now) (sorted_by_moment (sleeps_in (requests_in (entries_of events id))))
     (all_sorted (λ (sleep : ℕ × ℕ). is_sleep (request_asking (entries_of events id) sleep.1) ≡ true) (sleeps_in (requests_in (entries_of events id))) (all_asleep events id accepted)))
     ∙ ap (λ (b : Bool). end_rows id (1 + length (entries_of events id)) (length (recorded_arrivals events id)) (map (λ (sleep : ℕ × ℕ). sleep.1) (if b then ended else []))) (sym opened)

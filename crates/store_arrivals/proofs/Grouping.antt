@@ -2,7 +2,7 @@
 use Rattle.std.proofs.Common.{ℕ, ◌≡◌, refl, ap, Bool, true, false, if◌then◌else◌, List, [], ◌∷◌, ◌++◌}
 use Rattle.store_tables.specs.declared.row.SleepRow.{SleepRow}
 use Rattle.store_arrivals.specs.Groups.{Group, grouped, put_first}
-use Rattle.store_arrivals.specs.Grouped.{is_first, joined}
+use Rattle.store_arrivals.specs.Grouped.{is_first, groups_joined}
 
 abbrev pub put_each : List SleepRow → List Group → List Group
 put_each [] groups = groups
@@ -16,7 +16,7 @@ pub put_last : (rows : List SleepRow) (s : SleepRow) (groups : List Group) → p
 put_last [] s groups = refl
 put_last (row ∷ rows) s groups = ap (put_first row) (put_last rows s groups)
 
-pub put_joined : (s : SleepRow) (groups : List Group) → is_first s.invocation groups ≡ true → put_first s groups ≡ joined s.completion groups
+pub put_joined : (s : SleepRow) (groups : List Group) → is_first s.invocation groups ≡ true → put_first s groups ≡ groups_joined s.completion groups
 put_joined s [] e = cc
 put_joined s (group ∷ groups) e =
     ap (λ (b : Bool). if b then (group.0, s.completion ∷ group.1) ∷ groups else (s.invocation, s.completion ∷ []) ∷ group ∷ groups) e

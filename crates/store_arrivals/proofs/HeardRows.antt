@@ -10,7 +10,7 @@ use Rattle.journal_model.specs.State.{StateMap, state_after}
 use Rattle.journal_model.specs.Request.{Request}
 use Rattle.journal_model.specs.declared.notification.SignalKey.{SignalKey}
 use Rattle.journal_model.specs.Event.{Frame, Event}
-use Rattle.journal_model.specs.Journal.{Entry, Recorded, Arrived, adds_to, arrivals_in, completion, entries_added, entries_from, entries_of, entries_of_event, id_of_signal, is_over, read_answer, recorded_arrivals, requests_in, slept, sleeps_in, sorted_by_moment, starting_state}
+use Rattle.journal_model.specs.Journal.{Entry, Recorded, Arrived, adds_to, arrivals_in, completion, entries_added, entries_from, entries_of, entries_of_event, id_of_signal, is_sleep_over, read_answer, recorded_arrivals, requests_in, slept, sleeps_in, sorted_by_moment, starting_state}
 use Rattle.store_frames.specs.Read.{AreRead, IsReadIn, SignalKeyFits}
 use Rattle.store_tables.specs.Questions.{AreArrivals, AreNoArrivals, AreCounted, is_arrival_after}
 use Rattle.store_tables.specs.declared.row.EntryRow.{EntryRow}
@@ -55,13 +55,13 @@ answer_fits state (Request.GetLazyStateKeys n name) = (tt, tt)
 answer_fits state _ = tt
 
 event_fits : (earlier : List Event) (start : StateMap) (entries : List Entry) (event : Event) → IsReadIn earlier event → EntriesFit (entries_of_event start entries event)
-event_fits earlier start entries (Event.Complete id n result) read = (tt, tt)
+event_fits earlier start entries (Event.Result id n result) read = (tt, tt)
 event_fits earlier start entries (Event.Signal id key result) read = (signal_fits key read, tt)
 event_fits earlier start entries (Event.Cancel id) read = (omega arith, tt)
-event_fits earlier start entries (Event.Tick now) read = ends_fit (filter (is_over entries now) (sorted_by_moment (sleeps_in (requests_in entries))))
-event_fits earlier start entries (Event.Take id attempt (Frame.Command request)) read = (tt, answer_fits (state_after (requests_in entries) start) request)
-event_fits earlier start entries (Event.Take id attempt (Frame.RunOutcome n value is_acknowledged)) read = (tt, tt)
-event_fits earlier start entries (Event.Take id attempt _) read = tt
+event_fits earlier start entries (Event.Tick now) read = ends_fit (filter (is_sleep_over entries now) (sorted_by_moment (sleeps_in (requests_in entries))))
+event_fits earlier start entries (Event.Move id attempt (Frame.Command request)) read = (tt, answer_fits (state_after (requests_in entries) start) request)
+event_fits earlier start entries (Event.Move id attempt (Frame.RunOutcome n value is_acknowledged)) read = (tt, tt)
+event_fits earlier start entries (Event.Move id attempt _) read = tt
 event_fits earlier start entries _ read = tt
 
 added_fit : (start : StateMap) (earlier : List Event) (id : Text) (event : Event) (entries : List Entry) → IsReadIn earlier event → EntriesFit (entries_added start earlier id event entries)

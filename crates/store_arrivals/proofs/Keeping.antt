@@ -3,7 +3,7 @@ use Rattle.std.proofs.Common.{ℕ, ◌≡◌, refl, sym, ap, subst, ◌∙◌, B
 use Rattle.sqlite_keyed.specs.Lists.{insert_sorted, sort_by}
 use Rattle.journal_model.specs.Notification.{Text}
 use Rattle.journal_model.specs.Event.{Event}
-use Rattle.journal_model.specs.Journal.{is_open, is_over, requests_in, sleeps_in, sorted_by_moment, entries_of}
+use Rattle.journal_model.specs.Journal.{is_open, is_sleep_over, requests_in, sleeps_in, sorted_by_moment, entries_of}
 use Rattle.journal_model.specs.Cause.{IsAccepted, is_empty}
 use Rattle.store_tables.specs.Records.{Records, ends_by, is_sleep_of}
 use Rattle.store_tables.specs.Orders.{sleep_cmp}
@@ -61,7 +61,7 @@ none_due : (events : List Event) (now : ℕ) (r : Records) → IsAccepted events
 none_due events now r accepted kept ending =
     none_sorted sleep_cmp (due_sleeps now r) (none_at_all (sort_by sleep_cmp (due_sleeps now r)) (λ id.
     (ended_found events now r accepted kept).ended id
-    ∙ ap (map (sleep_row id)) (nothing_over (is_open events id) (filter (is_over (entries_of events id) now) (sorted_by_moment (sleeps_in (requests_in (entries_of events id)))))
+    ∙ ap (map (sleep_row id)) (nothing_over (is_open events id) (filter (is_sleep_over (entries_of events id) now) (sorted_by_moment (sleeps_in (requests_in (entries_of events id)))))
     (not_listed (ends_sleep events now id) id (ending id)))))
 
 as_it_is : (events : List Event) (r : Records) (sleeps : List SleepRow) → sleeps ≡ r.sleeps → IsKept events (record r { sleeps = sleeps }) → IsKept events r

@@ -34,7 +34,7 @@ use Rattle.store_invocations.proofs.Refusing.{first_of_one, none_of_both, none_o
 use Rattle.store_arrivals.specs.declared.arrival.PreparedArrival.{PreparedArrival}
 use Rattle.store_arrivals.specs.declared.asking.AskedCompletion.{AskedCompletion}
 use Rattle.store_arrivals.specs.Arrivals.{DecidesOutcome, IsArrival, IsMadeReady, arrival_tests, HasFewArrivals}
-use Rattle.store_arrivals.specs.Asked.{asked_by, is_run_command}
+use Rattle.store_arrivals.specs.Asked.{completion_asked_by, is_run_command}
 use Rattle.store_arrivals.proofs.Completing.{asking_of_open}
 use Rattle.store_arrivals.proofs.Written.{no_state, tests_are, few_arrivals, none_against_open, row_named, row_progress}
 
@@ -44,14 +44,14 @@ run_named : (request : Request) → is_run_command (request_type request) ≡ is
 run_named (Request.Run n name) = refl
 run_named _ = refl
 
-pub run_told : (n : ℕ) (o : Option Request) (asked : AskedCompletion) → Some asked ≡ option_map (asked_by n) o → is_run_command asked.ty ≡ is_run o
+pub run_told : (n : ℕ) (o : Option Request) (asked : AskedCompletion) → Some asked ≡ option_map (completion_asked_by n) o → is_run_command asked.ty ≡ is_run o
 run_told n None asked e = cc
-run_told n (Some request) asked e = ap (λ (a : AskedCompletion). is_run_command a.ty) (same asked (asked_by n request) e) ∙ run_named request
+run_told n (Some request) asked e = ap (λ (a : AskedCompletion). is_run_command a.ty) (same asked (completion_asked_by n request) e) ∙ run_named request
   where
     same : (one other : AskedCompletion) → Some one ≡ Some other → one ≡ other
     same one other e = cc
 
-pub no_run_told : (n : ℕ) (o : Option Request) → None ≡ option_map (asked_by n) o → false ≡ is_run o
+pub no_run_told : (n : ℕ) (o : Option Request) → None ≡ option_map (completion_asked_by n) o → false ≡ is_run o
 no_run_told n None e = refl
 no_run_told n (Some request) e = cc
 
@@ -67,18 +67,18 @@ run_typed entries n e = by_request (open_request entries n) refl e
 -- ---- what is made ready
 
 -- how far the invocation is then: whether it is awake does not change, since an attempt of it is live
-far_then : (events : List Event) (id : Text) (number n : ℕ) (value : NonEmptyValue) (asks : Bool) → IsAccepted (Event.Take id number (Frame.RunOutcome n value asks) ∷ events)
-    → progress_of (Event.Take id number (Frame.RunOutcome n value asks) ∷ events) id ≡ grown 1 1 (progress_of events id)
+far_then : (events : List Event) (id : Text) (number n : ℕ) (value : NonEmptyValue) (asks : Bool) → IsAccepted (Event.Move id number (Frame.RunOutcome n value asks) ∷ events)
+    → progress_of (Event.Move id number (Frame.RunOutcome n value asks) ∷ events) id ≡ grown 1 1 (progress_of events id)
 far_then events id number n value asks accepted =
-    let event = Event.Take id number (Frame.RunOutcome n value asks) in
+    let event = Event.Move id number (Frame.RunOutcome n value asks) in
     follows events event id refl refl
     ∙ ap (λ (noted : Noted). grown 1 1 (noted_into noted (progress_of events id))) (noted_follows events event id accepted (itself id) refl)
 
-outcome_writes : (events : List Event) (id : Text) (number n : ℕ) (value : NonEmptyValue) (asks : Bool) → IsAccepted (Event.Take id number (Frame.RunOutcome n value asks) ∷ events)
-    → writes_of events (Event.Take id number (Frame.RunOutcome n value asks))
+outcome_writes : (events : List Event) (id : Text) (number n : ℕ) (value : NonEmptyValue) (asks : Bool) → IsAccepted (Event.Move id number (Frame.RunOutcome n value asks) ∷ events)
+    → writes_of events (Event.Move id number (Frame.RunOutcome n value asks))
     ≡ AddEntry (entry_row id (entries_of events id) (1 + length (entries_of events id)) (Arrived (completion n (result_of_value value)))) ∷ SetProgress id (grown 1 1 (progress_of events id)) ∷ []
 outcome_writes events id number n value asks accepted =
-    let event = Event.Take id number (Frame.RunOutcome n value asks) in
+    let event = Event.Move id number (Frame.RunOutcome n value asks) in
     let entry = AddEntry (entry_row id (entries_of events id) (1 + length (entries_of events id)) (Arrived (completion n (result_of_value value)))) in
     ap (λ (writes : List Write). (invocation_writes events event id ++ []) ++ writes) (no_state (object_of events event))
     ∙ ap (λ (p : Progress). entry ∷ SetProgress id p ∷ []) (far_then events id number n value asks accepted)
@@ -89,21 +89,21 @@ module _ (events : List Event) (accepted : IsAccepted events) (id : Text) (n : �
 
   -- it is accepted then
   none_against : (number : ℕ) (value : NonEmptyValue) (asks : Bool) → is_open events id ≡ true → is_live events id number ≡ true
-      → those_that_hold (frame_tests events id (Frame.RunOutcome n value asks) ++ adding_tests events id (Event.Take id number (Frame.RunOutcome n value asks))) ≡ []
-      → causes_of events (Event.Take id number (Frame.RunOutcome n value asks)) ≡ []
+      → those_that_hold (frame_tests events id (Frame.RunOutcome n value asks) ++ adding_tests events id (Event.Move id number (Frame.RunOutcome n value asks))) ≡ []
+      → causes_of events (Event.Move id number (Frame.RunOutcome n value asks)) ≡ []
   none_against number value asks opened live none =
       let frame = Frame.RunOutcome n value asks in
-      let event = Event.Take id number (Frame.RunOutcome n value asks) in
+      let event = Event.Move id number (Frame.RunOutcome n value asks) in
       none_of_both (open_tests events id) (own_tests events event) (none_against_open events id opened)
       (none_of_both (live_tests events id number) (frame_tests events id frame ++ adding_tests events id event)
       (none_of_one (not (is_live events id number)) Cause.AttemptNotLive (ap not live)) none)
 
   ready : (number : ℕ) (value : NonEmptyValue) (asks : Bool) → is_open events id ≡ true → is_live events id number ≡ true → (r : Result PreparedArrival Refusal)
       → Decides (arrival_tests row (completion n (result_of_value value))) (IsArrival row types.RunCompletionNotification (completion n (result_of_value value))) r
-      → Decides (frame_tests events id (Frame.RunOutcome n value asks) ++ adding_tests events id (Event.Take id number (Frame.RunOutcome n value asks)))
-      (IsMadeReady events (Event.Take id number (Frame.RunOutcome n value asks)) id) r
+      → Decides (frame_tests events id (Frame.RunOutcome n value asks) ++ adding_tests events id (Event.Move id number (Frame.RunOutcome n value asks)))
+      (IsMadeReady events (Event.Move id number (Frame.RunOutcome n value asks)) id) r
   ready number value asks opened live (Ok made) decided =
-      let event = Event.Take id number (Frame.RunOutcome n value asks) in
+      let event = Event.Move id number (Frame.RunOutcome n value asks) in
       let brought = result_of_value value in
       let named = row_named events id row of in
       let far = row_progress events id row of in
@@ -120,14 +120,14 @@ module _ (events : List Event) (accepted : IsAccepted events) (id : Text) (n : �
         },
       )
   ready number value asks opened live (Err why) refused =
-      refused_later (frame_tests events id (Frame.RunOutcome n value asks)) (adding_tests events id (Event.Take id number (Frame.RunOutcome n value asks))) why open_run
+      refused_later (frame_tests events id (Frame.RunOutcome n value asks)) (adding_tests events id (Event.Move id number (Frame.RunOutcome n value asks))) why open_run
       (subst (λ (tests : Tests). IsRefused (those_that_hold tests) why) (tests_are events id n (result_of_value value) row of) refused)
 
   pub outcome_ready : (brought : NotificationResult) (r : Result PreparedArrival Refusal)
       → Decides (arrival_tests row (completion n brought)) (IsArrival row types.RunCompletionNotification (completion n brought)) r → DecidesOutcome events id n brought r
   outcome_ready brought r decided number value asks opened live same =
-      subst (λ (b : NotificationResult). Decides (frame_tests events id (Frame.RunOutcome n value asks) ++ adding_tests events id (Event.Take id number (Frame.RunOutcome n value asks)))
-      (IsMadeReady events (Event.Take id number (Frame.RunOutcome n value asks)) id) r) (sym same)
+      subst (λ (b : NotificationResult). Decides (frame_tests events id (Frame.RunOutcome n value asks) ++ adding_tests events id (Event.Move id number (Frame.RunOutcome n value asks)))
+      (IsMadeReady events (Event.Move id number (Frame.RunOutcome n value asks)) id) r) (sym same)
       (ready number value asks opened live r
       (subst (λ (b : NotificationResult). Decides (arrival_tests row (completion n b)) (IsArrival row types.RunCompletionNotification (completion n b)) r) same decided))
 
@@ -135,9 +135,9 @@ module _ (events : List Event) (accepted : IsAccepted events) (id : Text) (n : �
 
 pub none_waits : (events : List Event) (id : Text) (n : ℕ) (brought : NotificationResult) → is_run (open_request (entries_of events id) n) ≡ false → DecidesOutcome events id n brought (Err (refusal.Cause Cause.RunNotOpen))
 none_waits events id n brought none number value asks opened live same =
-    refused_more (frame_tests events id (Frame.RunOutcome n value asks)) (adding_tests events id (Event.Take id number (Frame.RunOutcome n value asks))) (refusal.Cause Cause.RunNotOpen)
+    refused_more (frame_tests events id (Frame.RunOutcome n value asks)) (adding_tests events id (Event.Move id number (Frame.RunOutcome n value asks))) (refusal.Cause Cause.RunNotOpen)
     (first_of_one (not (is_run (open_request (entries_of events id) n))) Cause.RunNotOpen (ap not none))
 
 pub unanswered : (events : List Event) (id : Text) (n : ℕ) (brought : NotificationResult) (why : Refusal) → IsRefused [] why → DecidesOutcome events id n brought (Err why)
 unanswered events id n brought why refused number value asks opened live same =
-    refused_anyway (frame_tests events id (Frame.RunOutcome n value asks) ++ adding_tests events id (Event.Take id number (Frame.RunOutcome n value asks))) why refused
+    refused_anyway (frame_tests events id (Frame.RunOutcome n value asks) ++ adding_tests events id (Event.Move id number (Frame.RunOutcome n value asks))) why refused

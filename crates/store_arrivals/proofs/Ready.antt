@@ -4,7 +4,7 @@ use Rattle.std.specs.List.{AllByRecursion}
 use Rattle.sqlite_keyed.proofs.ListLemmas.{map-map}
 use Rattle.journal_model.specs.Notification.{Text, Arrival}
 use Rattle.journal_model.specs.Event.{Event}
-use Rattle.journal_model.specs.Journal.{is_open, is_over, requests_in, sleeps_in, sorted_by_moment, slept, entries_of}
+use Rattle.journal_model.specs.Journal.{is_open, is_sleep_over, requests_in, sleeps_in, sorted_by_moment, slept, entries_of}
 use Rattle.journal_model.specs.Cause.{IsAccepted, is_empty}
 use Rattle.store_tables.specs.Records.{Records}
 use Rattle.store_tables.specs.declared.row.EntryRow.{EntryRow}
@@ -62,7 +62,7 @@ ends_slept id (sleep ∷ sleeps) = ap (λ (rest : List Arrival). answer_of_sleep
 
 module _ (events : List Event) (now : ℕ) where
   abbrev over : Text → List (ℕ × ℕ)
-  over id = filter (is_over (entries_of events id) now) (sorted_by_moment (sleeps_in (requests_in (entries_of events id))))
+  over id = filter (is_sleep_over (entries_of events id) now) (sorted_by_moment (sleeps_in (requests_in (entries_of events id))))
 
   group_is : (id : Text) (o : Bool) (sleeps : List (ℕ × ℕ)) → is_open events id ≡ o → over id ≡ sleeps
       → AllByRecursion (IsGroupOf events now) (group_of id (map (sleep_row id) (if o then sleeps else [])))

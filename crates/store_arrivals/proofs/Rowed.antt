@@ -8,7 +8,7 @@ use Rattle.journal_model.specs.Notification.{Text}
 use Rattle.journal_model.specs.Event.{Event}
 use Rattle.journal_model.specs.Journal.{is_open}
 use Rattle.journal_model.specs.Cause.{Tests, open_tests, those_that_hold}
-use Rattle.store_tables.specs.Looks.{Looks}
+use Rattle.store_tables.specs.Looks.{OnlyAsks}
 use Rattle.store_tables.specs.declared.row.InvocationRow.{InvocationRow}
 use Rattle.store_tables.specs.declared.row.Progress.{Progress}
 use Rattle.store_tables.specs.declared.row.Write.{Write}
@@ -16,7 +16,7 @@ use Rattle.store_tables.specs.declared.row.Write.TheVariants.{AddEntry, CloseSle
 use Rattle.store_model.specs.Progress.{progress_of}
 use Rattle.store_model.specs.Steps.{grown}
 use Rattle.store_refusals.specs.declared.refusal.Refusal.{Refusal}
-use Rattle.store_refusals.specs.Refused.{IsRefused, first_of}
+use Rattle.store_refusals.specs.Refused.{IsRefused, refusal_of_first_cause}
 use Rattle.store_invocations.specs.Rows.{Decides, IsRowOf}
 use Rattle.store_invocations.proofs.Refusing.{none_of_both, refused_later, refused_more}
 use Rattle.store_arrivals.specs.Arrivals.{HasFewArrivals}
@@ -51,7 +51,7 @@ group_ended events group row before after (Err why) of_it refused =
 -- an open invocation is not refused for what it is
 pub is_no_cause : (events : List Event) (id : Text) (tests : Tests) (why : Refusal) → is_open events id ≡ true
     → IsRefused (those_that_hold (open_tests events id)) why → IsRefused (those_that_hold tests) why
-is_no_cause events id tests why opened (inl e) = nothing (sym (ap first_of (none_against_open events id opened)) ∙ e)
+is_no_cause events id tests why opened (inl e) = nothing (sym (ap refusal_of_first_cause (none_against_open events id opened)) ∙ e)
   where
     nothing : ◌≡◌ {A = Option Refusal} None (Some why) → IsRefused (those_that_hold tests) why
     nothing f = cc
@@ -142,7 +142,7 @@ closed_with events until (group ∷ groups) mid after some are is closed =
     closed ∙ ap (λ (b : Bool). closed_until b until mid) (is ∙ ap not (ne_eqb (length (group ∷ groups)) 0 (more (length groups)))) ∙ ap (λ (writes : List Write). writes ++ CloseSleepsUntil until ∷ []) are
 
 -- before anything was asked
-pub looks_first : {S : Type 0} (g : Ghosts S) (a : Held S) → Looks g a a
+pub looks_first : {S : Type 0} (g : Ghosts S) (a : Held S) → OnlyAsks g a a
 looks_first g a = record {
   kept = λ clean is_open. (is_open, refl);
   crash = record {

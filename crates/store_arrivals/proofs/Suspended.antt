@@ -54,10 +54,10 @@ told_in (Event.Begin other now ∷ earlier) id accepted read = by_test (bytes_eq
     by_test : (b : Bool) → Told (invocation_begun earlier id) (suspension_of earlier id) → Told (invocation_begun earlier id) (if b then None else suspension_of earlier id)
     by_test true told = tt
     by_test false told = told
-told_in (Event.Take other attempt (Frame.Suspend suspension) ∷ earlier) id accepted read = by_test (bytes_eq other id) refl (told_in earlier id accepted.1 read.1)
+told_in (Event.Move other attempt (Frame.Suspend suspension) ∷ earlier) id accepted read = by_test (bytes_eq other id) refl (told_in earlier id accepted.1 read.1)
   where
     open_then : bytes_eq other id ≡ true → is_some (invocation_begun earlier id) ≡ true
-    open_then same = known_open (is_some (invocation_begun earlier id)) _ (open_when_accepted earlier (Event.Take other attempt (Frame.Suspend suspension)) id refl same accepted.0)
+    open_then same = known_open (is_some (invocation_begun earlier id)) _ (open_when_accepted earlier (Event.Move other attempt (Frame.Suspend suspension)) id refl same accepted.0)
 
     of_frame : (new : Option Suspension) → IsFrameRead (version_of earlier other) (Frame.Suspend new) → bytes_eq other id ≡ true → Told (invocation_begun earlier id) new
     of_frame None frame same = tt
@@ -67,7 +67,7 @@ told_in (Event.Take other attempt (Frame.Suspend suspension) ∷ earlier) id acc
         → Told (invocation_begun earlier id) (or_before (if b then suspension else None) (suspension_of earlier id))
     by_test true same told = taken suspension (suspension_of earlier id) (invocation_begun earlier id) (of_frame suspension read.0 same) told
     by_test false same told = told
-told_in (Event.Take other attempt _ ∷ earlier) id accepted read = told_in earlier id accepted.1 read.1
+told_in (Event.Move other attempt _ ∷ earlier) id accepted read = told_in earlier id accepted.1 read.1
 told_in (_ ∷ earlier) id accepted read = told_in earlier id accepted.1 read.1
 
 -- ---- and is kept as it was spelled

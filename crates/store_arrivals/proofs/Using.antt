@@ -7,7 +7,7 @@ use Rattle.sqlite.specs.State.{State}
 use Rattle.journal_model.specs.Notification.{Text, Arrival}
 use Rattle.journal_model.specs.declared.invocation.NewInvocation.{NewInvocation}
 use Rattle.journal_model.specs.Event.{Event}
-use Rattle.journal_model.specs.Journal.{Arrived, invoked_by, invocation_begun, is_open, is_over, requests_in, sleeps_in, sorted_by_moment, slept, entries_of}
+use Rattle.journal_model.specs.Journal.{Arrived, invoked_by, invocation_begun, is_open, is_sleep_over, requests_in, sleeps_in, sorted_by_moment, slept, entries_of}
 use Rattle.journal_model.specs.Cause.{IsAccepted, causes_of, places_used_up, those_that_hold, tick_uses_up}
 use Rattle.journal_model.specs.declared.cause.Cause.{Cause}
 use Rattle.store_tables.specs.Records.{FitsInvocation, Records}
@@ -20,7 +20,7 @@ use Rattle.store_model.proofs.Finding.{all_found}
 use Rattle.store_model.proofs.Opening.{both_ways}
 use Rattle.store_model.proofs.Sleeping.{answer_of_sleep}
 use Rattle.store_refusals.specs.declared.refusal.Refusal.{Refusal}
-use Rattle.store_refusals.specs.Refused.{IsRefused, first_of}
+use Rattle.store_refusals.specs.Refused.{IsRefused, refusal_of_first_cause}
 use Rattle.store_refusals.specs.Prepared.{Keeps}
 use Rattle.store_arrivals.specs.Groups.{Group, group_of, those_ended}
 use Rattle.store_arrivals.specs.Made.{next_place, tests_of}
@@ -104,26 +104,26 @@ module _ (events : List Event) where
   abbrev pub is_used_up : Group → Bool
   is_used_up group = nat_lt (2 ^ 32 - 1) (next_place events group.0 + length group.1)
 
-  first_used : (groups : List Group) → first_of (those_that_hold (tests_of events groups)) ≡ first_of (those_that_hold ((list_any is_used_up groups, Cause.NumbersUsedUp) ∷ []))
+  first_used : (groups : List Group) → refusal_of_first_cause (those_that_hold (tests_of events groups)) ≡ refusal_of_first_cause (those_that_hold ((list_any is_used_up groups, Cause.NumbersUsedUp) ∷ []))
   first_used [] = refl
   first_used (group ∷ groups) = by_test (is_used_up group) (first_used groups)
     where
-      by_test : (b : Bool) → first_of (those_that_hold (tests_of events groups)) ≡ first_of (those_that_hold ((list_any is_used_up groups, Cause.NumbersUsedUp) ∷ []))
-          → first_of (those_that_hold ((b, Cause.NumbersUsedUp) ∷ tests_of events groups)) ≡ first_of (those_that_hold ((b || list_any is_used_up groups, Cause.NumbersUsedUp) ∷ []))
+      by_test : (b : Bool) → refusal_of_first_cause (those_that_hold (tests_of events groups)) ≡ refusal_of_first_cause (those_that_hold ((list_any is_used_up groups, Cause.NumbersUsedUp) ∷ []))
+          → refusal_of_first_cause (those_that_hold ((b, Cause.NumbersUsedUp) ∷ tests_of events groups)) ≡ refusal_of_first_cause (those_that_hold ((b || list_any is_used_up groups, Cause.NumbersUsedUp) ∷ []))
       by_test true h = refl
       by_test false h = h
 
   none_used : (groups : List Group) → those_that_hold (tests_of events groups) ≡ [] → those_that_hold ((list_any is_used_up groups, Cause.NumbersUsedUp) ∷ []) ≡ []
-  none_used groups e = by_test (list_any is_used_up groups) (sym (ap first_of e) ∙ first_used groups)
+  none_used groups e = by_test (list_any is_used_up groups) (sym (ap refusal_of_first_cause e) ∙ first_used groups)
     where
-      by_test : (b : Bool) → ◌≡◌ {A = Option Refusal} None (first_of (those_that_hold ((b, Cause.NumbersUsedUp) ∷ []))) → those_that_hold ((b, Cause.NumbersUsedUp) ∷ []) ≡ []
+      by_test : (b : Bool) → ◌≡◌ {A = Option Refusal} None (refusal_of_first_cause (those_that_hold ((b, Cause.NumbersUsedUp) ∷ []))) → those_that_hold ((b, Cause.NumbersUsedUp) ∷ []) ≡ []
       by_test true e = cc
       by_test false e = refl
 
 module _ (events : List Event) (now : ℕ) (s : State) (k : Keeps events s) (groups : List Group) (all : AllByRecursion (IsGroupOf events now) groups)
     (by_name : (id : Text) → filter (named id) groups ≡ group_of id (map (sleep_row id) (ended_sleeps events now id))) where
   abbrev over : Text → List (ℕ × ℕ)
-  over id = filter (is_over (entries_of events id) now) (sorted_by_moment (sleeps_in (requests_in (entries_of events id))))
+  over id = filter (is_sleep_over (entries_of events id) now) (sorted_by_moment (sleeps_in (requests_in (entries_of events id))))
 
   abbrev uses_up : NewInvocation → Bool
   uses_up new = is_open events new.id && places_used_up (entries_of events new.id) (map Arrived (slept (entries_of events new.id) now))
@@ -197,7 +197,7 @@ module _ (events : List Event) (now : ℕ) (s : State) (k : Keeps events s) (gro
   uses_same = both_ways (tick_uses_up events now) (list_any (is_used_up events) groups) of_begun of_groups
 
   pub refused_tick : (why : Refusal) → IsRefused (those_that_hold (tests_of events groups)) why → IsRefused (causes_of events (Event.Tick now)) why
-  refused_tick why (inl e) = inl (ap (λ (b : Bool). first_of (those_that_hold ((b, Cause.NumbersUsedUp) ∷ []))) uses_same ∙ sym (first_used events groups) ∙ e)
+  refused_tick why (inl e) = inl (ap (λ (b : Bool). refusal_of_first_cause (those_that_hold ((b, Cause.NumbersUsedUp) ∷ []))) uses_same ∙ sym (first_used events groups) ∙ e)
   refused_tick why (inr e) = inr e
 
   pub accepted_tick : those_that_hold (tests_of events groups) ≡ [] → causes_of events (Event.Tick now) ≡ []

@@ -8,7 +8,7 @@ use Rattle.due_laws.specs.Noted.{heard_of, is_awake_kept, not_heard, or_zero}
 use Rattle.store_tables.specs.declared.row.InvocationRow.{InvocationRow}
 use Rattle.store_model.specs.Progress.{progress_of}
 use Rattle.store_refusals.specs.declared.refusal.Refusal.{Refusal}
-use Rattle.store_refusals.specs.Prepared.{Tells}
+use Rattle.store_refusals.specs.Prepared.{TellsOrRefuses}
 use Rattle.store_invocations.specs.Rows.{IsRowOf}
 use Rattle.store_arrivals.specs.Woken.{awake_then}
 
@@ -41,7 +41,7 @@ module _ (events : List Event) (id : Text) (row : InvocationRow) (new : List Arr
       ∙ ap (λ (b : Bool). b || is_woken (not_heard events id ++ new) (suspension_of events id)) (sym e ∙ flag_is)
 
   pub woken_now : row.progress.is_awake ≡ false → (heard : ℕ) → heard ≡ unwrap_or row.progress.heard 0 → (suspension : Suspension) → suspension_of events id ≡ Some suspension
-      → (r : Result Bool Refusal) → Tells (λ woken. woken ≡ is_woken (drop heard (recorded_arrivals events row.id) ++ new) (Some suspension)) r → Tells (λ awake. awake ≡ awake_then events id new) r
+      → (r : Result Bool Refusal) → TellsOrRefuses (λ woken. woken ≡ is_woken (drop heard (recorded_arrivals events row.id) ++ new) (Some suspension)) r → TellsOrRefuses (λ awake. awake ≡ awake_then events id new) r
   woken_now e heard so suspension is (Ok woken) told = told_then woken e heard so suspension is told
   woken_now e heard so suspension is (Err why) refused = refused
 

@@ -54,7 +54,7 @@ one_more : (n : ℕ) → n + 1 ≡ 1 + n
 one_more n = omega arith
 
 pub tests_are : (events : List Event) (id : Text) (n : ℕ) (brought : NotificationResult) (row : InvocationRow) → IsRowOf events id row
-    → arrival_tests row (completion n brought) ≡ adding_tests events id (Event.Complete id n brought)
+    → arrival_tests row (completion n brought) ≡ adding_tests events id (Event.Result id n brought)
 tests_are events id n brought row of =
     let entries = length (entries_of events id) in
     λ i. (nat_lt (2 ^ 32 - 2) ((ap (λ (p : Progress). p.entries) (row_progress events id row of) ∙ sym (one_more entries)) i), Cause.NumbersUsedUp)
@@ -67,27 +67,27 @@ no_state None = refl
 no_state (Some object) = refl
 
 -- how far the invocation is then
-far_then : (events : List Event) (id : Text) (n : ℕ) (brought : NotificationResult) → IsAccepted (Event.Complete id n brought ∷ events)
-    → progress_of (Event.Complete id n brought ∷ events) id ≡ grown 1 1 (flagged events id (completion n brought ∷ []) (progress_of events id))
+far_then : (events : List Event) (id : Text) (n : ℕ) (brought : NotificationResult) → IsAccepted (Event.Result id n brought ∷ events)
+    → progress_of (Event.Result id n brought ∷ events) id ≡ grown 1 1 (flagged events id (completion n brought ∷ []) (progress_of events id))
 far_then events id n brought accepted =
-    let event = Event.Complete id n brought in
+    let event = Event.Result id n brought in
     follows events event id refl refl
     ∙ ap (λ (noted : Noted). grown 1 1 (noted_into noted (progress_of events id))) (noted_follows events event id accepted (itself id) refl)
 
-pub writes_are : (events : List Event) (id : Text) (n : ℕ) (brought : NotificationResult) → IsAccepted (Event.Complete id n brought ∷ events)
-    → writes_of events (Event.Complete id n brought)
+pub writes_are : (events : List Event) (id : Text) (n : ℕ) (brought : NotificationResult) → IsAccepted (Event.Result id n brought ∷ events)
+    → writes_of events (Event.Result id n brought)
     ≡ AddEntry (entry_row id (entries_of events id) (1 + length (entries_of events id)) (Arrived (completion n brought)))
     ∷ SetProgress id (grown 1 1 (flagged events id (completion n brought ∷ []) (progress_of events id))) ∷ []
 writes_are events id n brought accepted =
-    let event = Event.Complete id n brought in
+    let event = Event.Result id n brought in
     let entry = AddEntry (entry_row id (entries_of events id) (1 + length (entries_of events id)) (Arrived (completion n brought))) in
     ap (λ (writes : List Write). (invocation_writes events event id ++ []) ++ writes) (no_state (object_of events event))
     ∙ ap (λ (p : Progress). entry ∷ SetProgress id p ∷ []) (far_then events id n brought accepted)
 
 pub made_ready : (events : List Event) (id : Text) (n : ℕ) (brought : NotificationResult) (row : InvocationRow) (kind : MessageType) (made : PreparedArrival)
-    → IsRowOf events id row → IsAccepted (Event.Complete id n brought ∷ events) → kind ≡ notification_type (entries_of events id) (CompletionId n)
+    → IsRowOf events id row → IsAccepted (Event.Result id n brought ∷ events) → kind ≡ notification_type (entries_of events id) (CompletionId n)
     → IsArrival (row_then events id (completion n brought ∷ []) row) kind (completion n brought) made
-    → IsMadeReady events (Event.Complete id n brought) id made
+    → IsMadeReady events (Event.Result id n brought) id made
 made_ready events id n brought row kind made of accepted typed is =
     let named = row_named events id row of in
     let far = row_progress events id row of in
@@ -113,13 +113,13 @@ none_against_open events id opened = none_closed (is_some (invocation_begun even
 pub all_ready : (events : List Event) (id : Text) (n : ℕ) (brought : NotificationResult) (row : InvocationRow) (kind : MessageType) → IsAccepted events
     → IsOpenRow events id row → those_that_hold (completion_tests events id n brought) ≡ [] → kind ≡ notification_type (entries_of events id) (CompletionId n)
     → (r : Result PreparedArrival Refusal) → Decides (arrival_tests row (completion n brought)) (IsArrival (row_then events id (completion n brought ∷ []) row) kind (completion n brought)) r
-    → Decides (own_tests events (Event.Complete id n brought)) (IsMadeReady events (Event.Complete id n brought) id) r
+    → Decides (own_tests events (Event.Result id n brought)) (IsMadeReady events (Event.Result id n brought) id) r
 all_ready events id n brought row kind accepted of none typed (Ok made) decided =
-    let event = Event.Complete id n brought in
+    let event = Event.Result id n brought in
     let rest = ap those_that_hold (sym (tests_are events id n brought row of.0)) ∙ decided.0 in
     let own = none_of_both (completion_tests events id n brought) (adding_tests events id event) none rest in
     let causes : causes_of events event ≡ [] = none_of_both (open_tests events id) (own_tests events event) (none_against_open events id of.1) own in
     (own, made_ready events id n brought row kind made of.0 (causes, accepted) typed decided.1)
 all_ready events id n brought row kind accepted of none typed (Err why) refused =
-    refused_later (completion_tests events id n brought) (adding_tests events id (Event.Complete id n brought)) why none
+    refused_later (completion_tests events id n brought) (adding_tests events id (Event.Result id n brought)) why none
     (subst (λ (tests : Tests). IsRefused (those_that_hold tests) why) (tests_are events id n brought row of.0) refused)

@@ -35,13 +35,13 @@ abbrev pub HasFewArrivals : Progress → Type 0
 HasFewArrivals p = p.arrivals ≤ p.entries
 
 -- made ready by its payload
-pub record IsWritten (row : InvocationRow) (kind : MessageType) (answered : Option ℕ) (payload : Bytes) (made : PreparedArrival) : Type 0 where
+pub record IsArrivalWritten (row : InvocationRow) (kind : MessageType) (answered : Option ℕ) (payload : Bytes) (made : PreparedArrival) : Type 0 where
   pub writes : HasFewArrivals row.progress → made.writes.items ≡ AddEntry (entry_of_arrival row kind answered payload) ∷ SetProgress row.id (grown 1 1 row.progress) ∷ []
   pub place : made.place ≡ row.progress.entries
 
 -- made ready of the invocation that has this row
 abbrev pub IsArrival : InvocationRow → MessageType → Arrival → PreparedArrival → Type 0
-IsArrival row kind arrival = IsWritten row kind (answered_by arrival.id) (notification_payload arrival)
+IsArrival row kind arrival = IsArrivalWritten row kind (answered_by arrival.id) (notification_payload arrival)
 
 -- made ready of an event that adds an arrival to an invocation: what the event writes
 pub record IsMadeReady (events : List Event) (event : Event) (id : Text) (made : PreparedArrival) : Type 0 where
@@ -52,5 +52,5 @@ pub record IsMadeReady (events : List Event) (event : Event) (id : Text) (made :
 abbrev pub DecidesOutcome : List Event → Text → ℕ → NotificationResult → Result PreparedArrival Refusal → Type 0
 DecidesOutcome events id n brought result = (number : ℕ) (value : NonEmptyValue) (asks : Bool)
     → is_open events id ≡ true → is_live events id number ≡ true → brought ≡ result_of_value value
-    → Decides (frame_tests events id (Frame.RunOutcome n value asks) ++ adding_tests events id (Event.Take id number (Frame.RunOutcome n value asks)))
-    (IsMadeReady events (Event.Take id number (Frame.RunOutcome n value asks)) id) result
+    → Decides (frame_tests events id (Frame.RunOutcome n value asks) ++ adding_tests events id (Event.Move id number (Frame.RunOutcome n value asks)))
+    (IsMadeReady events (Event.Move id number (Frame.RunOutcome n value asks)) id) result

@@ -14,14 +14,14 @@ use Rattle.protocol_types.specs.declared.message_type.MessageType.TheVariants as
 use Rattle.protocol_stream.specs.declared.command_facts.Completion.{Completion}
 use Rattle.protocol_stream.specs.CommandFacts.{accepts, completion_at, facts_of}
 use Rattle.store_tables.specs.Questions.{is_number}
-use Rattle.store_model.specs.Progress.{first_of, second_of}
+use Rattle.store_model.specs.Progress.{first_item, second_of}
 use Rattle.store_refusals.specs.declared.refusal.Refusal.{Refusal}
 use Rattle.store_refusals.specs.declared.refusal.Refusal.TheVariants as refusal
 use Rattle.store_arrivals.specs.declared.asking.AskedCompletion.{AskedCompletion}
 
 -- whether a completion is the first, and the second, that a request asks for
 abbrev pub is_first : ℕ → Request → Bool
-is_first n request = is_number n (first_of (completions_asked request))
+is_first n request = is_number n (first_item (completions_asked request))
 
 abbrev pub is_second : ℕ → Request → Bool
 is_second n request = is_number n (second_of (completions_asked request))
@@ -32,8 +32,8 @@ first_type n request = if is_first n request then Some (request_type request) el
 abbrev pub second_type : ℕ → Request → Option MessageType
 second_type n request = if is_second n request then Some (request_type request) else None
 
-abbrev pub asked_by : ℕ → Request → AskedCompletion
-asked_by n request = record { ty = request_type request; is_second = not (is_first n request) }
+abbrev pub completion_asked_by : ℕ → Request → AskedCompletion
+completion_asked_by n request = record { ty = request_type request; is_second = not (is_first n request) }
 
 abbrev pub as_second : MessageType → AskedCompletion
 as_second ty = record { ty = ty; is_second = true }

@@ -12,6 +12,6 @@ abbrev pub is_first : Text → List Group → Bool
 is_first id [] = false
 is_first id (group ∷ groups) = bytes_eq group.0 id
 
-abbrev pub joined : ℕ → List Group → List Group
-joined n [] = []
-joined n (group ∷ groups) = (group.0, n ∷ group.1) ∷ groups
+abbrev pub groups_joined : ℕ → List Group → List Group
+groups_joined n [] = []
+groups_joined n (group ∷ groups) = (group.0, n ∷ group.1) ∷ groups

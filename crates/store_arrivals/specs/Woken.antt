@@ -44,8 +44,8 @@ abbrev pub row_then : List Event → Text → List Arrival → InvocationRow →
 row_then events id new row = record row { progress = flagged events id new row.progress }
 
 -- the ends of sleeps, as they arrive
-abbrev pub end_of : ℕ → Arrival
-end_of n = completion n NotificationResult.Void
+abbrev pub sleep_end_of : ℕ → Arrival
+sleep_end_of n = completion n NotificationResult.Void
 
 abbrev pub ends_of : List ℕ → List Arrival
-ends_of ns = map end_of ns
+ends_of ns = map sleep_end_of ns

@@ -7,7 +7,7 @@ ghost use Rattle.store_model.specs.Kept.{answered_by};
 ghost use Rattle.store_model.specs.Steps.{grown};
 ghost use Rattle.store_refusals.specs.Causes.{IsUnasked};
 ghost use Rattle.store_invocations.specs.Rows.{Decides, payload_tests};
-ghost use Rattle.store_arrivals.specs.Arrivals.{HasFewArrivals, IsArrival, IsWritten, arrival_tests, entry_of_arrival};
+ghost use Rattle.store_arrivals.specs.Arrivals.{HasFewArrivals, IsArrival, IsArrivalWritten, arrival_tests, entry_of_arrival};
 
 use crate::payload::{kept_bytes, payload_of};
 use bytes::{ByteStr, Bytes};
@@ -121,7 +121,7 @@ fn arrival_with(
     payload: Bytes,
 ) -> Result<PreparedArrival, AllocError>
     requires { row.progress.entries + 1 < 2 ^ 32 }
-    ensures { IfOk result (IsWritten row ty answered payload) }
+    ensures { IfOk result (IsArrivalWritten row ty answered payload) }
 {
     let place = row.progress.entries;
     match entry_of(&row, ty, answered, payload) {

@@ -6,10 +6,10 @@ ghost use Rattle.sqlite.specs.State.{HasCleanDisk};
 ghost use Rattle.journal_model.specs.Event.{Event};
 ghost use Rattle.journal_model.specs.Journal.{entries_of, is_awaited, open_request, request_asking};
 ghost use Rattle.protocol_types.specs.MessageType.{named_type};
-ghost use Rattle.store_tables.specs.Looks.{Looks};
-ghost use Rattle.store_refusals.specs.Prepared.{Tells};
+ghost use Rattle.store_tables.specs.Looks.{OnlyAsks};
+ghost use Rattle.store_refusals.specs.Prepared.{TellsOrRefuses};
 ghost use Rattle.store_invocations.specs.Rows.{IsStoreOf};
-ghost use Rattle.store_arrivals.specs.Asked.{as_second, asked_by, completion_for, first_type as the_first_type, is_run_command, second_type as the_second_type, type_for};
+ghost use Rattle.store_arrivals.specs.Asked.{as_second, completion_asked_by, completion_for, first_type as the_first_type, is_run_command, second_type as the_second_type, type_for};
 ghost use Rattle.store_refusals.specs.Causes.{TellsCause};
 
 use bytes::ByteStr;
@@ -56,8 +56,8 @@ fn has_come<S: Alter>(
     id: &ByteStr,
     completion: u32,
 ) -> Result<bool, Refusal>
-    ensures told { HasCleanDisk (state S.Store tables.new) → (events : List Event) → IsStoreOf events (state S.Store tables.old) → Tells (λ come. come ≡ not (is_awaited (entries_of events id.now) completion)) result }
-    ensures looks { Looks S.Store tables.old tables.new }
+    ensures told { HasCleanDisk (state S.Store tables.new) → (events : List Event) → IsStoreOf events (state S.Store tables.old) → TellsOrRefuses (λ come. come ≡ not (is_awaited (entries_of events id.now) completion)) result }
+    ensures looks { OnlyAsks S.Store tables.old tables.new }
     ensures cause { IfErr result (TellsCause (state S.Store tables.old) (state S.Store tables.new)) }
 {
     let row = entry_by_answered(tables, id, completion)?;
@@ -72,8 +72,8 @@ fn first_type<S: Alter>(
     id: &ByteStr,
     completion: u32,
 ) -> Result<Option<MessageType>, Refusal>
-    ensures told { HasCleanDisk (state S.Store tables.new) → (events : List Event) → IsStoreOf events (state S.Store tables.old) → Tells (λ ty. ty ≡ option_and_then (the_first_type completion) (request_asking (entries_of events id.now) completion)) result }
-    ensures looks { Looks S.Store tables.old tables.new }
+    ensures told { HasCleanDisk (state S.Store tables.new) → (events : List Event) → IsStoreOf events (state S.Store tables.old) → TellsOrRefuses (λ ty. ty ≡ option_and_then (the_first_type completion) (request_asking (entries_of events id.now) completion)) result }
+    ensures looks { OnlyAsks S.Store tables.old tables.new }
     ensures cause { IfErr result (TellsCause (state S.Store tables.old) (state S.Store tables.new)) }
 {
     let row = entry_by_completion(tables, id, completion)?;
@@ -88,8 +88,8 @@ fn second_type<S: Alter>(
     id: &ByteStr,
     completion: u32,
 ) -> Result<Option<MessageType>, Refusal>
-    ensures told { HasCleanDisk (state S.Store tables.new) → (events : List Event) → IsStoreOf events (state S.Store tables.old) → Tells (λ ty. ty ≡ option_and_then (the_second_type completion) (request_asking (entries_of events id.now) completion)) result }
-    ensures looks { Looks S.Store tables.old tables.new }
+    ensures told { HasCleanDisk (state S.Store tables.new) → (events : List Event) → IsStoreOf events (state S.Store tables.old) → TellsOrRefuses (λ ty. ty ≡ option_and_then (the_second_type completion) (request_asking (entries_of events id.now) completion)) result }
+    ensures looks { OnlyAsks S.Store tables.old tables.new }
     ensures cause { IfErr result (TellsCause (state S.Store tables.old) (state S.Store tables.new)) }
 {
     let row = entry_by_second_completion(tables, id, completion)?;
@@ -104,8 +104,8 @@ fn request_of<S: Alter>(
     id: &ByteStr,
     completion: u32,
 ) -> Result<Option<AskedCompletion>, Refusal>
-    ensures told { HasCleanDisk (state S.Store tables.new) → (events : List Event) → IsStoreOf events (state S.Store tables.old) → Tells (λ asked. asked ≡ option_map (asked_by completion) (request_asking (entries_of events id.now) completion)) result }
-    ensures looks { Looks S.Store tables.old tables.new }
+    ensures told { HasCleanDisk (state S.Store tables.new) → (events : List Event) → IsStoreOf events (state S.Store tables.old) → TellsOrRefuses (λ asked. asked ≡ option_map (completion_asked_by completion) (request_asking (entries_of events id.now) completion)) result }
+    ensures looks { OnlyAsks S.Store tables.old tables.new }
     ensures cause { IfErr result (TellsCause (state S.Store tables.old) (state S.Store tables.new)) }
 {
     let first = first_type(tables, id, completion)?;
@@ -127,8 +127,8 @@ pub(crate) fn open_request_of<S: Alter>(
     id: &ByteStr,
     completion: u32,
 ) -> Result<Option<AskedCompletion>, Refusal>
-    ensures told { HasCleanDisk (state S.Store tables.new) → (events : List Event) → IsStoreOf events (state S.Store tables.old) → Tells (λ asked. asked ≡ option_map (asked_by completion) (open_request (entries_of events id.now) completion)) result }
-    ensures looks { Looks S.Store tables.old tables.new }
+    ensures told { HasCleanDisk (state S.Store tables.new) → (events : List Event) → IsStoreOf events (state S.Store tables.old) → TellsOrRefuses (λ asked. asked ≡ option_map (completion_asked_by completion) (open_request (entries_of events id.now) completion)) result }
+    ensures looks { OnlyAsks S.Store tables.old tables.new }
     ensures cause { IfErr result (TellsCause (state S.Store tables.old) (state S.Store tables.new)) }
 {
     let come = has_come(tables, id, completion)?;

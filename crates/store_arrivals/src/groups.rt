@@ -2,7 +2,7 @@
 
 ghost use Rattle.std.specs.Prelude.{◌≡◌, ◌∷◌, [], map, IfOk, OnOk};
 ghost use Rattle.store_arrivals.specs.Groups.{grouped, put_first as put_before};
-ghost use Rattle.store_arrivals.specs.Grouped.{as_group, is_first, joined};
+ghost use Rattle.store_arrivals.specs.Grouped.{as_group, is_first, groups_joined};
 
 use bytes::ByteStr;
 use std::alloc::{AllocError, Global};
@@ -39,7 +39,7 @@ fn is_first_of(groups: &VecDeque<SleepGroup>, invocation: &ByteStr) -> bool
 
 /// One more sleep of the first group.
 fn join_first(groups: &mut VecDeque<SleepGroup>, completion: u32) -> Result<(), AllocError>
-    ensures { OnOk result (map as_group groups.new.items ≡ joined completion (map as_group groups.old.items)) }
+    ensures { OnOk result (map as_group groups.new.items ≡ groups_joined completion (map as_group groups.old.items)) }
 {
     if let Some(first) = groups.front_mut() {
         first.completions.push_front(completion)?;

@@ -6,8 +6,8 @@ ghost use Rattle.sqlite.specs.State.{HasCleanDisk};
 ghost use Rattle.journal_model.specs.Event.{Event};
 ghost use Rattle.journal_model.specs.Journal.{entries_of, open_request};
 ghost use Rattle.journal_model.specs.Cause.{is_run};
-ghost use Rattle.store_tables.specs.Looks.{Looks};
-ghost use Rattle.store_refusals.specs.Prepared.{Tells};
+ghost use Rattle.store_tables.specs.Looks.{OnlyAsks};
+ghost use Rattle.store_refusals.specs.Prepared.{TellsOrRefuses};
 ghost use Rattle.store_invocations.specs.Rows.{IsRowOf, IsStoreOf};
 ghost use Rattle.store_arrivals.specs.Arrivals.{DecidesOutcome};
 ghost use Rattle.store_refusals.specs.Causes.{TellsCause};
@@ -28,8 +28,8 @@ fn is_run_open<S: Alter>(
     id: &ByteStr,
     completion: u32,
 ) -> Result<bool, Refusal>
-    ensures told { HasCleanDisk (state S.Store tables.new) → (events : List Event) → IsStoreOf events (state S.Store tables.old) → Tells (λ is_open. is_open ≡ is_run (open_request (entries_of events id.now) completion)) result }
-    ensures looks { Looks S.Store tables.old tables.new }
+    ensures told { HasCleanDisk (state S.Store tables.new) → (events : List Event) → IsStoreOf events (state S.Store tables.old) → TellsOrRefuses (λ is_open. is_open ≡ is_run (open_request (entries_of events id.now) completion)) result }
+    ensures looks { OnlyAsks S.Store tables.old tables.new }
     ensures cause { IfErr result (TellsCause (state S.Store tables.old) (state S.Store tables.new)) }
 {
     let open = open_request_of(tables, id, completion)?;
@@ -49,7 +49,7 @@ pub fn prepare_outcome<S: Alter>(
     brought: NotificationResult,
 ) -> Result<PreparedArrival, Refusal>
     ensures decided { HasCleanDisk (state S.Store tables.new) → (events : List Event) → IsStoreOf events (state S.Store tables.old) → IsRowOf events id.now row → DecidesOutcome events id.now completion brought result }
-    ensures looks { Looks S.Store tables.old tables.new }
+    ensures looks { OnlyAsks S.Store tables.old tables.new }
     ensures cause { IfErr result (TellsCause (state S.Store tables.old) (state S.Store tables.new)) }
 {
     match is_run_open(tables, id, completion) {

@@ -8,7 +8,7 @@ ghost use Rattle.journal_model.specs.Event.{Event};
 ghost use Rattle.journal_model.specs.Journal.{entries_of};
 ghost use Rattle.journal_model.specs.Attempt.{notification_type};
 ghost use Rattle.journal_model.specs.Cause.{own_tests};
-ghost use Rattle.store_tables.specs.Looks.{Looks};
+ghost use Rattle.store_tables.specs.Looks.{OnlyAsks};
 ghost use Rattle.store_refusals.specs.Prepared.{Prepares};
 ghost use Rattle.store_invocations.specs.Rows.{Decides, IsOpenRow, IsStoreOf};
 ghost use Rattle.store_arrivals.specs.Arrivals.{IsMadeReady};
@@ -36,7 +36,7 @@ fn type_of_result<S: Alter>(
 ) -> Result<MessageType, Refusal>
     ensures decided { HasCleanDisk (state S.Store tables.new) → (events : List Event) → IsStoreOf events (state S.Store tables.old)
         → Decides (completion_tests events id.now completion brought.now) (λ ty. ty ≡ notification_type (entries_of events id.now) (ModelId completion)) result }
-    ensures looks { Looks S.Store tables.old tables.new }
+    ensures looks { OnlyAsks S.Store tables.old tables.new }
     ensures cause { IfErr result (TellsCause (state S.Store tables.old) (state S.Store tables.new)) }
 {
     let open = open_request_of(tables, id, completion)?;
@@ -55,8 +55,8 @@ fn prepare_for<S: Alter>(
     brought: NotificationResult,
 ) -> Result<PreparedArrival, Refusal>
     ensures decided { HasCleanDisk (state S.Store tables.new) → (events : List Event) → IsStoreOf events (state S.Store tables.old) → IsOpenRow events id.now row
-        → Decides (own_tests events (Event.Complete id.now completion brought)) (IsMadeReady events (Event.Complete id.now completion brought) id.now) result }
-    ensures looks { Looks S.Store tables.old tables.new }
+        → Decides (own_tests events (Event.Result id.now completion brought)) (IsMadeReady events (Event.Result id.now completion brought) id.now) result }
+    ensures looks { OnlyAsks S.Store tables.old tables.new }
     ensures cause { IfErr result (TellsCause (state S.Store tables.old) (state S.Store tables.new)) }
 {
     match type_of_result(tables, id, completion, &brought) {
@@ -85,8 +85,8 @@ pub fn prepare_result<S: Alter>(
     brought: NotificationResult,
 ) -> Result<PreparedArrival, Refusal>
     ensures prepared { HasCleanDisk (state S.Store tables.new) → (events : List Event) → IsStoreOf events (state S.Store tables.old)
-        → Prepares events (Event.Complete id.now completion brought) (IsMadeReady events (Event.Complete id.now completion brought) id.now) result }
-    ensures looks { Looks S.Store tables.old tables.new }
+        → Prepares events (Event.Result id.now completion brought) (IsMadeReady events (Event.Result id.now completion brought) id.now) result }
+    ensures looks { OnlyAsks S.Store tables.old tables.new }
     ensures cause { IfErr result (TellsCause (state S.Store tables.old) (state S.Store tables.new)) }
 {
     match open_row(tables, id) {

@@ -7,7 +7,7 @@ ghost use Rattle.journal_model.specs.Notification.{Text};
 ghost use Rattle.journal_model.specs.Event.{Event};
 ghost use Rattle.store_frames.specs.Read.{SignalKeyFits};
 ghost use Rattle.journal_model.specs.Cause.{may_signal, own_tests};
-ghost use Rattle.store_tables.specs.Looks.{Looks};
+ghost use Rattle.store_tables.specs.Looks.{OnlyAsks};
 ghost use Rattle.store_refusals.specs.Prepared.{Prepares};
 ghost use Rattle.store_refusals.specs.Refused.{refusal_by};
 ghost use Rattle.store_invocations.specs.Rows.{Decides, IsOpenRow, IsStoreOf};
@@ -66,7 +66,7 @@ fn signal_for<S: Alter>(
 ) -> Result<PreparedArrival, Refusal>
     ensures decided { HasCleanDisk (state S.Store tables.new) → (events : List Event) (id : Text) → IsStoreOf events (state S.Store tables.old) → IsOpenRow events id row
         → Decides (own_tests events (Event.Signal id key brought)) (IsMadeReady events (Event.Signal id key brought) id) result }
-    ensures looks { Looks S.Store tables.old tables.new }
+    ensures looks { OnlyAsks S.Store tables.old tables.new }
     ensures cause { IfErr result (TellsCause (state S.Store tables.old) (state S.Store tables.new)) }
 {
     match signal_refusal(&key, &brought) {
@@ -95,7 +95,7 @@ fn cancel_for<S: Alter>(
 ) -> Result<PreparedArrival, Refusal>
     ensures decided { HasCleanDisk (state S.Store tables.new) → (events : List Event) (id : Text) → IsStoreOf events (state S.Store tables.old) → IsOpenRow events id row
         → Decides (own_tests events (Event.Cancel id)) (IsMadeReady events (Event.Cancel id) id) result }
-    ensures looks { Looks S.Store tables.old tables.new }
+    ensures looks { OnlyAsks S.Store tables.old tables.new }
     ensures cause { IfErr result (TellsCause (state S.Store tables.old) (state S.Store tables.new)) }
 {
     prepare_woken(
@@ -119,7 +119,7 @@ pub fn prepare_signal<S: Alter>(
     ensures prepared { HasCleanDisk (state S.Store tables.new) → (events : List Event) → IsStoreOf events (state S.Store tables.old)
         → Prepares events (Event.Signal id.now key brought) (IsMadeReady events (Event.Signal id.now key brought) id.now) result }
     ensures fits { SignalKeyFits key }
-    ensures looks { Looks S.Store tables.old tables.new }
+    ensures looks { OnlyAsks S.Store tables.old tables.new }
     ensures cause { IfErr result (TellsCause (state S.Store tables.old) (state S.Store tables.new)) }
 {
     note_number(&key);
@@ -140,7 +140,7 @@ pub fn prepare_cancel<S: Alter>(
 ) -> Result<PreparedArrival, Refusal>
     ensures prepared { HasCleanDisk (state S.Store tables.new) → (events : List Event) → IsStoreOf events (state S.Store tables.old)
         → Prepares events (Event.Cancel id.now) (IsMadeReady events (Event.Cancel id.now) id.now) result }
-    ensures looks { Looks S.Store tables.old tables.new }
+    ensures looks { OnlyAsks S.Store tables.old tables.new }
     ensures cause { IfErr result (TellsCause (state S.Store tables.old) (state S.Store tables.new)) }
 {
     match open_row(tables, id) {

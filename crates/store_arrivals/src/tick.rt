@@ -5,7 +5,7 @@ ghost use Rattle.sqlite.specs.Held.{state};
 ghost use Rattle.sqlite.specs.State.{HasCleanDisk};
 ghost use Rattle.journal_model.specs.Event.{Event};
 ghost use Rattle.journal_model.specs.Journal.{is_open};
-ghost use Rattle.store_tables.specs.Looks.{Looks};
+ghost use Rattle.store_tables.specs.Looks.{OnlyAsks};
 ghost use Rattle.store_model.specs.Sleeps.{due_until as the_last_due};
 ghost use Rattle.store_refusals.specs.Prepared.{Prepares};
 ghost use Rattle.store_arrivals.specs.Grouped.{as_group};
@@ -63,7 +63,7 @@ fn end_open<S: Alter>(
 ) -> Result<(), Refusal>
     ensures decided { HasCleanDisk (state S.Store tables.new) → (events : List Event) → (id : List ℕ) → IsStoreOf events (state S.Store tables.old) → IsRowOf events id row
         → Decides (room_tests row.progress.entries (length completions.now)) (λ _. AreEndsOf (row_then events id (the_ends_of completions.now) row) completions.now writes.old.items writes.new.items) result }
-    ensures looks { Looks S.Store tables.old tables.new }
+    ensures looks { OnlyAsks S.Store tables.old tables.new }
     ensures cause { IfErr result (TellsCause (state S.Store tables.old) (state S.Store tables.new)) }
 {
     let Ok(ends) = ends_of(tables.alloc(), completions) else {
@@ -86,7 +86,7 @@ fn end_group<S: Alter>(
 ) -> Result<(), Refusal>
     ensures decided { HasCleanDisk (state S.Store tables.new) → (events : List Event) → IsStoreOf events (state S.Store tables.old) → is_open events group.invocation ≡ true
         → Decides (group_tests events (as_group group)) (λ _. IsGroupEnded events (as_group group) writes.old.items writes.new.items) result }
-    ensures looks { Looks S.Store tables.old tables.new }
+    ensures looks { OnlyAsks S.Store tables.old tables.new }
     ensures cause { IfErr result (TellsCause (state S.Store tables.old) (state S.Store tables.new)) }
 {
     let SleepGroup {
@@ -117,7 +117,7 @@ fn end_groups<S: Alter>(
 ) -> Result<(), Refusal>
     ensures decided { HasCleanDisk (state S.Store tables.new) → (events : List Event) → IsStoreOf events (state S.Store tables.old) → AreOpen events (map as_group groups.items)
         → Decides (tests_of events (map as_group groups.items)) (λ _. AreGroupsEnded events (map as_group groups.items) writes.old.items writes.new.items) result }
-    ensures looks { Looks S.Store tables.old tables.new }
+    ensures looks { OnlyAsks S.Store tables.old tables.new }
     ensures cause { IfErr result (TellsCause (state S.Store tables.old) (state S.Store tables.new)) }
 {
     while let Some(group) = groups.pop_front() {
@@ -145,7 +145,7 @@ fn end_due<S: Alter>(
 ) -> Result<PreparedTick, Refusal>
     ensures decided { HasCleanDisk (state S.Store tables.new) → (events : List Event) → IsStoreOf events (state S.Store tables.old) → AreOpen events (map as_group groups.items)
         → Decides (tests_of events (map as_group groups.items)) (IsEndedUntil events until count (map as_group groups.items)) result }
-    ensures looks { Looks S.Store tables.old tables.new }
+    ensures looks { OnlyAsks S.Store tables.old tables.new }
     ensures cause { IfErr result (TellsCause (state S.Store tables.old) (state S.Store tables.new)) }
 {
     let mut writes = Vec::new(tables.alloc());
@@ -164,7 +164,7 @@ pub fn prepare_tick<S: Alter>(
     ensures prepared { HasCleanDisk (state S.Store tables.new) → (events : List Event) → IsStoreOf events (state S.Store tables.old)
         → Prepares events (Event.Tick now) (IsTickReady events now) result }
     ensures asked { HasCleanDisk (state S.Store tables.new) → OnOk result (IsTrue (state S.Store tables.old).is_open) }
-    ensures looks { Looks S.Store tables.old tables.new }
+    ensures looks { OnlyAsks S.Store tables.old tables.new }
     ensures cause { IfErr result (TellsCause (state S.Store tables.old) (state S.Store tables.new)) }
 {
     let until = due_until(now);

@@ -11,10 +11,10 @@ ghost use Rattle.protocol_types.specs.Version.{version_number};
 ghost use Rattle.store_frames.specs.Answer.{KeepsSuspension};
 ghost use Rattle.store_frames.specs.Read.{IsFrameRead};
 ghost use Rattle.store_frames.specs.First.{AreFirst};
-ghost use Rattle.store_frames.specs.Kept.{Reads};
+ghost use Rattle.store_frames.specs.Kept.{ReadsKept};
 ghost use Rattle.store_frames.specs.Awaited.{IsAwaited};
-ghost use Rattle.store_tables.specs.Looks.{Looks};
-ghost use Rattle.store_refusals.specs.Prepared.{Tells};
+ghost use Rattle.store_tables.specs.Looks.{OnlyAsks};
+ghost use Rattle.store_refusals.specs.Prepared.{TellsOrRefuses};
 ghost use Rattle.store_invocations.specs.Rows.{IsStoreOf};
 ghost use Rattle.store_arrivals.specs.Woken.{AreRowsOf, fault_refusal};
 ghost use Rattle.store_refusals.specs.Causes.{IsUnasked, TellsCause};
@@ -41,7 +41,7 @@ fn refusal_of(fault: KeptFault) -> Refusal
 
 /// The arrivals of these rows.
 fn hear_rows(alloc: Global, rows: &[EntryRow]) -> Result<FirstArrivals, KeptFault>
-    ensures { (arrivals : List Arrival) → AreRowsOf arrivals rows.now → Reads (λ first. AreFirst first arrivals) result }
+    ensures { (arrivals : List Arrival) → AreRowsOf arrivals rows.now → ReadsKept (λ first. AreFirst first arrivals) result }
 {
     let mut first = FirstArrivals::new(alloc);
     for row in rows {
@@ -61,7 +61,7 @@ fn with_new(
     kept: Result<FirstArrivals, KeptFault>,
     new: &[Notification],
 ) -> Result<FirstArrivals, Refusal>
-    ensures told { (arrivals : List Arrival) → Reads (λ first. AreFirst first arrivals) kept → Tells (λ first. AreFirst first (arrivals ++ new.now)) result }
+    ensures told { (arrivals : List Arrival) → ReadsKept (λ first. AreFirst first arrivals) kept → TellsOrRefuses (λ first. AreFirst first (arrivals ++ new.now)) result }
     ensures unasked { IfErr result IsUnasked }
 {
     match kept {
@@ -84,8 +84,8 @@ fn heard_after<S: Alter>(
     new: &[Notification],
 ) -> Result<FirstArrivals, Refusal>
     ensures told { HasCleanDisk (state S.Store tables.new) → (events : List Event) → IsStoreOf events (state S.Store tables.old)
-        → Tells (λ first. AreFirst first (without heard (recorded_arrivals events id.now) ++ new.now)) result }
-    ensures looks { Looks S.Store tables.old tables.new }
+        → TellsOrRefuses (λ first. AreFirst first (without heard (recorded_arrivals events id.now) ++ new.now)) result }
+    ensures looks { OnlyAsks S.Store tables.old tables.new }
     ensures cause { IfErr result (TellsCause (state S.Store tables.old) (state S.Store tables.new)) }
 {
     let rows = arrivals_after(tables, id, heard)?;
@@ -96,8 +96,8 @@ fn heard_after<S: Alter>(
 
 /// Whether what was heard, if it was, wakes what is awaited.
 fn woken_by(awaited: Future, heard: Result<FirstArrivals, Refusal>) -> Result<bool, Refusal>
-    ensures told { (suspension : Suspension) (arrivals : List Arrival) → IsAwaited suspension awaited → Tells (λ first. AreFirst first arrivals) heard
-        → Tells (λ woken. woken ≡ is_model_woken arrivals (Some suspension)) result }
+    ensures told { (suspension : Suspension) (arrivals : List Arrival) → IsAwaited suspension awaited → TellsOrRefuses (λ first. AreFirst first arrivals) heard
+        → TellsOrRefuses (λ woken. woken ≡ is_model_woken arrivals (Some suspension)) result }
     ensures refused { IfErr result (λ why. heard ≡ Err why) }
 {
     match heard {
@@ -126,8 +126,8 @@ pub fn is_woken<S: Alter>(
 ) -> Result<bool, Refusal>
     ensures told { HasCleanDisk (state S.Store tables.new) → (events : List Event) → IsStoreOf events (state S.Store tables.old)
         → (waits : Suspension) → IsFrameRead (version_number version) (Frame.Suspend (Some waits)) → KeepsSuspension waits suspension.now
-        → Tells (λ woken. woken ≡ is_model_woken (without heard (recorded_arrivals events id.now) ++ new.now) (Some waits)) result }
-    ensures looks { Looks S.Store tables.old tables.new }
+        → TellsOrRefuses (λ woken. woken ≡ is_model_woken (without heard (recorded_arrivals events id.now) ++ new.now) (Some waits)) result }
+    ensures looks { OnlyAsks S.Store tables.old tables.new }
     ensures cause { IfErr result (TellsCause (state S.Store tables.old) (state S.Store tables.new)) }
 {
     match awaited(tables.alloc(), version, suspension) {

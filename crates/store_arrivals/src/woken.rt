@@ -5,8 +5,8 @@ ghost use Rattle.sqlite.specs.Held.{state};
 ghost use Rattle.sqlite.specs.State.{HasCleanDisk};
 ghost use Rattle.journal_model.specs.Notification.{Text};
 ghost use Rattle.journal_model.specs.Event.{Event};
-ghost use Rattle.store_tables.specs.Looks.{Looks};
-ghost use Rattle.store_refusals.specs.Prepared.{Tells};
+ghost use Rattle.store_tables.specs.Looks.{OnlyAsks};
+ghost use Rattle.store_refusals.specs.Prepared.{TellsOrRefuses};
 ghost use Rattle.store_invocations.specs.Rows.{Decides, IsRowOf, IsStoreOf};
 ghost use Rattle.store_arrivals.specs.Arrivals.{IsArrival, arrival_tests};
 ghost use Rattle.store_arrivals.specs.Woken.{awake_then, row_then};
@@ -29,8 +29,8 @@ fn is_awake_with<S: Alter>(
     new: &[Notification],
 ) -> Result<bool, Refusal>
     ensures told { HasCleanDisk (state S.Store tables.new) → (events : List Event) (id : Text) → IsStoreOf events (state S.Store tables.old) → IsRowOf events id row.now
-        → Tells (λ awake. awake ≡ awake_then events id new.now) result }
-    ensures looks { Looks S.Store tables.old tables.new }
+        → TellsOrRefuses (λ awake. awake ≡ awake_then events id new.now) result }
+    ensures looks { OnlyAsks S.Store tables.old tables.new }
     ensures cause { IfErr result (TellsCause (state S.Store tables.old) (state S.Store tables.new)) }
 {
     if row.progress.is_awake {
@@ -56,8 +56,8 @@ pub(crate) fn woken_row<S: Alter>(
     new: &[Notification],
 ) -> Result<InvocationRow, Refusal>
     ensures told { HasCleanDisk (state S.Store tables.new) → (events : List Event) (id : Text) → IsStoreOf events (state S.Store tables.old) → IsRowOf events id row
-        → Tells (λ woken. woken ≡ row_then events id new.now row) result }
-    ensures looks { Looks S.Store tables.old tables.new }
+        → TellsOrRefuses (λ woken. woken ≡ row_then events id new.now row) result }
+    ensures looks { OnlyAsks S.Store tables.old tables.new }
     ensures cause { IfErr result (TellsCause (state S.Store tables.old) (state S.Store tables.new)) }
 {
     match is_awake_with(tables, &row, new) {
@@ -82,7 +82,7 @@ pub fn prepare_woken<S: Alter>(
 ) -> Result<PreparedArrival, Refusal>
     ensures decided { HasCleanDisk (state S.Store tables.new) → (events : List Event) (id : Text) → IsStoreOf events (state S.Store tables.old) → IsRowOf events id row
         → Decides (arrival_tests row arrival) (IsArrival (row_then events id (arrival ∷ []) row) ty arrival) result }
-    ensures looks { Looks S.Store tables.old tables.new }
+    ensures looks { OnlyAsks S.Store tables.old tables.new }
     ensures cause { IfErr result (TellsCause (state S.Store tables.old) (state S.Store tables.new)) }
 {
     match woken_row(tables, row, slice::from_ref(&arrival)) {

@@ -9,10 +9,10 @@ use Rattle.protocol_wire.proofs.Extends.{Extends}
 use Rattle.protocol_stream.specs.Item.{Item, item_at}
 use Rattle.protocol_stream.proofs.Fronts.{item_at_extends}
 use Rattle.store_refusals.specs.declared.refusal.Refusal.{Refusal}
-use Rattle.store_refusals.specs.Refused.{first_of, is_circumstance, IsRefused}
+use Rattle.store_refusals.specs.Refused.{refusal_of_first_cause, is_circumstance, IsRefused}
 use Rattle.store_steps.specs.declared.frame.FrameReply.{FrameReply}
 use Rattle.store_steps.specs.Taken.{IsReply, does_end, lies_in_frame}
-use Rattle.store_calls.specs.Standing.{Standing, KeepsOthers, Stays}
+use Rattle.store_calls.specs.AbstractStore.{Standing, KeepsOthers, StaysStanding}
 use Rattle.store_calls.specs.Frames.{frame_in, IsNext, rest_after, TakesFrame, TakesNone, LeavesRefused, RefusesFrame}
 use Rattle.store_calls.proofs.Replies.{taken_alike}
 
@@ -37,14 +37,14 @@ module _ (id : Text) (attempt : ℕ) (more : Bytes) where
     pub own : far.outputs id ≡ longer more (new.outputs id)
     pub others : KeepsOthers id new far
 
-  pub behind_stays : (old new far : Standing) → Stays old new → IsBehind old far → IsBehind new far
+  pub behind_stays : (old new far : Standing) → StaysStanding old new → IsBehind old far → IsBehind new far
   behind_stays old new far stays behind = record {
     events = behind.events ∙ sym stays.events;
     own = behind.own ∙ ap (longer more) (sym (stays.outputs id));
     others = λ other apart. behind.others other apart ∙ sym (stays.outputs other);
   }
 
-  pub stays_behind : (new old far : Standing) → Stays old far → IsBehind new old → IsBehind new far
+  pub stays_behind : (new old far : Standing) → StaysStanding old far → IsBehind new old → IsBehind new far
   stays_behind new old far stays behind = record {
     events = stays.events ∙ behind.events;
     own = stays.outputs id ∙ behind.own;
@@ -80,7 +80,7 @@ module _ (id : Text) (attempt : ℕ) (more : Bytes) where
       (subst (λ (frame : Frame). IsReply long.events id frame answer) same.0 two.replied)) in (
         replied,
         record {
-          events = two.leaves.events ∙ ap₂ (λ (frame : Frame) (events : List Event). Event.Take id attempt frame ∷ events) same.0 behind.events ∙ sym one.leaves.events;
+          events = two.leaves.events ∙ ap₂ (λ (frame : Frame) (events : List Event). Event.Move id attempt frame ∷ events) same.0 behind.events ∙ sym one.leaves.events;
           own =
               two.leaves.own ∙ ap₂ (λ (reply : FrameReply) (rest : Bytes). rest_after (does_end reply) rest) replied same.1 ∙ longer_rest (does_end reply) one.rest
               ∙ ap (longer more) (sym one.leaves.own);
@@ -100,32 +100,32 @@ module _ (id : Text) (attempt : ℕ) (more : Bytes) where
       none_some (sym two.none ∙ ap item_at output_is ∙ first_item more one.next.output one.rest one.next.item one.next.first)
 
   -- a frame that is taken has no cause to be refused
-  pub uncaused : (old new : Standing) (reply : FrameReply) → (one : TakesFrame id attempt reply old new) → causes_of old.events (Event.Take id attempt one.frame) ≡ []
+  pub uncaused : (old new : Standing) (reply : FrameReply) → (one : TakesFrame id attempt reply old new) → causes_of old.events (Event.Move id attempt one.frame) ≡ []
   uncaused old new reply one =
-      let accepted : IsAccepted (Event.Take id attempt one.frame ∷ old.events) = subst IsAccepted one.leaves.events new.accepted in
+      let accepted : IsAccepted (Event.Move id attempt one.frame ∷ old.events) = subst IsAccepted one.leaves.events new.accepted in
       accepted.0
 
   caused : (causes : List Cause) (why : Refusal) → causes ≡ [] → IsRefused causes why → is_circumstance why ≡ false → ⊥
-  caused causes why none (inl first) not = absurd (none_some (sym (ap first_of none) ∙ first))
+  caused causes why none (inl first) not = absurd (none_some (sym (ap refusal_of_first_cause none) ∙ first))
   caused causes why none (inr circumstance) not = absurd (true≢false (sym circumstance ∙ not))
 
   pub taken_refused : (short long new far : Standing) (reply : FrameReply) (why : Refusal) → IsBehind short long → is_circumstance why ≡ false → TakesFrame id attempt reply short new
       → RefusesFrame id attempt why long far → ⊥
   taken_refused short long new far reply why behind not one two =
       let same : (two.frame ≡ one.frame) × (two.rest ≡ one.rest ++ more) = next_same short long one.frame two.frame one.rest two.rest behind one.next two.next in
-      caused (causes_of long.events (Event.Take id attempt two.frame)) why
-      (ap₂ (λ (events : List Event) (frame : Frame). causes_of events (Event.Take id attempt frame)) behind.events same.0 ∙ uncaused short new reply one)
+      caused (causes_of long.events (Event.Move id attempt two.frame)) why
+      (ap₂ (λ (events : List Event) (frame : Frame). causes_of events (Event.Move id attempt frame)) behind.events same.0 ∙ uncaused short new reply one)
       two.cause not
 
   pub refused_taken : (short long new far : Standing) (reply : FrameReply) (why : Refusal) → IsBehind short long → is_circumstance why ≡ false → RefusesFrame id attempt why short new
       → TakesFrame id attempt reply long far → ⊥
   refused_taken short long new far reply why behind not one two =
       let same : (two.frame ≡ one.frame) × (two.rest ≡ one.rest ++ more) = next_same short long one.frame two.frame one.rest two.rest behind one.next two.next in
-      caused (causes_of short.events (Event.Take id attempt one.frame)) why
-      (ap₂ (λ (events : List Event) (frame : Frame). causes_of events (Event.Take id attempt frame)) (sym behind.events) (sym same.0) ∙ uncaused long far reply two)
+      caused (causes_of short.events (Event.Move id attempt one.frame)) why
+      (ap₂ (λ (events : List Event) (frame : Frame). causes_of events (Event.Move id attempt frame)) (sym behind.events) (sym same.0) ∙ uncaused long far reply two)
       one.cause not
 
-  cause_first : (causes : List Cause) (why : Refusal) → IsRefused causes why → is_circumstance why ≡ false → first_of causes ≡ Some why
+  cause_first : (causes : List Cause) (why : Refusal) → IsRefused causes why → is_circumstance why ≡ false → refusal_of_first_cause causes ≡ Some why
   cause_first causes why (inl first) not = first
   cause_first causes why (inr circumstance) not = absurd (true≢false (sym circumstance ∙ not))
 
@@ -142,9 +142,9 @@ module _ (id : Text) (attempt : ℕ) (more : Bytes) where
       → RefusesFrame id attempt why short new → RefusesFrame id attempt other long far → IsBehind new far
   refused_same short long new far why other behind not too one two =
       let same : (two.frame ≡ one.frame) × (two.rest ≡ one.rest ++ more) = next_same short long one.frame two.frame one.rest two.rest behind one.next two.next in
-      let first = cause_first (causes_of short.events (Event.Take id attempt one.frame)) why one.cause not in
-      let second = cause_first (causes_of long.events (Event.Take id attempt two.frame)) other two.cause too in
+      let first = cause_first (causes_of short.events (Event.Move id attempt one.frame)) why one.cause not in
+      let second = cause_first (causes_of long.events (Event.Move id attempt two.frame)) other two.cause too in
       let whys : other ≡ why =
-      some_same (sym second ∙ ap₂ (λ (events : List Event) (frame : Frame). first_of (causes_of events (Event.Take id attempt frame))) behind.events same.0 ∙ first) in
+      some_same (sym second ∙ ap₂ (λ (events : List Event) (frame : Frame). refusal_of_first_cause (causes_of events (Event.Move id attempt frame))) behind.events same.0 ∙ first) in
       left_same (lies_in_frame why) short long new far behind one.left
       (subst (λ (w : Refusal). LeavesRefused (lies_in_frame w) id attempt long far) whys two.left)

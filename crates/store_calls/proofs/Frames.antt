@@ -7,7 +7,7 @@ use Rattle.store_refusals.specs.declared.refusal.Refusal.{Refusal}
 use Rattle.store_refusals.specs.declared.refusal.Refusal.TheVariants.{OutOfMemory}
 use Rattle.store_refusals.specs.Refused.{is_circumstance}
 use Rattle.store_steps.specs.declared.frame.FrameReply.{FrameReply}
-use Rattle.store_calls.specs.Standing.{Standing, Stays}
+use Rattle.store_calls.specs.AbstractStore.{Standing, StaysStanding}
 use Rattle.store_calls.specs.Frames.{TakesEach, TakesFrame, TakesFrames, TakesNone, HasEnded, RefusesFrame, Rests}
 use Rattle.store_calls.specs.Pieces.{IsByEvents}
 use Rattle.store_calls.proofs.Behind.{IsBehind, longer, longer_waits, behind_stays, stays_behind, taken_same, taken_none, refused_none, taken_refused, refused_taken, refused_same, none_some}
@@ -70,7 +70,7 @@ module _ (id : Text) (attempt : ℕ) (more : Bytes) where
       over : point.outputs id ≡ None
       over = behind.own ∙ ap (longer more) ended.over
 
-      rest_so : (last : Option Refusal) (far : Standing) → Stays point far → Rests id attempt last far joined → IsByEvents last → IsBehind id attempt more between joined
+      rest_so : (last : Option Refusal) (far : Standing) → StaysStanding point far → Rests id attempt last far joined → IsByEvents last → IsBehind id attempt more between joined
       rest_so None far stays (inl rest) by = stays_behind id attempt more between far joined rest.stays (stays_behind id attempt more between point far stays (behind_stays id attempt more mid between point ended.stays behind))
       rest_so None far stays (inr none) by = absurd (none_some (sym over ∙ sym (stays.outputs id) ∙ none.waits))
       rest_so (Some why) far stays (inl room) by = absurd (no_memory why room.memory by)
@@ -102,7 +102,7 @@ module _ (id : Text) (attempt : ℕ) where
   own_same None = refl
   own_same (Some rest) = ap Some (append-nil rest)
 
-  by_own : (new joined : Standing) → joined.events ≡ new.events → joined.outputs id ≡ new.outputs id → ((other : Text) → bytes_eq id other ≡ false → joined.outputs other ≡ new.outputs other) → Stays new joined
+  by_own : (new joined : Standing) → joined.events ≡ new.events → joined.outputs id ≡ new.outputs id → ((other : Text) → bytes_eq id other ≡ false → joined.outputs other ≡ new.outputs other) → StaysStanding new joined
   by_own new joined events own others = record { events = events; outputs = λ other. by_id other (bytes_eq id other) refl }
     where
       by_id : (other : Text) (b : Bool) → bytes_eq id other ≡ b → joined.outputs other ≡ new.outputs other
@@ -110,11 +110,11 @@ module _ (id : Text) (attempt : ℕ) where
       by_id other false e = others other e
 
   -- with nothing more behind it is the same
-  pub behind_nothing : (new joined : Standing) → IsBehind id attempt [] new joined → Stays new joined
+  pub behind_nothing : (new joined : Standing) → IsBehind id attempt [] new joined → StaysStanding new joined
   behind_nothing new joined behind = by_own new joined behind.events (behind.own ∙ own_same (new.outputs id)) behind.others
 
   -- and so it is where nothing waits
-  pub behind_none : (more : Bytes) (new joined : Standing) → new.outputs id ≡ None → IsBehind id attempt more new joined → Stays new joined
+  pub behind_none : (more : Bytes) (new joined : Standing) → new.outputs id ≡ None → IsBehind id attempt more new joined → StaysStanding new joined
   behind_none more new joined none behind = by_own new joined behind.events (behind.own ∙ ap (longer more) none ∙ sym none) behind.others
 
   -- where no whole frame waits of the one none waits of the other
@@ -152,7 +152,7 @@ module _ (id : Text) (attempt : ℕ) where
 
   -- of the same bytes the same is taken
   pub frames_same : (replies all : List FrameReply) (why last : Option Refusal) (short new long joined : Standing) → IsBehind id attempt [] short long → TakesFrames id attempt replies why short new
-      → TakesFrames id attempt all last long joined → IsByEvents why → IsByEvents last → Stays new joined × (all ≡ replies)
+      → TakesFrames id attempt all last long joined → IsByEvents why → IsByEvents last → StaysStanding new joined × (all ≡ replies)
   frames_same replies all why last short new long joined behind one two by also =
       let on : GoesOn id attempt [] replies all last one.between joined = frames_join id attempt [] replies short one.between one.taken all last long joined behind two also in
       let end : (on.later ≡ []) × IsBehind id attempt [] new joined = rests_same why one.between new one.rests by on.later last on.point joined on.behind on.takes also in

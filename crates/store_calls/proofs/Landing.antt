@@ -9,7 +9,7 @@ use Rattle.journal_model.specs.Attempt.{attempts_begun, live_attempt}
 use Rattle.journal_model.specs.Cause.{causes_of}
 use Rattle.store_steps.specs.declared.frame.FrameReply.{FrameReply}
 use Rattle.store_steps.specs.Taken.{IsReply, does_end}
-use Rattle.store_calls.specs.Standing.{Standing, Adds, Leaves}
+use Rattle.store_calls.specs.AbstractStore.{Standing, Adds, LeavesWaiting}
 use Rattle.store_calls.specs.Frames.{IsNext, TakesFrame, rest_after}
 use Rattle.store_calls.proofs.Live.{taken_live, told_end}
 
@@ -54,7 +54,7 @@ module _ (s : Standing) where
   )
 
   -- an attempt was begun
-  pub begun : (id : Text) (now : ℕ) → causes_of s.events (Event.Begin id now) ≡ [] → (t : Standing) × Leaves (Event.Begin id now) id (Some []) s t
+  pub begun : (id : Text) (now : ℕ) → causes_of s.events (Event.Begin id now) ≡ [] → (t : Standing) × LeavesWaiting (Event.Begin id now) id (Some []) s t
   begun id now causes = (
     record {
       events = Event.Begin id now ∷ s.events;
@@ -66,15 +66,15 @@ module _ (s : Standing) where
   )
 
   -- the first frame was taken
-  pub taken : (id : Text) (n : ℕ) (frame : Frame) (rest : Bytes) (reply : FrameReply) → IsNext id s frame rest → IsReply s.events id frame reply → causes_of s.events (Event.Take id n frame) ≡ []
-      → (t : Standing) × (t.events ≡ Event.Take id n frame ∷ s.events) × TakesFrame id n reply s t
+  pub taken : (id : Text) (n : ℕ) (frame : Frame) (rest : Bytes) (reply : FrameReply) → IsNext id s frame rest → IsReply s.events id frame reply → causes_of s.events (Event.Move id n frame) ≡ []
+      → (t : Standing) × (t.events ≡ Event.Move id n frame ∷ s.events) × TakesFrame id n reply s t
   taken id n frame rest reply next replied causes = (
     record {
-      events = Event.Take id n frame ∷ s.events;
+      events = Event.Move id n frame ∷ s.events;
       accepted = (causes, s.accepted);
       outputs = with_output id (rest_after (does_end reply) rest) s.outputs;
       live = λ other.
-          subst (λ (b : Bool). is_some (with_output id (rest_after b rest) s.outputs other) ≡ is_some (live_attempt (Event.Take id n frame ∷ s.events) other))
+          subst (λ (b : Bool). is_some (with_output id (rest_after b rest) s.outputs other) ≡ is_some (live_attempt (Event.Move id n frame ∷ s.events) other))
           (sym (told_end s.events id frame reply replied))
           (taken_live_too (bytes_eq id other) (ends_attempt frame) rest (s.outputs other) (live_attempt s.events other)
           (λ mine. subst (λ (want : Text). is_some (live_attempt s.events want) ≡ true) ((bytes_eq-Decides id other).0 mine) (ap is_some (taken_live s.events id n frame causes)))

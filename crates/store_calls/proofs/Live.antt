@@ -22,9 +22,9 @@ pub live_so : (events : List Event) (id : Text) (n : ℕ) → live_attempt event
 live_so events id n is = rw is ((Decides-eqb n n).1 refl)
 
 -- an attempt of which a frame is accepted is live
-pub taken_live : (events : List Event) (id : Text) (n : ℕ) (frame : Frame) → causes_of events (Event.Take id n frame) ≡ [] → live_attempt events id ≡ Some n
+pub taken_live : (events : List Event) (id : Text) (n : ℕ) (frame : Frame) → causes_of events (Event.Move id n frame) ≡ [] → live_attempt events id ≡ Some n
 taken_live events id n frame causes =
-    let tests = tests_of events (Event.Take id n frame) in
+    let tests = tests_of events (Event.Move id n frame) in
     live_when events id n (not-false (is_live events id n) (holds-head (tail_of (tail_of tests)) (holds-tail (tail_of tests) (holds-tail tests causes))))
 
 none_ends : (mine ends : Bool) (live : Option ℕ) → ends ≡ false → (if mine && ends then None else live) ≡ live
@@ -34,9 +34,9 @@ none_ends false ends live e = refl
 
 -- and behind one that does not end it, it is live still
 pub still_live : (events : List Event) (id : Text) (n : ℕ) (frame : Frame) → ends_attempt frame ≡ false → is_live events id n ≡ true
-    → is_live (Event.Take id n frame ∷ events) id n ≡ true
+    → is_live (Event.Move id n frame ∷ events) id n ≡ true
 still_live events id n frame goes live =
-    live_so (Event.Take id n frame ∷ events) id n (none_ends (is_of id (Event.Take id n frame)) (ends_attempt frame) (live_attempt events id) goes ∙ live_when events id n live)
+    live_so (Event.Move id n frame ∷ events) id n (none_ends (is_of id (Event.Move id n frame)) (ends_attempt frame) (live_attempt events id) goes ∙ live_when events id n live)
 
 -- a reply says whether its frame ends the attempt
 pub told_end : (events : List Event) (id : Text) (frame : Frame) (reply : FrameReply) → IsReply events id frame reply → does_end reply ≡ ends_attempt frame

@@ -9,16 +9,16 @@ use Rattle.protocol_stream.specs.Item.{Item, item_at}
 use Rattle.store_refusals.specs.declared.refusal.Refusal.{Refusal}
 use Rattle.store_steps.specs.declared.frame.FrameReply.{FrameReply}
 use Rattle.store_steps.specs.Taken.{IsReply, does_end}
-use Rattle.store_calls.specs.Standing.{KeepsOthers, Standing, Stays}
+use Rattle.store_calls.specs.AbstractStore.{KeepsOthers, Standing, StaysStanding}
 use Rattle.store_calls.specs.Calls.{PutsBehind, RefusesBytes}
-use Rattle.store_calls.specs.Frames.{TakesFrame, TakesEach, TakesFirst, frame_in, rest_after}
+use Rattle.store_calls.specs.Frames.{TakesFrame, TakesEach, TakesFirstFrames, frame_in, rest_after}
 use Rattle.store_calls.proofs.Live.{still_live, told_end}
 
-pub same_stays : (s : Standing) → Stays s s
+pub same_stays : (s : Standing) → StaysStanding s s
 same_stays s = record { events = refl; outputs = λ id. refl }
 
 -- nothing has changed before
-pub before_still : (id : Text) (n : ℕ) (reply : FrameReply) (s m t : Standing) → Stays s m → TakesFrame id n reply m t → TakesFrame id n reply s t
+pub before_still : (id : Text) (n : ℕ) (reply : FrameReply) (s m t : Standing) → StaysStanding s m → TakesFrame id n reply m t → TakesFrame id n reply s t
 before_still id n reply s m t stays one = record {
   frame = one.frame;
   rest = one.rest;
@@ -31,7 +31,7 @@ before_still id n reply s m t stays one = record {
   };
   replied = subst (λ (events : List Event). IsReply events id one.frame reply) stays.events one.replied;
   leaves = record {
-    events = one.leaves.events ∙ ap (λ (events : List Event). Event.Take id n one.frame ∷ events) stays.events;
+    events = one.leaves.events ∙ ap (λ (events : List Event). Event.Move id n one.frame ∷ events) stays.events;
     own = one.leaves.own;
     others = λ other apart. one.leaves.others other apart ∙ stays.outputs other;
   };
@@ -44,7 +44,7 @@ takes_more id n [] reply s m t before one = (t, before_still id n reply s m t be
 takes_more id n (first ∷ replies) reply s m t before one = (before.0, before.1, takes_more id n replies reply before.0 m t before.2 one)
 
 -- then these are some
-pub takes_first : (id : Text) (n : ℕ) (replies : List FrameReply) (reply : FrameReply) (s m t : Standing) → TakesEach id n replies s m → TakesFrame id n reply m t → TakesFirst id n s t
+pub takes_first : (id : Text) (n : ℕ) (replies : List FrameReply) (reply : FrameReply) (s m t : Standing) → TakesEach id n replies s m → TakesFrame id n reply m t → TakesFirstFrames id n s t
 takes_first id n [] reply s m t before one = (reply, [], takes_more id n [] reply s m t before one)
 takes_first id n (first ∷ replies) reply s m t before one = (first, replies ++ reply ∷ [], takes_more id n (first ∷ replies) reply s m t before one)
 
@@ -75,13 +75,13 @@ live_or_over id n (reply ∷ replies) s t live it = by_end (does_end reply) refl
     by_end true ends further = inr (none_taken id n replies it.0 t (none_behind id n reply s it.0 it.1 ends) it.2)
 
 -- bytes that are refused change nothing
-pub bytes_stay : (live : Bool) (id : Text) (n : ℕ) (why : Refusal) (s t : Standing) → RefusesBytes live id n why s t → Stays s t
+pub bytes_stay : (live : Bool) (id : Text) (n : ℕ) (why : Refusal) (s t : Standing) → RefusesBytes live id n why s t → StaysStanding s t
 bytes_stay true id n why s t it = it.1
 bytes_stay false id n why s t it = it.stays
 
 -- ---- what stands before tells what stands behind
 
-both_stay : (s t u : Standing) → Stays s t → Stays s u → Stays t u
+both_stay : (s t u : Standing) → StaysStanding s t → StaysStanding s u → StaysStanding t u
 both_stay s t u one other = record { events = other.events ∙ sym one.events; outputs = λ id. other.outputs id ∙ sym (one.outputs id) }
 
 both_keep : (id : Text) (s t u : Standing) → u.outputs id ≡ t.outputs id → KeepsOthers id s t → KeepsOthers id s u → (any : Text) → u.outputs any ≡ t.outputs any
@@ -94,7 +94,7 @@ both_keep id s t u own one other any = by_test (bytes_eq id any) refl
 only_some : {A : Type 0} (o : Option A) (x y : A) → o ≡ Some x → o ≡ Some y → x ≡ y
 only_some o x y one other = cc
 
-pub same_put : (id : Text) (n : ℕ) (bytes : Bytes) (s t u : Standing) → PutsBehind id n bytes s t → PutsBehind id n bytes s u → Stays t u
+pub same_put : (id : Text) (n : ℕ) (bytes : Bytes) (s t u : Standing) → PutsBehind id n bytes s t → PutsBehind id n bytes s u → StaysStanding t u
 same_put id n bytes s t u one other =
     let same = only_some (s.outputs id) one.before other.before one.waits other.waits in
     record {
@@ -102,18 +102,18 @@ same_put id n bytes s t u one other =
       outputs = both_keep id s t u (other.own ∙ ap (λ (before : Bytes). Some (before ++ bytes)) (sym same) ∙ sym one.own) one.others other.others;
     }
 
-same_frame : (id : Text) (n : ℕ) (reply : FrameReply) (s t u : Standing) → TakesFrame id n reply s t → TakesFrame id n reply s u → Stays t u
+same_frame : (id : Text) (n : ℕ) (reply : FrameReply) (s t u : Standing) → TakesFrame id n reply s t → TakesFrame id n reply s u → StaysStanding t u
 same_frame id n reply s t u one other =
     let output = only_some (s.outputs id) one.next.output other.next.output one.next.waits other.next.waits in
     let first = only_some (item_at one.next.output) (one.next.item, one.rest) (other.next.item, other.rest) one.next.first (ap item_at output ∙ other.next.first) in
     let frame = one.next.frame_is ∙ ap (λ (pair : Item × Bytes). frame_in (version_of s.events id) pair.0) first ∙ sym other.next.frame_is in
     let rest = ap (λ (pair : Item × Bytes). rest_after (does_end reply) pair.1) first in
     record {
-      events = other.leaves.events ∙ ap (λ (f : Frame). Event.Take id n f ∷ s.events) (sym frame) ∙ sym one.leaves.events;
+      events = other.leaves.events ∙ ap (λ (f : Frame). Event.Move id n f ∷ s.events) (sym frame) ∙ sym one.leaves.events;
       outputs = both_keep id s t u (other.leaves.own ∙ sym rest ∙ sym one.leaves.own) one.leaves.others other.leaves.others;
     }
 
-pub same_taken : (id : Text) (n : ℕ) (replies : List FrameReply) (s m t u : Standing) → Stays s m → TakesEach id n replies s t → TakesEach id n replies m u → Stays t u
+pub same_taken : (id : Text) (n : ℕ) (replies : List FrameReply) (s m t u : Standing) → StaysStanding s m → TakesEach id n replies s t → TakesEach id n replies m u → StaysStanding t u
 same_taken id n [] s m t u stays one other =
     both_stay s t u one (record { events = other.events ∙ stays.events; outputs = λ any. other.outputs any ∙ stays.outputs any })
 same_taken id n (reply ∷ replies) s m t u stays one other =

@@ -6,13 +6,13 @@ use Rattle.journal_model.specs.Journal.{version_of}
 use Rattle.journal_model.specs.Attempt.{is_live}
 use Rattle.journal_model.specs.Cause.{causes_of}
 use Rattle.protocol_stream.specs.Item.{Item, unknown, message, item_at}
-use Rattle.store_frames.specs.Meaning.{frame_of}
+use Rattle.store_frames.specs.FrameMeanings.{frame_of}
 use Rattle.store_refusals.specs.declared.refusal.Refusal.{Refusal}
 use Rattle.store_refusals.specs.declared.refusal.Refusal.TheVariants.{OutOfMemory}
 use Rattle.store_refusals.specs.Refused.{IsRefused}
 use Rattle.store_steps.specs.declared.frame.FrameReply.{FrameReply}
 use Rattle.store_steps.specs.Taken.{IsReply, does_end, lies_in_frame}
-use Rattle.store_calls.specs.Standing.{Standing, Stays, Leaves, Refuses}
+use Rattle.store_calls.specs.AbstractStore.{Standing, StaysStanding, LeavesWaiting, Refuses}
 use Rattle.store_calls.specs.Calls.{PutsBehind, RefusesBytes}
 
 -- the frame that an item of an attempt of this version is
@@ -39,7 +39,7 @@ pub record TakesFrame (id : Text) (attempt : ℕ) (reply : FrameReply) (old new 
   pub rest : Bytes
   pub next : IsNext id old frame rest
   pub replied : IsReply old.events id frame reply
-  pub leaves : Leaves (Event.Take id attempt frame) id (rest_after (does_end reply) rest) old new
+  pub leaves : LeavesWaiting (Event.Move id attempt frame) id (rest_after (does_end reply) rest) old new
 
 -- with some answer
 abbrev pub TakesOne : Text → (attempt : ℕ) → Standing → Standing → Type 0
@@ -51,19 +51,19 @@ pub record TakesNone (id : Text) (attempt : ℕ) (old new : Standing) : Type 0 w
   pub output : Bytes
   pub waits : old.outputs id ≡ Some output
   pub none : item_at output ≡ None
-  pub stays : Stays old new
+  pub stays : StaysStanding old new
 
 -- a frame is refused: for a cause that lies in it its attempt is stopped, and otherwise it waits still
 abbrev pub LeavesRefused : (does_lie_in_frame : Bool) → Text → (attempt : ℕ) → Standing → Standing → Type 0
-LeavesRefused true id attempt old new = Leaves (Event.Stop id attempt) id None old new
-LeavesRefused false id attempt old new = Stays old new
+LeavesRefused true id attempt old new = LeavesWaiting (Event.Stop id attempt) id None old new
+LeavesRefused false id attempt old new = StaysStanding old new
 
 pub record RefusesFrame (id : Text) (attempt : ℕ) (why : Refusal) (old new : Standing) : Type 0 where
   pub live : is_live old.events id attempt ≡ true
   pub frame : Frame
   pub rest : Bytes
   pub next : IsNext id old frame rest
-  pub cause : IsRefused (causes_of old.events (Event.Take id attempt frame)) why
+  pub cause : IsRefused (causes_of old.events (Event.Move id attempt frame)) why
   pub left : LeavesRefused (lies_in_frame why) id attempt old new
 
 -- the attempt is not live
@@ -81,23 +81,23 @@ Steps id attempt (Err why) old new = HasNoFrames id attempt why old new ⊎ Refu
 
 -- frames are taken one after another, and answered so
 abbrev pub TakesEach : Text → (attempt : ℕ) → List FrameReply → Standing → Standing → Type 0
-TakesEach id attempt [] old new = Stays old new
+TakesEach id attempt [] old new = StaysStanding old new
 TakesEach id attempt (reply ∷ replies) old new = (between : Standing) × TakesFrame id attempt reply old between × TakesEach id attempt replies between new
 
 -- the first frames are taken, one at least
-abbrev pub TakesFirst : Text → (attempt : ℕ) → Standing → Standing → Type 0
-TakesFirst id attempt old new = (first : FrameReply) × (others : List FrameReply) × TakesEach id attempt (first ∷ others) old new
+abbrev pub TakesFirstFrames : Text → (attempt : ℕ) → Standing → Standing → Type 0
+TakesFirstFrames id attempt old new = (first : FrameReply) × (others : List FrameReply) × TakesEach id attempt (first ∷ others) old new
 
 -- the last one ended the attempt
 pub record HasEnded (id : Text) (old new : Standing) : Type 0 where
   pub over : old.outputs id ≡ None
-  pub stays : Stays old new
+  pub stays : StaysStanding old new
 
 -- there is no room for one more answer of an attempt that goes on: what waits first is not looked at
 pub record HasNoRoom (id : Text) (attempt : ℕ) (why : Refusal) (old new : Standing) : Type 0 where
   pub live : is_live old.events id attempt ≡ true
   pub memory : why ≡ OutOfMemory
-  pub stays : Stays old new
+  pub stays : StaysStanding old new
 
 -- why no further frame is taken
 abbrev pub Rests : Text → (attempt : ℕ) → Option Refusal → Standing → Standing → Type 0
@@ -117,4 +117,4 @@ Accepts id attempt bytes (Err why) old new = RefusesBytes (is_live old.events id
 
 -- bytes are put behind, and the first frames are taken
 abbrev pub AcceptsFirst : Text → (attempt : ℕ) → Bytes → Standing → Standing → Type 0
-AcceptsFirst id attempt bytes old new = (pushed : Standing) × PutsBehind id attempt bytes old pushed × TakesFirst id attempt pushed new
+AcceptsFirst id attempt bytes old new = (pushed : Standing) × PutsBehind id attempt bytes old pushed × TakesFirstFrames id attempt pushed new

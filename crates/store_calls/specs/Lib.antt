@@ -1,4 +1,4 @@
-pub mod Standing
+pub mod AbstractStore
 pub mod Calls
 pub mod Frames
 pub mod Pieces

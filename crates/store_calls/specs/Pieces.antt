@@ -4,7 +4,7 @@ use Rattle.journal_model.specs.Notification.{Bytes, Text}
 use Rattle.store_refusals.specs.declared.refusal.Refusal.{Refusal}
 use Rattle.store_refusals.specs.Refused.{is_circumstance}
 use Rattle.store_steps.specs.declared.frame.FrameReply.{FrameReply}
-use Rattle.store_calls.specs.Standing.{Standing, Stays}
+use Rattle.store_calls.specs.AbstractStore.{Standing, StaysStanding}
 use Rattle.store_calls.specs.Frames.{Accepts}
 
 -- what a call answers that accepts bytes
@@ -29,4 +29,4 @@ abbrev pub PiecesJoin : Type 0
 PiecesJoin = (id : Text) (attempt : ℕ) (first second : Bytes) (one two whole : Answer) (old between new joined : Standing)
     → Accepts id attempt first one old between → Accepts id attempt second two between new → Accepts id attempt (first ++ second) whole old joined
     → IsUnhindered one → IsUnhindered two → IsUnhindered whole
-    → Stays new joined × (replies_of whole ≡ replies_of one ++ replies_of two)
+    → StaysStanding new joined × (replies_of whole ≡ replies_of one ++ replies_of two)

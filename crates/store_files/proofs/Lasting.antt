@@ -21,7 +21,7 @@ use Rattle.store_live.specs.Attempts.{ByInvocation}
 use Rattle.journal_store.specs.Stands.{KeepsAll, Outlasts, Stands}
 use Rattle.store_files.specs.Files.{IsBare, KeepsEvents, ListsNone}
 use Rattle.store_files.specs.Left.{BareStandForNone, OpenedKeep, OpenedKeepNone}
-use Rattle.store_files.specs.Taken.{IsOpenedOver, IsTaken}
+use Rattle.store_files.specs.Taken.{IsOpenedOver, AreFilesTaken}
 use Rattle.store_files.proofs.Finding.{finds_some, found_empty}
 use Rattle.store_files.proofs.Opening.{was_clean}
 
@@ -40,7 +40,7 @@ unmarked trees mark none =
     let one = length_permutation (map cells (trees 3)) (mark_cells ∷ []) mark ∙ ap (λ (rows : List Row). length (map cells rows)) none in
     omega (arith, one)
 
-bare_stands : (image : Image) (s : State) (attempts : ByInvocation) → IsTaken image s attempts → IsBare image → Stands [] s attempts
+bare_stands : (image : Image) (s : State) (attempts : ByInvocation) → AreFilesTaken image s attempts → IsBare image → Stands [] s attempts
 bare_stands image s attempts taken bare = elim taken.is [
   | inl new ↦ new.1
   | inr again ↦

@@ -1,5 +1,5 @@
 pub mod Closing
-pub mod Crashing
+pub mod CrashImages
 pub mod Finding
 pub mod Lasting
 pub mod Leaving

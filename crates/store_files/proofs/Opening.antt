@@ -25,7 +25,7 @@ use Rattle.journal_store.specs.Opened.{CanBeTaken, ComesBack, IsNotTaken}
 use Rattle.journal_store.specs.Stands.{KeepsAll, Stands}
 use Rattle.store_files.specs.Files.{IsNoFile, KeepsEvents}
 use Rattle.store_files.specs.Refused.{AreGiven, IsGivenBack, IsUnopened}
-use Rattle.store_files.specs.Taken.{IsTaken}
+use Rattle.store_files.specs.Taken.{AreFilesTaken}
 use Rattle.store_files.specs.declared.open.NotTaken.{NotTaken}
 use Rattle.store_files.specs.declared.open.NotTaken.TheVariants.{NoStore, Unopened}
 use Rattle.store_files.proofs.Finding.{bare_or_not, finds_none, finds_some, found_trees}
@@ -71,7 +71,7 @@ module _ (image : Image) (was is : State) (attempts : ByInvocation) (Commits : T
       let kept = subst (KeepsAll events) (sym same) keeps.keeps in
       left (finds_some image events was.now.schema was.now.trees seen kept sound) events (store_of events was keeps.accepted kept)
 
-  pub is_taken : CanBeTaken was → IsTaken image is attempts
+  pub is_taken : CanBeTaken was → AreFilesTaken image is attempts
   is_taken taken = record {
     trees = was.now.trees;
     found = seen;

@@ -15,7 +15,7 @@ use Rattle.journal_model.specs.Cause.{IsAccepted}
 use Rattle.store_live.specs.Attempts.{ByInvocation}
 use Rattle.journal_store.specs.Stands.{KeepsAll, Outlasts, Stands}
 use Rattle.store_files.specs.Files.{KeepsEvents, IsBare, ListsNone}
-use Rattle.store_files.specs.Taken.{IsOpenedOver, IsTaken}
+use Rattle.store_files.specs.Taken.{IsOpenedOver, AreFilesTaken}
 
 -- The two files hold tables that a crash may leave of this database, and so they keep all accepted events that these tables keep.
 pub record HoldsLeft (it : State) (image : Image) : Type 0 where
@@ -48,5 +48,5 @@ OpenedKeepNone {D} g = (image : Image) (c : Held (FileStore D g)) → IsOpenedOv
 
 -- and a store that is opened over such files stands for no events
 abbrev pub BareStandForNone : {D : Type 0} → Ghosts D → Type 0
-BareStandForNone {D} g = (image : Image) (c : Held (FileStore D g)) (attempts : ByInvocation) → IsTaken image (file_state c) attempts
+BareStandForNone {D} g = (image : Image) (c : Held (FileStore D g)) (attempts : ByInvocation) → AreFilesTaken image (file_state c) attempts
     → IsBare image → Stands [] (file_state c) attempts

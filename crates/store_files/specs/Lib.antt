@@ -1,4 +1,4 @@
-pub mod Crashing
+pub mod CrashImages
 pub mod Files
 pub mod Left
 pub mod Made

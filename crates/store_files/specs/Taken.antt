@@ -28,7 +28,7 @@ IsFoundAgain trees database attempts =
     IsSound store_schema trees × IsMarked trees × ((events : List Event) → IsAccepted events → KeepsAll events trees → Stands (after_open events) database attempts)
 
 -- what was found in the files, and what the store stands for then
-pub record IsTaken (image : Image) (database : State) (attempts : ByInvocation) : Type 0 where
+pub record AreFilesTaken (image : Image) (database : State) (attempts : ByInvocation) : Type 0 where
   pub trees : Trees
   pub found : AreFoundIn image trees
   pub holds : (db : Trees) → ∥ HoldsDatabase image db ∥₁ → trees ≡ db

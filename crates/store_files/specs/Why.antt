@@ -12,21 +12,21 @@ use Rattle.store_files.specs.declared.why.Reason.{Reason}
 use Rattle.store_files.specs.declared.why.Reason.TheVariants as reason
 
 -- as a user is told it
-abbrev pub text_of : Reason → List ℕ
-text_of reason.Held = codes "another process has it open"
-text_of reason.NotFound = codes "it is not there, and cannot be made"
-text_of reason.NotPermitted = codes "it may not be read and written"
-text_of reason.NotRegular = codes "it is a folder or a device"
-text_of reason.SecondName = codes "it has a second name, a hard link"
-text_of reason.HasJournal = codes "a rollback journal stands beside it"
-text_of reason.NotGiven = codes "the system does not give it, or not its log"
-text_of reason.NoDatabase = codes "it is no database"
-text_of reason.Damaged = codes "it is a database that is damaged, or of a kind that is not read"
-text_of reason.NoStore = codes "it is a database, and no store's"
-text_of reason.OtherVersion = codes "it is a store's, of another version"
-text_of reason.Changed = codes "it is a store's, with other tables, indexes or rows than a store makes"
-text_of reason.DiskFailed = codes "the disk failed or is full"
-text_of reason.OutOfMemory = codes "memory was refused"
+abbrev pub reason_text : Reason → List ℕ
+reason_text reason.Held = codes "another process has it open"
+reason_text reason.NotFound = codes "it is not there, and cannot be made"
+reason_text reason.NotPermitted = codes "it may not be read and written"
+reason_text reason.NotRegular = codes "it is a folder or a device"
+reason_text reason.SecondName = codes "it has a second name, a hard link"
+reason_text reason.HasJournal = codes "a rollback journal stands beside it"
+reason_text reason.NotGiven = codes "the system does not give it, or not its log"
+reason_text reason.NoDatabase = codes "it is no database"
+reason_text reason.Damaged = codes "it is a database that is damaged, or of a kind that is not read"
+reason_text reason.NoStore = codes "it is a database, and no store's"
+reason_text reason.OtherVersion = codes "it is a store's, of another version"
+reason_text reason.Changed = codes "it is a store's, with other tables, indexes or rows than a store makes"
+reason_text reason.DiskFailed = codes "the disk failed or is full"
+reason_text reason.OutOfMemory = codes "memory was refused"
 
 -- what an error says by itself
 abbrev pub told_by : Error → Reason
@@ -72,11 +72,11 @@ MarkTells (Err (SqliteFailure code)) why = why ≡ told_by (SqliteFailure code)
 MarkTells (Err _) why = why ≡ reason.NoStore
 
 -- what a database answers that is asked for its mark
-abbrev pub IsAsked : State → State → Reason → Type 0
-IsAsked s t why = (answer : Result Row Error) × QueriesRow mark_question [] s t answer × MarkTells answer why
+abbrev pub IsMarkAsked : State → State → Reason → Type 0
+IsMarkAsked s t why = (answer : Result Row Error) × QueriesRow mark_question [] s t answer × MarkTells answer why
 
 -- why no store was opened over a connection, which is asked where its tables or rows are not a store's
 pub record StoreTells (s t : State) (refused : Refusal) (why : Reason) : Type 0 where
   pub memory : refused ≡ refusal.OutOfMemory → why ≡ reason.OutOfMemory
   pub statement : (error : Error) → refused ≡ refusal.StatementRefused error → why ≡ told_by error
-  pub foreign : refused ≡ refusal.ForeignRow → HasCleanDisk t → IsAsked s t why
+  pub foreign : refused ≡ refusal.ForeignRow → HasCleanDisk t → IsMarkAsked s t why

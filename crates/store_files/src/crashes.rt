@@ -3,9 +3,9 @@
 ghost use Rattle.std.specs.Prelude.{ℕ};
 ghost use Rattle.journal_model.specs.Notification.{Text};
 ghost use Rattle.journal_model.specs.Event.{Event};
-ghost use Rattle.store_calls.specs.Standing.{Adds};
+ghost use Rattle.store_calls.specs.AbstractStore.{Adds};
 ghost use Rattle.journal_store.specs.Attempts.{BeginsSome};
-ghost use Rattle.store_files.specs.Crashing.{CallsLeave, ImagesAreStores, OpensLeave, QuietCallsLeave};
+ghost use Rattle.store_files.specs.CrashImages.{CallsLeave, ImagesAreStores, OpensLeave, QuietCallsLeave};
 
 use sqlite::Alter;
 

@@ -11,7 +11,7 @@ ghost use Rattle.journal_model.specs.Cause.{after_open};
 ghost use Rattle.journal_store.specs.Stands.{Stands};
 ghost use Rattle.store_files.specs.Files.{IsNoFile, KeepsEvents};
 ghost use Rattle.store_files.specs.Refused.{IsNoStore, IsUnopened};
-ghost use Rattle.store_files.specs.Taken.{IsOpenedOver, IsTaken};
+ghost use Rattle.store_files.specs.Taken.{IsOpenedOver, AreFilesTaken};
 ghost use Rattle.store_files.specs.declared.open.NotTaken.TheVariants.{NoStore, Unopened};
 
 use crate::look::is_refused_unopened;
@@ -44,7 +44,7 @@ pub fn open_file<S: Start>(
 ) -> Result<Store<FileStore<FileFrom<S>>>, FileNotTaken<S>>
     ensures none { IfOk result (λ store. HasCleanDisk (file_state store.connection) → IsNoFile (image_at S.Start) → Stands [] (file_state store.connection) store.live.attempts) }
     ensures kept { IfOk result (λ store. HasCleanDisk (file_state store.connection) → (events : List Event) → KeepsEvents events (image_at S.Start) → Stands (after_open events) (file_state store.connection) store.live.attempts) }
-    ensures taken { IfOk result (λ store. HasCleanDisk (file_state store.connection) → IsTaken (image_at S.Start) (file_state store.connection) store.live.attempts) }
+    ensures taken { IfOk result (λ store. HasCleanDisk (file_state store.connection) → AreFilesTaken (image_at S.Start) (file_state store.connection) store.live.attempts) }
     ensures crash { IfOk result (λ store. IsOpenedOver (image_at S.Start) store.connection) }
     ensures memory { path.now ≡ codes ":memory:" → IsErrAnd result (λ why. (left : _) × (why ≡ Unopened (SqliteFailure CannotOpen) left)) }
     ensures none_live { IfOk result (λ store. store.live.attempts ≡ []) }

@@ -3,7 +3,7 @@ ghost use Rattle.std.specs.Prelude.{◌≡◌, true, false, Some};
 ghost use Rattle.sqlite.specs.Held.{state};
 ghost use Rattle.sqlite.specs.State.{HasCleanDisk};
 ghost use Rattle.sqlite.specs.declared.error.Error.{Error};
-ghost use Rattle.store_files.specs.Why.{ErrorTells, IsAsked, IsThisVersion, MarkTells, StoreTells, VersionTells, told_by};
+ghost use Rattle.store_files.specs.Why.{ErrorTells, IsMarkAsked, IsThisVersion, MarkTells, StoreTells, VersionTells, told_by};
 ghost use Rattle.store_files.specs.declared.open.NotTaken.TheVariants.{NoStore, Unopened};
 
 use crate::look::{kind_at, seen_at};
@@ -47,11 +47,11 @@ pub enum Reason {
 }
 
 impl Reason {
-    ghost use Rattle.store_files.specs.Why.{text_of};
+    ghost use Rattle.store_files.specs.Why.{reason_text};
 
     /// As a user is told it, behind the name of the file.
     pub fn text(self) -> &'static str
-        ensures { result.now ≡ text_of self }
+        ensures { result.now ≡ reason_text self }
     {
         match self {
             Reason::Held => "another process has it open",
@@ -75,9 +75,9 @@ impl Reason {
 }
 
 impl fmt::Display for Reason {
-    ghost use Rattle.store_files.specs.Why.{text_of};
+    ghost use Rattle.store_files.specs.Why.{reason_text};
 
-    ghost output = { λ reason. Some (text_of reason) };
+    ghost output = { λ reason. Some (reason_text reason) };
 
     fn fmt<W: fmt::Write>(&self, f: &mut fmt::Formatter<W>) -> fmt::Result {
         f.write_str(self.text())
@@ -140,7 +140,7 @@ fn by_mark(answer: Result<Row, Error>) -> Reason
 
 /// Whose a database is that is not this version's: it is asked for the mark of a store.
 fn asked<S: Alter>(connection: &mut Connection<S>) -> Reason
-    ensures { HasCleanDisk (state S.Store connection.new) → IsAsked (state S.Store connection.old) (state S.Store connection.new) result }
+    ensures { HasCleanDisk (state S.Store connection.new) → IsMarkAsked (state S.Store connection.old) (state S.Store connection.new) result }
 {
     by_mark(connection.query_row("SELECT version FROM meta WHERE name = 'journal_store'", &[]))
 }

@@ -11,7 +11,7 @@ use Rattle.protocol_wire.specs.declared.field.Scanned.{Scanned}
 use Rattle.protocol_wire.specs.declared.field.Scanned.TheVariants as scanned
 use Rattle.protocol_wire.specs.declared.field.ScannedField.{ScannedField}
 use Rattle.protocol_trees.specs.declared.tree.AwaitState.{AwaitState}
-use Rattle.store_frames.specs.First.{IsPut, state_of}
+use Rattle.store_frames.specs.First.{IsPut, await_state_of}
 use Rattle.store_frames.specs.Kept.{AreBoth, Names, SignalFits, completion_in, state_by}
 use Rattle.store_frames.proofs.KeptPayloads.{IdFits, brought_field, named_field, payload_fields, state_brought}
 
@@ -48,16 +48,16 @@ module _ (arrival : Arrival) (payload : Bytes) (is : payload ≡ notification_pa
   found : (Found : Field → Field → Type 0) → IdFits arrival.id → Finds Found → Found (named_field arrival.id) (brought_field arrival.result)
   found Found fits finds = finds (named_field arrival.id) (brought_field arrival.result) (all ∙ payload_fields arrival payload is fits short)
 
-  brought_state : (named brought : ScannedField) (state : AwaitState) → IdFits arrival.id → Finds (λ one two. AreBoth one two (named, brought)) → state ≡ state_by brought.number → state ≡ state_of arrival.result
+  brought_state : (named brought : ScannedField) (state : AwaitState) → IdFits arrival.id → Finds (λ one two. AreBoth one two (named, brought)) → state ≡ state_by brought.number → state ≡ await_state_of arrival.result
   brought_state named brought state fits finds e =
       let both = found (λ one two. AreBoth one two (named, brought)) fits finds in
       e ∙ ap state_by (ap (λ (f : Field). f.number) both.1) ∙ state_brought arrival.result
 
   pub completion_heard : (number : ℕ) → completion_in arrival.id ≡ Some number → number < 2 ^ 32 → (named brought : ScannedField) (state : AwaitState)
       → Finds (λ one two. AreBoth one two (named, brought)) → state ≡ state_by brought.number
-      → (before after : NotificationId → Option AwaitState) → IsPut before (CompletionId number) state after → IsPut before arrival.id (state_of arrival.result) after
+      → (before after : NotificationId → Option AwaitState) → IsPut before (CompletionId number) state after → IsPut before arrival.id (await_state_of arrival.result) after
   completion_heard number of_it small named brought state finds e before after put =
-      subst (λ (id : NotificationId). IsPut before id (state_of arrival.result) after) (sym (completion_id arrival.id number of_it))
+      subst (λ (id : NotificationId). IsPut before id (await_state_of arrival.result) after) (sym (completion_id arrival.id number of_it))
       (subst (λ (s : AwaitState). IsPut before (CompletionId number) s after) (brought_state named brought state (completion_fits arrival.id number of_it small) finds e) put)
 
   pub completion_found : (number : ℕ) → completion_in arrival.id ≡ Some number → number < 2 ^ 32 → Finds (λ one two. ⊥) → ⊥
@@ -69,7 +69,7 @@ module _ (arrival : Arrival) (payload : Bytes) (is : payload ≡ notification_pa
       named_signal named.value arrival.id none (ap (λ (f : Field). f.value) both.0)
 
   pub signal_state : completion_in arrival.id ≡ None → SignalFits arrival.id → (named brought : ScannedField) (state : AwaitState) → Finds (λ one two. AreBoth one two (named, brought))
-      → state ≡ state_by brought.number → state ≡ state_of arrival.result
+      → state ≡ state_by brought.number → state ≡ await_state_of arrival.result
   signal_state none h named brought state finds e = brought_state named brought state (signal_fits arrival.id none h) finds e
 
   pub signal_found : completion_in arrival.id ≡ None → SignalFits arrival.id → Finds (λ one two. ⊥) → ⊥

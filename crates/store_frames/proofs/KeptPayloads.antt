@@ -10,7 +10,7 @@ use Rattle.journal_model.specs.Spelling.{notification_payload}
 use Rattle.protocol_wire.specs.Wire.{Wire, varint, bytes, fixed, Field}
 use Rattle.protocol_wire.specs.Fields.{fields}
 use Rattle.protocol_wire.specs.Spelling.{FieldFits}
-use Rattle.protocol_wire.specs.Parts.{Part, numbered, fields_of, payload_of}
+use Rattle.protocol_wire.specs.Parts.{Part, parts_numbered, fields_of, payload_of}
 use Rattle.protocol_wire.proofs.Holds.{LengthFits, PartLengthsFit, lengths_fit}
 use Rattle.protocol_wire.proofs.Laws.{fields-payload_alone}
 use Rattle.protocol_records.specs.Failure.{failure_parts}
@@ -21,7 +21,7 @@ use Rattle.protocol_stream.specs.Records.{value_record, arrived_failure_record}
 use Rattle.protocol_controls.specs.Notification.{id_parts, notification_parts, result_parts}
 use Rattle.protocol_laws.specs.Records.{id_record, keys_record, notification_record, result_record, void_record}
 use Rattle.protocol_laws.proofs.Notifications.{notifications_spelled}
-use Rattle.store_frames.specs.First.{state_of}
+use Rattle.store_frames.specs.First.{await_state_of}
 use Rattle.store_frames.specs.Kept.{completion_in, state_by}
 
 -- ---- the two fields
@@ -55,7 +55,7 @@ parts_are (SignalName name) result = ap (λ (fs : List Field). named_field (Sign
 abbrev IsShort : Field → Type 0
 IsShort f = LengthFits f.value
 
-numbered_short : (number : ℕ) (ws : List Wire) (fs : List Field) → AllByRecursion LengthFits ws → AllByRecursion IsShort fs → AllByRecursion IsShort (numbered number ws ++ fs)
+numbered_short : (number : ℕ) (ws : List Wire) (fs : List Field) → AllByRecursion LengthFits ws → AllByRecursion IsShort fs → AllByRecursion IsShort (parts_numbered number ws ++ fs)
 numbered_short number [] fs h others = others
 numbered_short number (w ∷ ws) fs h others = (h.0, numbered_short number ws fs h.1 others)
 
@@ -94,7 +94,7 @@ payload_fields arrival payload e h small =
 
 -- ---- what is carried comes to this
 
-pub state_brought : (result : NotificationResult) → state_by (brought_field result).number ≡ state_of result
+pub state_brought : (result : NotificationResult) → state_by (brought_field result).number ≡ await_state_of result
 state_brought brought.Void = refl
 state_brought (brought.Value content) = refl
 state_brought (brought.Failure failure) = refl

@@ -13,7 +13,7 @@ use Rattle.protocol_records.specs.declared.future.CombinatorType.TheVariants as 
 use Rattle.protocol_records.specs.Future.{CombinatorFits, FutureFits}
 use Rattle.protocol_records.proofs.Futures.{future_fits}
 use Rattle.protocol_stream.specs.Records.{combinator_record, future_node, future_record, nested_records}
-use Rattle.protocol_trees.specs.Shape.{combinator_of, forest, node}
+use Rattle.protocol_trees.specs.Shape.{shape_combinator, forest, node}
 use Rattle.protocol_trees.specs.Future.{shape_in, ids_in, future_tree}
 use Rattle.protocol_trees.specs.FutureShape.{future_tree_is}
 use Rattle.store_frames.proofs.Trees.{Tree, all, skips, skips_last, completions_of_all, signals_of_all, names_of_all}
@@ -44,7 +44,7 @@ level combinator completions signals names nested = λ i.
 
 -- its combinator is the one that it means
 abbrev meant : CombinatorType → ℕ → Combinator
-meant c required = combinator_of (shape_in c required)
+meant c required = shape_combinator (shape_in c required)
 
 again_is : (f : Future)
     → again f ≡ future_node (out-Future f).waiting_completions (out-Future f).waiting_signals (out-Future f).waiting_named_signals (map again (out-Future f).nested_futures) (combinator_record (meant (out-Future f).combinator_type (out-Future f).required)) (required_by (meant (out-Future f).combinator_type (out-Future f).required))

@@ -33,10 +33,10 @@ use Rattle.store_frames.specs.declared.kind.FrameKind.TheVariants as kinds
 use Rattle.store_frames.specs.declared.frame.ErrorBehavior.TheVariants as behaviors
 use Rattle.store_frames.specs.declared.frame.AttemptFrame.{AttemptFrame}
 use Rattle.store_frames.specs.declared.frame.AttemptFrame.TheVariants as answers
-use Rattle.store_frames.specs.Kind.{kind_of, record_of}
+use Rattle.store_frames.specs.Kind.{frame_kind, record_of}
 use Rattle.store_frames.specs.Requests.{suspension_of_tree, suspension_of_lists, behavior_numbered, proposal_told}
 use Rattle.store_frames.specs.Commands.{request_in}
-use Rattle.store_frames.specs.Meaning.{unless_faulty, read_as, read_if_record, command_or_broken, error_frame, outcome_or_broken, unless_numbered, suspension_frame, frame_by, asks_ack, frame_of}
+use Rattle.store_frames.specs.FrameMeanings.{unless_faulty, read_as, read_if_record, command_or_broken, error_frame, outcome_or_broken, unless_numbered, suspension_frame, frame_by, asks_ack, frame_of}
 use Rattle.store_frames.specs.Told.{told_unless_faulty, told_as, told_if_record, told_request, told_waiting, told_tree, told_staying, told_awaiting, told_lists, told_number, told_error, told_suspension, told_outcome, told_proposal, told_by}
 use Rattle.store_frames.specs.Answer.{IsFrame, behavior_meant}
 use Rattle.store_frames.proofs.Payloads.{lists_payload}
@@ -126,12 +126,12 @@ told_is version kinds.Other ty asks payload = if_record_is (record_of ty) payloa
 -- ---- messages
 
 moved : (version : ℕ) (one other : MessageType) (asks asked : Bool) (payload all : List ℕ) → one ≡ other → asks ≡ asked → payload ≡ all
-    → told_by version (kind_of one) one asks payload ≡ told_by version (kind_of other) other asked all
-moved version one other asks asked payload all same flag whole = λ i. told_by version (kind_of (same i)) (same i) (flag i) (whole i)
+    → told_by version (frame_kind one) one asks payload ≡ told_by version (frame_kind other) other asked all
+moved version one other asks asked payload all same flag whole = λ i. told_by version (frame_kind (same i)) (same i) (flag i) (whole i)
 
 pub meant : {E : Type 0} (version : ℕ) (m : RawMessage) (ty : MessageType) (asks : Bool) (payload : List ℕ) (result : Result AttemptFrame E)
-    → ty ≡ message_type m.header → asks ≡ asks_ack m.header → payload ≡ m.payload → IfOk result (λ frame. frame ≡ told_by version (kind_of ty) ty asks payload) → IfOk result (IsFrame (frame_of version m))
+    → ty ≡ message_type m.header → asks ≡ asks_ack m.header → payload ≡ m.payload → IfOk result (λ frame. frame ≡ told_by version (frame_kind ty) ty asks payload) → IfOk result (IsFrame (frame_of version m))
 meant version m ty asks payload (Ok frame) same flag whole is =
     subst (λ (told : AttemptFrame). IsFrame (frame_of version m) told) (sym (is ∙ moved version ty (message_type m.header) asks (asks_ack m.header) payload m.payload same flag whole))
-    (told_is version (kind_of (message_type m.header)) (message_type m.header) (asks_ack m.header) m.payload)
+    (told_is version (frame_kind (message_type m.header)) (message_type m.header) (asks_ack m.header) m.payload)
 meant version m ty asks payload (Err e) same flag whole is = tt

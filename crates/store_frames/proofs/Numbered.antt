@@ -5,7 +5,7 @@ use Rattle.journal_model.specs.AwaitTree.{has_number}
 use Rattle.journal_model.specs.Event.{Frame}
 use Rattle.protocol_records.specs.declared.future.Future.{Future}
 use Rattle.protocol_trees.specs.Future.{future_tree}
-use Rattle.store_frames.specs.Meaning.{unless_numbered}
+use Rattle.store_frames.specs.FrameMeanings.{unless_numbered}
 
 pub numbered_or_not : (lacks : Bool) (awaited : Option Future) (frame : Frame) → (unless_numbered lacks awaited frame ≡ frame) ⊎ (unless_numbered lacks awaited frame ≡ Frame.Broken)
 numbered_or_not lacks None frame = inl refl

@@ -38,9 +38,9 @@ use Rattle.protocol_laws.proofs.Notifications.{suspensions_spelled}
 use Rattle.protocol_trees.specs.Future.{future_tree, ids_in}
 use Rattle.store_frames.specs.declared.kind.FrameKind.{FrameKind}
 use Rattle.store_frames.specs.declared.kind.FrameKind.TheVariants as kinds
-use Rattle.store_frames.specs.Kind.{kind_of, record_of}
+use Rattle.store_frames.specs.Kind.{frame_kind, record_of}
 use Rattle.store_frames.specs.Commands.{request_in}
-use Rattle.store_frames.specs.Meaning.{asks_ack, command_or_broken, error_frame, frame_by, outcome_or_broken, read_if_record, suspension_frame, unless_faulty, unless_numbered}
+use Rattle.store_frames.specs.FrameMeanings.{asks_ack, command_or_broken, error_frame, frame_by, outcome_or_broken, read_if_record, suspension_frame, unless_faulty, unless_numbered}
 use Rattle.store_frames.specs.Requests.{proposal_told, suspension_of_lists, suspension_of_tree}
 use Rattle.store_frames.specs.Answer.{KeepsLists, KeepsSuspension}
 use Rattle.store_frames.specs.Read.{IsFrameRead}
@@ -182,7 +182,7 @@ module _ (suspension : Suspension) where
   by_kind version kinds.Other ty asks payload e = absurd (no_record (record_of ty) payload Frame.NotAccepted (λ is. cc) e)
 
   pub is_told : (version : ℕ) → IsFrameRead version (Frame.Suspend (Some suspension)) → IsTold (lacks_feature version AwaitTree) suspension
-  is_told version (m, e) = by_kind version (kind_of (message_type m.header)) (message_type m.header) (asks_ack m.header) m.payload (sym e)
+  is_told version (m, e) = by_kind version (frame_kind (message_type m.header)) (message_type m.header) (asks_ack m.header) m.payload (sym e)
 
 -- ---- what is kept of it tells it
 

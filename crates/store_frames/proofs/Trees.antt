@@ -8,7 +8,7 @@ use Rattle.journal_model.specs.AwaitTree.{AwaitTree, Single, Combined, AwaitTree
 use Rattle.journal_model.specs.declared.notification.NotificationId.{NotificationId}
 use Rattle.journal_model.specs.declared.notification.NotificationId.TheVariants as ids
 use Rattle.protocol_records.specs.declared.future.Future.{Future, out-Future}
-use Rattle.protocol_trees.specs.Shape.{combinator_of, forest, node}
+use Rattle.protocol_trees.specs.Shape.{shape_combinator, forest, node}
 use Rattle.protocol_trees.specs.Future.{shape_in, ids_in, future_tree}
 use Rattle.protocol_trees.specs.FutureShape.{future_tree_is}
 use Rattle.protocol_stream.proofs.Spellings.{plain_number-is, packed-is, repeated_bytes-is, spelled-cons, spelled-last, payload_is}
@@ -117,8 +117,8 @@ abbrev pub tree_parts : Future → List Part
 tree_parts f =
     parts.packed 1 (out-Future f).waiting_completions ∷ parts.packed 2 (out-Future f).waiting_signals ∷ parts.repeated_bytes 3 (out-Future f).waiting_named_signals
     ∷ parts.repeated_bytes 4 (map tree_spelling (out-Future f).nested_futures)
-    ∷ parts.plain_number 5 (model.combinator_number (combinator_of (shape_in (out-Future f).combinator_type (out-Future f).required)))
-    ∷ parts.plain_number 6 (model.required_by (combinator_of (shape_in (out-Future f).combinator_type (out-Future f).required))) ∷ []
+    ∷ parts.plain_number 5 (model.combinator_number (shape_combinator (shape_in (out-Future f).combinator_type (out-Future f).required)))
+    ∷ parts.plain_number 6 (model.required_by (shape_combinator (shape_in (out-Future f).combinator_type (out-Future f).required))) ∷ []
 
 pub tree_parts_are : (f : Future) → payload_of (tree_parts f) ≡ model.future_payload (future_tree f)
 tree_parts_are f =
@@ -128,9 +128,9 @@ tree_parts_are f =
     (spelled-cons _ _ _ _ (packed-is 2 o.waiting_signals)
     (spelled-cons _ _ _ _ (repeated_bytes-is 3 o.waiting_named_signals)
     (spelled-cons _ _ _ _ (repeated_bytes-is 4 (map tree_spelling o.nested_futures))
-    (spelled-cons _ _ _ _ (plain_number-is 5 (model.combinator_number (combinator_of (shape_in o.combinator_type o.required))))
-    (spelled-last _ _ _ refl (plain_number-is 6 (model.required_by (combinator_of (shape_in o.combinator_type o.required))))))))))
-    ∙ sym (ap model.future_payload (future_tree_is f) ∙ level (combinator_of (shape_in o.combinator_type o.required)) o.waiting_completions o.waiting_signals o.waiting_named_signals o.nested_futures)
+    (spelled-cons _ _ _ _ (plain_number-is 5 (model.combinator_number (shape_combinator (shape_in o.combinator_type o.required))))
+    (spelled-last _ _ _ refl (plain_number-is 6 (model.required_by (shape_combinator (shape_in o.combinator_type o.required))))))))))
+    ∙ sym (ap model.future_payload (future_tree_is f) ∙ level (shape_combinator (shape_in o.combinator_type o.required)) o.waiting_completions o.waiting_signals o.waiting_named_signals o.nested_futures)
 
 -- ---- a number of successes that is asked for
 
@@ -144,9 +144,9 @@ some_asked (f ∷ nested) = ap (λ (b : Bool). has_number (future_tree f) || b) 
 
 -- by the combinator of a future, or by one of those in it
 pub number_asked : (f : Future) → has_number (future_tree f)
-    ≡ (asks_number (combinator_of (shape_in (out-Future f).combinator_type (out-Future f).required)) || list_any (λ g. has_number (future_tree g)) (out-Future f).nested_futures)
+    ≡ (asks_number (shape_combinator (shape_in (out-Future f).combinator_type (out-Future f).required)) || list_any (λ g. has_number (future_tree g)) (out-Future f).nested_futures)
 number_asked f =
     let o = out-Future f in
     ap (λ (tree : Tree). has_number tree) (future_tree_is f)
-    ∙ ap (λ (b : Bool). asks_number (combinator_of (shape_in o.combinator_type o.required)) || b)
+    ∙ ap (λ (b : Bool). asks_number (shape_combinator (shape_in o.combinator_type o.required)) || b)
     (none_asked (ids_in o.waiting_completions o.waiting_signals o.waiting_named_signals) (map future_tree o.nested_futures) ∙ some_asked o.nested_futures)

@@ -18,7 +18,7 @@ use Rattle.protocol_trees.specs.Shape.{forest, state_meant}
 use Rattle.protocol_trees.specs.Future.{future_tree, ids_in}
 use Rattle.protocol_trees.specs.declared.tree.AwaitState.{AwaitState}
 use Rattle.store_frames.specs.Requests.{suspension_of_lists}
-use Rattle.store_frames.specs.First.{AreFirst, IsPut, arrived_state, first_state, or_pending, state_of}
+use Rattle.store_frames.specs.First.{AreFirst, IsPut, arrived_state, first_state, or_pending, await_state_of}
 use Rattle.store_frames.specs.Awaited.{IsAwaited, any_of}
 use Rattle.store_frames.proofs.KeptTrees.{rolled_tree}
 
@@ -41,52 +41,52 @@ or_last found true state = Some (unwrap_or found state)
 or_last found false state = found
 
 first_behind : (arrivals : List Arrival) (arrival : Arrival) (id : NotificationId)
-    → option_map state_of (first_result (arrivals ++ arrival ∷ []) id) ≡ or_last (option_map state_of (first_result arrivals id)) (same_id arrival.id id) (state_of arrival.result)
+    → option_map await_state_of (first_result (arrivals ++ arrival ∷ []) id) ≡ or_last (option_map await_state_of (first_result arrivals id)) (same_id arrival.id id) (await_state_of arrival.result)
 first_behind [] arrival id = by_test (same_id arrival.id id)
   where
-    by_test : (b : Bool) → option_map state_of (result_of (if b then Some arrival else None)) ≡ or_last None b (state_of arrival.result)
+    by_test : (b : Bool) → option_map await_state_of (result_of (if b then Some arrival else None)) ≡ or_last None b (await_state_of arrival.result)
     by_test true = refl
     by_test false = refl
 first_behind (one ∷ arrivals) arrival id = by_test (same_id one.id id) (first_behind arrivals arrival id)
   where
     found : Bool → List Arrival → Option AwaitState
-    found b rest = option_map state_of (result_of (if b then Some one else find (λ (a : Arrival). same_id a.id id) rest))
+    found b rest = option_map await_state_of (result_of (if b then Some one else find (λ (a : Arrival). same_id a.id id) rest))
 
-    always : (b : Bool) → Some (state_of one.result) ≡ or_last (Some (state_of one.result)) b (state_of arrival.result)
+    always : (b : Bool) → Some (await_state_of one.result) ≡ or_last (Some (await_state_of one.result)) b (await_state_of arrival.result)
     always true = refl
     always false = refl
 
-    by_test : (b : Bool) → option_map state_of (first_result (arrivals ++ arrival ∷ []) id) ≡ or_last (option_map state_of (first_result arrivals id)) (same_id arrival.id id) (state_of arrival.result)
-        → option_map state_of (result_of (if b then Some one else find (λ (a : Arrival). same_id a.id id) (arrivals ++ arrival ∷ [])))
-        ≡ or_last (option_map state_of (result_of (if b then Some one else find (λ (a : Arrival). same_id a.id id) arrivals))) (same_id arrival.id id) (state_of arrival.result)
+    by_test : (b : Bool) → option_map await_state_of (first_result (arrivals ++ arrival ∷ []) id) ≡ or_last (option_map await_state_of (first_result arrivals id)) (same_id arrival.id id) (await_state_of arrival.result)
+        → option_map await_state_of (result_of (if b then Some one else find (λ (a : Arrival). same_id a.id id) (arrivals ++ arrival ∷ [])))
+        ≡ or_last (option_map await_state_of (result_of (if b then Some one else find (λ (a : Arrival). same_id a.id id) arrivals))) (same_id arrival.id id) (await_state_of arrival.result)
     by_test true later = always (same_id arrival.id id)
     by_test false later = later
 
 pub heard_more : (before after : NotificationId → Option AwaitState) (arrivals : List Arrival) (arrival : Arrival)
-    → ((id : NotificationId) → before id ≡ option_map state_of (first_result arrivals id)) → IsPut before arrival.id (state_of arrival.result) after
-    → (id : NotificationId) → after id ≡ option_map state_of (first_result (arrivals ++ arrival ∷ []) id)
+    → ((id : NotificationId) → before id ≡ option_map await_state_of (first_result arrivals id)) → IsPut before arrival.id (await_state_of arrival.result) after
+    → (id : NotificationId) → after id ≡ option_map await_state_of (first_result (arrivals ++ arrival ∷ []) id)
 heard_more before after arrivals arrival are put id = put id ∙ by_test (same_id arrival.id id) refl ∙ sym (first_behind arrivals arrival id)
   where
     by_test : (b : Bool) → same_id arrival.id id ≡ b
-        → (if b then Some (unwrap_or (before arrival.id) (state_of arrival.result)) else before id) ≡ or_last (option_map state_of (first_result arrivals id)) b (state_of arrival.result)
+        → (if b then Some (unwrap_or (before arrival.id) (await_state_of arrival.result)) else before id) ≡ or_last (option_map await_state_of (first_result arrivals id)) b (await_state_of arrival.result)
     by_test true e =
-        ap (λ (o : Option AwaitState). Some (unwrap_or o (state_of arrival.result))) (ap before (same_ids arrival.id id e) ∙ are id)
+        ap (λ (o : Option AwaitState). Some (unwrap_or o (await_state_of arrival.result))) (ap before (same_ids arrival.id id e) ∙ are id)
     by_test false e = are id
 
 -- ---- the state of a leaf
 
-meant_of : (result : NotificationResult) → state_meant (state_of result) ≡ state_of_result (Some result)
+meant_of : (result : NotificationResult) → state_meant (await_state_of result) ≡ state_of_result (Some result)
 meant_of brought.Void = refl
 meant_of (brought.Value content) = refl
 meant_of (brought.Failure failure) = refl
 meant_of (brought.InvocationId id) = refl
 meant_of (brought.StateKeys keys) = refl
 
-meant_found : (o : Option NotificationResult) → state_meant (or_pending (option_map state_of o)) ≡ state_of_result o
+meant_found : (o : Option NotificationResult) → state_meant (or_pending (option_map await_state_of o)) ≡ state_of_result o
 meant_found None = refl
 meant_found (Some result) = meant_of result
 
-pub leaf_meant : (found : Option AwaitState) (arrivals : List Arrival) (id : NotificationId) → found ≡ option_map state_of (first_result arrivals id) → state_meant (or_pending found) ≡ arrived_state arrivals id
+pub leaf_meant : (found : Option AwaitState) (arrivals : List Arrival) (id : NotificationId) → found ≡ option_map await_state_of (first_result arrivals id) → state_meant (or_pending found) ≡ arrived_state arrivals id
 leaf_meant found arrivals id e = ap (λ (o : Option AwaitState). state_meant (or_pending o)) e ∙ meant_found (first_result arrivals id)
 
 -- ---- any of some ids

@@ -13,9 +13,9 @@ use Rattle.protocol_trees.specs.declared.tree.AwaitState.TheVariants as states
 use Rattle.store_frames.specs.declared.first.FirstArrivals.{FirstArrivals}
 
 -- what a result comes to
-abbrev pub state_of : NotificationResult → AwaitState
-state_of (NotificationResult.Failure failure) = states.Failed
-state_of _ = states.Succeeded
+abbrev pub await_state_of : NotificationResult → AwaitState
+await_state_of (NotificationResult.Failure failure) = states.Failed
+await_state_of _ = states.Succeeded
 
 abbrev pub or_pending : Option AwaitState → AwaitState
 or_pending None = states.Pending
@@ -33,7 +33,7 @@ IsPut before id state after = (other : NotificationId) → after other ≡ (if s
 
 -- these arrivals have come
 abbrev pub AreFirst : FirstArrivals → List Arrival → Type 0
-AreFirst first arrivals = (id : NotificationId) → first_state first id ≡ option_map state_of (first_result arrivals id)
+AreFirst first arrivals = (id : NotificationId) → first_state first id ≡ option_map await_state_of (first_result arrivals id)
 
 -- the states of leaves under these arrivals
 abbrev pub arrived_state : List Arrival → NotificationId → Trees.AwaitState

@@ -19,9 +19,9 @@ abbrev pub IsWantOfMemory : KeptFault → Type 0
 IsWantOfMemory OutOfMemory = Unit {0}
 IsWantOfMemory Foreign = ⊥
 
-abbrev pub Reads : {A : Type 0} → (A → Type 0) → Result A KeptFault → Type 0
-Reads Is (Ok x) = Is x
-Reads Is (Err fault) = IsWantOfMemory fault
+abbrev pub ReadsKept : {A : Type 0} → (A → Type 0) → Result A KeptFault → Type 0
+ReadsKept Is (Ok x) = Is x
+ReadsKept Is (Err fault) = IsWantOfMemory fault
 
 abbrev pub completion_in : NotificationId → Option ℕ
 completion_in (CompletionId n) = Some n

@@ -7,32 +7,32 @@ use Rattle.protocol_types.specs.declared.message_type.MessageType.TheVariants as
 use Rattle.store_frames.specs.declared.kind.FrameKind.{FrameKind}
 use Rattle.store_frames.specs.declared.kind.FrameKind.TheVariants as kinds
 
-abbrev pub kind_of : MessageType → FrameKind
-kind_of types.OutputCommand = kinds.Command
-kind_of types.GetLazyStateCommand = kinds.Command
-kind_of types.GetLazyStateKeysCommand = kinds.Command
-kind_of types.SetStateCommand = kinds.Command
-kind_of types.ClearStateCommand = kinds.Command
-kind_of types.ClearAllStateCommand = kinds.Command
-kind_of types.GetEagerStateCommand = kinds.Command
-kind_of types.GetEagerStateKeysCommand = kinds.Command
-kind_of types.GetPromiseCommand = kinds.Command
-kind_of types.PeekPromiseCommand = kinds.Command
-kind_of types.CompletePromiseCommand = kinds.Command
-kind_of types.SleepCommand = kinds.Command
-kind_of types.CallCommand = kinds.Command
-kind_of types.OneWayCallCommand = kinds.Command
-kind_of types.SendSignalCommand = kinds.Command
-kind_of types.RunCommand = kinds.Command
-kind_of types.AttachInvocationCommand = kinds.Command
-kind_of types.GetInvocationOutputCommand = kinds.Command
-kind_of types.CompleteAwakeableCommand = kinds.Command
-kind_of types.AwaitingOn = kinds.AwaitingOn
-kind_of types.Suspension = kinds.Suspension
-kind_of types.Error = kinds.Error
-kind_of types.End = kinds.End
-kind_of types.ProposeRunCompletion = kinds.RunOutcome
-kind_of _ = kinds.Other
+abbrev pub frame_kind : MessageType → FrameKind
+frame_kind types.OutputCommand = kinds.Command
+frame_kind types.GetLazyStateCommand = kinds.Command
+frame_kind types.GetLazyStateKeysCommand = kinds.Command
+frame_kind types.SetStateCommand = kinds.Command
+frame_kind types.ClearStateCommand = kinds.Command
+frame_kind types.ClearAllStateCommand = kinds.Command
+frame_kind types.GetEagerStateCommand = kinds.Command
+frame_kind types.GetEagerStateKeysCommand = kinds.Command
+frame_kind types.GetPromiseCommand = kinds.Command
+frame_kind types.PeekPromiseCommand = kinds.Command
+frame_kind types.CompletePromiseCommand = kinds.Command
+frame_kind types.SleepCommand = kinds.Command
+frame_kind types.CallCommand = kinds.Command
+frame_kind types.OneWayCallCommand = kinds.Command
+frame_kind types.SendSignalCommand = kinds.Command
+frame_kind types.RunCommand = kinds.Command
+frame_kind types.AttachInvocationCommand = kinds.Command
+frame_kind types.GetInvocationOutputCommand = kinds.Command
+frame_kind types.CompleteAwakeableCommand = kinds.Command
+frame_kind types.AwaitingOn = kinds.AwaitingOn
+frame_kind types.Suspension = kinds.Suspension
+frame_kind types.Error = kinds.Error
+frame_kind types.End = kinds.End
+frame_kind types.ProposeRunCompletion = kinds.RunOutcome
+frame_kind _ = kinds.Other
 
 -- A custom entry's payload is any bytes. (A suspension's record is this one from version 7 on.)
 abbrev pub record_of : MessageType → Option RecordType

@@ -1,7 +1,7 @@
 pub mod Answer
 pub mod Commands
 pub mod Kind
-pub mod Meaning
+pub mod FrameMeanings
 pub mod Read
 pub mod Requests
 pub mod Told

@@ -4,7 +4,7 @@ use Rattle.journal_model.specs.declared.notification.SignalKey.{SignalKey}
 use Rattle.journal_model.specs.Event.{Frame, Event}
 use Rattle.journal_model.specs.Journal.{version_of}
 use Rattle.protocol_stream.specs.declared.decoder.RawMessage.{RawMessage}
-use Rattle.store_frames.specs.Meaning.{frame_of}
+use Rattle.store_frames.specs.FrameMeanings.{frame_of}
 
 -- the frame of a message from an attempt of this version
 abbrev pub IsFrameRead : ℕ → Frame → Type 0
@@ -17,7 +17,7 @@ SignalKeyFits (SignalKey.ByName name) = Unit {0}
 
 -- what an event brings, which comes behind these
 abbrev pub IsReadIn : List Event → Event → Type 0
-IsReadIn earlier (Event.Take id attempt frame) = IsFrameRead (version_of earlier id) frame
+IsReadIn earlier (Event.Move id attempt frame) = IsFrameRead (version_of earlier id) frame
 IsReadIn earlier (Event.Signal id key result) = SignalKeyFits key
 IsReadIn earlier _ = Unit {0}
 

@@ -6,7 +6,7 @@ ghost use Rattle.indexmap.specs.IndexMap.{get};
 ghost use Rattle.journal_model.specs.Notification.{Arrival};
 ghost use Rattle.journal_model.specs.declared.notification.NotificationId.TheVariants as ids;
 ghost use Rattle.protocol_trees.specs.Future.{id_meant};
-ghost use Rattle.store_frames.specs.First.{AreFirst, IsPut, first_state, or_pending, state_of as the_state_of};
+ghost use Rattle.store_frames.specs.First.{AreFirst, IsPut, first_state, or_pending, await_state_of};
 
 use bytes::Bytes;
 use indexmap::IndexMap;
@@ -26,7 +26,7 @@ pub struct FirstArrivals {
 
 /// What a result comes to: all but a failure succeed.
 fn state_of(brought: &NotificationResult) -> AwaitState
-    ensures { result ≡ the_state_of brought.now }
+    ensures { result ≡ await_state_of brought.now }
 {
     match brought {
         NotificationResult::Failure(_) => AwaitState::Failed,
@@ -101,7 +101,7 @@ impl FirstArrivals {
     }
 
     fn hear(&mut self, arrival: &Notification) -> Result<(), AllocError>
-        ensures { OnOk result (IsPut (first_state self.old) arrival.now.id (the_state_of arrival.now.result) (first_state self.new)) }
+        ensures { OnOk result (IsPut (first_state self.old) arrival.now.id (await_state_of arrival.now.result) (first_state self.new)) }
     {
         let state = state_of(&arrival.result);
         match &arrival.id {

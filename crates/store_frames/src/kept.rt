@@ -7,8 +7,8 @@ ghost use Rattle.journal_model.specs.Spelling.{notification_payload};
 ghost use Rattle.protocol_wire.specs.Wire.{Field};
 ghost use Rattle.protocol_wire.specs.Listed.{coming};
 ghost use Rattle.protocol_wire.specs.Seen.{field};
-ghost use Rattle.store_frames.specs.First.{IsPut, first_state, state_of};
-ghost use Rattle.store_frames.specs.Kept.{AreBoth, Names, Reads, SignalFits, completion_in, state_by as the_state_by};
+ghost use Rattle.store_frames.specs.First.{IsPut, first_state, await_state_of};
+ghost use Rattle.store_frames.specs.Kept.{AreBoth, Names, ReadsKept, SignalFits, completion_in, state_by as the_state_by};
 
 use crate::first::FirstArrivals;
 use crate::kept_fault::KeptFault;
@@ -47,7 +47,7 @@ impl FirstArrivals {
         named: Scanned<'_>,
         state: AwaitState,
     ) -> Result<(), KeptFault>
-        ensures { (id : NotificationId) → Names named.entry id → SignalFits id → Reads (λ _. IsPut (first_state self.old) id state (first_state self.new)) result }
+        ensures { (id : NotificationId) → Names named.entry id → SignalFits id → ReadsKept (λ _. IsPut (first_state self.old) id state (first_state self.new)) result }
     {
         match named {
             Scanned::Varint(number) => match u32::try_from(number) {
@@ -65,7 +65,7 @@ impl FirstArrivals {
     /// The arrival of a completion, by its payload.
     fn hear_completion(&mut self, number: u32, payload: &[u8]) -> Result<(), KeptFault>
         ensures { (arrival : Arrival) → completion_in arrival.id ≡ Some number → payload.now ≡ notification_payload arrival
-            → Reads (λ _. IsPut (first_state self.old) arrival.id (state_of arrival.result) (first_state self.new)) result }
+            → ReadsKept (λ _. IsPut (first_state self.old) arrival.id (await_state_of arrival.result) (first_state self.new)) result }
     {
         let listed = Payload::new(payload);
         match both_fields(listed.fields()) {
@@ -77,7 +77,7 @@ impl FirstArrivals {
     /// The arrival of a signal, by its payload.
     fn hear_signal(&mut self, alloc: Global, payload: &[u8]) -> Result<(), KeptFault>
         ensures { (arrival : Arrival) → completion_in arrival.id ≡ None → payload.now ≡ notification_payload arrival → SignalFits arrival.id
-            → Reads (λ _. IsPut (first_state self.old) arrival.id (state_of arrival.result) (first_state self.new)) result }
+            → ReadsKept (λ _. IsPut (first_state self.old) arrival.id (await_state_of arrival.result) (first_state self.new)) result }
     {
         let listed = Payload::new(payload);
         match both_fields(listed.fields()) {
@@ -94,7 +94,7 @@ impl FirstArrivals {
         payload: &[u8],
     ) -> Result<(), KeptFault>
         ensures { (arrival : Arrival) → answered ≡ completion_in arrival.id → payload.now ≡ notification_payload arrival → SignalFits arrival.id
-            → Reads (λ _. IsPut (first_state self.old) arrival.id (state_of arrival.result) (first_state self.new)) result }
+            → ReadsKept (λ _. IsPut (first_state self.old) arrival.id (await_state_of arrival.result) (first_state self.new)) result }
     {
         match answered {
             Some(number) => self.hear_completion(number, payload),

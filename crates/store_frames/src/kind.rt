@@ -1,6 +1,6 @@
 // What frames attempts write.
 ghost use Rattle.std.specs.Prelude.{◌≡◌};
-ghost use Rattle.store_frames.specs.Kind.{kind_of as the_kind_of, record_of as the_record_of};
+ghost use Rattle.store_frames.specs.Kind.{frame_kind, record_of as the_record_of};
 
 use protocol_stream::MessageType;
 use protocol_wire::RecordType;
@@ -20,7 +20,7 @@ pub enum FrameKind {
 
 /// What messages of this type are for.
 pub(crate) fn kind_of(ty: MessageType) -> FrameKind
-    ensures { result ≡ the_kind_of ty }
+    ensures { result ≡ frame_kind ty }
 {
     match ty {
         MessageType::OutputCommand

@@ -5,8 +5,8 @@ ghost use Rattle.protocol_types.specs.declared.feature.Feature.TheVariants.{Awai
 ghost use Rattle.protocol_types.specs.Feature.{lacks_feature};
 ghost use Rattle.protocol_types.specs.Version.{version_number};
 ghost use Rattle.store_frames.specs.Answer.{IsFrame};
-ghost use Rattle.store_frames.specs.Kind.{kind_of as the_kind_of};
-ghost use Rattle.store_frames.specs.Meaning.{asks_ack as header_asks_ack, frame_of};
+ghost use Rattle.store_frames.specs.Kind.{frame_kind};
+ghost use Rattle.store_frames.specs.FrameMeanings.{asks_ack as header_asks_ack, frame_of};
 ghost use Rattle.store_frames.specs.Told.{told_as, told_by, told_suspension};
 
 use crate::commands::read_by_type;
@@ -61,7 +61,7 @@ fn read_payload(
     is_acknowledged: bool,
     payload: &[u8],
 ) -> Result<AttemptFrame, AllocError>
-    ensures { IfOk result (λ frame. frame ≡ told_by (version_number version) (the_kind_of ty) ty is_acknowledged payload.now) }
+    ensures { IfOk result (λ frame. frame ≡ told_by (version_number version) (frame_kind ty) ty is_acknowledged payload.now) }
 {
     match kind_of(ty) {
         FrameKind::Command => read_by_type(alloc, ty, payload),

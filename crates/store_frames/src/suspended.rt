@@ -9,7 +9,7 @@ ghost use Rattle.protocol_trees.specs.Future.{future_tree};
 ghost use Rattle.store_frames.specs.Answer.{KeepsSuspension};
 ghost use Rattle.store_frames.specs.Read.{IsFrameRead};
 ghost use Rattle.store_frames.specs.First.{AreFirst, arrived_state};
-ghost use Rattle.store_frames.specs.Kept.{Reads};
+ghost use Rattle.store_frames.specs.Kept.{ReadsKept};
 ghost use Rattle.store_frames.specs.Awaited.{IsAwaited, any_of as the_any_of, TellsLists, TellsTree};
 
 use crate::first::FirstArrivals;
@@ -23,7 +23,7 @@ use std::alloc::Global;
 
 /// The tree of a suspension, which it must have.
 fn read_tree(alloc: Global, payload: &[u8]) -> Result<Future, KeptFault>
-    ensures { (suspension : Suspension) → TellsTree suspension payload.now → Reads (IsAwaited suspension) result }
+    ensures { (suspension : Suspension) → TellsTree suspension payload.now → ReadsKept (IsAwaited suspension) result }
 {
     match decode::<SuspensionMessage>(alloc, payload) {
         Ok(one) => {
@@ -59,7 +59,7 @@ fn any_of(alloc: Global, one: SuspensionMessageV6) -> Future
 
 /// The ids of a suspension's three lists, any of which it waits for.
 fn read_lists(alloc: Global, payload: &[u8]) -> Result<Future, KeptFault>
-    ensures { (suspension : Suspension) → TellsLists suspension payload.now → Reads (IsAwaited suspension) result }
+    ensures { (suspension : Suspension) → TellsLists suspension payload.now → ReadsKept (IsAwaited suspension) result }
 {
     match decode::<SuspensionMessageV6>(alloc, payload) {
         Ok(one) => Ok(any_of(alloc, one)),
@@ -72,7 +72,7 @@ fn read_lists(alloc: Global, payload: &[u8]) -> Result<Future, KeptFault>
 /// three lists.
 pub fn awaited(alloc: Global, version: Version, payload: &[u8]) -> Result<Future, KeptFault>
     ensures { (suspension : Suspension) → IsFrameRead (version_number version) (Frame.Suspend (Some suspension)) → KeepsSuspension suspension payload.now
-        → Reads (IsAwaited suspension) result }
+        → ReadsKept (IsAwaited suspension) result }
 {
     if Feature::AwaitTree.is_later_than(version.number()) {
         read_lists(alloc, payload)

@@ -3,7 +3,7 @@ ghost use Rattle.std.specs.List.{list_any};
 ghost use Rattle.std.specs.Prelude.{◌≡◌, ◌++◌, ℕ, IfOk, OnOk};
 ghost use Rattle.journal_model.specs.AwaitTree.{asks_number, has_number};
 ghost use Rattle.journal_model.specs.Spelling.{bytes_field, combinator_number, future_payload, required_by, suspension_payload};
-ghost use Rattle.protocol_trees.specs.Shape.{combinator_of};
+ghost use Rattle.protocol_trees.specs.Shape.{shape_combinator};
 ghost use Rattle.protocol_trees.specs.Future.{shape_in, future_tree};
 
 use bytes::Bytes;
@@ -18,7 +18,7 @@ use std::alloc::{AllocError, Global};
 
 // The number of what a combinator means: one that has no name is unknown.
 fn meant_number(combinator: CombinatorType) -> u32
-    ensures { (required : ℕ) → result ≡ combinator_number (combinator_of (shape_in combinator required)) }
+    ensures { (required : ℕ) → result ≡ combinator_number (shape_combinator (shape_in combinator required)) }
 {
     match combinator {
         CombinatorType::Other(_) => CombinatorType::Unknown.number(),
@@ -33,7 +33,7 @@ fn meant_number(combinator: CombinatorType) -> u32
 
 // How many successes a tree asks for: a record may tell a number that none of its combinators asks for.
 fn meant_required(combinator: CombinatorType, required: u32) -> u32
-    ensures { result ≡ required_by (combinator_of (shape_in combinator required)) }
+    ensures { result ≡ required_by (shape_combinator (shape_in combinator required)) }
 {
     if matches!(combinator, CombinatorType::AtLeastSucceeded) {
         required
@@ -43,7 +43,7 @@ fn meant_required(combinator: CombinatorType, required: u32) -> u32
 }
 
 fn asks_number(combinator: CombinatorType) -> bool
-    ensures { (required : ℕ) → result ≡ asks_number (combinator_of (shape_in combinator required)) }
+    ensures { (required : ℕ) → result ≡ asks_number (shape_combinator (shape_in combinator required)) }
 {
     matches!(combinator, CombinatorType::AtLeastSucceeded)
 }

@@ -11,7 +11,7 @@ use Rattle.journal_model.specs.Spelling.{plain_number, plain_bytes, repeated_byt
 use Rattle.journal_model.specs.Cause.{IsAccepted}
 use Rattle.journal_model.specs.Journal.{is_of, invocation_begun, version_of, object_of, object_state, frame_of, is_open, entries_of}
 use Rattle.journal_model.specs.Attempt.{attempts_begun, suspension_of, is_woken}
-use Rattle.journal_model.specs.Start.{attempts_since_entry, since_first as model_since_first, state_entry, state_fields, start_payload, start_payload_for, start_payload_of}
+use Rattle.journal_model.specs.Start.{attempts_since_entry, since_first, state_entry, state_fields, start_payload, start_payload_for, start_payload_of}
 use Rattle.journal_laws.proofs.ObjectState.{begun_before}
 use Rattle.due_laws.specs.Noted.{heard_of, not_heard, is_awake_kept}
 use Rattle.protocol_types.specs.Version.{version_number}
@@ -19,7 +19,7 @@ use Rattle.store_tables.specs.declared.row.InvocationRow.{InvocationRow}
 use Rattle.store_tables.specs.declared.row.Progress.{Progress}
 use Rattle.store_tables.specs.declared.row.Write.{Write}
 use Rattle.store_tables.specs.declared.row.Write.TheVariants.{SetProgress}
-use Rattle.store_model.specs.Progress.{first_of, number_or_zero, progress_of}
+use Rattle.store_model.specs.Progress.{first_item, number_or_zero, progress_of}
 use Rattle.store_model.specs.Kept.{is_shown_whole, invocation_row, state_row}
 use Rattle.store_model.proofs.Versions.{kept_number}
 use Rattle.store_model.specs.Writes.{invocation_writes, state_writes, writes_of}
@@ -29,7 +29,7 @@ use Rattle.store_model.proofs.Same.{opened}
 use Rattle.store_model.proofs.States.{itself}
 use Rattle.store_invocations.specs.Rows.{IsRowOf}
 use Rattle.store_invocations.specs.Begun.{begun_at, shown_states}
-use Rattle.store_invocations.specs.Start.{partial_number, start_of, state_bytes}
+use Rattle.store_invocations.specs.Start.{partial_number, start_frame_payload, state_bytes}
 
 -- ---- the start
 
@@ -37,7 +37,7 @@ states_are : (object : Text) (state : StateMap) → map state_bytes (map (state_
 states_are object [] = refl
 states_are object (entry ∷ state) = ap (λ (rest : List Bytes). state_entry entry ∷ rest) (states_are object state)
 
-since_is : (moments : List ℕ) (now : ℕ) → (if length moments == 0 then 0 else now - number_or_zero (first_of moments)) ≡ model_since_first moments now
+since_is : (moments : List ℕ) (now : ℕ) → (if length moments == 0 then 0 else now - number_or_zero (first_item moments)) ≡ since_first moments now
 since_is [] now = refl
 since_is (moment ∷ moments) now = ap (λ (b : Bool). if b then 0 else now - moment) (ne_eqb (suc (length moments)) 0 (λ e. absurd (apart (length moments) e)))
   where
@@ -53,7 +53,7 @@ around new known retries since fields =
 module _ (events : List Event) (new : NewInvocation) (now : ℕ) where
   rest : Bytes
   rest = plain_bytes 6 new.object ++ (plain_number 7 (length (attempts_since_entry events new.id))
-      ++ (plain_number 8 (if length (attempts_since_entry events new.id) == 0 then 0 else now - number_or_zero (first_of (attempts_since_entry events new.id))) ++ plain_number 9 new.seed))
+      ++ (plain_number 8 (if length (attempts_since_entry events new.id) == 0 then 0 else now - number_or_zero (first_item (attempts_since_entry events new.id))) ++ plain_number 9 new.seed))
 
   state_is : (mode : StateMode)
       → repeated_bytes 4 (map state_bytes (if is_shown_whole mode then map (state_row new.object) (object_state events new.object) else []))
@@ -63,8 +63,8 @@ module _ (events : List Event) (new : NewInvocation) (now : ℕ) where
   state_is modes.Whole = ap (λ (entries : List Bytes). repeated_bytes 4 entries ++ rest) (states_are new.object (object_state events new.object))
   state_is modes.None = refl
 
-  start_is : start_of (invocation_row events new) (shown_states events (invocation_row events new)) now
-      ≡ start_payload_of new (object_state events new.object) (1 + length (entries_of events new.id)) (length (attempts_since_entry events new.id)) (model_since_first (attempts_since_entry events new.id) now)
+  start_is : start_frame_payload (invocation_row events new) (shown_states events (invocation_row events new)) now
+      ≡ start_payload_of new (object_state events new.object) (1 + length (entries_of events new.id)) (length (attempts_since_entry events new.id)) (since_first (attempts_since_entry events new.id) now)
   unfolding rest
   start_is =
       ap (λ (more : Bytes). plain_bytes 1 new.id ++ (plain_bytes 2 new.id ++ (plain_number 3 (1 + length (entries_of events new.id)) ++ more))) (state_is new.state)
@@ -75,9 +75,9 @@ module _ (events : List Event) (id : Text) (now : ℕ) (row : InvocationRow) (it
   at_id : invocation_begun events it.new.id ≡ Some it.new
   at_id = ap (invocation_begun events) it.named ∙ it.begun
 
-  pub start_payload_is : start_of row (shown_states events row) now ≡ start_payload events id now
+  pub start_payload_is : start_frame_payload row (shown_states events row) now ≡ start_payload events id now
   start_payload_is =
-      ap (λ (r : InvocationRow). start_of r (shown_states events r) now) it.is
+      ap (λ (r : InvocationRow). start_frame_payload r (shown_states events r) now) it.is
       ∙ start_is events it.new now
       ∙ ap (λ (o : Option NewInvocation). start_payload_for events o it.new.id now) (sym at_id)
       ∙ ap (λ (x : Text). start_payload events x now) it.named

@@ -18,7 +18,7 @@ use Rattle.store_tables.specs.declared.row.Write.{Write}
 use Rattle.store_tables.specs.declared.row.Write.TheVariants.{AddInvocation, AddEntry}
 use Rattle.due_laws.specs.Noted.{heard_in, heard_of, or_zero}
 use Rattle.store_model.specs.Places.{handed_in, handed_of}
-use Rattle.store_model.specs.Progress.{first_of, number_or_zero, payload_of_suspension, way_closed, error_in, last_output, progress_of}
+use Rattle.store_model.specs.Progress.{first_item, number_or_zero, payload_of_suspension, way_closed, error_in, last_output, progress_of}
 use Rattle.store_model.specs.Kept.{input_row, invocation_row, is_shown_whole, version_kept}
 use Rattle.store_model.proofs.Versions.{kept_of}
 use Rattle.store_model.specs.Writes.{begin_writes, state_writes, writes_of}
@@ -72,7 +72,7 @@ no_attempts id [] all = refl
 no_attempts id (event ∷ earlier) all = rw (begins_none event id all.0) (zero-add (attempts_begun earlier id) ∙ no_attempts id earlier all.1)
 
 suspends_none : (event : Event) (id : Text) → is_of id event ≡ false → suspension_in id event ≡ None
-suspends_none (Event.Take other attempt (Frame.Suspend suspension)) id e = rw e refl
+suspends_none (Event.Move other attempt (Frame.Suspend suspension)) id e = rw e refl
 suspends_none _ id e = refl
 
 no_suspension : (id : Text) (events : List Event) → AllOther id events → suspension_of events id ≡ None
@@ -80,7 +80,7 @@ no_suspension id [] all = refl
 no_suspension id (event ∷ earlier) all = rw (begins_none event id all.0, suspends_none event id all.0) (no_suspension id earlier all.1)
 
 hands_none : (earlier : List Event) (event : Event) (id : Text) → is_of id event ≡ false → handed_in earlier id event ≡ None
-hands_none earlier (Event.Take other attempt frame) id e = rw e refl
+hands_none earlier (Event.Move other attempt frame) id e = rw e refl
 hands_none earlier _ id e = refl
 
 none_handed : (id : Text) (events : List Event) → AllOther id events → handed_of events id ≡ None
@@ -88,7 +88,7 @@ none_handed id [] all = refl
 none_handed id (event ∷ earlier) all = rw (begins_none event id all.0, hands_none earlier event id all.0) (none_handed id earlier all.1)
 
 tells_none : (earlier : List Event) (event : Event) (id : Text) → is_of id event ≡ false → heard_in earlier id event ≡ None
-tells_none earlier (Event.Take other attempt frame) id e = rw e refl
+tells_none earlier (Event.Move other attempt frame) id e = rw e refl
 tells_none earlier _ id e = refl
 
 none_heard : (id : Text) (events : List Event) → AllOther id events → heard_of events id ≡ None
@@ -152,10 +152,10 @@ module _ (events : List Event) (new : NewInvocation) (accepted : IsAccepted even
     handed = none_handed new.id events others i;
     closing = option_map way_closed (option_and_then closing_frame (find (closes (version_of after new.id)) (no_frames i)));
     answer = last_output (requests_in (no_entries_after i));
-    last_error = first_of (filter_map error_in (no_frames i));
+    last_error = first_item (filter_map error_in (no_frames i));
     attempts = (zero-add (attempts_begun events new.id) ∙ no_attempts new.id events others) i;
     attempts_since_entry = length (no_moments_after i);
-    first_moment = number_or_zero (first_of (no_moments_after i));
+    first_moment = number_or_zero (first_item (no_moments_after i));
     last_completion = last_completion (requests_in (no_entries_after i));
     entries = 1 + length (no_entries_after i);
     heard = none_heard new.id events others i;

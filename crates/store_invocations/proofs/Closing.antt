@@ -9,7 +9,7 @@ use Rattle.journal_model.specs.Journal.{ByFailure, closes, closing_frame, closin
 use Rattle.journal_model.specs.Cause.{causes_of, IsAccepted}
 use Rattle.journal_laws.proofs.ObjectState.{begin_when_new, begun_before, open_when_accepted}
 use Rattle.store_tables.specs.declared.row.LastError.{LastError}
-use Rattle.store_model.specs.Progress.{error_in, first_of, last_error_of}
+use Rattle.store_model.specs.Progress.{error_in, first_item, last_error_of}
 use Rattle.store_model.proofs.Same.{version_in}
 use Rattle.store_invocations.proofs.Beginning.{no_frames_of}
 
@@ -74,18 +74,18 @@ none_found p (frame ∷ frames) e = by_test (p frame) refl e (none_found p frame
     by_test false same e later = later e
 
 closing_error : (frame : Frame) (frames : List Frame) (code : ℕ) (message : Text) → closing_frame frame ≡ Some (ByFailure code message)
-    → IsFailure code message (first_of (filter_map error_in (frame ∷ frames)))
+    → IsFailure code message (first_item (filter_map error_in (frame ∷ frames)))
 closing_error (Frame.Error c m Fail delay) frames code message e =
     record { error = record { code = c; behavior = 2; delay = delay; message = m }; is = refl; has_code = cc; has_message = cc }
 closing_error _ frames code message e = cc
 
 failure_in : (version : ℕ) (frames : List Frame) (code : ℕ) (message : Text) → IsClosedLast version frames
-    → option_and_then closing_frame (find (closes version) frames) ≡ Some (ByFailure code message) → IsFailure code message (first_of (filter_map error_in frames))
+    → option_and_then closing_frame (find (closes version) frames) ≡ Some (ByFailure code message) → IsFailure code message (first_item (filter_map error_in frames))
 failure_in version [] code message last e = cc
 failure_in version (frame ∷ frames) code message last e = by_test (closes version frame) e
   where
     by_test : (b : Bool) → option_and_then closing_frame (if b then Some frame else find (closes version) frames) ≡ Some (ByFailure code message)
-        → IsFailure code message (first_of (filter_map error_in (frame ∷ frames)))
+        → IsFailure code message (first_item (filter_map error_in (frame ∷ frames)))
     by_test true e = closing_error frame frames code message e
     by_test false e =
         let nothing = ap (option_and_then closing_frame) (none_found (closes version) frames last) in

@@ -28,9 +28,9 @@ use Rattle.protocol_types.specs.declared.feature.Feature.TheVariants as features
 use Rattle.protocol_types.specs.Feature.{lacks_feature}
 use Rattle.store_frames.specs.declared.kind.FrameKind.{FrameKind}
 use Rattle.store_frames.specs.declared.kind.FrameKind.TheVariants as kinds
-use Rattle.store_frames.specs.Kind.{kind_of, record_of}
+use Rattle.store_frames.specs.Kind.{frame_kind, record_of}
 use Rattle.store_frames.proofs.Numbered.{numbered_or_not}
-use Rattle.store_frames.specs.Meaning.{asks_ack, command_or_broken, error_frame, frame_by, outcome_or_broken, read_as, read_if_record, suspension_frame, unless_faulty, unless_numbered}
+use Rattle.store_frames.specs.FrameMeanings.{asks_ack, command_or_broken, error_frame, frame_by, outcome_or_broken, read_as, read_if_record, suspension_frame, unless_faulty, unless_numbered}
 use Rattle.store_frames.specs.Commands.{request_in}
 use Rattle.store_frames.proofs.Types.{request_typed}
 use Rattle.protocol_laws.specs.Requests.{request_of_output, value_put_out}
@@ -131,5 +131,5 @@ module _ (value : NonEmptyValue) (name : Text) where
 
 pub request_held : (version : ℕ) (request : Request) → IsFrameRead version (Frame.Command request) → IsHeld request
 request_held version (Request.Output value name) (m, e) =
-    held_by value name version (kind_of (message_type m.header)) (message_type m.header) (asks_ack m.header) m.payload (sym e)
+    held_by value name version (frame_kind (message_type m.header)) (message_type m.header) (asks_ack m.header) m.payload (sym e)
 request_held version _ read = tt

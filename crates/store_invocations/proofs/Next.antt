@@ -21,7 +21,7 @@ use Rattle.store_invocations.specs.Rows.{IsRowOf, payload_tests}
 use Rattle.store_invocations.proofs.Refusing.{none_of_both, refused_by, refused_later}
 use Rattle.store_invocations.specs.declared.attempt.PreparedAttempt.{PreparedAttempt}
 use Rattle.store_invocations.specs.Begun.{IsBegun, begun_at, shown_states}
-use Rattle.store_invocations.specs.Start.{start_of}
+use Rattle.store_invocations.specs.Start.{start_frame_payload}
 use Rattle.store_invocations.proofs.Attempts.{attempts_among}
 use Rattle.store_invocations.proofs.AttemptBeginning.{attempts_is, begin_writes_are, progress_is, start_payload_is, version_is}
 use Rattle.store_invocations.proofs.Deciding.{none_at_least}
@@ -34,14 +34,14 @@ module _ (events : List Event) (id : Text) (now : ℕ) (row : InvocationRow) (it
   left room = let same = attempts_is events id now row it in omega arith
 
   -- a number is left
-  pub next_none : row.progress.attempts + 1 < 2 ^ 32 → those_that_hold (payload_tests (start_of row (shown_states events row) now)) ≡ []
+  pub next_none : row.progress.attempts + 1 < 2 ^ 32 → those_that_hold (payload_tests (start_frame_payload row (shown_states events row) now)) ≡ []
       → those_that_hold (own_tests events (Event.Begin id now)) ≡ []
   next_none room none =
       none_of_both ((nat_le (2 ^ 32 - 1) (attempts_begun events id), Cause.NumbersUsedUp) ∷ []) (payload_tests (start_payload events id now))
       (none_at_least (2 ^ 32 - 1) (attempts_begun events id) Cause.NumbersUsedUp (left room))
       (subst (λ (payload : Bytes). those_that_hold (payload_tests payload) ≡ []) (start_payload_is events id now row it) none)
 
-  pub next_refused : (why : Refusal) → row.progress.attempts + 1 < 2 ^ 32 → IsRefused (those_that_hold (payload_tests (start_of row (shown_states events row) now))) why
+  pub next_refused : (why : Refusal) → row.progress.attempts + 1 < 2 ^ 32 → IsRefused (those_that_hold (payload_tests (start_frame_payload row (shown_states events row) now))) why
       → IsRefused (those_that_hold (own_tests events (Event.Begin id now))) why
   next_refused why room refused =
       refused_later ((nat_le (2 ^ 32 - 1) (attempts_begun events id), Cause.NumbersUsedUp) ∷ []) (payload_tests (start_payload events id now)) why
@@ -58,7 +58,7 @@ module _ (events : List Event) (id : Text) (now : ℕ) (row : InvocationRow) (it
       ]
 
   pub next_made : IsAccepted events → is_open events id ≡ true → (made : PreparedAttempt) → made.writes.items ≡ SetProgress row.id (begun_at now row.progress) ∷ [] → made.number ≡ row.progress.attempts + 1 → made.version ≡ row.version
-      → made.start ≡ frame_bytes MessageType.Start (start_of row (shown_states events row) now) → made.known ≡ row.progress.entries → made.arrivals ≡ row.progress.arrivals → IsBegun events id now made
+      → made.start ≡ frame_bytes MessageType.Start (start_frame_payload row (shown_states events row) now) → made.known ≡ row.progress.entries → made.arrivals ≡ row.progress.arrivals → IsBegun events id now made
   next_made accepted opened made writes number version start known arrivals =
       let same = attempts_is events id now row it in record {
         writes = writes ∙ begin_writes_are events id now row it opened;

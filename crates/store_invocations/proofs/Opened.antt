@@ -13,7 +13,7 @@ use Rattle.store_tables.specs.declared.row.InvocationRow.{InvocationRow}
 use Rattle.store_model.specs.Progress.{progress_of}
 use Rattle.store_model.specs.Kept.{invocation_row}
 use Rattle.store_refusals.specs.declared.refusal.Refusal.TheVariants as refusal
-use Rattle.store_refusals.specs.Refused.{first_of, IsRefused}
+use Rattle.store_refusals.specs.Refused.{refusal_of_first_cause, IsRefused}
 use Rattle.store_invocations.specs.Rows.{known_tests, row_at, IsRowOf, IsOpenRow}
 
 pub some-map : {A B : Type 0} (f : A → B) (o : Option A) → is_some (option_map f o) ≡ is_some o
@@ -88,4 +88,4 @@ pub closed_by : (events : List Event) (id : Text) (row : InvocationRow) → IsRo
     → IsRefused (those_that_hold (open_tests events id)) (refusal.Cause Cause.InvocationClosed)
 closed_by events id row of e =
     let shut : not (is_open events id) ≡ true = sym (row_closed events id row of) ∙ e in
-    inl (λ i. first_of (those_that_hold ((not (is_some (of.begun i)), Cause.UnknownInvocation) ∷ (is_some (of.begun i) && shut i, Cause.InvocationClosed) ∷ [])))
+    inl (λ i. refusal_of_first_cause (those_that_hold ((not (is_some (of.begun i)), Cause.UnknownInvocation) ∷ (is_some (of.begun i) && shut i, Cause.InvocationClosed) ∷ [])))

@@ -7,7 +7,7 @@ use Rattle.journal_model.specs.Value.{code_taken}
 use Rattle.journal_model.specs.Request.{Request, answer_of, or_later}
 use Rattle.journal_model.specs.Spelling.{request_payload}
 use Rattle.journal_model.specs.Event.{Event}
-use Rattle.journal_model.specs.Journal.{Closing as Closed, ByEnd, ByFailure, answer_at_close, closing_of, recorded_requests}
+use Rattle.journal_model.specs.Journal.{Closing, ByEnd, ByFailure, answer_at_close, closing_of, recorded_requests}
 use Rattle.journal_model.specs.Cause.{IsAccepted, those_that_hold}
 use Rattle.protocol_table.specs.declared.table.RecordType.TheVariants.{OutputCommand}
 use Rattle.protocol_wire.specs.declared.record.TheConstants.{LEVELS}
@@ -29,13 +29,13 @@ use Rattle.store_frames.specs.Read.{AreRead}
 use Rattle.store_refusals.specs.Refused.{is_circumstance}
 use Rattle.store_refusals.specs.Causes.{IsUnasked}
 use Rattle.store_invocations.specs.Rows.{Decides, IsRowOf, known_tests}
-use Rattle.store_invocations.specs.Answered.{IsShortPayload, Reads, answer_by, answer_told, closed_by, failure_by, output_by, output_in, output_read, value_taken}
+use Rattle.store_invocations.specs.Answered.{IsShortPayload, ReadsRow, answer_by, answer_told, closed_by, failure_by, output_by, output_in, output_read, value_taken}
 use Rattle.store_invocations.proofs.Closing.{IsFailure, closed_by_failure}
 use Rattle.store_invocations.proofs.Holding.{IsHeld}
 use Rattle.store_invocations.proofs.Recording.{outputs_held}
 
 -- the database is not asked for what is read here
-pub reads_unasked : {A : Type 0} (there : Option A) (r : Result A Refusal) → Reads there r → IfErr r IsUnasked
+pub reads_unasked : {A : Type 0} (there : Option A) (r : Result A Refusal) → ReadsRow there r → IfErr r IsUnasked
 reads_unasked there (Ok answer) read = tt
 reads_unasked there (Err why) (inl foreign) = λ cause is. cc (foreign.0)
 reads_unasked there (Err why) (inr memory) = λ cause is. cc
@@ -121,7 +121,7 @@ answer_back : (events : List Event) (id : Text) → IsAccepted events → AreRea
     → answer_by (progress_of events id) ≡ Some (answer_told events id)
 answer_back events id accepted read short = by_closing (closing_of events id) refl
   where
-    by_closing : (o : Option Closed) → closing_of events id ≡ o
+    by_closing : (o : Option Closing) → closing_of events id ≡ o
         → closed_by (option_map way_closed o) (last_output (recorded_requests events id)) (last_error_of events id) ≡ Some (option_map value_taken (answer_at_close (recorded_requests events id) o))
     by_closing None is = refl
     by_closing (Some ByEnd) is =
@@ -133,7 +133,7 @@ some_is : {A : Type 0} (x y : A) → Some x ≡ Some y → x ≡ y
 some_is x y e = cc
 
 pub answered : (events : List Event) (id : Text) (row : InvocationRow) (result : Result (Option NonEmptyValue) Refusal) → IsAccepted events → AreRead events
-    → (those_that_hold (known_tests events id) ≡ []) × IsRowOf events id row → Reads (answer_by row.progress) result → IsShortPayload row.progress
+    → (those_that_hold (known_tests events id) ≡ []) × IsRowOf events id row → ReadsRow (answer_by row.progress) result → IsShortPayload row.progress
     → Decides (known_tests events id) (λ answer. answer ≡ answer_told events id) result
 answered events id row result accepted read known reads short = by_result result reads
   where
@@ -143,7 +143,7 @@ answered events id row result accepted read known reads short = by_result result
     back : answer_by row.progress ≡ Some (answer_told events id)
     back = ap answer_by progress_is ∙ answer_back events id accepted read (subst IsShortPayload progress_is short)
 
-    by_result : (r : Result (Option NonEmptyValue) Refusal) → Reads (answer_by row.progress) r → Decides (known_tests events id) (λ answer. answer ≡ answer_told events id) r
+    by_result : (r : Result (Option NonEmptyValue) Refusal) → ReadsRow (answer_by row.progress) r → Decides (known_tests events id) (λ answer. answer ≡ answer_told events id) r
     by_result (Ok answer) reads = (known.0, some_is answer (answer_told events id) (sym reads ∙ back))
     by_result (Err why) (inl foreign) = let none : None ≡ Some (answer_told events id) = sym foreign.1 ∙ back in cc
     by_result (Err why) (inr memory) = inr (subst (λ (w : Refusal). IsTrue (is_circumstance w)) (sym memory) refl)

@@ -14,7 +14,7 @@ use Rattle.store_model.proofs.Only.{only_found, only_one}
 use Rattle.store_model.proofs.Finding.{all_found}
 use Rattle.store_refusals.specs.declared.refusal.Refusal.{Refusal}
 use Rattle.store_refusals.specs.Refused.{is_circumstance, reading_refusal, IsRefused}
-use Rattle.store_refusals.specs.Prepared.{Keeps, Tells}
+use Rattle.store_refusals.specs.Prepared.{Keeps, TellsOrRefuses}
 use Rattle.store_invocations.specs.Rows.{Decides, row_at}
 
 -- among the records that are kept this one alone passes
@@ -47,7 +47,7 @@ row_kept events id r accepted kept = (all_found events r accepted kept).invocati
 -- ---- what a `?` lets out
 
 pub told_err : {A : Type 0} {Q : Refusal → Type 0} (IsAnswer : A → Type 0) (r : Result A Refusal) → IsErrAnd r Q
-    → ((why : Refusal) → Q why → IsRefused [] why) → Tells IsAnswer r
+    → ((why : Refusal) → Q why → IsRefused [] why) → TellsOrRefuses IsAnswer r
 told_err IsAnswer (Ok x) q f = absurd q
 told_err IsAnswer (Err why) q f = f why q
 

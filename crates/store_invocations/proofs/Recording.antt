@@ -24,14 +24,14 @@ arrivals_held [] = tt
 arrivals_held (arrival ∷ arrivals) = (tt, arrivals_held arrivals)
 
 event_held : (earlier : List Event) (start : StateMap) (entries : List Entry) (event : Event) → IsReadIn earlier event → AreHeldEntries (entries_of_event start entries event)
-event_held earlier start entries (Event.Complete id n result) read = (tt, tt)
+event_held earlier start entries (Event.Result id n result) read = (tt, tt)
 event_held earlier start entries (Event.Signal id key result) read = (tt, tt)
 event_held earlier start entries (Event.Cancel id) read = (tt, tt)
 event_held earlier start entries (Event.Tick now) read = arrivals_held (slept entries now)
-event_held earlier start entries (Event.Take id attempt (Frame.Command request)) read =
+event_held earlier start entries (Event.Move id attempt (Frame.Command request)) read =
     (request_held (version_of earlier id) request read, arrivals_held (read_answer (state_after (requests_in entries) start) request))
-event_held earlier start entries (Event.Take id attempt (Frame.RunOutcome n value is_acknowledged)) read = (tt, tt)
-event_held earlier start entries (Event.Take id attempt _) read = tt
+event_held earlier start entries (Event.Move id attempt (Frame.RunOutcome n value is_acknowledged)) read = (tt, tt)
+event_held earlier start entries (Event.Move id attempt _) read = tt
 event_held earlier start entries _ read = tt
 
 added_held : (start : StateMap) (earlier : List Event) (id : Text) (event : Event) (entries : List Entry) → IsReadIn earlier event → AreHeldEntries (entries_added start earlier id event entries)

@@ -5,7 +5,7 @@ use Rattle.journal_model.specs.declared.cause.Cause.{Cause}
 use Rattle.store_refusals.specs.declared.refusal.Refusal.{Refusal}
 use Rattle.store_refusals.specs.declared.refusal.Refusal.TheVariants.{OutOfMemory}
 use Rattle.store_refusals.specs.declared.refusal.Refusal.TheVariants as refusal
-use Rattle.store_refusals.specs.Refused.{first_of, refusal_by, IsRefused}
+use Rattle.store_refusals.specs.Refused.{refusal_of_first_cause, refusal_by, IsRefused}
 use Rattle.store_refusals.proofs.First.{first_holds}
 use Rattle.store_invocations.specs.Rows.{Decides}
 
@@ -14,18 +14,18 @@ holds-append [] b = refl
 holds-append ((true, cause) ∷ a) b = ap (λ (causes : List Cause). cause ∷ causes) (holds-append a b)
 holds-append ((false, cause) ∷ a) b = holds-append a b
 
-first_more : (xs ys : List Cause) (why : Refusal) → first_of xs ≡ Some why → first_of (xs ++ ys) ≡ Some why
+first_more : (xs ys : List Cause) (why : Refusal) → refusal_of_first_cause xs ≡ Some why → refusal_of_first_cause (xs ++ ys) ≡ Some why
 first_more [] ys why e = cc
 first_more (x ∷ xs) ys why e = e
 
 -- a refusal by earlier tests is one by all
 pub refused_more : (a b : Tests) (why : Refusal) → IsRefused (those_that_hold a) why → IsRefused (those_that_hold (a ++ b)) why
-refused_more a b why (inl e) = inl (ap first_of (holds-append a b) ∙ first_more (those_that_hold a) (those_that_hold b) why e)
+refused_more a b why (inl e) = inl (ap refusal_of_first_cause (holds-append a b) ∙ first_more (those_that_hold a) (those_that_hold b) why e)
 refused_more a b why (inr e) = inr e
 
 -- and one by later tests, where no earlier one holds
 pub refused_later : (a b : Tests) (why : Refusal) → those_that_hold a ≡ [] → IsRefused (those_that_hold b) why → IsRefused (those_that_hold (a ++ b)) why
-refused_later a b why none (inl e) = inl (ap first_of (holds_later a b none) ∙ e)
+refused_later a b why none (inl e) = inl (ap refusal_of_first_cause (holds_later a b none) ∙ e)
   where
     holds_later : (a b : Tests) → those_that_hold a ≡ [] → those_that_hold (a ++ b) ≡ those_that_hold b
     holds_later a b none = holds-append a b ∙ ap (λ (causes : List Cause). causes ++ those_that_hold b) none

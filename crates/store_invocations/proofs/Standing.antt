@@ -4,7 +4,7 @@ use Rattle.sqlite.specs.Effect.{Database}
 use Rattle.sqlite.specs.State.{State, HasCleanDisk, Survives}
 use Rattle.sqlite.proofs.StateLemmas.{survives_then}
 use Rattle.journal_model.specs.Event.{Event}
-use Rattle.sql_tables.specs.Asking.{IsKept}
+use Rattle.sql_tables.specs.QueryAnswers.{AreTablesKept}
 use Rattle.store_tables.specs.Records.{Holds}
 use Rattle.store_refusals.specs.Prepared.{Keeps}
 use Rattle.store_invocations.specs.Rows.{IsStoreOf}
@@ -17,7 +17,7 @@ keeps_now events old new same k = record {
   kept = k.kept;
 }
 
-pub store_kept : (events : List Event) (old new : State) → Survives old new (λ _. ⊥) → IsKept old new → IsStoreOf events old → IsStoreOf events new
+pub store_kept : (events : List Event) (old new : State) → Survives old new (λ _. ⊥) → AreTablesKept old new → IsStoreOf events old → IsStoreOf events new
 store_kept events old new lives kept store = record {
   accepted = store.accepted;
   read = store.read;
@@ -27,7 +27,7 @@ store_kept events old new lives kept store = record {
       keeps_now events old new it.1 (store.keeps early it.0);
 }
 
-pub kept_on : (a b c : State) → Survives b c (λ _. ⊥) → IsKept a b → IsKept b c → IsKept a c
+pub kept_on : (a b c : State) → Survives b c (λ _. ⊥) → AreTablesKept a b → AreTablesKept b c → AreTablesKept a c
 kept_on a b c lives one two clean is_open =
     let early : HasCleanDisk b = omega (arith, lives.clean, clean) in
     let later = two clean is_open in

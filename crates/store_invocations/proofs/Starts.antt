@@ -7,7 +7,7 @@ use Rattle.protocol_records.specs.Start.{start_parts}
 use Rattle.protocol_stream.proofs.Spellings.{plain_number-is, plain_bytes-is, optional_bytes-is, repeated_bytes-is}
 use Rattle.store_tables.specs.declared.row.InvocationRow.{InvocationRow}
 use Rattle.store_tables.specs.declared.row.StateRow.{StateRow}
-use Rattle.store_invocations.specs.Start.{partial_number, since_first, start_of, start_record, state_bytes, state_record}
+use Rattle.store_invocations.specs.Start.{partial_number, since_first, start_frame_payload, start_record, state_bytes, state_record}
 
 -- the parts are spelled so, one by one
 abbrev Spelled : List Part → List (List ℕ) → Type 0
@@ -38,7 +38,7 @@ partial-is : (is_whole : Bool) → part_spelling (plain_number 5 (bool_number (n
 partial-is true = plain_number-is 5 0
 partial-is false = plain_number-is 5 1
 
-pub start-is : (row : InvocationRow) (states : List StateRow) (now : ℕ) → payload_of (start_parts (start_record row states now)) ≡ start_of row states now
+pub start-is : (row : InvocationRow) (states : List StateRow) (now : ℕ) → payload_of (start_parts (start_record row states now)) ≡ start_frame_payload row states now
 start-is row states now =
     let id = model.plain_bytes 1 row.id in
     let debug_id = model.plain_bytes 2 row.id in

@@ -23,9 +23,9 @@ use Rattle.store_refusals.specs.declared.refusal.Refusal.TheVariants.{ForeignRow
 -- ---- of a row
 
 -- what is read, or a row that no store writes
-abbrev pub Reads : {A : Type 0} → Option A → Result A Refusal → Type 0
-Reads there (Ok answer) = there ≡ Some answer
-Reads there (Err why) = ((why ≡ ForeignRow) × (there ≡ None)) ⊎ (why ≡ OutOfMemory)
+abbrev pub ReadsRow : {A : Type 0} → Option A → Result A Refusal → Type 0
+ReadsRow there (Ok answer) = there ≡ Some answer
+ReadsRow there (Err why) = ((why ≡ ForeignRow) × (there ≡ None)) ⊎ (why ≡ OutOfMemory)
 
 -- what an output puts out; nothing where its payload cannot be read, or lacks a result
 abbrev pub output_read : Option Fault → Bytes → Option NonEmptyValue

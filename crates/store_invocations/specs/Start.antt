@@ -39,8 +39,8 @@ partial_number true = 0
 partial_number false = 1
 
 -- its canonical payload
-abbrev pub start_of : InvocationRow → List StateRow → ℕ → Bytes
-start_of row states now =
+abbrev pub start_frame_payload : InvocationRow → List StateRow → ℕ → Bytes
+start_frame_payload row states now =
     plain_bytes 1 row.id ++ (plain_bytes 2 row.id ++ (plain_number 3 row.progress.entries
     ++ (repeated_bytes 4 (map state_bytes states) ++ (plain_number 5 (partial_number row.is_whole)
     ++ (plain_bytes 6 row.object ++ (plain_number 7 row.progress.attempts_since_entry

@@ -4,8 +4,8 @@ ghost use Rattle.std.specs.Prelude.{◌≡◌, ◌<◌, ◌^◌, length, List, I
 ghost use Rattle.sqlite.specs.Held.{state};
 ghost use Rattle.sqlite.specs.State.{HasCleanDisk};
 ghost use Rattle.journal_model.specs.Event.{Event};
-ghost use Rattle.store_tables.specs.Looks.{Looks};
-ghost use Rattle.store_invocations.specs.Answered.{IsShortPayload, Reads, answer_by, answer_told, failure_by, output_by, output_in};
+ghost use Rattle.store_tables.specs.Looks.{OnlyAsks};
+ghost use Rattle.store_invocations.specs.Answered.{IsShortPayload, ReadsRow, answer_by, answer_told, failure_by, output_by, output_in};
 ghost use Rattle.store_invocations.specs.Rows.{Decides, IsStoreOf, known_tests};
 ghost use Rattle.store_refusals.specs.Causes.{TellsCause};
 
@@ -23,7 +23,7 @@ use store_tables::{Closing, LastError, Progress, StoreTables};
 
 /// What an output puts out.
 fn value_of(alloc: Global, payload: &[u8]) -> Result<NonEmptyValue, Refusal>
-    ensures read { Reads (output_in payload.now) result }
+    ensures read { ReadsRow (output_in payload.now) result }
     ensures short { length payload.now < 2 ^ 64 }
 {
     match decode::<OutputCommandMessage>(alloc, payload) {
@@ -45,7 +45,7 @@ fn value_of(alloc: Global, payload: &[u8]) -> Result<NonEmptyValue, Refusal>
 
 /// What an invocation answers that ended: what its last output puts out.
 fn put_out(alloc: Global, output: &Option<Bytes>) -> Result<Option<NonEmptyValue>, Refusal>
-    ensures read { Reads (output_by output.now) result }
+    ensures read { ReadsRow (output_by output.now) result }
     ensures short { IfSome output.now (λ payload. length payload < 2 ^ 64) }
 {
     match output {
@@ -75,7 +75,7 @@ fn failure_of(alloc: Global, error: &LastError) -> Result<NonEmptyValue, AllocEr
 
 /// What an invocation answers, by the way in which it was closed.
 fn answer_of(alloc: Global, progress: &Progress) -> Result<Option<NonEmptyValue>, Refusal>
-    ensures read { Reads (answer_by progress.now) result }
+    ensures read { ReadsRow (answer_by progress.now) result }
     ensures short { IsShortPayload progress.now }
 {
     match progress.closing {
@@ -98,7 +98,7 @@ pub fn answer<S: Alter>(
     id: &ByteStr,
 ) -> Result<Option<NonEmptyValue>, Refusal>
     ensures told { HasCleanDisk (state S.Store tables.new) → (events : List Event) → IsStoreOf events (state S.Store tables.old) → Decides (known_tests events id.now) (λ answer. answer ≡ answer_told events id.now) result }
-    ensures looks { Looks S.Store tables.old tables.new }
+    ensures looks { OnlyAsks S.Store tables.old tables.new }
     ensures cause { IfErr result (TellsCause (state S.Store tables.old) (state S.Store tables.new)) }
 {
     let row = known_row(tables, id)?;

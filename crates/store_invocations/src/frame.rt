@@ -2,7 +2,7 @@
 
 ghost use Rattle.std.specs.Prelude.{◌≡◌, IfErr};
 ghost use Rattle.journal_model.specs.Spelling.{frame_bytes};
-ghost use Rattle.protocol_types.specs.MessageType.{number_of};
+ghost use Rattle.protocol_types.specs.MessageType.{type_number};
 ghost use Rattle.store_invocations.specs.Rows.{Decides, payload_tests};
 ghost use Rattle.store_refusals.specs.Causes.{IsUnasked};
 

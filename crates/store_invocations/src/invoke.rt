@@ -6,10 +6,10 @@ ghost use Rattle.sqlite.specs.State.{HasCleanDisk};
 ghost use Rattle.journal_model.specs.Event.{Event};
 ghost use Rattle.journal_model.specs.Journal.{is_busy};
 ghost use Rattle.protocol_types.specs.Version.{version_number};
-ghost use Rattle.store_tables.specs.Looks.{Looks};
+ghost use Rattle.store_tables.specs.Looks.{OnlyAsks};
 ghost use Rattle.store_tables.specs.declared.row.Write.{Write as RowWrite};
 ghost use Rattle.store_model.specs.Writes.{writes_of};
-ghost use Rattle.store_refusals.specs.Prepared.{Prepares, Tells};
+ghost use Rattle.store_refusals.specs.Prepared.{Prepares, TellsOrRefuses};
 ghost use Rattle.store_invocations.specs.New.{entry_of_input, first_progress, first_row, first_writes, id_tests, input_tests, is_nameless as is_nameless_new, object_tests};
 ghost use Rattle.store_invocations.specs.Rows.{Decides, IsStoreOf};
 ghost use Rattle.store_refusals.specs.Causes.{IsUnasked, TellsCause};
@@ -32,8 +32,8 @@ fn is_nameless(new: &NewInvocation) -> bool
 
 /// Whether an object has an open invocation.
 fn has_open<S: Alter>(tables: &mut StoreTables<S>, object: &ByteStr) -> Result<bool, Refusal>
-    ensures told { HasCleanDisk (state S.Store tables.new) → (events : List Event) → IsStoreOf events (state S.Store tables.old) → Tells (λ busy. busy ≡ is_busy events object.now) result }
-    ensures looks { Looks S.Store tables.old tables.new }
+    ensures told { HasCleanDisk (state S.Store tables.new) → (events : List Event) → IsStoreOf events (state S.Store tables.old) → TellsOrRefuses (λ busy. busy ≡ is_busy events object.now) result }
+    ensures looks { OnlyAsks S.Store tables.old tables.new }
     ensures cause { IfErr result (TellsCause (state S.Store tables.old) (state S.Store tables.new)) }
 {
     let row = open_invocation(tables, object)?;
@@ -45,7 +45,7 @@ fn has_open<S: Alter>(tables: &mut StoreTables<S>, object: &ByteStr) -> Result<b
 /// The object of a new invocation is free, and nothing of it is without a name.
 fn take_object<S: Alter>(tables: &mut StoreTables<S>, new: &NewInvocation) -> Result<(), Refusal>
     ensures decided { HasCleanDisk (state S.Store tables.new) → (events : List Event) → IsStoreOf events (state S.Store tables.old) → Decides (object_tests events new.now) (λ _. Unit {0}) result }
-    ensures looks { Looks S.Store tables.old tables.new }
+    ensures looks { OnlyAsks S.Store tables.old tables.new }
     ensures cause { IfErr result (TellsCause (state S.Store tables.old) (state S.Store tables.new)) }
 {
     let busy = has_open(tables, &new.object)?;
@@ -61,7 +61,7 @@ fn take_object<S: Alter>(tables: &mut StoreTables<S>, new: &NewInvocation) -> Re
 /// The id of a new invocation was not used, and its version is supported.
 fn take_id<S: Alter>(tables: &mut StoreTables<S>, new: &NewInvocation) -> Result<Version, Refusal>
     ensures decided { HasCleanDisk (state S.Store tables.new) → (events : List Event) → IsStoreOf events (state S.Store tables.old) → Decides (id_tests events new.now) (λ version. version_number version ≡ new.now.version) result }
-    ensures looks { Looks S.Store tables.old tables.new }
+    ensures looks { OnlyAsks S.Store tables.old tables.new }
     ensures cause { IfErr result (TellsCause (state S.Store tables.old) (state S.Store tables.new)) }
 {
     let row = row_of(tables, &new.id)?;
@@ -174,7 +174,7 @@ pub fn prepare_invoke<S: Alter>(
 ) -> Result<Vec<Write>, Refusal>
     ensures prepared { HasCleanDisk (state S.Store tables.new) → (events : List Event) → IsStoreOf events (state S.Store tables.old)
         → Prepares events (Event.Invoke new.now) (λ writes. writes.items ≡ writes_of events (Event.Invoke new.now)) result }
-    ensures looks { Looks S.Store tables.old tables.new }
+    ensures looks { OnlyAsks S.Store tables.old tables.new }
     ensures cause { IfErr result (TellsCause (state S.Store tables.old) (state S.Store tables.new)) }
 {
     take_object(tables, new)?;

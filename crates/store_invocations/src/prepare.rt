@@ -6,12 +6,12 @@ ghost use Rattle.sqlite.specs.State.{HasCleanDisk};
 ghost use Rattle.journal_model.specs.Spelling.{frame_bytes};
 ghost use Rattle.journal_model.specs.Event.{Event};
 ghost use Rattle.journal_model.specs.Cause.{own_tests};
-ghost use Rattle.store_tables.specs.Looks.{Looks};
-ghost use Rattle.store_refusals.specs.Prepared.{Tells};
+ghost use Rattle.store_tables.specs.Looks.{OnlyAsks};
+ghost use Rattle.store_refusals.specs.Prepared.{TellsOrRefuses};
 ghost use Rattle.store_invocations.specs.Rows.{Decides, IsOpenRow, IsStoreOf, payload_tests};
 ghost use Rattle.store_invocations.specs.Begun.{IsBegun, shown_states};
 ghost use Rattle.protocol_types.specs.declared.message_type.MessageType.{MessageType};
-ghost use Rattle.store_invocations.specs.Start.{start_of};
+ghost use Rattle.store_invocations.specs.Start.{start_frame_payload};
 ghost use Rattle.store_refusals.specs.Causes.{TellsCause};
 
 use crate::attempt::PreparedAttempt;
@@ -29,8 +29,8 @@ fn shown_states<S: Alter>(
     tables: &mut StoreTables<S>,
     row: &InvocationRow,
 ) -> Result<Vec<StateRow>, Refusal>
-    ensures told { HasCleanDisk (state S.Store tables.new) → (events : List Event) → IsStoreOf events (state S.Store tables.old) → Tells (λ states. states.items ≡ shown_states events row.now) result }
-    ensures looks { Looks S.Store tables.old tables.new }
+    ensures told { HasCleanDisk (state S.Store tables.new) → (events : List Event) → IsStoreOf events (state S.Store tables.old) → TellsOrRefuses (λ states. states.items ≡ shown_states events row.now) result }
+    ensures looks { OnlyAsks S.Store tables.old tables.new }
     ensures cause { IfErr result (TellsCause (state S.Store tables.old) (state S.Store tables.new)) }
 {
     if !row.is_whole {
@@ -45,8 +45,8 @@ fn begun_start<S: Alter>(
     row: &InvocationRow,
     now: u64,
 ) -> Result<Bytes, Refusal>
-    ensures decided { HasCleanDisk (state S.Store tables.new) → (events : List Event) → IsStoreOf events (state S.Store tables.old) → Decides (payload_tests (start_of row.now (shown_states events row.now) now)) (λ start. start ≡ frame_bytes MessageType.Start (start_of row.now (shown_states events row.now) now)) result }
-    ensures looks { Looks S.Store tables.old tables.new }
+    ensures decided { HasCleanDisk (state S.Store tables.new) → (events : List Event) → IsStoreOf events (state S.Store tables.old) → Decides (payload_tests (start_frame_payload row.now (shown_states events row.now) now)) (λ start. start ≡ frame_bytes MessageType.Start (start_frame_payload row.now (shown_states events row.now) now)) result }
+    ensures looks { OnlyAsks S.Store tables.old tables.new }
     ensures cause { IfErr result (TellsCause (state S.Store tables.old) (state S.Store tables.new)) }
 {
     let states = shown_states(tables, row)?;
@@ -62,7 +62,7 @@ pub(crate) fn prepare_next<S: Alter>(
     now: u64,
 ) -> Result<PreparedAttempt, Refusal>
     ensures decided { HasCleanDisk (state S.Store tables.new) → (events : List Event) → (id : List ℕ) → IsStoreOf events (state S.Store tables.old) → IsOpenRow events id row → Decides (own_tests events (Event.Begin id now)) (IsBegun events id now) result }
-    ensures looks { Looks S.Store tables.old tables.new }
+    ensures looks { OnlyAsks S.Store tables.old tables.new }
     ensures cause { IfErr result (TellsCause (state S.Store tables.old) (state S.Store tables.new)) }
 {
     let Some(number) = row.progress.attempts.checked_add(1) else {

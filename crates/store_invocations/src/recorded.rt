@@ -5,7 +5,7 @@ ghost use Rattle.sqlite.specs.Held.{state};
 ghost use Rattle.sqlite.specs.State.{HasCleanDisk};
 ghost use Rattle.journal_model.specs.Event.{Event};
 ghost use Rattle.protocol_types.specs.MessageType.{is_command};
-ghost use Rattle.store_tables.specs.Looks.{Looks};
+ghost use Rattle.store_tables.specs.Looks.{OnlyAsks};
 ghost use Rattle.store_model.specs.Kept.{journal_rows};
 ghost use Rattle.store_invocations.specs.Rows.{Decides, IsStoreOf, known_tests};
 ghost use Rattle.store_invocations.specs.Told.{entries_told, entry_read, is_entry, kind_by};
@@ -74,7 +74,7 @@ fn entries_among(alloc: Global, rows: &[EntryRow]) -> Result<Vec<RecordedEntry>,
 /// The rows of a journal, the input's first. An invocation that was begun has that one at least.
 fn rows_of<S: Alter>(tables: &mut StoreTables<S>, id: &ByteStr) -> Result<Vec<EntryRow>, Refusal>
     ensures told { HasCleanDisk (state S.Store tables.new) → (events : List Event) → IsStoreOf events (state S.Store tables.old) → Decides (known_tests events id.now) (λ rows. rows.items ≡ journal_rows events id.now) result }
-    ensures looks { Looks S.Store tables.old tables.new }
+    ensures looks { OnlyAsks S.Store tables.old tables.new }
     ensures cause { IfErr result (TellsCause (state S.Store tables.old) (state S.Store tables.new)) }
 {
     let rows = journal(tables, id)?;
@@ -91,7 +91,7 @@ pub fn entries<S: Alter>(
     id: &ByteStr,
 ) -> Result<Vec<RecordedEntry>, Refusal>
     ensures told { HasCleanDisk (state S.Store tables.new) → (events : List Event) → IsStoreOf events (state S.Store tables.old) → Decides (known_tests events id.now) (λ entries. entries.items ≡ entries_told events id.now) result }
-    ensures looks { Looks S.Store tables.old tables.new }
+    ensures looks { OnlyAsks S.Store tables.old tables.new }
     ensures cause { IfErr result (TellsCause (state S.Store tables.old) (state S.Store tables.new)) }
 {
     let rows = rows_of(tables, id)?;

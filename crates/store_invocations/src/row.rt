@@ -5,8 +5,8 @@ ghost use Rattle.sqlite.specs.Held.{state};
 ghost use Rattle.sqlite.specs.State.{HasCleanDisk};
 ghost use Rattle.journal_model.specs.Event.{Event};
 ghost use Rattle.journal_model.specs.Cause.{open_tests};
-ghost use Rattle.store_tables.specs.Looks.{Looks};
-ghost use Rattle.store_refusals.specs.Prepared.{Tells};
+ghost use Rattle.store_tables.specs.Looks.{OnlyAsks};
+ghost use Rattle.store_refusals.specs.Prepared.{TellsOrRefuses};
 ghost use Rattle.store_invocations.specs.Rows.{Decides, IsOpenRow, IsRowOf, IsStoreOf, known_tests, row_at};
 ghost use Rattle.store_refusals.specs.Causes.{TellsCause};
 
@@ -21,8 +21,8 @@ pub fn row_of<S: Alter>(
     tables: &mut StoreTables<S>,
     id: &ByteStr,
 ) -> Result<Option<InvocationRow>, Refusal>
-    ensures told { HasCleanDisk (state S.Store tables.new) → (events : List Event) → IsStoreOf events (state S.Store tables.old) → Tells (λ row. row ≡ row_at events id.now) result }
-    ensures looks { Looks S.Store tables.old tables.new }
+    ensures told { HasCleanDisk (state S.Store tables.new) → (events : List Event) → IsStoreOf events (state S.Store tables.old) → TellsOrRefuses (λ row. row ≡ row_at events id.now) result }
+    ensures looks { OnlyAsks S.Store tables.old tables.new }
     ensures cause { IfErr result (TellsCause (state S.Store tables.old) (state S.Store tables.new)) }
 {
     let row = invocation_by_id(tables, id)?;
@@ -35,7 +35,7 @@ pub fn known_row<S: Alter>(
     id: &ByteStr,
 ) -> Result<InvocationRow, Refusal>
     ensures decided { HasCleanDisk (state S.Store tables.new) → (events : List Event) → IsStoreOf events (state S.Store tables.old) → Decides (known_tests events id.now) (IsRowOf events id.now) result }
-    ensures looks { Looks S.Store tables.old tables.new }
+    ensures looks { OnlyAsks S.Store tables.old tables.new }
     ensures cause { IfErr result (TellsCause (state S.Store tables.old) (state S.Store tables.new)) }
 {
     let found = row_of(tables, id)?;
@@ -51,7 +51,7 @@ pub fn open_row<S: Alter>(
     id: &ByteStr,
 ) -> Result<InvocationRow, Refusal>
     ensures decided { HasCleanDisk (state S.Store tables.new) → (events : List Event) → IsStoreOf events (state S.Store tables.old) → Decides (open_tests events id.now) (IsOpenRow events id.now) result }
-    ensures looks { Looks S.Store tables.old tables.new }
+    ensures looks { OnlyAsks S.Store tables.old tables.new }
     ensures cause { IfErr result (TellsCause (state S.Store tables.old) (state S.Store tables.new)) }
 {
     let row = known_row(tables, id)?;

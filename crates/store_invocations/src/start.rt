@@ -1,7 +1,7 @@
 //! The start of an attempt.
 
 ghost use Rattle.std.specs.Prelude.{◌≡◌, map, IfOk, IfErr};
-ghost use Rattle.store_invocations.specs.Start.{since_first, start_of, start_record, state_record};
+ghost use Rattle.store_invocations.specs.Start.{since_first, start_frame_payload, start_record, state_record};
 ghost use Rattle.journal_model.specs.Spelling.{frame_bytes};
 ghost use Rattle.store_invocations.specs.Rows.{Decides, payload_tests};
 ghost use Rattle.store_refusals.specs.Causes.{IsUnasked};
@@ -81,7 +81,7 @@ fn start_payload(
     states: &[StateRow],
     now: u64,
 ) -> Result<Vec<u8>, AllocError>
-    ensures { IfOk result (λ payload. payload.items ≡ start_of row.now states.now now) }
+    ensures { IfOk result (λ payload. payload.items ≡ start_frame_payload row.now states.now now) }
 {
     let start = start_record(alloc, row, states, now)?;
     let spelled = encode(alloc, &start);
@@ -97,7 +97,7 @@ pub(crate) fn start_frame(
     states: &[StateRow],
     now: u64,
 ) -> Result<Bytes, Refusal>
-    ensures decided { Decides (payload_tests (start_of row.now states.now now)) (λ start. start ≡ frame_bytes MessageType.Start (start_of row.now states.now now)) result }
+    ensures decided { Decides (payload_tests (start_frame_payload row.now states.now now)) (λ start. start ≡ frame_bytes MessageType.Start (start_frame_payload row.now states.now now)) result }
     ensures unasked { IfErr result IsUnasked }
 {
     let payload = start_payload(alloc, row, states, now)?;

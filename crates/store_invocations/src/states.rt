@@ -6,8 +6,8 @@ ghost use Rattle.sqlite.specs.State.{HasCleanDisk};
 ghost use Rattle.journal_model.specs.Event.{Event};
 ghost use Rattle.journal_model.specs.Journal.{object_state};
 ghost use Rattle.store_model.specs.Kept.{state_row};
-ghost use Rattle.store_tables.specs.Looks.{Looks};
-ghost use Rattle.store_refusals.specs.Prepared.{Tells};
+ghost use Rattle.store_tables.specs.Looks.{OnlyAsks};
+ghost use Rattle.store_refusals.specs.Prepared.{TellsOrRefuses};
 ghost use Rattle.store_invocations.specs.Rows.{IsStoreOf};
 ghost use Rattle.store_refusals.specs.Causes.{TellsCause};
 
@@ -21,8 +21,8 @@ pub fn object_states<S: Alter>(
     tables: &mut StoreTables<S>,
     object: &ByteStr,
 ) -> Result<Vec<StateRow>, Refusal>
-    ensures told { HasCleanDisk (state S.Store tables.new) → (events : List Event) → IsStoreOf events (state S.Store tables.old) → Tells (λ states. states.items ≡ map (state_row object.now) (object_state events object.now)) result }
-    ensures looks { Looks S.Store tables.old tables.new }
+    ensures told { HasCleanDisk (state S.Store tables.new) → (events : List Event) → IsStoreOf events (state S.Store tables.old) → TellsOrRefuses (λ states. states.items ≡ map (state_row object.now) (object_state events object.now)) result }
+    ensures looks { OnlyAsks S.Store tables.old tables.new }
     ensures cause { IfErr result (TellsCause (state S.Store tables.old) (state S.Store tables.new)) }
 {
     let states = states_of(tables, object)?;

@@ -2,7 +2,7 @@
 use Rattle.std.proofs.Common.{ℕ, zero, suc, ◌==◌, min, nat_le, arith, ◌≡◌, refl, sym, ap, ◌∙◌, Bool, true, false, List, [], ◌∷◌, length, take, drop}
 use Rattle.std.proofs.lemmas.Bool.{leb-true, leb-false, eqb-true}
 use Rattle.std.proofs.Math.ListN.{drop_of_length-le}
-use Rattle.store_live.specs.Input.{InputKept, after_bytes, handed_out, with_rest}
+use Rattle.store_live.specs.Input.{InputKept, after_bytes, input_handed_out, with_rest}
 
 drop_within : (most : ℕ) (bytes : List ℕ) → drop (min (length bytes) most) bytes ≡ drop most bytes
 drop_within most bytes = by_test (nat_le most (length bytes)) refl
@@ -23,7 +23,7 @@ some_out zero (x ∷ bytes) rest m some = absurd (some (omega arith))
 some_out (suc most) (x ∷ bytes) rest m some = refl
 
 pub after_split : (most : ℕ) (m : InputKept) (rest : List ℕ) (long count : ℕ) → long ≡ length m.rest → count ≡ min long most → (count ≡ 0 → ⊥) → rest ≡ drop count m.rest
-    → with_rest rest m ≡ handed_out most m
+    → with_rest rest m ≡ input_handed_out most m
 after_split most m rest long count e f some is =
     let same : count ≡ min (length m.rest) most = f ∙ ap (λ (n : ℕ). min n most) e in
     sym (some_out most m.rest rest m (λ none. some (same ∙ none)))

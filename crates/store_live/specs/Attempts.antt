@@ -4,7 +4,7 @@ use Rattle.std.specs.Map.{lookup}
 use Rattle.store_live.specs.declared.attempt.LiveAttempt.{LiveAttempt}
 use Rattle.std.specs.Option.{ForSome}
 use Rattle.store_live.specs.declared.input.FrameRead.{FrameRead}
-use Rattle.store_live.specs.Input.{CanCount, InputKept, handed_out, with_frame, with_outcome, with_room}
+use Rattle.store_live.specs.Input.{CanCount, InputKept, input_handed_out, with_frame, with_outcome_kept, with_room}
 
 -- live attempts, each behind its invocation's id
 abbrev pub ByInvocation : Type 0
@@ -25,8 +25,8 @@ pub record IsNow (id : List ℕ) (attempt : Option LiveAttempt) (old new : ByInv
   pub others : (other : List ℕ) → bytes_eq id other ≡ false → attempt_of new other ≡ attempt_of old other
 
 -- this is done to the live attempt of the invocation, if there is one, and nothing to the others
-abbrev pub Changes : List ℕ → (LiveAttempt → LiveAttempt) → ByInvocation → ByInvocation → Type 0
-Changes id change old new = IsNow id (option_map change (attempt_of old id)) old new
+abbrev pub ChangesLive : List ℕ → (LiveAttempt → LiveAttempt) → ByInvocation → ByInvocation → Type 0
+ChangesLive id change old new = IsNow id (option_map change (attempt_of old id)) old new
 
 -- the bytes that are handed out of an attempt's input, none where no attempt is live
 abbrev pub bytes_out : ℕ → Option LiveAttempt → List ℕ
@@ -38,7 +38,7 @@ abbrev pub after_input : InputKept → LiveAttempt → LiveAttempt
 after_input input attempt = record attempt { input = input }
 
 abbrev pub ChangesInput : List ℕ → ByInvocation → ByInvocation → Type 0
-ChangesInput id old new = (input : InputKept) × Changes id (after_input input) old new
+ChangesInput id old new = (input : InputKept) × ChangesLive id (after_input input) old new
 
 -- that a frame is counted, if an attempt is live
 abbrev pub CountsFrame : FrameRead → Option LiveAttempt → Type 0
@@ -46,16 +46,16 @@ CountsFrame frame o = ForSome o (λ (attempt : LiveAttempt). CanCount attempt.in
 
 -- what is done to one
 abbrev pub after_hand_out : ℕ → LiveAttempt → LiveAttempt
-after_hand_out most attempt = record attempt { input = handed_out most attempt.input }
+after_hand_out most attempt = record attempt { input = input_handed_out most attempt.input }
 
-abbrev pub after_frame : FrameRead → LiveAttempt → LiveAttempt
-after_frame frame attempt = record attempt { input = with_frame frame attempt.input }
+abbrev pub live_after_frame : FrameRead → LiveAttempt → LiveAttempt
+live_after_frame frame attempt = record attempt { input = with_frame frame attempt.input }
 
 abbrev pub after_reserve : LiveAttempt → LiveAttempt
 after_reserve attempt = record attempt { input = with_room attempt.input }
 
 abbrev pub after_outcome : ℕ → LiveAttempt → LiveAttempt
-after_outcome completion attempt = record attempt { input = with_outcome completion attempt.input }
+after_outcome completion attempt = record attempt { input = with_outcome_kept completion attempt.input }
 
 abbrev pub after_close : LiveAttempt → LiveAttempt
 after_close attempt = record attempt { is_input_closed = true }
@@ -63,5 +63,5 @@ after_close attempt = record attempt { is_input_closed = true }
 abbrev pub after_output : List ℕ → LiveAttempt → LiveAttempt
 after_output bytes attempt = record attempt { output = attempt.output ++ bytes }
 
-abbrev pub after_take : ℕ → LiveAttempt → LiveAttempt
-after_take count attempt = record attempt { output = drop count attempt.output }
+abbrev pub live_after_take : ℕ → LiveAttempt → LiveAttempt
+live_after_take count attempt = record attempt { output = drop count attempt.output }

@@ -65,12 +65,12 @@ after_bytes [] rest m = m
 after_bytes (x ∷ bytes) rest m = with_rest rest m
 
 -- once at most so many were
-abbrev pub handed_out : ℕ → InputKept → InputKept
-handed_out most m = after_bytes (take most m.rest) (drop most m.rest) m
+abbrev pub input_handed_out : ℕ → InputKept → InputKept
+input_handed_out most m = after_bytes (take most m.rest) (drop most m.rest) m
 
 -- room was made for one more outcome that is to be acknowledged; and one is
 abbrev pub with_room : InputKept → InputKept
 with_room m = record m { room = 1 }
 
-abbrev pub with_outcome : ℕ → InputKept → InputKept
-with_outcome completion m = record m { unread = m.unread ++ completion ∷ []; room = 0 }
+abbrev pub with_outcome_kept : ℕ → InputKept → InputKept
+with_outcome_kept completion m = record m { unread = m.unread ++ completion ∷ []; room = 0 }

@@ -1,7 +1,7 @@
 // The live attempts by their invocations.
 ghost use Rattle.std.specs.Prelude.{◌≡◌, ◌<◌, ◌≤◌, [], length, Some, None, IfOk, OnOk, OnErr};
 ghost use Rattle.std.specs.Option.{ForSome, option_copied};
-ghost use Rattle.store_live.specs.Attempts.{attempt_of, ChangesInput, CountsFrame, IsNow, Changes, bytes_out, after_hand_out, after_frame, after_outcome, after_reserve, after_close, after_output, after_take};
+ghost use Rattle.store_live.specs.Attempts.{attempt_of, ChangesInput, CountsFrame, IsNow, ChangesLive, bytes_out, after_hand_out, live_after_frame, after_outcome, after_reserve, after_close, after_output, live_after_take};
 
 use crate::attempt::LiveAttempt;
 use crate::input::FrameRead;
@@ -84,7 +84,7 @@ impl LiveAttempts {
     #[tactic(auto, using(std::proofs::lemmas::Map::Steps::set_value_same))]
     pub fn hand_out(&mut self, id: &ByteStr, most: usize) -> Result<Bytes, AllocError>
         ensures bytes { IfOk result (λ bytes. bytes ≡ bytes_out most (attempt_of self.old.attempts id.now)) }
-        ensures rest { OnOk result (Changes id.now (after_hand_out most) self.old.attempts self.new.attempts) }
+        ensures rest { OnOk result (ChangesLive id.now (after_hand_out most) self.old.attempts self.new.attempts) }
         ensures err { OnErr result (self.new ≡ self.old) }
     {
         match self.attempts.get_mut(id) {
@@ -95,7 +95,7 @@ impl LiveAttempts {
 
     /// Takes in the next frame of an attempt's input, which was read from its row.
     pub fn put_frame(&mut self, id: &ByteStr, frame: FrameRead)
-        ensures counted { CountsFrame frame (attempt_of self.old.attempts id.now) → Changes id.now (after_frame frame) self.old.attempts self.new.attempts }
+        ensures counted { CountsFrame frame (attempt_of self.old.attempts id.now) → ChangesLive id.now (live_after_frame frame) self.old.attempts self.new.attempts }
         ensures input { ChangesInput id.now self.old.attempts self.new.attempts }
     {
         match self.attempts.get_mut(id) {
@@ -107,7 +107,7 @@ impl LiveAttempts {
     /// Makes room for one more outcome that an attempt is to be told of by an acknowledgement.
     #[tactic(auto, using(std::proofs::lemmas::Map::Steps::set_value_same))]
     pub fn reserve_outcome(&mut self, id: &ByteStr) -> Result<(), AllocError>
-        ensures ok { OnOk result (Changes id.now after_reserve self.old.attempts self.new.attempts) }
+        ensures ok { OnOk result (ChangesLive id.now after_reserve self.old.attempts self.new.attempts) }
         ensures room { OnOk result (ForSome (attempt_of self.new.attempts id.now) (λ attempt. attempt.input.room ≡ 1)) }
         ensures err { OnErr result (self.new ≡ self.old) }
     {
@@ -120,7 +120,7 @@ impl LiveAttempts {
     /// The outcome of this completion is to be acknowledged to an attempt. Room was made for it.
     pub fn note_outcome(&mut self, id: &ByteStr, completion: u32)
         requires { ForSome (attempt_of self.old.attempts id.now) (λ attempt. 0 < attempt.input.room) }
-        ensures { Changes id.now (after_outcome completion) self.old.attempts self.new.attempts }
+        ensures { ChangesLive id.now (after_outcome completion) self.old.attempts self.new.attempts }
     {
         if let Some(attempt) = self.attempts.get_mut(id) {
             attempt.input.note_outcome(completion);
@@ -129,7 +129,7 @@ impl LiveAttempts {
 
     /// Closes an attempt's input.
     pub fn close_input(&mut self, id: &ByteStr)
-        ensures { Changes id.now after_close self.old.attempts self.new.attempts }
+        ensures { ChangesLive id.now after_close self.old.attempts self.new.attempts }
     {
         if let Some(attempt) = self.attempts.get_mut(id) {
             attempt.is_input_closed = true;
@@ -139,7 +139,7 @@ impl LiveAttempts {
     /// The next bytes that an attempt wrote came.
     #[tactic(auto, using(std::proofs::lemmas::Map::Steps::set_value_same))]
     pub fn push_output(&mut self, id: &ByteStr, bytes: &[u8]) -> Result<(), AllocError>
-        ensures ok { OnOk result (Changes id.now (after_output bytes.now) self.old.attempts self.new.attempts) }
+        ensures ok { OnOk result (ChangesLive id.now (after_output bytes.now) self.old.attempts self.new.attempts) }
         ensures err { OnErr result (self.new ≡ self.old) }
     {
         match self.attempts.get_mut(id) {
@@ -151,7 +151,7 @@ impl LiveAttempts {
     /// Drops the first bytes that an attempt wrote, which were taken.
     pub fn advance_output(&mut self, id: &ByteStr, count: usize)
         requires { ForSome (attempt_of self.old.attempts id.now) (λ attempt. count ≤ length attempt.output) }
-        ensures { Changes id.now (after_take count) self.old.attempts self.new.attempts }
+        ensures { ChangesLive id.now (live_after_take count) self.old.attempts self.new.attempts }
     {
         if let Some(attempt) = self.attempts.get_mut(id) {
             attempt.output.advance(count);

@@ -1,6 +1,6 @@
 // How far an attempt was handed its input.
 ghost use Rattle.std.specs.Prelude.{◌≡◌, ◌+◌, ◌==◌, ◌^◌, ◌<◌, [], length, take, IfOk, OnOk, OnErr};
-ghost use Rattle.store_live.specs.Input.{CanCount, at_begin, handed_out, is_first, next_ordinal, next_row, with_frame, with_outcome, with_room};
+ghost use Rattle.store_live.specs.Input.{CanCount, at_begin, input_handed_out, is_first, next_ordinal, next_row, with_frame, with_outcome_kept, with_room};
 
 use bytes::Bytes;
 use std::alloc::{AllocError, Global};
@@ -152,7 +152,7 @@ impl AttemptInput {
     /// Hands out the next bytes of the frame that was read last: as many as are left of it, and at most so many.
     pub fn hand_out(&mut self, most: usize) -> Result<Bytes, AllocError>
         ensures bytes { IfOk result (λ bytes. bytes ≡ take most self.old.rest) }
-        ensures rest { OnOk result (self.new ≡ handed_out most self.old) }
+        ensures rest { OnOk result (self.new ≡ input_handed_out most self.old) }
         ensures err { OnErr result (self.new ≡ self.old) }
     {
         let count = self.rest.len().min(most);
@@ -180,7 +180,7 @@ impl AttemptInput {
     /// The outcome of this completion is to be acknowledged. Room was made for it.
     pub fn note_outcome(&mut self, completion: u32)
         requires { 0 < self.old.room }
-        ensures { self.new ≡ with_outcome completion self.old }
+        ensures { self.new ≡ with_outcome_kept completion self.old }
     {
         self.unread.push_back_reserved(completion);
         self.room = 0;

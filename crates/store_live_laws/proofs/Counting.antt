@@ -21,8 +21,8 @@ arrivals_count all place (Arrived arrival ∷ entries) = ap suc (arrivals_count 
 
 event_count : (start : StateMap) (earlier : List Event) (id : Text) (event : Event) (entries : List Entry)
     → length (event_pieces start earlier id event entries) ≡ length (places_of_arrivals (1 + length entries) (entries_added start earlier id event entries))
-event_count start earlier id (Event.Take other attempt (Frame.RunOutcome n value true)) entries =
-    by_tests (entries_after start earlier id (Event.Take other attempt (Frame.RunOutcome n value true)) entries) (1 + length entries) (completion n (result_of_value value))
+event_count start earlier id (Event.Move other attempt (Frame.RunOutcome n value true)) entries =
+    by_tests (entries_after start earlier id (Event.Move other attempt (Frame.RunOutcome n value true)) entries) (1 + length entries) (completion n (result_of_value value))
     (has_feature (version_of earlier id) Acknowledgement) (bytes_eq other id)
   where
     by_tests : (all : List Entry) (place : ℕ) (arrival : Arrival) (a b : Bool)

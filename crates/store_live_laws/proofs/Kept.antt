@@ -1,5 +1,5 @@
 -- The rows that a waiting invocation has not heard, and which progress is written.
-use Rattle.std.proofs.Common.{ℕ, ◌+◌, ◌≡◌, refl, sym, ap, ap₂, ◌∙◌, true≢false, not, Bool, true, false, ◌&&◌, ◌||◌, if◌then◌else◌, List, [], ◌∷◌, ◌++◌, append-nil, map, filter, drop, Some, is_some, bytes_eq}
+use Rattle.std.proofs.Common.{ℕ, ◌+◌, ◌≡◌, refl, sym, ap, ap₂, ◌∙◌, true≢false, not, Bool, true, false, ◌&&◌, ◌||◌, if◌then◌else◌, List, [], ◌∷◌, ◌++◌, append-nil, map, filter, drop, Some, is_some, bytes_eq, subst, IsPermutation}
 use Rattle.std.specs.List.{list_any}
 use Rattle.std.proofs.lemmas.List.{drop-map, map-append}
 use Rattle.std.proofs.lemmas.List.Folds.{list_any-append}
@@ -11,22 +11,18 @@ use Rattle.journal_model.specs.Event.{Frame, Event}
 use Rattle.journal_model.specs.Journal.{Entry, Recorded, Arrived, invocation_begun, version_of, closes, frames_of, is_open, arrivals_in, slept, entries_of, recorded_arrivals}
 use Rattle.journal_model.specs.Cause.{is_empty}
 use Rattle.input_laws.proofs.Events.{begun_same}
-use Rattle.due_laws.specs.Awake.{heard_of, or_zero, not_heard}
-use Rattle.due_laws.proofs.Listing.{any_filter}
+use Rattle.due_laws.specs.Awake.{heard_of, or_zero, not_heard, is_awake_kept}
+use Rattle.due_laws.proofs.DueList.{any_filter, due_listed}
 use Rattle.due_laws.proofs.Noting.{noted_elsewhere, noted_still, noted_unticked}
 use Rattle.store_tables.specs.declared.row.EntryRow.{EntryRow}
-use Rattle.store_model.specs.Kept.{begun}
+use Rattle.store_model.specs.Kept.{begun, invocation_row}
 use Rattle.store_model.specs.Writes.{ends_sleep, changed_by}
 use Rattle.store_model.specs.Lookups.{arrival_rows, rows_of_arrivals}
-use Rattle.std.proofs.Common.{subst, IsPermutation}
 use Rattle.std.proofs.lemmas.List.Sorted.{list_any-IsPermutation, IsPermutation-map}
 use Rattle.journal_model.specs.Attempt.{suspension_of, is_woken}
-use Rattle.due_laws.specs.Awake.{is_awake_kept}
-use Rattle.due_laws.specs.Listing.{DoRise}
-use Rattle.due_laws.proofs.Listing.{due_listed}
+use Rattle.due_laws.specs.DueList.{DoRise}
 use Rattle.store_tables.specs.declared.row.InvocationRow.{InvocationRow}
 use Rattle.store_tables.specs.Questions.{DoAscend}
-use Rattle.store_model.specs.Kept.{invocation_row}
 use Rattle.store_live_laws.specs.Kept.{RowsAreNotHeard, ChangedCovers, DueFromRows}
 
 rows_payloads : (id : Text) (before : List Entry) (place : ℕ) (entries : List Entry)
@@ -114,19 +110,19 @@ nothing_slept events now id e opened = by_slept (slept (entries_of events id) no
 
 pub changed_covers : ChangedCovers
 changed_covers events (Event.Invoke new) id accepted old e = noted_elsewhere events (Event.Invoke new) id old refl
-changed_covers events (Event.Complete named n result) id accepted old e = noted_elsewhere events (Event.Complete named n result) id (other id named e) refl
+changed_covers events (Event.Result named n result) id accepted old e = noted_elsewhere events (Event.Result named n result) id (other id named e) refl
 changed_covers events (Event.Signal named key result) id accepted old e = noted_elsewhere events (Event.Signal named key result) id (other id named e) refl
 changed_covers events (Event.Cancel named) id accepted old e = noted_elsewhere events (Event.Cancel named) id (other id named e) refl
 changed_covers events (Event.Tick now) id accepted old e = noted_unticked events now id accepted.1 (nothing_slept events now id e)
 changed_covers events (Event.Begin named now) id accepted old e = noted_elsewhere events (Event.Begin named now) id (other id named e) refl
-changed_covers events (Event.HandOut named attempt most) id accepted old e = noted_still events (Event.HandOut named attempt most) id refl
-changed_covers events (Event.CloseInput named attempt) id accepted old e = noted_still events (Event.CloseInput named attempt) id refl
+changed_covers events (Event.Feed named attempt most) id accepted old e = noted_still events (Event.Feed named attempt most) id refl
+changed_covers events (Event.Close named attempt) id accepted old e = noted_still events (Event.Close named attempt) id refl
 changed_covers events (Event.Stop named attempt) id accepted old e = noted_still events (Event.Stop named attempt) id refl
-changed_covers events (Event.Take named attempt Frame.AwaitingOn) id accepted old e = noted_still events (Event.Take named attempt Frame.AwaitingOn) id refl
-changed_covers events (Event.Take named attempt Frame.Broken) id accepted old e = noted_still events (Event.Take named attempt Frame.Broken) id refl
-changed_covers events (Event.Take named attempt Frame.TooDeep) id accepted old e = noted_still events (Event.Take named attempt Frame.TooDeep) id refl
-changed_covers events (Event.Take named attempt Frame.NotAccepted) id accepted old e = noted_still events (Event.Take named attempt Frame.NotAccepted) id refl
-changed_covers events (Event.Take named attempt frame) id accepted old e = noted_elsewhere events (Event.Take named attempt frame) id (other id named e) refl
+changed_covers events (Event.Move named attempt Frame.AwaitingOn) id accepted old e = noted_still events (Event.Move named attempt Frame.AwaitingOn) id refl
+changed_covers events (Event.Move named attempt Frame.Broken) id accepted old e = noted_still events (Event.Move named attempt Frame.Broken) id refl
+changed_covers events (Event.Move named attempt Frame.TooDeep) id accepted old e = noted_still events (Event.Move named attempt Frame.TooDeep) id refl
+changed_covers events (Event.Move named attempt Frame.NotAccepted) id accepted old e = noted_still events (Event.Move named attempt Frame.NotAccepted) id refl
+changed_covers events (Event.Move named attempt frame) id accepted old e = noted_elsewhere events (Event.Move named attempt frame) id (other id named e) refl
 
 -- ---- the rows that have the flag
 

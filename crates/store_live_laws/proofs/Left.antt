@@ -4,8 +4,8 @@ use Rattle.journal_model.specs.Notification.{Bytes, Text}
 use Rattle.journal_model.specs.Event.{Event}
 use Rattle.journal_model.specs.Attempt.{input_bytes, input_left, input_pieces}
 use Rattle.journal_model.specs.Cause.{is_empty}
-use Rattle.due_laws.specs.Handing.{HandsPart, ReadsRows}
-use Rattle.due_laws.proofs.Handing.{rows_tell}
+use Rattle.due_laws.specs.InputParts.{HandsPart, ReadsRows}
+use Rattle.due_laws.proofs.InputParts.{rows_tell}
 use Rattle.store_live_laws.proofs.Reading.{input_agrees}
 use Rattle.store_live_laws.specs.Agrees.{AllLeftIsTold, PartIsTold}
 

@@ -10,16 +10,16 @@ use Rattle.journal_model.specs.Event.{Event}
 use Rattle.journal_model.specs.Journal.{Entry, Recorded, Arrived, begins, invocation_begun, version_of, entries_of, recorded_arrivals}
 use Rattle.journal_model.specs.Attempt.{Piece, begins_attempt, bytes_asked, acknowledged, notification_type, entry_piece, journal_pieces, input_pieces}
 use Rattle.journal_model.specs.Cause.{IsAccepted}
-use Rattle.input_laws.specs.Reading.{arrivals_among}
+use Rattle.input_laws.specs.ArrivalsRead.{arrivals_among}
 use Rattle.input_laws.proofs.Events.{added_by, start_same, itself}
 use Rattle.input_laws.proofs.Handed.{among-append, pieces_now, brought}
-use Rattle.due_laws.specs.Rows.{frames_known, arrivals_known, with_outcome as with_noted, outcomes_noted, noted_number, outcomes_unread, as_told, later_piece}
-use Rattle.due_laws.specs.Handing.{ReadsRows, frames_whole}
+use Rattle.due_laws.specs.Rows.{frames_known, arrivals_known, with_outcome_noted, outcomes_noted, noted_number, outcomes_unread, as_told, later_piece}
+use Rattle.due_laws.specs.InputParts.{ReadsRows, frames_whole}
 use Rattle.due_laws.proofs.Rows.{all_known_stays, pieces_are_rows}
 use Rattle.due_laws.proofs.Outcomes.{outcomes_are_read}
-use Rattle.due_laws.proofs.Handing.{rows_are_read, rows_tell, take_next}
+use Rattle.due_laws.proofs.InputParts.{rows_are_read, rows_tell, take_next}
 use Rattle.store_live.specs.declared.input.FrameRead.{FrameRead}
-use Rattle.store_live.specs.Input.{InputKept, at_begin, after_bytes, handed_out, with_frame, with_outcome, with_rest}
+use Rattle.store_live.specs.Input.{InputKept, at_begin, after_bytes, input_handed_out, with_frame, with_outcome_kept, with_rest}
 use Rattle.store_model.specs.Places.{places_of_arrivals, journal_places, places_from, input_places}
 use Rattle.store_live_laws.proofs.Counting.{same_count}
 use Rattle.store_live_laws.specs.Read.{behind_place, place_after}
@@ -170,20 +170,20 @@ input_begun events id now =
 
 module _ (events : List Event) (event : Event) (id : Text) (m : InputKept) (accepted : IsAccepted (event ∷ events)) (old : begins id event ≡ false) (going : begins_attempt id event ≡ false)
     (asks : bytes_asked id event ≡ None) (was : IsInputOf events id m) where
-  behind_them : (o : Option ℕ) → acknowledged (version_of events id) id event ≡ o → m.unread ++ with_noted o [] ≡ outcomes_unread (event ∷ events) id (m.arrivals + (m.read - m.known))
+  behind_them : (o : Option ℕ) → acknowledged (version_of events id) id event ≡ o → m.unread ++ with_outcome_noted o [] ≡ outcomes_unread (event ∷ events) id (m.arrivals + (m.read - m.known))
   behind_them o e =
-      ap₂ (λ (some more : List ℕ). some ++ more) was.unread (ap (λ (one : Option ℕ). with_noted one []) (sym e))
+      ap₂ (λ (some more : List ℕ). some ++ more) was.unread (ap (λ (one : Option ℕ). with_outcome_noted one []) (sym e))
       ∙ sym (outcomes_are_read.stays events event id accepted old going (m.arrivals + (m.read - m.known)) (arrivals_read events id m accepted.1 was))
 
-  after : (o : Option ℕ) (room : ℕ) → acknowledged (version_of events id) id event ≡ o → IsInputOf (event ∷ events) id (record m { unread = m.unread ++ with_noted o []; room = room })
+  after : (o : Option ℕ) (room : ℕ) → acknowledged (version_of events id) id event ≡ o → IsInputOf (event ∷ events) id (record m { unread = m.unread ++ with_outcome_noted o []; room = room })
   after o room e =
-      keeps events (event ∷ events) id m (grows events event id old going) was (rows_are_read.stays events event id m.read m.rest old going asks was.reads) (m.unread ++ with_noted o []) room
+      keeps events (event ∷ events) id m (grows events event id old going) was (rows_are_read.stays events event id m.read m.rest old going asks was.reads) (m.unread ++ with_outcome_noted o []) room
       (behind_them o e)
 
   pub input_stays : acknowledged (version_of events id) id event ≡ None → IsInputOf (event ∷ events) id m
   input_stays e = subst (λ (unread : List ℕ). IsInputOf (event ∷ events) id (record m { unread = unread })) (append-nil m.unread) (after None m.room e)
 
-  pub input_notes : (n : ℕ) → acknowledged (version_of events id) id event ≡ Some n → IsInputOf (event ∷ events) id (with_outcome n m)
+  pub input_notes : (n : ℕ) → acknowledged (version_of events id) id event ≡ Some n → IsInputOf (event ∷ events) id (with_outcome_kept n m)
   input_notes n e = after (Some n) 0 e
 
 pub input_makes_room : (events : List Event) (id : Text) (m : InputKept) (room : ℕ) → IsInputOf events id m → IsInputOf events id (record m { room = room })
@@ -199,19 +199,19 @@ input_makes_room events id m room was = record {
 }
 
 -- bytes are handed out
-pub input_hands : (events : List Event) (id : Text) (attempt most : ℕ) (m : InputKept) → IsAccepted (Event.HandOut id attempt (length (take most m.rest)) ∷ events) → IsInputOf events id m
-    → IsInputOf (Event.HandOut id attempt (length (take most m.rest)) ∷ events) id (handed_out most m)
+pub input_hands : (events : List Event) (id : Text) (attempt most : ℕ) (m : InputKept) → IsAccepted (Event.Feed id attempt (length (take most m.rest)) ∷ events) → IsInputOf events id m
+    → IsInputOf (Event.Feed id attempt (length (take most m.rest)) ∷ events) id (input_handed_out most m)
 input_hands events id attempt most m accepted was = by_bytes (take most m.rest) (drop most m.rest) (sym (take-append-drop most m.rest)) accepted
   where
-    by_bytes : (bytes rest : Bytes) → m.rest ≡ bytes ++ rest → IsAccepted (Event.HandOut id attempt (length bytes) ∷ events)
-        → IsInputOf (Event.HandOut id attempt (length bytes) ∷ events) id (after_bytes bytes rest m)
+    by_bytes : (bytes rest : Bytes) → m.rest ≡ bytes ++ rest → IsAccepted (Event.Feed id attempt (length bytes) ∷ events)
+        → IsInputOf (Event.Feed id attempt (length bytes) ∷ events) id (after_bytes bytes rest m)
     by_bytes [] rest e fine =
-        let event = Event.HandOut id attempt 0 in
+        let event = Event.Feed id attempt 0 in
         subst (λ (unread : List ℕ). IsInputOf (event ∷ events) id (record m { unread = unread })) (append-nil m.unread)
         (keeps events (event ∷ events) id m (grows events event id refl refl) was (rows_are_read.hands events id attempt m.read [] m.rest was.reads) (m.unread ++ []) m.room
         (ap (λ (some : List ℕ). some ++ []) was.unread ∙ sym (outcomes_are_read.stays events event id fine refl refl (m.arrivals + (m.read - m.known)) (arrivals_read events id m fine.1 was))))
     by_bytes (x ∷ bytes) rest e fine =
-        let event = Event.HandOut id attempt (length (x ∷ bytes)) in
+        let event = Event.Feed id attempt (length (x ∷ bytes)) in
         hands_on events (event ∷ events) id m (grows events event id refl refl) was x bytes rest e
         (rows_are_read.hands events id attempt m.read (x ∷ bytes) rest (subst (λ (all : Bytes). ReadsRows events id m.read all) e was.reads))
         (was.unread ∙ sym (outcomes_are_read.stays events event id fine refl refl (m.arrivals + (m.read - m.known)) (arrivals_read events id m fine.1 was)

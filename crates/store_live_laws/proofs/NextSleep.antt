@@ -14,7 +14,7 @@ use Rattle.sql_tables.specs.Statements.{IsFirst}
 use Rattle.journal_model.specs.Notification.{Text, Arrival}
 use Rattle.journal_model.specs.declared.notification.NotificationResult.{NotificationResult}
 use Rattle.journal_model.specs.Event.{Frame, Event}
-use Rattle.journal_model.specs.Journal.{completion, version_of, closes, is_open, sleep_in, requests_in, sleeps_in, sorted_by_moment, never, can_be_due, is_over, slept, entries_of}
+use Rattle.journal_model.specs.Journal.{completion, version_of, closes, is_open, sleep_in, requests_in, sleeps_in, sorted_by_moment, never, can_be_due, is_sleep_over, slept, entries_of}
 use Rattle.journal_model.specs.Cause.{is_empty, IsAccepted}
 use Rattle.due_laws.specs.NextMoment.{ends_sleep}
 use Rattle.store_tables.specs.Records.{Records, ends_by, ends_from, is_sleep_of}
@@ -53,7 +53,7 @@ small_frame version id frame sleeps all = small_unless (closes version frame) id
 
 all_small : (events : List Event) → AllByRecursion IsSmall (sleeps_kept events)
 all_small [] = tt
-all_small (Event.Take id attempt frame ∷ events) = small_frame (version_of events id) id frame (sleeps_kept events) (all_small events)
+all_small (Event.Move id attempt frame ∷ events) = small_frame (version_of events id) id frame (sleeps_kept events) (all_small events)
 all_small (Event.Tick now ∷ events) = all-filter IsSmall (λ s. not (ends_by (due_until now) s)) (sleeps_kept events) (all_small events)
 all_small (event ∷ events) = all_small events
 
@@ -113,7 +113,7 @@ any_kept p q (y ∷ ys) x (inr has) passes kept = by_test (q y) (any_kept p q ys
 
 module _ (events : List Event) (r : Records) (accepted : IsAccepted events) (kept : IsKept events r) where
   abbrev over : ℕ → Text → List (ℕ × ℕ)
-  over now id = filter (is_over (entries_of events id) now) (sorted_by_moment (sleeps_in (requests_in (entries_of events id))))
+  over now id = filter (is_sleep_over (entries_of events id) now) (sorted_by_moment (sleeps_in (requests_in (entries_of events id))))
 
   rows_of : (now : ℕ) (id : Text) → filter (is_sleep_of id) (sort_by sleep_cmp (due_sleeps now r)) ≡ map (sleep_row id) (ended_sleeps events now id)
   rows_of now id = (ended_found events now r accepted kept).ended id

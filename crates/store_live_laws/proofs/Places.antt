@@ -15,9 +15,9 @@ use Rattle.journal_model.specs.Cause.{IsAccepted}
 use Rattle.input_laws.proofs.Events.{added_by, begun_same, start_same, entries_now, entries_first, not_begun, itself}
 use Rattle.input_laws.proofs.Handed.{first_input, begin_added, begun_is}
 use Rattle.due_laws.specs.Rows.{frames_known, arrivals_known}
-use Rattle.due_laws.specs.Handing.{frames_whole}
+use Rattle.due_laws.specs.InputParts.{frames_whole}
 use Rattle.due_laws.proofs.Rows.{known_within, known_now, arrived_now, get_first, get_behind, get_drop, pieces_are_rows}
-use Rattle.due_laws.proofs.Handing.{IsPartial, rows_cut}
+use Rattle.due_laws.proofs.InputParts.{IsPartial, rows_cut}
 use Rattle.store_tables.specs.declared.row.EntryRow.{EntryRow}
 use Rattle.store_model.specs.Places.{places_of, places_of_arrivals, journal_places, places_from, input_places, place_behind}
 use Rattle.store_model.specs.Lookups.{arrival_rows, rows_of_arrivals}

@@ -14,10 +14,10 @@ use Rattle.journal_model.specs.Event.{Event}
 use Rattle.journal_model.specs.Journal.{Entry, Recorded, Arrived, invocation_begun, arrivals_in, entries_of, recorded_arrivals}
 use Rattle.journal_model.specs.Attempt.{Piece, input_pieces, input_left}
 use Rattle.journal_model.specs.Cause.{IsAccepted}
-use Rattle.input_laws.specs.Reading.{arrivals_among}
-use Rattle.due_laws.specs.Rows.{frames_known, arrivals_known, with_outcome as with_noted, outcomes_noted, noted_number, outcomes_unread, first_if}
-use Rattle.due_laws.specs.Handing.{ReadsRows}
-use Rattle.due_laws.proofs.Handing.{rows_tell}
+use Rattle.input_laws.specs.ArrivalsRead.{arrivals_among}
+use Rattle.due_laws.specs.Rows.{frames_known, arrivals_known, with_outcome_noted, outcomes_noted, noted_number, outcomes_unread, first_if}
+use Rattle.due_laws.specs.InputParts.{ReadsRows}
+use Rattle.due_laws.proofs.InputParts.{rows_tell}
 use Rattle.due_laws.proofs.Outcomes.{outcomes_are_read}
 use Rattle.store_tables.specs.declared.row.EntryRow.{EntryRow}
 use Rattle.store_model.specs.Places.{input_places}
@@ -120,7 +120,7 @@ module _ (later : List ℕ) (row : EntryRow) (n : ℕ) where
   acknowledgement = frame_bytes ProposeRunCompletionAck (acknowledgement_payload n)
 
   -- whether it is noted, and whether it is the first
-  by_both : (is_noted : Bool) (unread : List ℕ) → (if is_noted then Some n else None) ≡ first_if (CompletionId n) unread → unread ≡ with_noted (if is_noted then Some n else None) later
+  by_both : (is_noted : Bool) (unread : List ℕ) → (if is_noted then Some n else None) ≡ first_if (CompletionId n) unread → unread ≡ with_outcome_noted (if is_noted then Some n else None) later
       → ((if is_noted then acknowledgement else row_frame row) ≡ (arrival_read unread (Some n) row).bytes) × (after_read unread (arrival_read unread (Some n) row) ≡ later)
   by_both true [] e f = absurd (nothing e)
     where
@@ -140,7 +140,7 @@ module _ (later : List ℕ) (row : EntryRow) (n : ℕ) where
       by_test true e = cc
       by_test false e = (refl, f)
 
-told_row : (noted unread later : List ℕ) (i : NotificationId) (row : EntryRow) → noted_number noted i ≡ first_if i unread → unread ≡ with_noted (noted_number noted i) later
+told_row : (noted unread later : List ℕ) (i : NotificationId) (row : EntryRow) → noted_number noted i ≡ first_if i unread → unread ≡ with_outcome_noted (noted_number noted i) later
     → IsToldAs noted unread later (answered_by i) row
 told_row noted unread later (CompletionId n) row e f = by_both later row n (list_any (λ m. m == n) noted) unread e f
 told_row noted unread later (SignalId n) row e f = (refl, f)

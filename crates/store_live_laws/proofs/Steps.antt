@@ -14,7 +14,7 @@ use Rattle.protocol_types.specs.declared.feature.Feature.TheVariants.{Acknowledg
 use Rattle.store_model.proofs.Same.{same_begun}
 use Rattle.store_live.specs.declared.attempt.LiveAttempt.{LiveAttempt}
 use Rattle.store_live.specs.Before.{IsAsBefore}
-use Rattle.store_live.specs.Input.{InputKept, handed_out as after_hand_out, with_outcome}
+use Rattle.store_live.specs.Input.{InputKept, input_handed_out, with_outcome_kept}
 use Rattle.store_live_laws.specs.Memory.{IsInputOf}
 use Rattle.store_live_laws.proofs.Reading.{input_agrees}
 use Rattle.store_live_laws.specs.Agrees.{Agrees, AgreesAtFirst, AgreesElsewhere, AgreesRecorded, AgreesAcknowledged, AgreesAsBefore, AgreesRead, AgreesHandedOut, AgreesClosed, AgreesEnded, AgreesStopped, IsKeptLive, does_record}
@@ -44,11 +44,11 @@ foreign_attempt (Event.Begin other now) id e = e
 foreign_attempt _ id e = refl
 
 foreign_asks : (event : Event) (id : Text) → is_of id event ≡ false → bytes_asked id event ≡ None
-foreign_asks (Event.HandOut other attempt most) id e = rw e refl
+foreign_asks (Event.Feed other attempt most) id e = rw e refl
 foreign_asks _ id e = refl
 
 foreign_plain : (version : ℕ) (event : Event) (id : Text) → is_of id event ≡ false → acknowledged version id event ≡ None
-foreign_plain version (Event.Take other attempt (Frame.RunOutcome n value true)) id e = by_test (has_feature version Acknowledgement)
+foreign_plain version (Event.Move other attempt (Frame.RunOutcome n value true)) id e = by_test (has_feature version Acknowledgement)
   where
     by_test : (b : Bool) → (if b && bytes_eq other id then Some n else None) ≡ None
     by_test true = rw e refl
@@ -66,27 +66,27 @@ off true e = cc
 off false e = refl
 
 pub recorded : AgreesRecorded
-recorded events (Event.Complete one n result) id attempt accepted does plain agrees =
-    stays events (Event.Complete one n result) id accepted refl refl refl plain (begun_before (Event.Complete one n result) events id refl) (and_false (bytes_eq one id)) (and_false (bytes_eq one id)) attempt agrees
+recorded events (Event.Result one n result) id attempt accepted does plain agrees =
+    stays events (Event.Result one n result) id accepted refl refl refl plain (begun_before (Event.Result one n result) events id refl) (and_false (bytes_eq one id)) (and_false (bytes_eq one id)) attempt agrees
 recorded events (Event.Signal one key result) id attempt accepted does plain agrees =
     stays events (Event.Signal one key result) id accepted refl refl refl plain (begun_before (Event.Signal one key result) events id refl) (and_false (bytes_eq one id)) (and_false (bytes_eq one id)) attempt agrees
 recorded events (Event.Cancel one) id attempt accepted does plain agrees =
     stays events (Event.Cancel one) id accepted refl refl refl plain (begun_before (Event.Cancel one) events id refl) (and_false (bytes_eq one id)) (and_false (bytes_eq one id)) attempt agrees
 recorded events (Event.Tick now) id attempt accepted does plain agrees =
     stays events (Event.Tick now) id accepted refl refl refl plain (begun_before (Event.Tick now) events id refl) refl refl attempt agrees
-recorded events (Event.Take one number frame) id attempt accepted does plain agrees =
-    stays events (Event.Take one number frame) id accepted refl refl refl plain (begun_before (Event.Take one number frame) events id refl)
+recorded events (Event.Move one number frame) id attempt accepted does plain agrees =
+    stays events (Event.Move one number frame) id accepted refl refl refl plain (begun_before (Event.Move one number frame) events id refl)
     (ap (λ (b : Bool). bytes_eq one id && b) (off (ends_attempt frame) does) ∙ and_false (bytes_eq one id)) (and_false (bytes_eq one id)) attempt agrees
 recorded events _ id attempt accepted does plain agrees = cc
 
 -- the outcome of a run that is to be acknowledged
 pub is_acknowledged : AgreesAcknowledged
 is_acknowledged events id number n value None accepted late e =
-    live_now events (Event.Take id number (Frame.RunOutcome n value true)) id refl (and_false (bytes_eq id id)) ∙ e
+    live_now events (Event.Move id number (Frame.RunOutcome n value true)) id refl (and_false (bytes_eq id id)) ∙ e
 is_acknowledged events id number n value (Some attempt) accepted late kept =
-    let event = Event.Take id number (Frame.RunOutcome n value true) in
+    let event = Event.Move id number (Frame.RunOutcome n value true) in
     let told : acknowledged (version_of events id) id event ≡ Some n = ap₂ (λ (a b : Bool). if a && b then Some n else None) late (itself id) in
-    goes_on events event id refl attempt (with_outcome n attempt.input) attempt.is_input_closed (begun_before event events id refl) (and_false (bytes_eq id id))
+    goes_on events event id refl attempt (with_outcome_kept n attempt.input) attempt.is_input_closed (begun_before event events id refl) (and_false (bytes_eq id id))
     (ap (λ (b : Bool). b || attempt.is_input_closed) (sym (and_false (bytes_eq id id)))) kept
     (input_agrees.notes events event id attempt.input n accepted refl refl refl told kept.input)
 
@@ -106,17 +106,17 @@ is_read events id row attempt accepted none e kept =
     record { number = kept.number; version = kept.version; input = input_agrees.reads events id attempt.input row accepted none e kept.input; closed = kept.closed }
 
 pub handed_out : AgreesHandedOut
-handed_out events id number most None accepted e = live_now events (Event.HandOut id number 0) id refl (and_false (bytes_eq id id)) ∙ e
+handed_out events id number most None accepted e = live_now events (Event.Feed id number 0) id refl (and_false (bytes_eq id id)) ∙ e
 handed_out events id number most (Some attempt) accepted kept =
-    let event = Event.HandOut id number (length (take most attempt.input.rest)) in
-    goes_on events event id refl attempt (after_hand_out most attempt.input) attempt.is_input_closed (begun_before event events id refl) (and_false (bytes_eq id id))
+    let event = Event.Feed id number (length (take most attempt.input.rest)) in
+    goes_on events event id refl attempt (input_handed_out most attempt.input) attempt.is_input_closed (begun_before event events id refl) (and_false (bytes_eq id id))
     (ap (λ (b : Bool). b || attempt.is_input_closed) (sym (and_false (bytes_eq id id)))) kept
     (input_agrees.hands events id number most attempt.input accepted kept.input)
 
 pub closed : AgreesClosed
-closed events id number None accepted e = live_now events (Event.CloseInput id number) id refl (and_false (bytes_eq id id)) ∙ e
+closed events id number None accepted e = live_now events (Event.Close id number) id refl (and_false (bytes_eq id id)) ∙ e
 closed events id number (Some attempt) accepted kept =
-    let event = Event.CloseInput id number in
+    let event = Event.Close id number in
     goes_on events event id refl attempt attempt.input true (begun_before event events id refl) (and_false (bytes_eq id id))
     (sym (ap (λ (b : Bool). (b && true) || attempt.is_input_closed) (itself id))) kept
     (input_agrees.stays events event id attempt.input accepted refl refl refl refl kept.input)

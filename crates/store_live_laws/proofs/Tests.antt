@@ -67,6 +67,6 @@ stale_told events id number attempt agrees other =
     record {
       of_hand_out = λ most. first (those_that_hold ((is_input_closed events id, InputAlreadyClosed) ∷ []));
       of_close = first (those_that_hold ((not (is_empty (input_left events id)), InputRemains) ∷ (is_input_closed events id, InputAlreadyClosed) ∷ []));
-      of_take = λ frame. first (those_that_hold (frame_tests events id frame ++ adding_tests events id (Event.Take id number frame)));
+      of_take = λ frame. first (those_that_hold (frame_tests events id frame ++ adding_tests events id (Event.Move id number frame)));
       of_stop = first [];
     }

@@ -12,12 +12,12 @@ use Rattle.journal_model.specs.declared.cause.Cause.TheVariants.{UnknownInvocati
 use Rattle.protocol_types.specs.Feature.{has_feature}
 use Rattle.protocol_types.specs.Version.{version_number}
 use Rattle.protocol_types.specs.declared.feature.Feature.TheVariants.{Acknowledgement}
-use Rattle.due_laws.specs.Handing.{HandsPart}
+use Rattle.due_laws.specs.InputParts.{HandsPart}
 use Rattle.store_tables.specs.declared.row.EntryRow.{EntryRow}
 use Rattle.store_live.specs.declared.attempt.LiveAttempt.{LiveAttempt}
 use Rattle.store_live.specs.Before.{IsAsBefore}
 use Rattle.store_live.specs.Input.{at_begin, next_row}
-use Rattle.store_live.specs.Attempts.{after_close, after_frame, after_hand_out, after_outcome, bytes_out}
+use Rattle.store_live.specs.Attempts.{after_close, live_after_frame, after_hand_out, after_outcome, bytes_out}
 use Rattle.store_live_laws.specs.Memory.{IsInputOf, frame_read, row_asked}
 
 -- an attempt is kept as the live one of an invocation; of its output the events say nothing
@@ -58,11 +58,11 @@ AgreesBegun = (events : List Event) (id : Text) (now : ℕ) (attempt : LiveAttem
 
 -- what is recorded of any invocation: what comes from outside, a tick, and a frame that does not end its attempt
 abbrev pub does_record : Event → Bool
-does_record (Event.Complete id n result) = true
+does_record (Event.Result id n result) = true
 does_record (Event.Signal id key result) = true
 does_record (Event.Cancel id) = true
 does_record (Event.Tick now) = true
-does_record (Event.Take id number frame) = not (ends_attempt frame)
+does_record (Event.Move id number frame) = not (ends_attempt frame)
 does_record _ = false
 
 -- that leaves what is kept, unless it is the outcome of a run that is to be acknowledged
@@ -72,8 +72,8 @@ AgreesRecorded = (events : List Event) (event : Event) (id : Text) (attempt : Op
 
 abbrev pub AgreesAcknowledged : Type 0
 AgreesAcknowledged = (events : List Event) (id : Text) (number n : ℕ) (value : NonEmptyValue) (attempt : Option LiveAttempt)
-    → IsAccepted (Event.Take id number (Frame.RunOutcome n value true) ∷ events) → has_feature (version_of events id) Acknowledgement ≡ true
-    → Agrees events id attempt → Agrees (Event.Take id number (Frame.RunOutcome n value true) ∷ events) id (option_map (after_outcome n) attempt)
+    → IsAccepted (Event.Move id number (Frame.RunOutcome n value true) ∷ events) → has_feature (version_of events id) Acknowledgement ≡ true
+    → Agrees events id attempt → Agrees (Event.Move id number (Frame.RunOutcome n value true) ∷ events) id (option_map (after_outcome n) attempt)
 
 -- room for that is not told
 abbrev pub AgreesAsBefore : Type 0
@@ -83,19 +83,19 @@ AgreesAsBefore = (events : List Event) (id : Text) (old new : Option LiveAttempt
 abbrev pub AgreesRead : Type 0
 AgreesRead = (events : List Event) (id : Text) (row : EntryRow) (attempt : LiveAttempt) → IsAccepted events → attempt.input.rest ≡ []
     → row_asked events id (next_row attempt.input) ≡ Some row → Agrees events id (Some attempt)
-    → Agrees events id (Some (after_frame (frame_read attempt.input.unread (next_row attempt.input) row) attempt))
+    → Agrees events id (Some (live_after_frame (frame_read attempt.input.unread (next_row attempt.input) row) attempt))
 
 -- bytes are handed out, and the event says how many they were
 abbrev pub AgreesHandedOut : Type 0
-AgreesHandedOut = (events : List Event) (id : Text) (number most : ℕ) (attempt : Option LiveAttempt) → IsAccepted (Event.HandOut id number (length (bytes_out most attempt)) ∷ events)
-    → Agrees events id attempt → Agrees (Event.HandOut id number (length (bytes_out most attempt)) ∷ events) id (option_map (after_hand_out most) attempt)
+AgreesHandedOut = (events : List Event) (id : Text) (number most : ℕ) (attempt : Option LiveAttempt) → IsAccepted (Event.Feed id number (length (bytes_out most attempt)) ∷ events)
+    → Agrees events id attempt → Agrees (Event.Feed id number (length (bytes_out most attempt)) ∷ events) id (option_map (after_hand_out most) attempt)
 
 abbrev pub AgreesClosed : Type 0
-AgreesClosed = (events : List Event) (id : Text) (number : ℕ) (attempt : Option LiveAttempt) → IsAccepted (Event.CloseInput id number ∷ events)
-    → Agrees events id attempt → Agrees (Event.CloseInput id number ∷ events) id (option_map after_close attempt)
+AgreesClosed = (events : List Event) (id : Text) (number : ℕ) (attempt : Option LiveAttempt) → IsAccepted (Event.Close id number ∷ events)
+    → Agrees events id attempt → Agrees (Event.Close id number ∷ events) id (option_map after_close attempt)
 
 abbrev pub AgreesEnded : Type 0
-AgreesEnded = (events : List Event) (id : Text) (number : ℕ) (frame : Frame) → ends_attempt frame ≡ true → Agrees (Event.Take id number frame ∷ events) id None
+AgreesEnded = (events : List Event) (id : Text) (number : ℕ) (frame : Frame) → ends_attempt frame ≡ true → Agrees (Event.Move id number frame ∷ events) id None
 
 abbrev pub AgreesStopped : Type 0
 AgreesStopped = (events : List Event) (id : Text) (number : ℕ) → Agrees (Event.Stop id number ∷ events) id None
@@ -146,8 +146,8 @@ PartIsTold = (events : List Event) (id : Text) (most : ℕ) (attempt : LiveAttem
 
 -- the causes of the events of a live attempt
 pub record CausesOfLive (events : List Event) (id : Text) (attempt : LiveAttempt) : Type 0 where
-  pub of_hand_out : (most : ℕ) → causes_of events (Event.HandOut id attempt.number most) ≡ those_that_hold ((attempt.is_input_closed, InputAlreadyClosed) ∷ [])
-  pub of_close : causes_of events (Event.CloseInput id attempt.number)
+  pub of_hand_out : (most : ℕ) → causes_of events (Event.Feed id attempt.number most) ≡ those_that_hold ((attempt.is_input_closed, InputAlreadyClosed) ∷ [])
+  pub of_close : causes_of events (Event.Close id attempt.number)
       ≡ those_that_hold ((not (is_empty (input_left events id)), InputRemains) ∷ (attempt.is_input_closed, InputAlreadyClosed) ∷ [])
   pub of_stop : causes_of events (Event.Stop id attempt.number) ≡ []
 
@@ -163,9 +163,9 @@ abbrev pub IsFirstCause : Cause → List Cause → Type 0
 IsFirstCause cause causes = (others : List Cause) × (causes ≡ cause ∷ others)
 
 pub record CausesOfStale (events : List Event) (id : Text) (number : ℕ) : Type 0 where
-  pub of_hand_out : (most : ℕ) → IsFirstCause (cause_of_stale events id) (causes_of events (Event.HandOut id number most))
-  pub of_close : IsFirstCause (cause_of_stale events id) (causes_of events (Event.CloseInput id number))
-  pub of_take : (frame : Frame) → IsFirstCause (cause_of_stale events id) (causes_of events (Event.Take id number frame))
+  pub of_hand_out : (most : ℕ) → IsFirstCause (cause_of_stale events id) (causes_of events (Event.Feed id number most))
+  pub of_close : IsFirstCause (cause_of_stale events id) (causes_of events (Event.Close id number))
+  pub of_take : (frame : Frame) → IsFirstCause (cause_of_stale events id) (causes_of events (Event.Move id number frame))
   pub of_stop : IsFirstCause (cause_of_stale events id) (causes_of events (Event.Stop id number))
 
 abbrev pub StaleIsTold : Type 0

@@ -7,17 +7,17 @@ use Rattle.journal_model.specs.Event.{Event}
 use Rattle.journal_model.specs.Journal.{Entry, Recorded, Arrived, begins, version_of, entries_of, recorded_arrivals}
 use Rattle.journal_model.specs.Attempt.{Piece, begins_attempt, bytes_asked, acknowledged, input_pieces, input_left}
 use Rattle.journal_model.specs.Cause.{IsAccepted}
-use Rattle.input_laws.specs.Reading.{arrivals_among}
+use Rattle.input_laws.specs.ArrivalsRead.{arrivals_among}
 use Rattle.due_laws.specs.Awake.{arrivals_heard}
 use Rattle.due_laws.specs.Rows.{frames_known, arrivals_known, outcomes_unread}
-use Rattle.due_laws.specs.Handing.{ReadsRows}
+use Rattle.due_laws.specs.InputParts.{ReadsRows}
 use Rattle.store_tables.specs.declared.row.EntryRow.{EntryRow}
 use Rattle.store_model.specs.Places.{input_places, handed_place}
 use Rattle.store_model.specs.Kept.{journal_rows}
 use Rattle.store_model.specs.Lookups.{arrival_rows, row_frame}
 use Rattle.store_live.specs.declared.input.FrameRead.{FrameRead}
 use Rattle.store_live.specs.declared.input.NextRow.{NextRow}
-use Rattle.store_live.specs.Input.{CanCount, InputKept, at_begin, handed_out, is_first, next_ordinal, next_row, with_frame, with_outcome}
+use Rattle.store_live.specs.Input.{CanCount, InputKept, at_begin, input_handed_out, is_first, next_ordinal, next_row, with_frame, with_outcome_kept}
 use Rattle.store_live_laws.specs.Read.{place_after}
 
 pub record IsInputOf (events : List Event) (id : Text) (m : InputKept) : Type 0 where
@@ -69,7 +69,7 @@ pub record InputAgrees : Type 0 where
       → bytes_asked id event ≡ None → acknowledged (version_of events id) id event ≡ None → IsInputOf events id m → IsInputOf (event ∷ events) id m
   -- an outcome that is to be acknowledged is put behind the others
   pub notes : (events : List Event) (event : Event) (id : Text) (m : InputKept) (n : ℕ) → IsAccepted (event ∷ events) → begins id event ≡ false → begins_attempt id event ≡ false
-      → bytes_asked id event ≡ None → acknowledged (version_of events id) id event ≡ Some n → IsInputOf events id m → IsInputOf (event ∷ events) id (with_outcome n m)
+      → bytes_asked id event ≡ None → acknowledged (version_of events id) id event ≡ Some n → IsInputOf events id m → IsInputOf (event ∷ events) id (with_outcome_kept n m)
   -- room is made
   pub makes_room : (events : List Event) (id : Text) (m : InputKept) (room : ℕ) → IsInputOf events id m → IsInputOf events id (record m { room = room })
   -- the next row is read, once all before it was handed out
@@ -79,8 +79,8 @@ pub record InputAgrees : Type 0 where
   pub ends : (events : List Event) (id : Text) (m : InputKept) → IsAccepted events → m.rest ≡ [] → row_asked events id (next_row m) ≡ None
       → IsInputOf events id m → input_left events id ≡ []
   -- bytes of what is left of the frame that was read last are handed out
-  pub hands : (events : List Event) (id : Text) (attempt most : ℕ) (m : InputKept) → IsAccepted (Event.HandOut id attempt (length (take most m.rest)) ∷ events) → IsInputOf events id m
-      → IsInputOf (Event.HandOut id attempt (length (take most m.rest)) ∷ events) id (handed_out most m)
+  pub hands : (events : List Event) (id : Text) (attempt most : ℕ) (m : InputKept) → IsAccepted (Event.Feed id attempt (length (take most m.rest)) ∷ events) → IsInputOf events id m
+      → IsInputOf (Event.Feed id attempt (length (take most m.rest)) ∷ events) id (input_handed_out most m)
 
 -- and all is counted in 32 bits, where the entries are
 pub record InputCounts (events : List Event) (id : Text) (m : InputKept) : Type 0 where

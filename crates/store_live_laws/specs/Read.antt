@@ -9,7 +9,7 @@ use Rattle.journal_model.specs.Journal.{entries_of, recorded_arrivals}
 use Rattle.journal_model.specs.Attempt.{Piece, input_pieces}
 use Rattle.journal_model.specs.Cause.{IsAccepted}
 use Rattle.due_laws.specs.Rows.{frames_known, arrivals_known, outcomes_noted}
-use Rattle.due_laws.specs.Handing.{ReadsRows, frames_whole}
+use Rattle.due_laws.specs.InputParts.{ReadsRows, frames_whole}
 use Rattle.store_tables.specs.declared.row.EntryRow.{EntryRow}
 use Rattle.store_model.specs.Places.{input_places, handed_place}
 use Rattle.store_model.specs.Progress.{progress_of}

@@ -13,11 +13,11 @@ use Rattle.journal_model.specs.declared.value.NonEmptyValue.{NonEmptyValue}
 use Rattle.journal_model.specs.declared.invocation.NewInvocation.{NewInvocation}
 use Rattle.journal_model.specs.Request.{Request, completions_asked}
 use Rattle.journal_model.specs.declared.notification.SignalKey.{SignalKey}
-use Rattle.journal_model.specs.State.{StateMap, state_after, state_keys, value_at}
+use Rattle.journal_model.specs.State.{StateMap, state_after, state_keys, value_of_key}
 use Rattle.journal_model.specs.Value.{result_of_value}
 use Rattle.journal_model.specs.Delivery.{value_or_void}
 use Rattle.journal_model.specs.Event.{Frame, Event}
-use Rattle.journal_model.specs.Journal.{Entry, Recorded, Arrived, asks_for as is_asking, is_of, is_tick, invoked_by, invocation_begun, starting_state, is_open, id_of_signal, requests_in, arrivals_in, completes, completion, is_awaited, request_asking, open_request, read_answer, slept, entries_of, entries_of_event}
+use Rattle.journal_model.specs.Journal.{Entry, Recorded, Arrived, asks_for, is_of, is_tick, invoked_by, invocation_begun, starting_state, is_open, id_of_signal, requests_in, arrivals_in, completes, completion, is_awaited, request_asking, open_request, read_answer, slept, entries_of, entries_of_event}
 use Rattle.journal_model.specs.Cause.{IsAccepted, causes_of, tests_of, do_ascend, greatest, last_completion, is_run}
 use Rattle.journal_laws.proofs.ObjectState.{holds-head, holds-tail, tail_of, not-false, requests_in-append, no_entries}
 use Rattle.store_tables.specs.declared.row.EntryRow.{EntryRow}
@@ -37,7 +37,7 @@ abbrev pub has_come : ℕ → List Entry → Bool
 has_come n entries = list_any (completes n) (arrivals_in entries)
 
 abbrev pub is_asked : ℕ → List Entry → Bool
-is_asked n entries = list_any (is_asking n) (requests_in entries)
+is_asked n entries = list_any (asks_for n) (requests_in entries)
 
 abbrev times_come : ℕ → List Entry → ℕ
 times_come n entries = length (filter (completes n) (arrivals_in entries))
@@ -80,7 +80,7 @@ fits_more n entries more before fits = (asked_then, once_then (has_come n more) 
     come = ap (list_any (completes n)) (arrivals_in-append entries more) ∙ list_any-append (completes n) (arrivals_in entries) (arrivals_in more)
 
     asked : is_asked n (entries ++ more) ≡ (is_asked n entries || is_asked n more)
-    asked = ap (list_any (is_asking n)) (requests_in-append entries more) ∙ list_any-append (is_asking n) (requests_in entries) (requests_in more)
+    asked = ap (list_any (asks_for n)) (requests_in-append entries more) ∙ list_any-append (asks_for n) (requests_in entries) (requests_in more)
 
     asked_then : has_come n (entries ++ more) ≡ true → is_asked n (entries ++ more) ≡ true
     asked_then e = asked ∙ or_either (has_come n entries) (has_come n more) (is_asked n entries) (is_asked n more) before.0 fits.asked (sym come ∙ e)
@@ -136,7 +136,7 @@ asked_open n entries e = by_come (has_come n entries) refl e
   where
     by_come : (b : Bool) → has_come n entries ≡ b → is_some (if not b then request_asking entries n else None) ≡ true → (is_asked n entries ≡ true) × (has_come n entries ≡ false)
     by_come true f e = cc
-    by_come false f e = (any-filter (is_asking n) (requests_in entries) ∙ sym (is_some-find (is_asking n) (requests_in entries)) ∙ e, f)
+    by_come false f e = (any-filter (asks_for n) (requests_in entries) ∙ sym (is_some-find (asks_for n) (requests_in entries)) ∙ e, f)
 
 -- ---- each event
 
@@ -144,24 +144,24 @@ run_is_some : (o : Option Request) → is_run o ≡ true → is_some o ≡ true
 run_is_some None e = cc
 run_is_some (Some request) e = refl
 
-pub completed_open : (events : List Event) (x : Text) (m : ℕ) (result : NotificationResult) → causes_of events (Event.Complete x m result) ≡ []
+pub completed_open : (events : List Event) (x : Text) (m : ℕ) (result : NotificationResult) → causes_of events (Event.Result x m result) ≡ []
     → is_some (open_request (entries_of events x) m) ≡ true
 completed_open events x m result accepted =
-    let tests = tests_of events (Event.Complete x m result) in
+    let tests = tests_of events (Event.Result x m result) in
     not-false (is_some (open_request (entries_of events x) m)) (holds-head (tail_of (tail_of tests)) (holds-tail (tail_of tests) (holds-tail tests accepted)))
 
 pub outcome_open : (events : List Event) (x : Text) (attempt m : ℕ) (value : NonEmptyValue) (is_acknowledged : Bool)
-    → causes_of events (Event.Take x attempt (Frame.RunOutcome m value is_acknowledged)) ≡ [] → is_some (open_request (entries_of events x) m) ≡ true
+    → causes_of events (Event.Move x attempt (Frame.RunOutcome m value is_acknowledged)) ≡ [] → is_some (open_request (entries_of events x) m) ≡ true
 outcome_open events x attempt m value is_acknowledged accepted =
-    let tests = tests_of events (Event.Take x attempt (Frame.RunOutcome m value is_acknowledged)) in
+    let tests = tests_of events (Event.Move x attempt (Frame.RunOutcome m value is_acknowledged)) in
     run_is_some (open_request (entries_of events x) m)
     (not-false (is_run (open_request (entries_of events x) m))
     (holds-head (tail_of (tail_of (tail_of tests))) (holds-tail (tail_of (tail_of tests)) (holds-tail (tail_of tests) (holds-tail tests accepted)))))
 
-pub command_above : (events : List Event) (x : Text) (attempt : ℕ) (request : Request) → causes_of events (Event.Take x attempt (Frame.Command request)) ≡ []
+pub command_above : (events : List Event) (x : Text) (attempt : ℕ) (request : Request) → causes_of events (Event.Move x attempt (Frame.Command request)) ≡ []
     → do_ascend (last_completion (requests_in (entries_of events x))) (completions_asked request) ≡ true
 command_above events x attempt request accepted =
-    let tests = tests_of events (Event.Take x attempt (Frame.Command request)) in
+    let tests = tests_of events (Event.Move x attempt (Frame.Command request)) in
     not-false (do_ascend (last_completion (requests_in (entries_of events x))) (completions_asked request))
     (holds-head (tail_of (tail_of (tail_of tests))) (holds-tail (tail_of (tail_of tests)) (holds-tail (tail_of tests) (holds-tail tests accepted))))
 
@@ -176,11 +176,11 @@ fits_signal n entries (SignalKey.ByIndex k) result = fits_one n entries (record 
 fits_signal n entries (SignalKey.ByName name) result = fits_one n entries (record { id = SignalName name; result = result }) (λ e. cc)
 
 -- a request that is new, and is answered with it: its completion is above all earlier ones
-pub asked_below : (n : ℕ) (requests : List Request) → list_any (is_asking n) requests ≡ true → n ≤ last_completion requests
+pub asked_below : (n : ℕ) (requests : List Request) → list_any (asks_for n) requests ≡ true → n ≤ last_completion requests
 asked_below n [] e = cc
-asked_below n (request ∷ requests) e = by_test (is_asking n request) refl e (asked_below n requests)
+asked_below n (request ∷ requests) e = by_test (asks_for n request) refl e (asked_below n requests)
   where
-    by_test : (b : Bool) → is_asking n request ≡ b → (b || list_any (is_asking n) requests) ≡ true → (list_any (is_asking n) requests ≡ true → n ≤ last_completion requests)
+    by_test : (b : Bool) → asks_for n request ≡ b → (b || list_any (asks_for n) requests) ≡ true → (list_any (asks_for n) requests ≡ true → n ≤ last_completion requests)
         → n ≤ max (greatest (completions_asked request)) (last_completion requests)
     by_test true f e later = let under = below_greatest n (completions_asked request) f in omega arith
     by_test false f e later = let under = later e in omega arith
@@ -204,7 +204,7 @@ fits_answered : (n k : ℕ) (entries : List Entry) (request : Request) (result :
     → (has_come n entries ≡ true → is_asked n entries ≡ true) → do_ascend (last_completion (requests_in entries)) (completions_asked request) ≡ true
     → Fits n entries (Recorded request ∷ Arrived (completion k result) ∷ [])
 fits_answered n k entries request result asks known up = record {
-  asked = λ e. or_right (is_asked n entries) (is_asking n request || false) (ap (λ (ids : List ℕ). list_any (λ m. m == n) ids || false) asks ∙ or_nothing ((k == n) || false) ∙ e);
+  asked = λ e. or_right (is_asked n entries) (asks_for n request || false) (ap (λ (ids : List ℕ). list_any (λ m. m == n) ids || false) asks ∙ or_nothing ((k == n) || false) ∙ e);
   new = λ e. not_yet n k entries known (sym (ap (do_ascend (last_completion (requests_in entries))) asks) ∙ up) (sym (or_nothing (k == n)) ∙ e);
   once = one_or_none (k == n);
 }
@@ -223,7 +223,7 @@ fits_alone n entries request = record { asked = λ e. cc; new = λ e. cc; once =
 fits_command : (n : ℕ) (entries : List Entry) (state : StateMap) (request : Request) → (has_come n entries ≡ true → is_asked n entries ≡ true)
     → do_ascend (last_completion (requests_in entries)) (completions_asked request) ≡ true → Fits n entries (Recorded request ∷ map Arrived (read_answer state request))
 fits_command n entries state (Request.GetLazyState key k name) known up =
-    fits_answered n k entries (Request.GetLazyState key k name) (value_or_void (value_at state key)) refl known up
+    fits_answered n k entries (Request.GetLazyState key k name) (value_or_void (value_of_key state key)) refl known up
 fits_command n entries state (Request.GetLazyStateKeys k name) known up =
     fits_answered n k entries (Request.GetLazyStateKeys k name) (NotificationResult.StateKeys (state_keys state)) refl known up
 fits_command n entries state request known up = fits_alone n entries request
@@ -269,34 +269,34 @@ fits_own n events x id event ticks named fits =
         let same : x ≡ id = (bytes_eq-Decides x id).0 (sym named ∙ plain (is_of id event) (is_tick event) (is_open events id) ticks e) in
         subst (λ (y : Text). Fits n (entries_of events y) (entries_of_event (starting_state events y) (entries_of events y) event)) same fits
 
-fits_frame : (n : ℕ) (events : List Event) (x id : Text) (attempt : ℕ) (frame : Frame) → causes_of events (Event.Take x attempt frame) ≡ []
-    → (has_come n (entries_of events id) ≡ true → is_asked n (entries_of events id) ≡ true) → Fits n (entries_of events id) (added_to events (Event.Take x attempt frame) id)
+fits_frame : (n : ℕ) (events : List Event) (x id : Text) (attempt : ℕ) (frame : Frame) → causes_of events (Event.Move x attempt frame) ≡ []
+    → (has_come n (entries_of events id) ≡ true → is_asked n (entries_of events id) ≡ true) → Fits n (entries_of events id) (added_to events (Event.Move x attempt frame) id)
 fits_frame n events x id attempt (Frame.Command request) accepted known =
-    fits_if n (entries_of events id) (entries_of_event (starting_state events id) (entries_of events id) (Event.Take x attempt (Frame.Command request))) (bytes_eq x id || (false && is_open events id)) own
+    fits_if n (entries_of events id) (entries_of_event (starting_state events id) (entries_of events id) (Event.Move x attempt (Frame.Command request))) (bytes_eq x id || (false && is_open events id)) own
   where
     own : (bytes_eq x id || (false && is_open events id)) ≡ true
-        → Fits n (entries_of events id) (entries_of_event (starting_state events id) (entries_of events id) (Event.Take x attempt (Frame.Command request)))
+        → Fits n (entries_of events id) (entries_of_event (starting_state events id) (entries_of events id) (Event.Move x attempt (Frame.Command request)))
     own e =
         let same : x ≡ id = (bytes_eq-Decides x id).0 (sym (or_nothing (bytes_eq x id)) ∙ e) in
         let up : do_ascend (last_completion (requests_in (entries_of events id))) (completions_asked request) ≡ true =
         subst (λ (y : Text). do_ascend (last_completion (requests_in (entries_of events y))) (completions_asked request) ≡ true) same (command_above events x attempt request accepted) in
         fits_command n (entries_of events id) (state_after (requests_in (entries_of events id)) (starting_state events id)) request known up
 fits_frame n events x id attempt (Frame.RunOutcome m value is_acknowledged) accepted known =
-    fits_own n events x id (Event.Take x attempt (Frame.RunOutcome m value is_acknowledged)) refl refl
+    fits_own n events x id (Event.Move x attempt (Frame.RunOutcome m value is_acknowledged)) refl refl
     (fits_open n m (entries_of events x) (result_of_value value) (outcome_open events x attempt m value is_acknowledged accepted))
 fits_frame n events x id attempt frame accepted known = fits_none n (entries_of events id) (bytes_eq x id || (false && is_open events id))
 
 pub fits_event : (n : ℕ) (events : List Event) (event : Event) (id : Text) → IsAccepted (event ∷ events) → invoked_by event ≡ None
     → (has_come n (entries_of events id) ≡ true → is_asked n (entries_of events id) ≡ true) → Fits n (entries_of events id) (added_to events event id)
-fits_event n events (Event.Complete x m result) id accepted e known =
-    fits_own n events x id (Event.Complete x m result) refl refl (fits_open n m (entries_of events x) result (completed_open events x m result accepted.0))
+fits_event n events (Event.Result x m result) id accepted e known =
+    fits_own n events x id (Event.Result x m result) refl refl (fits_open n m (entries_of events x) result (completed_open events x m result accepted.0))
 fits_event n events (Event.Signal x key result) id accepted e known =
     fits_own n events x id (Event.Signal x key result) refl refl (fits_signal n (entries_of events x) key result)
 fits_event n events (Event.Cancel x) id accepted e known =
     fits_own n events x id (Event.Cancel x) refl refl (fits_one n (entries_of events x) (record { id = SignalId 1; result = NotificationResult.Void }) (λ e. cc))
 fits_event n events (Event.Tick now) id accepted e known =
     fits_if n (entries_of events id) (map Arrived (slept (entries_of events id) now)) (is_open events id) (λ opened. fits_slept n now events id accepted.1)
-fits_event n events (Event.Take x attempt frame) id accepted e known = fits_frame n events x id attempt frame accepted.0 known
+fits_event n events (Event.Move x attempt frame) id accepted e known = fits_frame n events x id attempt frame accepted.0 known
 fits_event n events event id accepted e known = fits_none n (entries_of events id) (is_of id event || (is_tick event && is_open events id))
 
 pub answers_once : (n : ℕ) (id : Text) (events : List Event) → IsAccepted events → AreAnswers n (entries_of events id)

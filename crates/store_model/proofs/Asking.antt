@@ -7,12 +7,12 @@ use Rattle.journal_model.specs.Notification.{Text, Arrival}
 use Rattle.journal_model.specs.Request.{Request, completions_asked}
 use Rattle.journal_model.specs.declared.invocation.NewInvocation.{NewInvocation}
 use Rattle.journal_model.specs.Event.{Frame, Event}
-use Rattle.journal_model.specs.Journal.{Entry, Recorded, Arrived, asks_for as is_asking, is_of, is_tick, invoked_by, invocation_begun, is_open, starting_state, entries_of, requests_in, request_asking}
+use Rattle.journal_model.specs.Journal.{Entry, Recorded, Arrived, asks_for, is_of, is_tick, invoked_by, invocation_begun, is_open, starting_state, entries_of, requests_in, request_asking}
 use Rattle.journal_model.specs.Cause.{IsAccepted, causes_of, tests_of, do_ascend, greatest, last_completion}
 use Rattle.journal_laws.proofs.ObjectState.{holds-head, holds-tail, tail_of, not-false, requests_in-append, no_entries}
 use Rattle.store_tables.specs.declared.row.EntryRow.{EntryRow}
 use Rattle.store_tables.specs.Questions.{is_number}
-use Rattle.store_model.specs.Progress.{first_of, second_of}
+use Rattle.store_model.specs.Progress.{first_item, second_of}
 use Rattle.store_model.specs.Kept.{entry_row, rows_from, input_row, rows_of_journal, journal_rows}
 use Rattle.store_model.proofs.Journals.{added_to}
 use Rattle.store_model.specs.Lookups.{asked_at, row_if, AllAskOnce}
@@ -58,10 +58,10 @@ abbrev pub Ascends : List Entry → Type 0
 Ascends entries = ascend_from 0 (requests_in entries) ≡ true
 
 -- an accepted command asks above all earlier ones
-command_ascends : (events : List Event) (id : Text) (attempt : ℕ) (request : Request) → causes_of events (Event.Take id attempt (Frame.Command request)) ≡ []
+command_ascends : (events : List Event) (id : Text) (attempt : ℕ) (request : Request) → causes_of events (Event.Move id attempt (Frame.Command request)) ≡ []
     → do_ascend (last_completion (requests_in (entries_of events id))) (completions_asked request) ≡ true
 command_ascends events id attempt request accepted =
-    let tests = tests_of events (Event.Take id attempt (Frame.Command request)) in
+    let tests = tests_of events (Event.Move id attempt (Frame.Command request)) in
     not-false (do_ascend (last_completion (requests_in (entries_of events id))) (completions_asked request))
     (holds-head (tail_of (tail_of (tail_of tests))) (holds-tail (tail_of (tail_of tests)) (holds-tail (tail_of tests) (holds-tail tests accepted))))
 
@@ -80,27 +80,27 @@ if_nothing false = refl
 
 still_ascends : (id : Text) (events : List Event) (event : Event) → IsAccepted (event ∷ events) → invoked_by event ≡ None → Ascends (entries_of events id)
     → Ascends (entries_of events id ++ added_to events event id)
-still_ascends id events (Event.Take x attempt (Frame.Command request)) accepted e before =
+still_ascends id events (Event.Move x attempt (Frame.Command request)) accepted e before =
     by_test (bytes_eq x id) refl
   where
-    added : requests_in (added_to events (Event.Take x attempt (Frame.Command request)) id) ≡ (if bytes_eq x id then request ∷ [] else [])
+    added : requests_in (added_to events (Event.Move x attempt (Frame.Command request)) id) ≡ (if bytes_eq x id then request ∷ [] else [])
     added =
-        requests_added events (Event.Take x attempt (Frame.Command request)) id
+        requests_added events (Event.Move x attempt (Frame.Command request)) id
         ∙ ap (λ (b : Bool). if b then request ∷ [] else []) (or_nothing (bytes_eq x id))
 
-    by_test : (b : Bool) → bytes_eq x id ≡ b → Ascends (entries_of events id ++ added_to events (Event.Take x attempt (Frame.Command request)) id)
+    by_test : (b : Bool) → bytes_eq x id ≡ b → Ascends (entries_of events id ++ added_to events (Event.Move x attempt (Frame.Command request)) id)
     by_test true f =
         let same : x ≡ id = (bytes_eq-Decides x id).0 f in
         let all = requests_in (entries_of events id) in
         let above : do_ascend (last_completion (requests_in (entries_of events id))) (completions_asked request) ≡ true =
         subst (λ (y : Text). do_ascend (last_completion (requests_in (entries_of events y))) (completions_asked request) ≡ true) same (command_ascends events x attempt request accepted.0) in
         ap (ascend_from 0)
-        (requests_in-append (entries_of events id) (added_to events (Event.Take x attempt (Frame.Command request)) id)
+        (requests_in-append (entries_of events id) (added_to events (Event.Move x attempt (Frame.Command request)) id)
         ∙ ap (λ (more : List Request). all ++ more) (added ∙ ap (λ (b : Bool). if b then request ∷ [] else []) f))
         ∙ ascend_from-push 0 all request
         ∙ ap₂ (λ (a b : Bool). a && b) before (ap (λ (n : ℕ). do_ascend n (completions_asked request)) (zero_max (last_completion all)) ∙ above)
     by_test false f =
-        nothing_more events (Event.Take x attempt (Frame.Command request)) id (added ∙ ap (λ (b : Bool). if b then request ∷ [] else []) f) before
+        nothing_more events (Event.Move x attempt (Frame.Command request)) id (added ∙ ap (λ (b : Bool). if b then request ∷ [] else []) f) before
 still_ascends id events event accepted e before =
     nothing_more events event id (requests_added events event id ∙ if_nothing (is_of id event || (is_tick event && is_open events id))) before
 
@@ -132,11 +132,11 @@ below_greatest n (m ∷ ids) e = by_test (m == n) refl e (below_greatest n ids)
 module _ (id : Text) (n : ℕ) (column : EntryRow → Option ℕ) (asked : Request → Option ℕ)
     (of_request : (before : List Entry) (place : ℕ) (request : Request) → column (entry_row id before place (Recorded request)) ≡ asked request)
     (of_arrival : (before : List Entry) (place : ℕ) (arrival : Arrival) → column (entry_row id before place (Arrived arrival)) ≡ None)
-    (is_asked : (request : Request) → is_number n (asked request) ≡ true → is_asking n request ≡ true) where
+    (is_asked : (request : Request) → is_number n (asked request) ≡ true → asks_for n request ≡ true) where
   abbrev passes : EntryRow → Bool
   passes row = is_number n (column row)
 
-  not_asked : (request : Request) → is_asking n request ≡ false → is_number n (asked request) ≡ false
+  not_asked : (request : Request) → asks_for n request ≡ false → is_number n (asked request) ≡ false
   not_asked request e = by_test (is_number n (asked request)) refl
     where
       by_test : (b : Bool) → is_number n (asked request) ≡ b → b ≡ false
@@ -169,9 +169,9 @@ module _ (id : Text) (n : ℕ) (column : EntryRow → Option ℕ) (asked : Reque
       ∙ asks_once (before ++ Arrived arrival ∷ []) (place + 1) last entries up
   asks_once before place last (Recorded request ∷ entries) up =
       let (here, rest) = both_parts (do_ascend last (completions_asked request)) (ascend_from (max last (greatest (completions_asked request))) (requests_in entries)) up in
-      by_test (is_asking n request) refl rest (asks_once (before ++ Recorded request ∷ []) (place + 1) (max last (greatest (completions_asked request))) entries rest)
+      by_test (asks_for n request) refl rest (asks_once (before ++ Recorded request ∷ []) (place + 1) (max last (greatest (completions_asked request))) entries rest)
     where
-      by_test : (b : Bool) → is_asking n request ≡ b → ascend_from (max last (greatest (completions_asked request))) (requests_in entries) ≡ true
+      by_test : (b : Bool) → asks_for n request ≡ b → ascend_from (max last (greatest (completions_asked request))) (requests_in entries) ≡ true
           → filter passes (rows_from id (before ++ Recorded request ∷ []) (place + 1) entries) ≡ option_to_list (option_and_then row_of (asked_at (place + 1) entries n))
           → filter passes (entry_row id before place (Recorded request) ∷ rows_from id (before ++ Recorded request ∷ []) (place + 1) entries)
           ≡ option_to_list (option_and_then row_of (if b then Some (place, request) else asked_at (place + 1) entries n))
@@ -207,7 +207,7 @@ module _ (id : Text) (n : ℕ) (column : EntryRow → Option ℕ) (asked : Reque
 
 -- ---- first and second
 
-first_is_asked : (n : ℕ) (ids : List ℕ) → is_number n (first_of ids) ≡ true → list_any (λ m. m == n) ids ≡ true
+first_is_asked : (n : ℕ) (ids : List ℕ) → is_number n (first_item ids) ≡ true → list_any (λ m. m == n) ids ≡ true
 first_is_asked n [] e = cc
 first_is_asked n (m ∷ ids) e = ap (λ (b : Bool). b || list_any (λ k. k == n) ids) e
 
@@ -222,7 +222,7 @@ second_is_asked n (m ∷ ids) e = or_right (m == n) (list_any (λ k. k == n) ids
 asked_request : (place : ℕ) (entries : List Entry) (n : ℕ) → option_map (λ (asked : ℕ × Request). asked.1) (asked_at place entries n) ≡ request_asking entries n
 asked_request place [] n = refl
 asked_request place (Arrived arrival ∷ entries) n = asked_request (place + 1) entries n
-asked_request place (Recorded request ∷ entries) n = by_test (is_asking n request) (asked_request (place + 1) entries n)
+asked_request place (Recorded request ∷ entries) n = by_test (asks_for n request) (asked_request (place + 1) entries n)
   where
     by_test : (b : Bool) → option_map (λ (asked : ℕ × Request). asked.1) (asked_at (place + 1) entries n) ≡ request_asking entries n
         → option_map (λ (asked : ℕ × Request). asked.1) (if b then Some (place, request) else asked_at (place + 1) entries n)
@@ -234,7 +234,7 @@ pub asked_found : AllAskOnce
 asked_found events r id n accepted kept = (
   filter_both (λ (e : EntryRow). bytes_eq e.invocation id) (λ (e : EntryRow). is_number n e.completion) r.entries
       ∙ ap (filter (λ (e : EntryRow). is_number n e.completion)) (kept.journals id)
-      ∙ asks_in_journal id n (λ e. e.completion) (λ request. first_of (completions_asked request)) (λ before place request. refl) (λ before place arrival. refl)
+      ∙ asks_in_journal id n (λ e. e.completion) (λ request. first_item (completions_asked request)) (λ before place request. refl) (λ before place arrival. refl)
       (λ request. first_is_asked n (completions_asked request)) (λ new. refl) events accepted,
   filter_both (λ (e : EntryRow). bytes_eq e.invocation id) (λ (e : EntryRow). is_number n e.second_completion) r.entries
       ∙ ap (filter (λ (e : EntryRow). is_number n e.second_completion)) (kept.journals id)

@@ -12,7 +12,7 @@ use Rattle.journal_model.specs.Request.{Request, completions_asked}
 use Rattle.journal_model.specs.declared.notification.SignalKey.{SignalKey}
 use Rattle.journal_model.specs.State.{StateMap}
 use Rattle.journal_model.specs.Event.{Frame, Event}
-use Rattle.journal_model.specs.Journal.{Entry, Recorded, Arrived, asks_for as is_asking, id_of_signal, requests_in, arrivals_in, completes, completion, is_awaited, request_asking, open_request, read_answer, sleep_in, sleeps_in, can_be_due, entries_of}
+use Rattle.journal_model.specs.Journal.{Entry, Recorded, Arrived, asks_for, id_of_signal, requests_in, arrivals_in, completes, completion, is_awaited, request_asking, open_request, read_answer, sleep_in, sleeps_in, can_be_due, entries_of}
 use Rattle.journal_model.specs.Cause.{IsAccepted, causes_of, tests_of, do_ascend, greatest, last_completion, is_run, refuses_kind}
 use Rattle.journal_laws.proofs.ObjectState.{holds-head, holds-tail, tail_of, not-false, requests_in-append}
 use Rattle.store_model.specs.Lookups.{is_open_sleep, open_among}
@@ -121,22 +121,22 @@ some_counted {A} p (x ∷ xs) e f = by_test (p x) e f (some_counted p xs)
 
 -- what a sleep asks for is asked for by a sleep alone
 pub asked_asleep : (k last : ℕ) (requests : List Request) → ascend_from last requests ≡ true → list_any (ends_at k) (sleeps_in requests) ≡ true
-    → is_sleep (find (is_asking k) requests) ≡ true
+    → is_sleep (find (asks_for k) requests) ≡ true
 asked_asleep k last [] up e = cc
 asked_asleep k last (Request.Sleep moment n name ∷ requests) up e =
     let (here, rest) = both_parts (do_ascend last (n ∷ [])) (ascend_from (max last (greatest (n ∷ []))) requests) up in
     by_test (n == k) e (asked_asleep k (max last (greatest (n ∷ []))) requests rest)
   where
-    by_test : (b : Bool) → (b || list_any (ends_at k) (sleeps_in requests)) ≡ true → (list_any (ends_at k) (sleeps_in requests) ≡ true → is_sleep (find (is_asking k) requests) ≡ true)
-        → is_sleep (if b || false then Some (Request.Sleep moment n name) else find (is_asking k) requests) ≡ true
+    by_test : (b : Bool) → (b || list_any (ends_at k) (sleeps_in requests)) ≡ true → (list_any (ends_at k) (sleeps_in requests) ≡ true → is_sleep (find (asks_for k) requests) ≡ true)
+        → is_sleep (if b || false then Some (Request.Sleep moment n name) else find (asks_for k) requests) ≡ true
     by_test true e later = refl
     by_test false e later = later e
 asked_asleep k last (request ∷ requests) up e =
     let (here, rest) = both_parts (do_ascend last (completions_asked request)) (ascend_from (max last (greatest (completions_asked request))) requests) up in
-    by_test (is_asking k request) refl rest (asked_asleep k (max last (greatest (completions_asked request))) requests rest e)
+    by_test (asks_for k request) refl rest (asked_asleep k (max last (greatest (completions_asked request))) requests rest e)
   where
-    by_test : (b : Bool) → is_asking k request ≡ b → ascend_from (max last (greatest (completions_asked request))) requests ≡ true
-        → is_sleep (find (is_asking k) requests) ≡ true → is_sleep (if b then Some request else find (is_asking k) requests) ≡ true
+    by_test : (b : Bool) → asks_for k request ≡ b → ascend_from (max last (greatest (completions_asked request))) requests ≡ true
+        → is_sleep (find (asks_for k) requests) ≡ true → is_sleep (if b then Some request else find (asks_for k) requests) ≡ true
     by_test true f rest later =
         let under = below_greatest k (completions_asked request) f in
         absurd (some_counted (ends_at k) (sleeps_in requests) e (no_sleep k (max last (greatest (completions_asked request))) requests (omega arith) rest))
@@ -158,10 +158,10 @@ given_awake true (Some (Request.Sleep moment n name)) k result e f = cc
 given_awake true (Some _) k result e f = refl
 given_awake false o k result e f = cc
 
-pub completed_awake : (events : List Event) (x : Text) (k : ℕ) (result : NotificationResult) → causes_of events (Event.Complete x k result) ≡ []
+pub completed_awake : (events : List Event) (x : Text) (k : ℕ) (result : NotificationResult) → causes_of events (Event.Result x k result) ≡ []
     → is_sleep (request_asking (entries_of events x) k) ≡ false
 completed_awake events x k result accepted =
-    let tests = tests_of events (Event.Complete x k result) in
+    let tests = tests_of events (Event.Result x k result) in
     given_awake (is_awaited (entries_of events x) k) (request_asking (entries_of events x) k) k result (completed_open events x k result accepted)
     (holds-head (tail_of (tail_of (tail_of tests))) (holds-tail (tail_of (tail_of tests)) (holds-tail (tail_of tests) (holds-tail tests accepted))))
 
@@ -172,9 +172,9 @@ run_awake true (Some _) e = refl
 run_awake false o e = cc
 
 pub outcome_awake : (events : List Event) (x : Text) (attempt k : ℕ) (value : NonEmptyValue) (is_acknowledged : Bool)
-    → causes_of events (Event.Take x attempt (Frame.RunOutcome k value is_acknowledged)) ≡ [] → is_sleep (request_asking (entries_of events x) k) ≡ false
+    → causes_of events (Event.Move x attempt (Frame.RunOutcome k value is_acknowledged)) ≡ [] → is_sleep (request_asking (entries_of events x) k) ≡ false
 outcome_awake events x attempt k value is_acknowledged accepted =
-    let tests = tests_of events (Event.Take x attempt (Frame.RunOutcome k value is_acknowledged)) in
+    let tests = tests_of events (Event.Move x attempt (Frame.RunOutcome k value is_acknowledged)) in
     run_awake (is_awaited (entries_of events x) k) (request_asking (entries_of events x) k)
     (not-false (is_run (open_request (entries_of events x) k))
     (holds-head (tail_of (tail_of (tail_of tests))) (holds-tail (tail_of (tail_of tests)) (holds-tail (tail_of tests) (holds-tail tests accepted)))))

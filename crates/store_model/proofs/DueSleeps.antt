@@ -18,7 +18,7 @@ use Rattle.sqlite_keyed.proofs.SortLemmas.{IsPermutation-sort_by}
 use Rattle.journal_model.specs.Notification.{Text}
 use Rattle.journal_model.specs.Request.{Request, completions_asked}
 use Rattle.journal_model.specs.Event.{Event}
-use Rattle.journal_model.specs.Journal.{Entry, is_open, requests_in, is_awaited, sleeps_in, by_moment, sorted_by_moment, can_be_due, is_over, entries_of}
+use Rattle.journal_model.specs.Journal.{Entry, is_open, requests_in, is_awaited, sleeps_in, by_moment, sorted_by_moment, can_be_due, is_sleep_over, entries_of}
 use Rattle.journal_model.specs.Cause.{IsAccepted, do_ascend, greatest}
 use Rattle.store_tables.specs.Records.{Records, ends_by, is_sleep_of}
 use Rattle.store_tables.specs.Orders.{AreApart, sleep_cmp}
@@ -154,7 +154,7 @@ ascending_among {A} P R S f (x ∷ xs) all up = (head xs all.1 up.0, ascending_a
     head [] among after = tt
     head (y ∷ ys) among after = (f x y all.0 among.0 after.0, head ys among.1 after.1)
 
-over_can : (entries : List Entry) (now : ℕ) (sleep : ℕ × ℕ) → is_over entries now sleep ≡ true → can_be_due sleep ≡ true
+over_can : (entries : List Entry) (now : ℕ) (sleep : ℕ × ℕ) → is_sleep_over entries now sleep ≡ true → can_be_due sleep ≡ true
 over_can entries now sleep e =
     let rest = (both_parts (nat_le sleep.0 now) (can_be_due sleep && is_awaited entries sleep.1) e).1 in
     (both_parts (can_be_due sleep) (is_awaited entries sleep.1) rest).0
@@ -221,10 +221,10 @@ and_either false false = refl
 module _ (events : List Event) (now : ℕ) (r : Records) (accepted : IsAccepted events) (kept : IsKept events r) where
   -- those that a tick ends, in the order in which they were asked for
   abbrev over_of : Text → List (ℕ × ℕ)
-  over_of id = filter (is_over (entries_of events id) now) (sleeps_of (entries_of events id))
+  over_of id = filter (is_sleep_over (entries_of events id) now) (sleeps_of (entries_of events id))
 
   is_due : (id : Text) (sleep : ℕ × ℕ)
-      → (is_open_sleep (entries_of events id) sleep && ends_by (due_until now) (sleep_row id sleep)) ≡ is_over (entries_of events id) now sleep
+      → (is_open_sleep (entries_of events id) sleep && ends_by (due_until now) (sleep_row id sleep)) ≡ is_sleep_over (entries_of events id) now sleep
   is_due id sleep = by_both (can_be_due sleep) refl (is_awaited (entries_of events id) sleep.1)
     where
       by_both : (c : Bool) → can_be_due sleep ≡ c → (a : Bool) → ((c && a) && ends_by (due_until now) (sleep_row id sleep)) ≡ (nat_le sleep.0 now && (c && a))
@@ -237,7 +237,7 @@ module _ (events : List Event) (now : ℕ) (r : Records) (accepted : IsAccepted 
       filter-map (ends_by (due_until now)) (sleep_row id) (open_among (entries_of events id))
       ∙ ap (map (sleep_row id))
       (sym (filter_both (is_open_sleep (entries_of events id)) (λ sleep. ends_by (due_until now) (sleep_row id sleep)) (sleeps_of (entries_of events id)))
-      ∙ filter_same (λ sleep. is_open_sleep (entries_of events id) sleep && ends_by (due_until now) (sleep_row id sleep)) (is_over (entries_of events id) now) (is_due id) (sleeps_of (entries_of events id)))
+      ∙ filter_same (λ sleep. is_open_sleep (entries_of events id) sleep && ends_by (due_until now) (sleep_row id sleep)) (is_sleep_over (entries_of events id) now) (is_due id) (sleeps_of (entries_of events id)))
   by_open id false = refl
 
   -- of one invocation
@@ -255,7 +255,7 @@ module _ (events : List Event) (now : ℕ) (r : Records) (accepted : IsAccepted 
   climbs_own id = subst DoClimb (sym (own_due id)) (ascending-map (λ (a b : SleepRow). a.completion < b.completion) (sleep_row id) (if is_open events id then over_of id else []) (when_open (is_open events id)))
     where
       when_open : (o : Bool) → DoAscend (if o then over_of id else [])
-      when_open true = ascending-filter (λ (a b : ℕ × ℕ). a.1 < b.1) (is_over (entries_of events id) now) (sleeps_of (entries_of events id)) (asked_up id)
+      when_open true = ascending-filter (λ (a b : ℕ × ℕ). a.1 < b.1) (is_sleep_over (entries_of events id) now) (sleeps_of (entries_of events id)) (asked_up id)
       when_open false = tt
 
   all_apart : AreApart (due_sleeps now r)
@@ -270,22 +270,22 @@ module _ (events : List Event) (now : ℕ) (r : Records) (accepted : IsAccepted 
     where
       when_open : (o : Bool)
           → IsAscending (λ (a b : ℕ × ℕ). sleep_cmp (sleep_row id a) (sleep_row id b) ≡ Less)
-          (if o then filter (is_over (entries_of events id) now) (sorted_by_moment (sleeps_of (entries_of events id))) else [])
+          (if o then filter (is_sleep_over (entries_of events id) now) (sorted_by_moment (sleeps_of (entries_of events id))) else [])
       when_open true =
-          ascending_among (λ (sleep : ℕ × ℕ). is_over (entries_of events id) now sleep ≡ true) IsEarlier (λ (a b : ℕ × ℕ). sleep_cmp (sleep_row id a) (sleep_row id b) ≡ Less)
+          ascending_among (λ (sleep : ℕ × ℕ). is_sleep_over (entries_of events id) now sleep ≡ true) IsEarlier (λ (a b : ℕ × ℕ). sleep_cmp (sleep_row id a) (sleep_row id b) ≡ Less)
           (λ a b one two. rows_less id a b (over_can (entries_of events id) now a one) (over_can (entries_of events id) now b two))
-          (filter (is_over (entries_of events id) now) (sorted_by_moment (sleeps_of (entries_of events id))))
-          (all_pass (is_over (entries_of events id) now) (sorted_by_moment (sleeps_of (entries_of events id))))
-          (ascending-filter IsEarlier (is_over (entries_of events id) now) (sorted_by_moment (sleeps_of (entries_of events id))) (sorted_ascends (sleeps_of (entries_of events id)) (asked_up id)))
+          (filter (is_sleep_over (entries_of events id) now) (sorted_by_moment (sleeps_of (entries_of events id))))
+          (all_pass (is_sleep_over (entries_of events id) now) (sorted_by_moment (sleeps_of (entries_of events id))))
+          (ascending-filter IsEarlier (is_sleep_over (entries_of events id) now) (sorted_by_moment (sleeps_of (entries_of events id))) (sorted_ascends (sleeps_of (entries_of events id)) (asked_up id)))
       when_open false = tt
 
   same_ended : (id : Text) → IsPermutation (ended_sleeps events now id) (if is_open events id then over_of id else [])
   same_ended id = when_open (is_open events id)
     where
       when_open : (o : Bool)
-          → IsPermutation (if o then filter (is_over (entries_of events id) now) (sorted_by_moment (sleeps_of (entries_of events id))) else []) (if o then over_of id else [])
+          → IsPermutation (if o then filter (is_sleep_over (entries_of events id) now) (sorted_by_moment (sleeps_of (entries_of events id))) else []) (if o then over_of id else [])
       when_open true =
-          IsPermutation-filter (is_over (entries_of events id) now) (sorted_by_moment (sleeps_of (entries_of events id))) (sleeps_of (entries_of events id)) (sorted_same (sleeps_of (entries_of events id)))
+          IsPermutation-filter (is_sleep_over (entries_of events id) now) (sorted_by_moment (sleeps_of (entries_of events id))) (sleeps_of (entries_of events id)) (sorted_same (sleeps_of (entries_of events id)))
       when_open false = IsPermutation-refl []
 
   in_order : (id : Text) → filter (is_sleep_of id) (sort_by sleep_cmp (due_sleeps now r)) ≡ map (sleep_row id) (ended_sleeps events now id)

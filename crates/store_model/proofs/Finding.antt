@@ -8,7 +8,7 @@ use Rattle.std.proofs.lemmas.Slice.Eq.{bytes_eq-Decides}
 use Rattle.std.proofs.lemmas.Map.Text.{is_eq-slice_cmp}
 use Rattle.sqlite_keyed.proofs.ListLemmas.{filter-map, IsPermutation-filter}
 use Rattle.journal_model.specs.Notification.{Bytes, Text}
-use Rattle.journal_model.specs.State.{StateMap, bytes_cmp, value_at}
+use Rattle.journal_model.specs.State.{StateMap, bytes_cmp, value_of_key}
 use Rattle.journal_model.specs.declared.invocation.NewInvocation.{NewInvocation}
 use Rattle.journal_model.specs.Event.{Event}
 use Rattle.journal_model.specs.Journal.{Entry, Recorded, Arrived, invocation_begun, entries_of, object_state}
@@ -94,7 +94,7 @@ none_above key (e ∷ es) h =
     rw apart (none_above key es (second_holds (is_lt (bytes_cmp key e.0)) (below_all bytes_cmp key es) h))
 
 abbrev entry_at : Bytes → StateMap → Option (Bytes × Bytes)
-entry_at key es = option_map (λ (value : Bytes). (key, value)) (value_at es key)
+entry_at key es = option_map (λ (value : Bytes). (key, value)) (value_of_key es key)
 
 -- a key is in a state once
 key_once : (key : Bytes) (es : StateMap) → T (is_sorted bytes_cmp es) → IsOnly (λ (e : Bytes × Bytes). bytes_eq e.0 key) es (entry_at key es)
@@ -109,14 +109,14 @@ key_once key (e ∷ es) h = by_test (bytes_eq e.0 key) refl (key_once key es (se
 
     by_test : (b : Bool) → bytes_eq e.0 key ≡ b → filter (λ (e : Bytes × Bytes). bytes_eq e.0 key) es ≡ option_to_list (entry_at key es)
         → (if b then e ∷ filter (λ (e : Bytes × Bytes). bytes_eq e.0 key) es else filter (λ (e : Bytes × Bytes). bytes_eq e.0 key) es)
-        ≡ option_to_list (option_map (λ (value : Bytes). (key, value)) (cond (eq_by_cmp bytes_cmp key e.0) (Some e.1) (value_at es key)))
+        ≡ option_to_list (option_map (λ (value : Bytes). (key, value)) (cond (eq_by_cmp bytes_cmp key e.0) (Some e.1) (value_of_key es key)))
     by_test true f more =
         let same : e.0 ≡ key = (bytes_eq-Decides e.0 key).0 f in
         ap (λ (rest : StateMap). e ∷ rest) (none_above key es (subst (λ (k : Bytes). T (below_all bytes_cmp k es)) same above))
         ∙ ap (λ (k : Bytes). (k, e.1) ∷ []) same
-        ∙ sym (ap (λ (b : Bool). option_to_list (option_map (λ (value : Bytes). (key, value)) (cond b (Some e.1) (value_at es key)))) (tied ∙ f))
+        ∙ sym (ap (λ (b : Bool). option_to_list (option_map (λ (value : Bytes). (key, value)) (cond b (Some e.1) (value_of_key es key)))) (tied ∙ f))
     by_test false f more =
-        more ∙ sym (ap (λ (b : Bool). option_to_list (option_map (λ (value : Bytes). (key, value)) (cond b (Some e.1) (value_at es key)))) (tied ∙ f))
+        more ∙ sym (ap (λ (b : Bool). option_to_list (option_map (λ (value : Bytes). (key, value)) (cond b (Some e.1) (value_of_key es key)))) (tied ∙ f))
 
 mapped : {A B C : Type 0} (g : B → C) (f : A → B) (o : Option A) → option_map g (option_map f o) ≡ option_map (λ x. g (f x)) o
 mapped g f None = refl
@@ -124,7 +124,7 @@ mapped g f (Some x) = refl
 
 module _ (events : List Event) (r : Records) (kept : IsKept events r) where
   value_found : (object : Text) (key : Bytes)
-      → IsOnly (is_at_key object key) r.states (option_map (λ (value : Bytes). state_row object (key, value)) (value_at (object_state events object) key))
+      → IsOnly (is_at_key object key) r.states (option_map (λ (value : Bytes). state_row object (key, value)) (value_of_key (object_state events object) key))
   value_found object key =
       let es = object_state events object in
       let found : filter (λ (s : StateRow). bytes_eq s.key key) (map (state_row object) es) ≡ option_to_list (option_map (state_row object) (entry_at key es)) =
@@ -137,7 +137,7 @@ module _ (events : List Event) (r : Records) (kept : IsKept events r) where
       ∙ permuted_one (option_map (state_row object) (entry_at key es)) (filter (λ (s : StateRow). bytes_eq s.key key) (filter (is_of_object object) r.states))
       (IsPermutation-sym (filter (λ (s : StateRow). bytes_eq s.key key) (filter (is_of_object object) r.states)) (option_to_list (option_map (state_row object) (entry_at key es)))
       (subst (IsPermutation (filter (λ (s : StateRow). bytes_eq s.key key) (filter (is_of_object object) r.states))) found same))
-      ∙ ap option_to_list (mapped (state_row object) (λ (value : Bytes). (key, value)) (value_at es key))
+      ∙ ap option_to_list (mapped (state_row object) (λ (value : Bytes). (key, value)) (value_of_key es key))
 
 pub all_found : AllFind
 all_found events r accepted kept =

@@ -24,10 +24,10 @@ use Rattle.store_tables.specs.declared.row.Progress.{Progress}
 use Rattle.store_tables.specs.declared.row.Closing.TheVariants.{Ended, Failed}
 use Rattle.due_laws.specs.Noted.{or_kept, heard_of, is_awake_kept, Noted, noted_of}
 use Rattle.store_model.specs.Places.{handed_place, handed_of}
-use Rattle.store_model.specs.Progress.{first_of, or_last, last_of, number_or_zero, payload_of_suspension, way_closed, output_payload, last_output, progress_of}
+use Rattle.store_model.specs.Progress.{first_item, or_last, last_of, number_or_zero, payload_of_suspension, way_closed, output_payload, last_output, progress_of}
 use Rattle.due_laws.specs.Awake.{is_still}
 use Rattle.store_model.proofs.Same.{both_same, opened, closed_by, error_of, same_progress, nothing_added}
-use Rattle.store_model.specs.Steps.{noted_into, grown, answers_at_once, payload_or, after_command, after_begin, suspended_or, after_frame, after_event, ProgressFollows, ProgressTicks}
+use Rattle.store_model.specs.Steps.{noted_into, grown, answers_at_once, payload_or, after_command, after_begin, suspended_or, progress_after_frame, after_event, ProgressFollows, ProgressTicks}
 
 -- a progress by what it is read off
 abbrev progress_with : Noted → Option Text → Option Closing → Option LastError → Option Bytes → Option ℕ → ℕ → List ℕ → List Entry → Progress
@@ -40,7 +40,7 @@ progress_with noted object closing error suspension handed attempts moments entr
   last_error = error;
   attempts = attempts;
   attempts_since_entry = length moments;
-  first_moment = number_or_zero (first_of moments);
+  first_moment = number_or_zero (first_item moments);
   last_completion = last_completion (requests_in entries);
   entries = 1 + length entries;
   heard = noted.heard;
@@ -222,10 +222,10 @@ follows_arrival events event id arrival e mine object closing error adds attempt
     (option_map payload_of_suspension (suspension_of events id)) (handed_of events id) (attempts_begun events id) (attempts_since_entry events id) (entries_of events id) (Arrived arrival ∷ []) refl
 
 follows_command : (events : List Event) (id : Text) (attempt : ℕ) (request : Request)
-    → progress_of (Event.Take id attempt (Frame.Command request) ∷ events) id
-    ≡ after_command request (noted_into (noted_of (Event.Take id attempt (Frame.Command request) ∷ events) id) (progress_of events id))
+    → progress_of (Event.Move id attempt (Frame.Command request) ∷ events) id
+    ≡ after_command request (noted_into (noted_of (Event.Move id attempt (Frame.Command request) ∷ events) id) (progress_of events id))
 follows_command events id attempt request =
-    let event = Event.Take id attempt (Frame.Command request) in
+    let event = Event.Move id attempt (Frame.Command request) in
     let more = entries_of_event (starting_state events id) (entries_of events id) event in
     progress_now events event id refl (Frame.Command request ∷ frames_of events id) (mine_frames events event id (itself id)) more (mine_added events event id (itself id))
     ∙ (λ i. progress_with (noted_of (event ∷ events) id) (object_if (invocation_begun events id) (frames_of events id)) (way (invocation_begun events id) (frames_of events id)) (error_of (frames_of events id))
@@ -236,19 +236,19 @@ follows_command events id attempt request =
     (answers_counted (state_after (requests_in (entries_of events id)) (starting_state events id)) request)
     (answers_arrived (state_after (requests_in (entries_of events id)) (starting_state events id)) request)
   where
-    handed : handed_of (Event.Take id attempt (Frame.Command request) ∷ events) id ≡ handed_of events id
+    handed : handed_of (Event.Move id attempt (Frame.Command request) ∷ events) id ≡ handed_of events id
     handed = ap (λ (o : Option ℕ). or_kept o (handed_of events id)) (both_same (bytes_eq id id) None)
 
 -- a frame that ends the attempt, or the invocation: no entries are added
 follows_end : (events : List Event) (id : Text) (attempt : ℕ) (frame : Frame) (object : Option Text) (closing : Option Closing) (error : Option LastError)
     (suspension : Option Bytes) (handed : Option ℕ)
-    → entries_of_event (starting_state events id) (entries_of events id) (Event.Take id attempt frame) ≡ []
+    → entries_of_event (starting_state events id) (entries_of events id) (Event.Move id attempt frame) ≡ []
     → object_if (invocation_begun events id) (frame ∷ frames_of events id) ≡ object → way (invocation_begun events id) (frame ∷ frames_of events id) ≡ closing
     → error_of (frame ∷ frames_of events id) ≡ error
-    → option_map payload_of_suspension (suspension_of (Event.Take id attempt frame ∷ events) id) ≡ suspension
-    → handed_of (Event.Take id attempt frame ∷ events) id ≡ handed
-    → progress_of (Event.Take id attempt frame ∷ events) id
-    ≡ record (noted_into (noted_of (Event.Take id attempt frame ∷ events) id) (progress_of events id)) {
+    → option_map payload_of_suspension (suspension_of (Event.Move id attempt frame ∷ events) id) ≡ suspension
+    → handed_of (Event.Move id attempt frame ∷ events) id ≡ handed
+    → progress_of (Event.Move id attempt frame ∷ events) id
+    ≡ record (noted_into (noted_of (Event.Move id attempt frame ∷ events) id) (progress_of events id)) {
       open_object = object;
       closing = closing;
       last_error = error;
@@ -256,11 +256,11 @@ follows_end : (events : List Event) (id : Text) (attempt : ℕ) (frame : Frame) 
       handed = handed;
     }
 follows_end events id attempt frame object closing error suspension handed none a b c d f =
-    progress_now events (Event.Take id attempt frame) id refl (frame ∷ frames_of events id) (mine_frames events (Event.Take id attempt frame) id (itself id)) []
-    (mine_added events (Event.Take id attempt frame) id (itself id) ∙ none)
-    ∙ (λ i. progress_with (noted_of (Event.Take id attempt frame ∷ events) id) (a i) (b i) (c i) (d i) (f i) (zero-add (attempts_begun events id) i) (moments i) (append-nil (entries_of events id) i))
+    progress_now events (Event.Move id attempt frame) id refl (frame ∷ frames_of events id) (mine_frames events (Event.Move id attempt frame) id (itself id)) []
+    (mine_added events (Event.Move id attempt frame) id (itself id) ∙ none)
+    ∙ (λ i. progress_with (noted_of (Event.Move id attempt frame ∷ events) id) (a i) (b i) (c i) (d i) (f i) (zero-add (attempts_begun events id) i) (moments i) (append-nil (entries_of events id) i))
   where
-    moments : (attempts_since_entry events id ++ (if is_of id (Event.Take id attempt frame) then [] else [])) ≡ attempts_since_entry events id
+    moments : (attempts_since_entry events id ++ (if is_of id (Event.Move id attempt frame) then [] else [])) ≡ attempts_since_entry events id
     moments = ap (λ (more : List ℕ). attempts_since_entry events id ++ more) (both_same (bytes_eq id id) []) ∙ append-nil (attempts_since_entry events id)
 
 and_false : (a : Bool) (x : Option Text) → (if a && false then x else None) ≡ None
@@ -278,8 +278,8 @@ suspended_here events id (Some suspension) =
     ap (λ (b : Bool). option_map payload_of_suspension (or_before (if b then Some suspension else None) (suspension_of events id))) (itself id)
 
 follows_failure : (events : List Event) (id : Text) (attempt code : ℕ) (message : Text) (delay : Option ℕ) (b : Bool) → has_feature (version_of events id) features.ErrorBehavior ≡ b
-    → progress_of (Event.Take id attempt (Frame.Error code message Fail delay) ∷ events) id
-    ≡ record (noted_into (noted_of (Event.Take id attempt (Frame.Error code message Fail delay) ∷ events) id) (progress_of events id)) {
+    → progress_of (Event.Move id attempt (Frame.Error code message Fail delay) ∷ events) id
+    ≡ record (noted_into (noted_of (Event.Move id attempt (Frame.Error code message Fail delay) ∷ events) id) (progress_of events id)) {
       last_error = Some (record { code = code; behavior = 2; delay = delay; message = message });
       open_object = if b then None else (progress_of events id).open_object;
       closing = if b then Some Failed else (progress_of events id).closing;
@@ -316,11 +316,11 @@ same_still events event id still quiet =
     (same_progress events event id (inr quiet) (nothing_added (starting_state events id) events event id (entries_of events id) still (inr quiet)))
 
 follows_frame : (events : List Event) (id : Text) (attempt : ℕ) (frame : Frame)
-    → progress_of (Event.Take id attempt frame ∷ events) id
-    ≡ after_frame (version_of events id) (handed_place events id) frame (noted_into (noted_of (Event.Take id attempt frame ∷ events) id) (progress_of events id))
+    → progress_of (Event.Move id attempt frame ∷ events) id
+    ≡ progress_after_frame (version_of events id) (handed_place events id) frame (noted_into (noted_of (Event.Move id attempt frame ∷ events) id) (progress_of events id))
 follows_frame events id attempt (Frame.Command request) = follows_command events id attempt request
 follows_frame events id attempt (Frame.RunOutcome n value is_acknowledged) =
-    follows_arrival events (Event.Take id attempt (Frame.RunOutcome n value is_acknowledged)) id (completion n (result_of_value value)) refl (itself id) refl refl refl refl
+    follows_arrival events (Event.Move id attempt (Frame.RunOutcome n value is_acknowledged)) id (completion n (result_of_value value)) refl (itself id) refl refl refl refl
     (zero-add (attempts_begun events id)) refl (handed_here events id attempt None)
 follows_frame events id attempt (Frame.Suspend suspension) =
     follows_end events id attempt (Frame.Suspend suspension) (object_if (invocation_begun events id) (frames_of events id)) (way (invocation_begun events id) (frames_of events id))
@@ -339,13 +339,13 @@ follows_frame events id attempt (Frame.Error code message Pause delay) =
     follows_end events id attempt (Frame.Error code message Pause delay) (object_if (invocation_begun events id) (frames_of events id)) (way (invocation_begun events id) (frames_of events id))
     (Some (record { code = code; behavior = 1; delay = delay; message = message })) (option_map payload_of_suspension (suspension_of events id)) (handed_of events id)
     refl refl refl refl refl (handed_here events id attempt None)
-follows_frame events id attempt Frame.AwaitingOn = same_still events (Event.Take id attempt Frame.AwaitingOn) id refl refl
-follows_frame events id attempt Frame.Broken = same_still events (Event.Take id attempt Frame.Broken) id refl refl
-follows_frame events id attempt Frame.TooDeep = same_still events (Event.Take id attempt Frame.TooDeep) id refl refl
-follows_frame events id attempt Frame.NotAccepted = same_still events (Event.Take id attempt Frame.NotAccepted) id refl refl
+follows_frame events id attempt Frame.AwaitingOn = same_still events (Event.Move id attempt Frame.AwaitingOn) id refl refl
+follows_frame events id attempt Frame.Broken = same_still events (Event.Move id attempt Frame.Broken) id refl refl
+follows_frame events id attempt Frame.TooDeep = same_still events (Event.Move id attempt Frame.TooDeep) id refl refl
+follows_frame events id attempt Frame.NotAccepted = same_still events (Event.Move id attempt Frame.NotAccepted) id refl refl
 
 -- a begin
-first_push : (ns : List ℕ) (now : ℕ) → number_or_zero (first_of (ns ++ now ∷ [])) ≡ (if length ns == 0 then now else number_or_zero (first_of ns))
+first_push : (ns : List ℕ) (now : ℕ) → number_or_zero (first_item (ns ++ now ∷ [])) ≡ (if length ns == 0 then now else number_or_zero (first_item ns))
 first_push [] now = refl
 first_push (n ∷ ns) now = sym (ap (λ (b : Bool). if b then now else n) (ne_eqb (suc (length ns)) 0 (λ e. absurd (apart (length ns) e))))
   where
@@ -396,9 +396,9 @@ FollowsAt events event id = progress_of (event ∷ events) id ≡ after_event ev
 pub follows : ProgressFollows
 follows events (Event.Invoke new) id named e = cc
 follows events (Event.Tick now) id named e = cc
-follows events (Event.Complete x n result) id named e =
-    subst (FollowsAt events (Event.Complete x n result)) (same_text x id named)
-    (follows_arrival events (Event.Complete x n result) x (completion n result) refl (itself x) refl refl refl refl (zero-add (attempts_begun events x)) refl refl)
+follows events (Event.Result x n result) id named e =
+    subst (FollowsAt events (Event.Result x n result)) (same_text x id named)
+    (follows_arrival events (Event.Result x n result) x (completion n result) refl (itself x) refl refl refl refl (zero-add (attempts_begun events x)) refl refl)
 follows events (Event.Signal x key result) id named e =
     subst (FollowsAt events (Event.Signal x key result)) (same_text x id named)
     (follows_arrival events (Event.Signal x key result) x (record { id = id_of_signal key; result = result }) refl (itself x) refl refl refl refl (zero-add (attempts_begun events x)) refl refl)
@@ -406,12 +406,12 @@ follows events (Event.Cancel x) id named e =
     subst (FollowsAt events (Event.Cancel x)) (same_text x id named)
     (follows_arrival events (Event.Cancel x) x (record { id = cancel_id; result = NotificationResult.Void }) refl (itself x) refl refl refl refl (zero-add (attempts_begun events x)) refl refl)
 follows events (Event.Begin x now) id named e = subst (FollowsAt events (Event.Begin x now)) (same_text x id named) (follows_begin events x now)
-follows events (Event.HandOut x attempt most) id named e = same_still events (Event.HandOut x attempt most) id refl refl
-follows events (Event.CloseInput x attempt) id named e = same_still events (Event.CloseInput x attempt) id refl refl
-follows events (Event.Take x attempt frame) id named e =
+follows events (Event.Feed x attempt most) id named e = same_still events (Event.Feed x attempt most) id refl refl
+follows events (Event.Close x attempt) id named e = same_still events (Event.Close x attempt) id refl refl
+follows events (Event.Move x attempt frame) id named e =
     subst
-    (λ (y : Text). progress_of (Event.Take x attempt frame ∷ events) y
-    ≡ after_frame (version_of events x) (handed_place events x) frame (noted_into (noted_of (Event.Take x attempt frame ∷ events) y) (progress_of events y))) (same_text x id named)
+    (λ (y : Text). progress_of (Event.Move x attempt frame ∷ events) y
+    ≡ progress_after_frame (version_of events x) (handed_place events x) frame (noted_into (noted_of (Event.Move x attempt frame ∷ events) y) (progress_of events y))) (same_text x id named)
     (follows_frame events x attempt frame)
 follows events (Event.Stop x attempt) id named e = same_still events (Event.Stop x attempt) id refl refl
 

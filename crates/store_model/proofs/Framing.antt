@@ -12,7 +12,7 @@ use Rattle.journal_model.specs.declared.invocation.NewInvocation.{NewInvocation}
 use Rattle.journal_model.specs.Request.{Request}
 use Rattle.journal_model.specs.State.{StateMap, state_after}
 use Rattle.journal_model.specs.Event.{Frame, Event}
-use Rattle.journal_model.specs.Journal.{Entry, Recorded, Arrived, asks_for as is_asking, is_of, is_tick, invocation_begun, starting_state, is_open, requests_in, completes, read_answer, slept, entries_of, entries_of_event, id_of_signal, completion}
+use Rattle.journal_model.specs.Journal.{Entry, Recorded, Arrived, asks_for, is_of, is_tick, invocation_begun, starting_state, is_open, requests_in, completes, read_answer, slept, entries_of, entries_of_event, id_of_signal, completion}
 use Rattle.journal_model.specs.Attempt.{type_of_completion, notification_type, input_bytes, entry_piece, journal_pieces}
 use Rattle.journal_model.specs.Cause.{IsAccepted}
 use Rattle.journal_laws.proofs.ObjectState.{requests_in-append}
@@ -42,7 +42,7 @@ asked_behind before (entry ∷ entries) more h k =
 -- arrivals ask for nothing
 asked_as_before : (n : ℕ) (before : List Entry) (arrival : Arrival) → is_asked n (before ++ Arrived arrival ∷ []) ≡ is_asked n before
 asked_as_before n before arrival =
-    ap (list_any (is_asking n)) (requests_in-append before (Arrived arrival ∷ []) ∙ append-nil (requests_in before))
+    ap (list_any (asks_for n)) (requests_in-append before (Arrived arrival ∷ []) ∙ append-nil (requests_in before))
 
 arrivals_asked : (before : List Entry) (arrivals : List Arrival) → ((n : ℕ) → list_any (completes n) arrivals ≡ true → is_asked n before ≡ true)
     → AreAskedBefore before (map Arrived arrivals)
@@ -66,13 +66,13 @@ data HasShape : List Entry → Type 0 where
   behind : (request : Request) (arrivals : List Arrival) → HasShape (Recorded request ∷ map Arrived arrivals)
 
 shape_of_event : (start : StateMap) (entries : List Entry) (event : Event) → HasShape (entries_of_event start entries event)
-shape_of_event start entries (Event.Complete x n result) = alone (completion n result ∷ [])
+shape_of_event start entries (Event.Result x n result) = alone (completion n result ∷ [])
 shape_of_event start entries (Event.Signal x key result) = alone (record { id = id_of_signal key; result = result } ∷ [])
 shape_of_event start entries (Event.Cancel x) = alone (record { id = cancel_id; result = NotificationResult.Void } ∷ [])
 shape_of_event start entries (Event.Tick now) = alone (slept entries now)
-shape_of_event start entries (Event.Take x attempt (Frame.Command request)) = behind request (read_answer (state_after (requests_in entries) start) request)
-shape_of_event start entries (Event.Take x attempt (Frame.RunOutcome n value is_acknowledged)) = alone (completion n (result_of_value value) ∷ [])
-shape_of_event start entries (Event.Take x attempt _) = alone []
+shape_of_event start entries (Event.Move x attempt (Frame.Command request)) = behind request (read_answer (state_after (requests_in entries) start) request)
+shape_of_event start entries (Event.Move x attempt (Frame.RunOutcome n value is_acknowledged)) = alone (completion n (result_of_value value) ∷ [])
+shape_of_event start entries (Event.Move x attempt _) = alone []
 shape_of_event start entries _ = alone []
 
 shape_if : (b : Bool) (more : List Entry) → HasShape more → HasShape (if b then more else [])
@@ -88,15 +88,15 @@ shape_asked before _ (alone arrivals) fits =
     arrivals_asked before arrivals
     (λ n e.
     sym (or_nothing (is_asked n before))
-    ∙ sym (ap (λ (requests : List Request). is_asked n before || list_any (is_asking n) requests) (no_requests arrivals))
+    ∙ sym (ap (λ (requests : List Request). is_asked n before || list_any (asks_for n) requests) (no_requests arrivals))
     ∙ (fits n).asked (ap (list_any (completes n)) (arrivals_in-arrived arrivals) ∙ e))
 shape_asked before _ (behind request arrivals) fits = (
   tt,
   arrivals_asked (before ++ Recorded request ∷ []) arrivals
       (λ n e.
-      ap (list_any (is_asking n)) (requests_in-append before (Recorded request ∷ []))
-      ∙ list_any-append (is_asking n) (requests_in before) (request ∷ [])
-      ∙ sym (ap (λ (requests : List Request). is_asked n before || list_any (is_asking n) (request ∷ requests)) (no_requests arrivals))
+      ap (list_any (asks_for n)) (requests_in-append before (Recorded request ∷ []))
+      ∙ list_any-append (asks_for n) (requests_in before) (request ∷ [])
+      ∙ sym (ap (λ (requests : List Request). is_asked n before || list_any (asks_for n) (request ∷ requests)) (no_requests arrivals))
       ∙ (fits n).asked (ap (list_any (completes n)) (arrivals_in-arrived arrivals) ∙ e)),
 )
 
@@ -125,8 +125,8 @@ pub kind_stays : (before more : List Entry) (id : NotificationId) → ((n : ℕ)
     → notification_type before id ≡ notification_type (before ++ more) id
 kind_stays before more (CompletionId n) h =
     ap (λ (o : Option Request). type_of_completion o n)
-    (found_before (is_asking n) (requests_in before) (requests_in more) (h n (eq-eqb n n refl))
-    ∙ ap (find (is_asking n)) (sym (requests_in-append before more)))
+    (found_before (asks_for n) (requests_in before) (requests_in more) (h n (eq-eqb n n refl))
+    ∙ ap (find (asks_for n)) (sym (requests_in-append before more)))
 kind_stays before more (SignalId n) h = refl
 kind_stays before more (SignalName name) h = refl
 

@@ -113,12 +113,12 @@ stays_one events event id x named ticks e = left events event x ticks (inl (is_n
     is_named = rw named refl
 
 stays_frame : (events : List Event) (id x : Text) (attempt : ℕ) (frame : Frame) → list_any (bytes_eq x) (ids_of_frame id frame) ≡ false
-    → progress_of (Event.Take id attempt frame ∷ events) x ≡ progress_of events x
-stays_frame events id x attempt Frame.AwaitingOn e = left events (Event.Take id attempt Frame.AwaitingOn) x refl (inr refl)
-stays_frame events id x attempt Frame.Broken e = left events (Event.Take id attempt Frame.Broken) x refl (inr refl)
-stays_frame events id x attempt Frame.TooDeep e = left events (Event.Take id attempt Frame.TooDeep) x refl (inr refl)
-stays_frame events id x attempt Frame.NotAccepted e = left events (Event.Take id attempt Frame.NotAccepted) x refl (inr refl)
-stays_frame events id x attempt frame e = stays_one events (Event.Take id attempt frame) id x refl refl e
+    → progress_of (Event.Move id attempt frame ∷ events) x ≡ progress_of events x
+stays_frame events id x attempt Frame.AwaitingOn e = left events (Event.Move id attempt Frame.AwaitingOn) x refl (inr refl)
+stays_frame events id x attempt Frame.Broken e = left events (Event.Move id attempt Frame.Broken) x refl (inr refl)
+stays_frame events id x attempt Frame.TooDeep e = left events (Event.Move id attempt Frame.TooDeep) x refl (inr refl)
+stays_frame events id x attempt Frame.NotAccepted e = left events (Event.Move id attempt Frame.NotAccepted) x refl (inr refl)
+stays_frame events id x attempt frame e = stays_one events (Event.Move id attempt frame) id x refl refl e
 
 stays_tick : (events : List Event) (now : ℕ) (x : Text) → Stays events (Event.Tick now) x
 stays_tick events now x is e =
@@ -146,14 +146,14 @@ stays_begin events new x accepted is e = left events (Event.Invoke new) x refl (
 
 stays : (events : List Event) (event : Event) (x : Text) → causes_of events event ≡ [] → Stays events event x
 stays events (Event.Invoke new) x accepted is e = stays_begin events new x accepted is e
-stays events (Event.Complete id n result) x accepted is e = stays_one events (Event.Complete id n result) id x refl refl e
+stays events (Event.Result id n result) x accepted is e = stays_one events (Event.Result id n result) id x refl refl e
 stays events (Event.Signal id key result) x accepted is e = stays_one events (Event.Signal id key result) id x refl refl e
 stays events (Event.Cancel id) x accepted is e = stays_one events (Event.Cancel id) id x refl refl e
 stays events (Event.Tick now) x accepted is e = stays_tick events now x is e
 stays events (Event.Begin id now) x accepted is e = stays_one events (Event.Begin id now) id x refl refl e
-stays events (Event.HandOut id attempt most) x accepted is e = left events (Event.HandOut id attempt most) x refl (inr refl)
-stays events (Event.CloseInput id attempt) x accepted is e = left events (Event.CloseInput id attempt) x refl (inr refl)
-stays events (Event.Take id attempt frame) x accepted is e = stays_frame events id x attempt frame e
+stays events (Event.Feed id attempt most) x accepted is e = left events (Event.Feed id attempt most) x refl (inr refl)
+stays events (Event.Close id attempt) x accepted is e = left events (Event.Close id attempt) x refl (inr refl)
+stays events (Event.Move id attempt frame) x accepted is e = stays_frame events id x attempt frame e
 stays events (Event.Stop id attempt) x accepted is e = left events (Event.Stop id attempt) x refl (inr refl)
 
 -- an invocation's row becomes the row after the event

@@ -162,13 +162,13 @@ of_tick events now id accepted =
 -- ---- all events but a begin
 
 of_frame : (events : List Event) (id x : Text) (attempt : ℕ) (frame : Frame)
-    → filter (is_row_of id) (flat_map (rows_added events (Event.Take x attempt frame)) (ids_of_frame x frame))
-    ≡ rows_behind events (Event.Take x attempt frame) id (added_to events (Event.Take x attempt frame) id)
-of_frame events id x attempt Frame.AwaitingOn = of_none events (Event.Take x attempt Frame.AwaitingOn) id refl refl
-of_frame events id x attempt Frame.Broken = of_none events (Event.Take x attempt Frame.Broken) id refl refl
-of_frame events id x attempt Frame.TooDeep = of_none events (Event.Take x attempt Frame.TooDeep) id refl refl
-of_frame events id x attempt Frame.NotAccepted = of_none events (Event.Take x attempt Frame.NotAccepted) id refl refl
-of_frame events id x attempt frame = of_one events (Event.Take x attempt frame) x id refl refl
+    → filter (is_row_of id) (flat_map (rows_added events (Event.Move x attempt frame)) (ids_of_frame x frame))
+    ≡ rows_behind events (Event.Move x attempt frame) id (added_to events (Event.Move x attempt frame) id)
+of_frame events id x attempt Frame.AwaitingOn = of_none events (Event.Move x attempt Frame.AwaitingOn) id refl refl
+of_frame events id x attempt Frame.Broken = of_none events (Event.Move x attempt Frame.Broken) id refl refl
+of_frame events id x attempt Frame.TooDeep = of_none events (Event.Move x attempt Frame.TooDeep) id refl refl
+of_frame events id x attempt Frame.NotAccepted = of_none events (Event.Move x attempt Frame.NotAccepted) id refl refl
+of_frame events id x attempt frame = of_one events (Event.Move x attempt frame) x id refl refl
 
 abbrev WritesRows : List Event → Event → Text → Type 0
 WritesRows events event id =
@@ -176,14 +176,14 @@ WritesRows events event id =
 
 writes_rows : (events : List Event) (event : Event) (id : Text) → IsAccepted events → invoked_by event ≡ None → WritesRows events event id
 writes_rows events (Event.Invoke new) id accepted e = cc
-writes_rows events (Event.Complete x n result) id accepted e = of_one events (Event.Complete x n result) x id refl refl
+writes_rows events (Event.Result x n result) id accepted e = of_one events (Event.Result x n result) x id refl refl
 writes_rows events (Event.Signal x key result) id accepted e = of_one events (Event.Signal x key result) x id refl refl
 writes_rows events (Event.Cancel x) id accepted e = of_one events (Event.Cancel x) x id refl refl
 writes_rows events (Event.Tick now) id accepted e = of_tick events now id accepted
 writes_rows events (Event.Begin x now) id accepted e = of_one events (Event.Begin x now) x id refl refl
-writes_rows events (Event.HandOut x attempt most) id accepted e = of_none events (Event.HandOut x attempt most) id refl refl
-writes_rows events (Event.CloseInput x attempt) id accepted e = of_none events (Event.CloseInput x attempt) id refl refl
-writes_rows events (Event.Take x attempt frame) id accepted e = of_frame events id x attempt frame
+writes_rows events (Event.Feed x attempt most) id accepted e = of_none events (Event.Feed x attempt most) id refl refl
+writes_rows events (Event.Close x attempt) id accepted e = of_none events (Event.Close x attempt) id refl refl
+writes_rows events (Event.Move x attempt frame) id accepted e = of_frame events id x attempt frame
 writes_rows events (Event.Stop x attempt) id accepted e = of_none events (Event.Stop x attempt) id refl refl
 
 no_more : (xs ys : List Entry) → (xs ++ ys) ≡ [] → ys ≡ []

@@ -16,7 +16,7 @@ use Rattle.journal_model.specs.Request.{Request, completions_asked}
 use Rattle.journal_model.specs.State.{state_after}
 use Rattle.journal_model.specs.Value.{result_of_value}
 use Rattle.journal_model.specs.Event.{Frame, Event}
-use Rattle.journal_model.specs.Journal.{Entry, Recorded, Arrived, is_of, is_tick, invoked_by, invocation_begun, version_of, closes, frame_of, frames_of, starting_state, is_open, id_of_signal, requests_in, completes, completion, is_awaited, read_answer, sleep_in, sleeps_in, sorted_by_moment, can_be_due, is_over, slept, entries_of, entries_of_event}
+use Rattle.journal_model.specs.Journal.{Entry, Recorded, Arrived, is_of, is_tick, invoked_by, invocation_begun, version_of, closes, frame_of, frames_of, starting_state, is_open, id_of_signal, requests_in, completes, completion, is_awaited, read_answer, sleep_in, sleeps_in, sorted_by_moment, can_be_due, is_sleep_over, slept, entries_of, entries_of_event}
 use Rattle.journal_model.specs.Cause.{IsAccepted, do_ascend, last_completion}
 use Rattle.journal_laws.proofs.ObjectState.{begin_when_new, begun_before, no_entries, none_of, open_when_accepted, requests_in-append}
 use Rattle.store_tables.specs.Records.{ends_by, is_sleep_of}
@@ -124,9 +124,9 @@ own_rows x id (sleep ∷ sleeps) = by_test (bytes_eq x id) (own_rows x id sleeps
     by_test false h = h
 
 stays_open : (events : List Event) (x id : Text) (attempt : ℕ) (frame : Frame) (b : Bool) → bytes_eq x id ≡ b → (b && closes (version_of events id) frame) ≡ false
-    → is_open (Event.Take x attempt frame ∷ events) id ≡ is_open events id
+    → is_open (Event.Move x attempt frame ∷ events) id ≡ is_open events id
 stays_open events x id attempt frame b e f =
-    open_now events (Event.Take x attempt frame) id refl
+    open_now events (Event.Move x attempt frame) id refl
     ∙ ap (λ (c : Bool). is_open events id && not (c && closes (version_of events id) frame)) e
     ∙ ap (λ (c : Bool). is_open events id && not c) f
     ∙ no_less (is_open events id)
@@ -139,30 +139,30 @@ map-added : (id : Text) (xs ys : List (ℕ × ℕ)) → map (sleep_row id) (xs +
 map-added id [] ys = refl
 map-added id (x ∷ xs) ys = ap (λ (rest : List SleepRow). sleep_row id x ∷ rest) (map-added id xs ys)
 
-of_command : (events : List Event) (x id : Text) (attempt : ℕ) (request : Request) → IsAccepted (Event.Take x attempt (Frame.Command request) ∷ events) → Keeps events id
-    → Keeps (Event.Take x attempt (Frame.Command request) ∷ events) id
+of_command : (events : List Event) (x id : Text) (attempt : ℕ) (request : Request) → IsAccepted (Event.Move x attempt (Frame.Command request) ∷ events) → Keeps events id
+    → Keeps (Event.Move x attempt (Frame.Command request) ∷ events) id
 of_command events x id attempt request accepted before = by_test (bytes_eq x id) refl
   where
-    rows : filter (is_sleep_of id) (sleeps_kept (Event.Take x attempt (Frame.Command request) ∷ events))
+    rows : filter (is_sleep_of id) (sleeps_kept (Event.Move x attempt (Frame.Command request) ∷ events))
         ≡ open_sleeps events id ++ (if bytes_eq x id then sleeps_opened x request else [])
     rows =
         filter-append (is_sleep_of id) (sleeps_kept events) (sleeps_opened x request)
         ∙ ap₂ (λ (xs ys : List SleepRow). xs ++ ys) before (own_rows x id (filter can_be_due (sleep_in request)))
 
-    open_same : is_open (Event.Take x attempt (Frame.Command request) ∷ events) id ≡ is_open events id
+    open_same : is_open (Event.Move x attempt (Frame.Command request) ∷ events) id ≡ is_open events id
     open_same = stays_open events x id attempt (Frame.Command request) (bytes_eq x id) refl (and_no (bytes_eq x id))
 
-    entries : entries_of (Event.Take x attempt (Frame.Command request) ∷ events) id ≡ entries_of events id ++ added_to events (Event.Take x attempt (Frame.Command request)) id
-    entries = entries_now events (Event.Take x attempt (Frame.Command request)) id refl
+    entries : entries_of (Event.Move x attempt (Frame.Command request) ∷ events) id ≡ entries_of events id ++ added_to events (Event.Move x attempt (Frame.Command request)) id
+    entries = entries_now events (Event.Move x attempt (Frame.Command request)) id refl
 
-    by_test : (b : Bool) → bytes_eq x id ≡ b → Keeps (Event.Take x attempt (Frame.Command request) ∷ events) id
+    by_test : (b : Bool) → bytes_eq x id ≡ b → Keeps (Event.Move x attempt (Frame.Command request) ∷ events) id
     by_test true e =
         let same : x ≡ id = (bytes_eq-Decides x id).0 e in
-        let live : is_open events id ≡ true = open_when_accepted events (Event.Take x attempt (Frame.Command request)) id refl e accepted.0 in
+        let live : is_open events id ≡ true = open_when_accepted events (Event.Move x attempt (Frame.Command request)) id refl e accepted.0 in
         let state = state_after (requests_in (entries_of events id)) (starting_state events id) in
         let up : do_ascend (last_completion (requests_in (entries_of events id))) (completions_asked request) ≡ true =
         subst (λ (y : Text). do_ascend (last_completion (requests_in (entries_of events y))) (completions_asked request) ≡ true) same (command_above events x attempt request accepted.0) in
-        let added : open_among (entries_of (Event.Take x attempt (Frame.Command request) ∷ events) id) ≡ open_among (entries_of events id) ++ filter can_be_due (sleep_in request) =
+        let added : open_among (entries_of (Event.Move x attempt (Frame.Command request) ∷ events) id) ≡ open_among (entries_of events id) ++ filter can_be_due (sleep_in request) =
         ap open_among entries
         ∙ ap (λ (b : Bool). open_among (entries_of events id ++ (if b || (false && is_open events id) then Recorded request ∷ map Arrived (read_answer state request) else []))) e
         ∙ command_opens (entries_of events id) state request (λ n. (answers_once n id events accepted.1).0) up in
@@ -172,9 +172,9 @@ of_command events x id attempt request accepted before = by_test (bytes_eq x id)
         ∙ sym (map-added id (open_among (entries_of events id)) (filter can_be_due (sleep_in request)))
         ∙ sym (ap₂ (those_open id) (open_same ∙ live) added)
     by_test false e =
-        let kept : open_among (entries_of (Event.Take x attempt (Frame.Command request) ∷ events) id) ≡ open_among (entries_of events id) =
+        let kept : open_among (entries_of (Event.Move x attempt (Frame.Command request) ∷ events) id) ≡ open_among (entries_of events id) =
         ap open_among (entries
-        ∙ ap (λ (more : List Entry). entries_of events id ++ more) (foreign_adds (starting_state events id) events (Event.Take x attempt (Frame.Command request)) id (entries_of events id) e refl)
+        ∙ ap (λ (more : List Entry). entries_of events id ++ more) (foreign_adds (starting_state events id) events (Event.Move x attempt (Frame.Command request)) id (entries_of events id) e refl)
         ∙ append-nil (entries_of events id)) in
         rows
         ∙ ap (λ (b : Bool). open_sleeps events id ++ (if b then sleeps_opened x request else [])) e
@@ -183,29 +183,29 @@ of_command events x id attempt request accepted before = by_test (bytes_eq x id)
 
 -- a frame that adds no entry, and may close its invocation
 of_closing : (events : List Event) (x id : Text) (attempt : ℕ) (frame : Frame)
-    → entries_of_event (starting_state events id) (entries_of events id) (Event.Take x attempt frame) ≡ []
-    → sleeps_kept (Event.Take x attempt frame ∷ events) ≡ (if closes (version_of events x) frame then filter (λ s. not (is_sleep_of x s)) (sleeps_kept events) else sleeps_kept events)
-    → Keeps events id → Keeps (Event.Take x attempt frame ∷ events) id
+    → entries_of_event (starting_state events id) (entries_of events id) (Event.Move x attempt frame) ≡ []
+    → sleeps_kept (Event.Move x attempt frame ∷ events) ≡ (if closes (version_of events x) frame then filter (λ s. not (is_sleep_of x s)) (sleeps_kept events) else sleeps_kept events)
+    → Keeps events id → Keeps (Event.Move x attempt frame ∷ events) id
 of_closing events x id attempt frame adds rows before =
     ap (filter (is_sleep_of id)) rows ∙ by_cases (bytes_eq x id) refl (closes (version_of events x) frame) refl
   where
-    sleeps : open_among (entries_of (Event.Take x attempt frame ∷ events) id) ≡ open_among (entries_of events id)
-    sleeps = ap open_among (entries_now events (Event.Take x attempt frame) id refl) ∙ adds_nothing events (Event.Take x attempt frame) id adds
+    sleeps : open_among (entries_of (Event.Move x attempt frame ∷ events) id) ≡ open_among (entries_of events id)
+    sleeps = ap open_among (entries_now events (Event.Move x attempt frame) id refl) ∙ adds_nothing events (Event.Move x attempt frame) id adds
 
-    goes_on : is_open (Event.Take x attempt frame ∷ events) id ≡ is_open events id → filter (is_sleep_of id) (sleeps_kept events) ≡ open_sleeps (Event.Take x attempt frame ∷ events) id
+    goes_on : is_open (Event.Move x attempt frame ∷ events) id ≡ is_open events id → filter (is_sleep_of id) (sleeps_kept events) ≡ open_sleeps (Event.Move x attempt frame ∷ events) id
     goes_on same = before ∙ sym (ap₂ (those_open id) same sleeps)
 
     by_cases : (b : Bool) → bytes_eq x id ≡ b → (c : Bool) → closes (version_of events x) frame ≡ c
-        → filter (is_sleep_of id) (if c then filter (λ s. not (is_sleep_of x s)) (sleeps_kept events) else sleeps_kept events) ≡ open_sleeps (Event.Take x attempt frame ∷ events) id
+        → filter (is_sleep_of id) (if c then filter (λ s. not (is_sleep_of x s)) (sleeps_kept events) else sleeps_kept events) ≡ open_sleeps (Event.Move x attempt frame ∷ events) id
     by_cases true e true f =
         let same : x ≡ id = (bytes_eq-Decides x id).0 e in
-        let over : is_open (Event.Take x attempt frame ∷ events) id ≡ false =
-        open_now events (Event.Take x attempt frame) id refl
+        let over : is_open (Event.Move x attempt frame ∷ events) id ≡ false =
+        open_now events (Event.Move x attempt frame) id refl
         ∙ ap₂ (λ (b c : Bool). is_open events id && not (b && c)) e (subst (λ (y : Text). closes (version_of events y) frame ≡ true) same f)
         ∙ and_no (is_open events id) in
         ap (λ (y : Text). filter (is_sleep_of id) (filter (λ s. not (is_sleep_of y s)) (sleeps_kept events))) same
         ∙ drops_all (is_sleep_of id) (sleeps_kept events)
-        ∙ sym (ap (λ (b : Bool). those_open id b (open_among (entries_of (Event.Take x attempt frame ∷ events) id))) over)
+        ∙ sym (ap (λ (b : Bool). those_open id b (open_among (entries_of (Event.Move x attempt frame ∷ events) id))) over)
     by_cases true e false f =
         let same : x ≡ id = (bytes_eq-Decides x id).0 e in
         goes_on (stays_open events x id attempt frame true e (subst (λ (y : Text). closes (version_of events y) frame ≡ false) same f))
@@ -223,16 +223,16 @@ of_closing events x id attempt frame adds rows before =
     by_cases false e false f = goes_on (stays_open events x id attempt frame false e refl)
 
 of_outcome : (events : List Event) (x id : Text) (attempt k : ℕ) (value : NonEmptyValue) (is_acknowledged : Bool)
-    → IsAccepted (Event.Take x attempt (Frame.RunOutcome k value is_acknowledged) ∷ events) → Keeps events id → Keeps (Event.Take x attempt (Frame.RunOutcome k value is_acknowledged) ∷ events) id
+    → IsAccepted (Event.Move x attempt (Frame.RunOutcome k value is_acknowledged) ∷ events) → Keeps events id → Keeps (Event.Move x attempt (Frame.RunOutcome k value is_acknowledged) ∷ events) id
 of_outcome events x id attempt k value is_acknowledged accepted before =
     before
     ∙ sym (ap₂ (those_open id)
     (stays_open events x id attempt (Frame.RunOutcome k value is_acknowledged) (bytes_eq x id) refl (and_no (bytes_eq x id)))
-    (ap open_among (entries_now events (Event.Take x attempt (Frame.RunOutcome k value is_acknowledged)) id refl)
-    ∙ arrives events x id (Event.Take x attempt (Frame.RunOutcome k value is_acknowledged)) (Arrived (completion k (result_of_value value)) ∷ []) refl refl refl refl
+    (ap open_among (entries_now events (Event.Move x attempt (Frame.RunOutcome k value is_acknowledged)) id refl)
+    ∙ arrives events x id (Event.Move x attempt (Frame.RunOutcome k value is_acknowledged)) (Arrived (completion k (result_of_value value)) ∷ []) refl refl refl refl
     (none_by k (entries_of events x) (result_of_value value) (no_sleep_asks events x k accepted.1 (outcome_awake events x attempt k value is_acknowledged accepted.0)))))
 
-of_frame : (events : List Event) (x id : Text) (attempt : ℕ) (frame : Frame) → IsAccepted (Event.Take x attempt frame ∷ events) → Keeps events id → Keeps (Event.Take x attempt frame ∷ events) id
+of_frame : (events : List Event) (x id : Text) (attempt : ℕ) (frame : Frame) → IsAccepted (Event.Move x attempt frame ∷ events) → Keeps events id → Keeps (Event.Move x attempt frame ∷ events) id
 of_frame events x id attempt (Frame.Command request) accepted before = of_command events x id attempt request accepted before
 of_frame events x id attempt (Frame.RunOutcome k value is_acknowledged) accepted before = of_outcome events x id attempt k value is_acknowledged accepted before
 of_frame events x id attempt frame accepted before = of_closing events x id attempt frame refl refl before
@@ -335,15 +335,15 @@ is_one false sleep = refl
 
 -- its answer is among those of a tick where it is over
 ended_told : (entries : List Entry) (now : ℕ) (sleep : ℕ × ℕ) → filter (ends_at sleep.1) (sleeps_of entries) ≡ sleep ∷ []
-    → list_any (completes sleep.1) (slept entries now) ≡ is_over entries now sleep
+    → list_any (completes sleep.1) (slept entries now) ≡ is_sleep_over entries now sleep
 ended_told entries now sleep is =
     let sleeps = sleeps_of entries in
-    any_answer sleep.1 (filter (is_over entries now) (sorted_by_moment sleeps))
-    ∙ list_any-IsPermutation (ends_at sleep.1) (filter (is_over entries now) (sorted_by_moment sleeps)) (filter (is_over entries now) sleeps)
-    (IsPermutation-filter (is_over entries now) (sorted_by_moment sleeps) sleeps (sorted_same sleeps))
-    ∙ any-filter (ends_at sleep.1) (filter (is_over entries now) sleeps)
-    ∙ ap is_some_of (filter_swap (ends_at sleep.1) (is_over entries now) sleeps ∙ ap (filter (is_over entries now)) is)
-    ∙ is_one (is_over entries now sleep) sleep
+    any_answer sleep.1 (filter (is_sleep_over entries now) (sorted_by_moment sleeps))
+    ∙ list_any-IsPermutation (ends_at sleep.1) (filter (is_sleep_over entries now) (sorted_by_moment sleeps)) (filter (is_sleep_over entries now) sleeps)
+    (IsPermutation-filter (is_sleep_over entries now) (sorted_by_moment sleeps) sleeps (sorted_same sleeps))
+    ∙ any-filter (ends_at sleep.1) (filter (is_sleep_over entries now) sleeps)
+    ∙ ap is_some_of (filter_swap (ends_at sleep.1) (is_sleep_over entries now) sleeps ∙ ap (filter (is_sleep_over entries now)) is)
+    ∙ is_one (is_sleep_over entries now sleep) sleep
 
 module _ (events : List Event) (now : ℕ) (id : Text) (accepted : IsAccepted events) (before : Keeps events id) where
   abbrev stays : SleepRow → Bool
@@ -395,9 +395,9 @@ module _ (events : List Event) (now : ℕ) (id : Text) (accepted : IsAccepted ev
 keeps : (id : Text) (events : List Event) → IsAccepted events → Keeps events id
 keeps id [] accepted = refl
 keeps id (Event.Invoke new ∷ events) accepted = of_begin events new id accepted (keeps id events accepted.1)
-keeps id (Event.Complete x k result ∷ events) accepted =
-    unchanged events (Event.Complete x k result) id refl refl refl
-    (arrives events x id (Event.Complete x k result) (Arrived (completion k result) ∷ []) refl refl refl refl
+keeps id (Event.Result x k result ∷ events) accepted =
+    unchanged events (Event.Result x k result) id refl refl refl
+    (arrives events x id (Event.Result x k result) (Arrived (completion k result) ∷ []) refl refl refl refl
     (none_by k (entries_of events x) result (no_sleep_asks events x k accepted.1 (completed_awake events x k result accepted.0))))
     (keeps id events accepted.1)
 keeps id (Event.Signal x key result ∷ events) accepted =
@@ -410,7 +410,7 @@ keeps id (Event.Cancel x ∷ events) accepted =
     (each (λ (sleep : ℕ × ℕ). false ≡ false) (λ sleep. refl) (sleeps_of (entries_of events x))))
     (keeps id events accepted.1)
 keeps id (Event.Tick now ∷ events) accepted = of_tick events now id accepted.1 (keeps id events accepted.1)
-keeps id (Event.Take x attempt frame ∷ events) accepted = of_frame events x id attempt frame accepted (keeps id events accepted.1)
+keeps id (Event.Move x attempt frame ∷ events) accepted = of_frame events x id attempt frame accepted (keeps id events accepted.1)
 keeps id (event ∷ events) accepted = unchanged events event id refl refl refl (adds_nothing events event id refl) (keeps id events accepted.1)
 
 pub sleeps_kept_after : SleepsKeptAfter

@@ -5,7 +5,7 @@ use Rattle.journal_model.specs.Notification.{Text}
 use Rattle.journal_model.specs.State.{StateMap}
 use Rattle.journal_model.specs.declared.invocation.NewInvocation.{NewInvocation}
 use Rattle.journal_model.specs.Event.{Frame, Event}
-use Rattle.journal_model.specs.Journal.{Entry, Closing as Closed, is_of, is_tick, begins, invocation_begun, starting_state, closes, closing_frame, frame_of, frames_of, is_open, closing_of, requests_in, entries_of, entries_from, entries_added, arrivals_in}
+use Rattle.journal_model.specs.Journal.{Entry, Closing, is_of, is_tick, begins, invocation_begun, starting_state, closes, closing_frame, frame_of, frames_of, is_open, closing_of, requests_in, entries_of, entries_from, entries_added, arrivals_in}
 use Rattle.journal_model.specs.Attempt.{begins_attempt, attempts_begun, suspension_in, suspension_of, is_woken}
 use Rattle.journal_model.specs.Start.{is_some_entry, moment_begun, begun_since_entry, attempts_since_entry}
 use Rattle.journal_model.specs.Cause.{last_completion}
@@ -15,7 +15,7 @@ use Rattle.due_laws.specs.Noted.{heard_in, heard_of, or_zero}
 use Rattle.due_laws.specs.Awake.{is_quiet, is_still}
 use Rattle.due_laws.proofs.Noting.{still_adds}
 use Rattle.store_model.specs.Places.{handed_in, handed_of}
-use Rattle.store_model.specs.Progress.{first_of, number_or_zero, payload_of_suspension, way_closed, error_in, last_error_of, last_output, progress_of}
+use Rattle.store_model.specs.Progress.{first_item, number_or_zero, payload_of_suspension, way_closed, error_in, last_error_of, last_output, progress_of}
 
 -- no frame, or one by which nothing is told of an invocation
 abbrev none_or_quiet : Option Frame → Bool
@@ -42,22 +42,22 @@ begins_no_attempt (Event.Begin other now) id (inr e) = cc
 begins_no_attempt _ id h = refl
 
 suspends_not : (event : Event) (id : Text) → Leaves event id → suspension_in id event ≡ None
-suspends_not (Event.Take other attempt (Frame.Suspend suspension)) id (inl e) = rw e refl
-suspends_not (Event.Take other attempt (Frame.Suspend suspension)) id (inr e) = cc
+suspends_not (Event.Move other attempt (Frame.Suspend suspension)) id (inl e) = rw e refl
+suspends_not (Event.Move other attempt (Frame.Suspend suspension)) id (inr e) = cc
 suspends_not _ id h = refl
 
 hands_not : (earlier : List Event) (event : Event) (id : Text) → Leaves event id → handed_in earlier id event ≡ None
-hands_not earlier (Event.Take other attempt frame) id (inl e) = rw e refl
-hands_not earlier (Event.Take other attempt (Frame.Suspend suspension)) id (inr e) = cc
-hands_not earlier (Event.Take other attempt Frame.End) id (inr e) = cc
-hands_not earlier (Event.Take other attempt _) id (inr e) = both_same (bytes_eq other id) None
+hands_not earlier (Event.Move other attempt frame) id (inl e) = rw e refl
+hands_not earlier (Event.Move other attempt (Frame.Suspend suspension)) id (inr e) = cc
+hands_not earlier (Event.Move other attempt Frame.End) id (inr e) = cc
+hands_not earlier (Event.Move other attempt _) id (inr e) = both_same (bytes_eq other id) None
 hands_not earlier _ id h = refl
 
 tells_not : (earlier : List Event) (event : Event) (id : Text) → Leaves event id → heard_in earlier id event ≡ None
-tells_not earlier (Event.Take other attempt frame) id (inl e) = rw e refl
-tells_not earlier (Event.Take other attempt (Frame.Suspend suspension)) id (inr e) = cc
-tells_not earlier (Event.Take other attempt Frame.End) id (inr e) = cc
-tells_not earlier (Event.Take other attempt _) id (inr e) = both_same (bytes_eq other id) None
+tells_not earlier (Event.Move other attempt frame) id (inl e) = rw e refl
+tells_not earlier (Event.Move other attempt (Frame.Suspend suspension)) id (inr e) = cc
+tells_not earlier (Event.Move other attempt Frame.End) id (inr e) = cc
+tells_not earlier (Event.Move other attempt _) id (inr e) = both_same (bytes_eq other id) None
 tells_not earlier _ id h = refl
 
 no_moment : (event : Event) (id : Text) → Leaves event id → (if is_of id event then moment_begun event else []) ≡ []
@@ -66,7 +66,7 @@ no_moment (Event.Begin other now) id (inr e) = cc
 no_moment event id h = both_same (is_of id event) []
 
 still_frame : (event : Event) → is_still event ≡ true → none_or_quiet (frame_of event) ≡ true
-still_frame (Event.Take other attempt frame) e = e
+still_frame (Event.Move other attempt frame) e = e
 still_frame _ e = refl
 
 -- ---- what stays
@@ -103,7 +103,7 @@ opened-quiet o (Some Frame.TooDeep) e frames = refl
 opened-quiet o (Some Frame.NotAccepted) e frames = refl
 opened-quiet o (Some _) e frames = cc
 
-abbrev pub closed_by : Option NewInvocation → List Frame → Option Closed
+abbrev pub closed_by : Option NewInvocation → List Frame → Option Closing
 closed_by o frames = option_and_then closing_frame (find (closes (version_in o)) frames)
 
 closed-quiet : (o : Option NewInvocation) (frame : Option Frame) → none_or_quiet frame ≡ true → (frames : List Frame) → closed_by o (cons_option frame frames) ≡ closed_by o frames
@@ -115,7 +115,7 @@ closed-quiet o (Some Frame.NotAccepted) e frames = refl
 closed-quiet o (Some _) e frames = cc
 
 abbrev pub error_of : List Frame → Option LastError
-error_of frames = first_of (filter_map error_in frames)
+error_of frames = first_item (filter_map error_in frames)
 
 error-quiet : (frame : Option Frame) → none_or_quiet frame ≡ true → (frames : List Frame) → error_of (cons_option frame frames) ≡ error_of frames
 error-quiet None e frames = refl
@@ -180,7 +180,7 @@ module _ (events : List Event) (event : Event) (id : Text) (leaves : Leaves even
       last_error = same_error i;
       attempts = same_attempts i;
       attempts_since_entry = length (same_moments i);
-      first_moment = number_or_zero (first_of (same_moments i));
+      first_moment = number_or_zero (first_item (same_moments i));
       last_completion = last_completion (requests_in (same_entries i));
       entries = 1 + length (same_entries i);
       heard = same_heard i;

@@ -7,7 +7,7 @@ use Rattle.sqlite_keyed.proofs.ListLemmas.{IsPermutation-filter}
 use Rattle.journal_model.specs.Notification.{Arrival}
 use Rattle.journal_model.specs.declared.notification.NotificationResult.{NotificationResult}
 use Rattle.journal_model.specs.Request.{Request, completions_asked}
-use Rattle.journal_model.specs.Journal.{Entry, asks_for as is_asking, requests_in, completes, completion, is_awaited, sleep_in, sleeps_in, by_moment, sorted_by_moment, can_be_due, is_over, slept}
+use Rattle.journal_model.specs.Journal.{Entry, asks_for, requests_in, completes, completion, is_awaited, sleep_in, sleeps_in, by_moment, sorted_by_moment, can_be_due, is_sleep_over, slept}
 use Rattle.journal_model.specs.Cause.{do_ascend, greatest}
 use Rattle.store_model.proofs.States.{exchanged}
 use Rattle.store_model.proofs.Opening.{both_parts}
@@ -39,19 +39,19 @@ answer_of_sleep sleep = completion sleep.1 NotificationResult.Void
 
 -- ---- a sleep asks for its completion
 
-asked_by_sleep : (n : ℕ) (request : Request) → list_any (ends_at n) (sleep_in request) ≡ true → is_asking n request ≡ true
+asked_by_sleep : (n : ℕ) (request : Request) → list_any (ends_at n) (sleep_in request) ≡ true → asks_for n request ≡ true
 asked_by_sleep n (Request.Sleep moment k name) e = e
 asked_by_sleep n _ e = cc
 
-pub asked_by_sleeps : (n : ℕ) (requests : List Request) → list_any (ends_at n) (sleeps_in requests) ≡ true → list_any (is_asking n) requests ≡ true
+pub asked_by_sleeps : (n : ℕ) (requests : List Request) → list_any (ends_at n) (sleeps_in requests) ≡ true → list_any (asks_for n) requests ≡ true
 asked_by_sleeps n [] e = cc
 asked_by_sleeps n (Request.Sleep moment k name ∷ requests) e = by_test (k == n) e (asked_by_sleeps n requests)
   where
-    by_test : (b : Bool) → (b || list_any (ends_at n) (sleeps_in requests)) ≡ true → (list_any (ends_at n) (sleeps_in requests) ≡ true → list_any (is_asking n) requests ≡ true)
-        → ((b || false) || list_any (is_asking n) requests) ≡ true
+    by_test : (b : Bool) → (b || list_any (ends_at n) (sleeps_in requests)) ≡ true → (list_any (ends_at n) (sleeps_in requests) ≡ true → list_any (asks_for n) requests ≡ true)
+        → ((b || false) || list_any (asks_for n) requests) ≡ true
     by_test true e later = refl
     by_test false e later = later e
-asked_by_sleeps n (request ∷ requests) e = or_right (is_asking n request) (list_any (is_asking n) requests) (asked_by_sleeps n requests e)
+asked_by_sleeps n (request ∷ requests) e = or_right (asks_for n request) (list_any (asks_for n) requests) (asked_by_sleeps n requests e)
   where
     or_right : (a b : Bool) → b ≡ true → (a || b) ≡ true
     or_right true b h = refl
@@ -101,34 +101,34 @@ and_last true true c e = e
 and_last true false c e = cc
 and_last false b c e = cc
 
-awaited_of : (entries : List Entry) (now n : ℕ) (sleeps : List (ℕ × ℕ)) → list_any (completes n) (map answer_of_sleep (filter (is_over entries now) sleeps)) ≡ true
+awaited_of : (entries : List Entry) (now n : ℕ) (sleeps : List (ℕ × ℕ)) → list_any (completes n) (map answer_of_sleep (filter (is_sleep_over entries now) sleeps)) ≡ true
     → (is_awaited entries n ≡ true) × (list_any (ends_at n) sleeps ≡ true)
 awaited_of entries now n [] e = cc
-awaited_of entries now n (sleep ∷ sleeps) e = by_over (is_over entries now sleep) refl e (awaited_of entries now n sleeps)
+awaited_of entries now n (sleep ∷ sleeps) e = by_over (is_sleep_over entries now sleep) refl e (awaited_of entries now n sleeps)
   where
     or_right : (a b : Bool) → b ≡ true → (a || b) ≡ true
     or_right true b h = refl
     or_right false b h = h
 
-    by_over : (a : Bool) → is_over entries now sleep ≡ a
-        → list_any (completes n) (map answer_of_sleep (if a then sleep ∷ filter (is_over entries now) sleeps else filter (is_over entries now) sleeps)) ≡ true
-        → (list_any (completes n) (map answer_of_sleep (filter (is_over entries now) sleeps)) ≡ true → (is_awaited entries n ≡ true) × (list_any (ends_at n) sleeps ≡ true))
+    by_over : (a : Bool) → is_sleep_over entries now sleep ≡ a
+        → list_any (completes n) (map answer_of_sleep (if a then sleep ∷ filter (is_sleep_over entries now) sleeps else filter (is_sleep_over entries now) sleeps)) ≡ true
+        → (list_any (completes n) (map answer_of_sleep (filter (is_sleep_over entries now) sleeps)) ≡ true → (is_awaited entries n ≡ true) × (list_any (ends_at n) sleeps ≡ true))
         → (is_awaited entries n ≡ true) × ((sleep.1 == n) || list_any (ends_at n) sleeps ≡ true)
     by_over true f e later = by_number (sleep.1 == n) refl e
       where
-        by_number : (b : Bool) → (sleep.1 == n) ≡ b → (b || list_any (completes n) (map answer_of_sleep (filter (is_over entries now) sleeps))) ≡ true
+        by_number : (b : Bool) → (sleep.1 == n) ≡ b → (b || list_any (completes n) (map answer_of_sleep (filter (is_sleep_over entries now) sleeps))) ≡ true
             → (is_awaited entries n ≡ true) × ((b || list_any (ends_at n) sleeps) ≡ true)
         by_number true g e =
             (ap (is_awaited entries) (sym (eqb-true sleep.1 n g)) ∙ and_last (nat_le sleep.0 now) (can_be_due sleep) (is_awaited entries sleep.1) f, refl)
         by_number false g e = later e
     by_over false f e later = ((later e).0, or_right (sleep.1 == n) (list_any (ends_at n) sleeps) ((later e).1))
 
-count_over : (entries : List Entry) (now n : ℕ) (sleeps : List (ℕ × ℕ)) → length (filter (completes n) (map answer_of_sleep (filter (is_over entries now) sleeps))) ≤ count n sleeps
+count_over : (entries : List Entry) (now n : ℕ) (sleeps : List (ℕ × ℕ)) → length (filter (completes n) (map answer_of_sleep (filter (is_sleep_over entries now) sleeps))) ≤ count n sleeps
 count_over entries now n [] = omega arith
-count_over entries now n (sleep ∷ sleeps) = by_cases (is_over entries now sleep) (sleep.1 == n) refl (count_over entries now n sleeps)
+count_over entries now n (sleep ∷ sleeps) = by_cases (is_sleep_over entries now sleep) (sleep.1 == n) refl (count_over entries now n sleeps)
   where
-    by_cases : (a b : Bool) → (sleep.1 == n) ≡ b → length (filter (completes n) (map answer_of_sleep (filter (is_over entries now) sleeps))) ≤ count n sleeps
-        → length (filter (completes n) (map answer_of_sleep (if a then sleep ∷ filter (is_over entries now) sleeps else filter (is_over entries now) sleeps)))
+    by_cases : (a b : Bool) → (sleep.1 == n) ≡ b → length (filter (completes n) (map answer_of_sleep (filter (is_sleep_over entries now) sleeps))) ≤ count n sleeps
+        → length (filter (completes n) (map answer_of_sleep (if a then sleep ∷ filter (is_sleep_over entries now) sleeps else filter (is_sleep_over entries now) sleeps)))
         ≤ length (if b then sleep ∷ filter (ends_at n) sleeps else filter (ends_at n) sleeps)
     by_cases true true e h = rw e (omega arith)
     by_cases true false e h = rw e h
@@ -136,7 +136,7 @@ count_over entries now n (sleep ∷ sleeps) = by_cases (is_over entries now slee
     by_cases false false e h = h
 
 pub slept_awaited : (entries : List Entry) (now n : ℕ) → list_any (completes n) (slept entries now) ≡ true
-    → (is_awaited entries n ≡ true) × (list_any (is_asking n) (requests_in entries) ≡ true)
+    → (is_awaited entries n ≡ true) × (list_any (asks_for n) (requests_in entries) ≡ true)
 slept_awaited entries now n e =
     let sleeps = sleeps_in (requests_in entries) in
     let found = awaited_of entries now n (sorted_by_moment sleeps) e in

@@ -105,7 +105,7 @@ applied-frame version id frame r = applied-closed id (closes version frame) r
 
 pub applied-sleeps : (events : List Event) (event : Event) (r : Records)
     → applied_all (sleep_writes events event) r ≡ record r { sleeps = sleeps_after events event r.sleeps }
-applied-sleeps events (Event.Take id attempt frame) r = applied-frame (version_of events id) id frame r
+applied-sleeps events (Event.Move id attempt frame) r = applied-frame (version_of events id) id frame r
 applied-sleeps events (Event.Tick now) r = refl
 applied-sleeps events _ r = refl
 

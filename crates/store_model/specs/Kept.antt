@@ -19,7 +19,7 @@ use Rattle.store_tables.specs.declared.row.InvocationRow.{InvocationRow}
 use Rattle.store_tables.specs.declared.row.EntryRow.{EntryRow}
 use Rattle.store_tables.specs.declared.row.StateRow.{StateRow}
 use Rattle.store_tables.specs.Questions.{DoAscend, journal_of}
-use Rattle.store_model.specs.Progress.{first_of, second_of, progress_of}
+use Rattle.store_model.specs.Progress.{first_item, second_of, progress_of}
 use Rattle.store_model.specs.Sleeps.{sleeps_kept}
 
 -- ---- journals
@@ -53,7 +53,7 @@ entry_row id before place (Recorded request) = record {
   place = place;
   kind = request_type request;
   payload = request_payload request;
-  completion = first_of (completions_asked request);
+  completion = first_item (completions_asked request);
   second_completion = second_of (completions_asked request);
   answered = None;
   moment = moment_of (sleep_in request);

@@ -3,11 +3,11 @@ use Rattle.std.specs.Prelude.{◌≡◌, ℕ, ◌+◌, ◌≤◌, Bool, true, fa
 use Rattle.std.specs.List.{find}
 use Rattle.journal_model.specs.Notification.{Bytes, Text}
 use Rattle.journal_model.specs.Request.{Request, completions_asked}
-use Rattle.journal_model.specs.State.{value_at}
+use Rattle.journal_model.specs.State.{value_of_key}
 use Rattle.journal_model.specs.Spelling.{frame_bytes}
 use Rattle.journal_model.specs.Event.{Event}
 use Rattle.journal_model.specs.Attempt.{input_bytes, journal_pieces}
-use Rattle.journal_model.specs.Journal.{Entry, Recorded, Arrived, asks_for as is_asking, invocation_begun, is_busy, is_open, entries_of, requests_in, sleeps_in, sorted_by_moment, can_be_due, is_over, request_asking, is_awaited, object_state}
+use Rattle.journal_model.specs.Journal.{Entry, Recorded, Arrived, asks_for as is_asking, invocation_begun, is_busy, is_open, entries_of, requests_in, sleeps_in, sorted_by_moment, can_be_due, is_sleep_over, request_asking, is_awaited, object_state}
 use Rattle.journal_model.specs.Cause.{IsAccepted}
 use Rattle.sqlite_keyed.specs.Lists.{sort_by}
 use Rattle.store_tables.specs.Records.{Records, ends_by, is_at_key, is_sleep_of}
@@ -15,7 +15,7 @@ use Rattle.store_tables.specs.Orders.{AreApart, sleep_cmp}
 use Rattle.store_tables.specs.declared.row.EntryRow.{EntryRow}
 use Rattle.store_tables.specs.declared.row.SleepRow.{SleepRow}
 use Rattle.store_tables.specs.Questions.{has_id, is_open_of, is_at_place, asks_for, asks_second_for, answers, journal_of, is_arrival_after, is_arrival_at, is_number, AreCounted, AreInPlace}
-use Rattle.store_model.specs.Progress.{first_of, second_of}
+use Rattle.store_model.specs.Progress.{first_item, second_of}
 use Rattle.store_model.specs.Sleeps.{due_until, sleep_row, sleeps_kept}
 use Rattle.store_model.specs.Kept.{entry_row, journal_rows, invocation_row, state_row, IsKept}
 
@@ -35,7 +35,7 @@ row_if id true asked = Some (entry_row id [] asked.0 (Recorded asked.1))
 row_if id false asked = None
 
 abbrev pub first_row : Text → ℕ → ℕ × Request → Option EntryRow
-first_row id n asked = row_if id (is_number n (first_of (completions_asked asked.1))) asked
+first_row id n asked = row_if id (is_number n (first_item (completions_asked asked.1))) asked
 
 abbrev pub second_row : Text → ℕ → ℕ × Request → Option EntryRow
 second_row id n asked = row_if id (is_number n (second_of (completions_asked asked.1))) asked
@@ -49,7 +49,7 @@ pub record Finds (events : List Event) (r : Records) : Type 0 where
   pub places : (id : Text) → AreInPlace 0 (journal_of id r)
   -- a value by its key
   pub value : (object : Text) (key : Bytes)
-      → IsOnly (is_at_key object key) r.states (option_map (λ (value : Bytes). state_row object (key, value)) (value_at (object_state events object) key))
+      → IsOnly (is_at_key object key) r.states (option_map (λ (value : Bytes). state_row object (key, value)) (value_of_key (object_state events object) key))
 
 abbrev pub AllFind : Type 0
 AllFind = (events : List Event) (r : Records) → IsAccepted events → IsKept events r → Finds events r
@@ -120,7 +120,7 @@ SleepsKeptAfter = (events : List Event) (id : Text) → IsAccepted events → fi
 -- the sleeps of an invocation that a tick ends, in the order in which it ends them
 abbrev pub ended_sleeps : List Event → ℕ → Text → List (ℕ × ℕ)
 ended_sleeps events now id =
-    if is_open events id then filter (is_over (entries_of events id) now) (sorted_by_moment (sleeps_in (requests_in (entries_of events id)))) else []
+    if is_open events id then filter (is_sleep_over (entries_of events id) now) (sorted_by_moment (sleeps_in (requests_in (entries_of events id)))) else []
 
 abbrev pub due_sleeps : ℕ → Records → List SleepRow
 due_sleeps now r = filter (ends_by (due_until now)) r.sleeps

@@ -52,7 +52,7 @@ handed_at earlier id Frame.End = Some (handed_place earlier id)
 handed_at earlier id _ = None
 
 abbrev pub handed_in : List Event → Text → Event → Option ℕ
-handed_in earlier id (Event.Take other attempt frame) = if bytes_eq other id then handed_at earlier id frame else None
+handed_in earlier id (Event.Move other attempt frame) = if bytes_eq other id then handed_at earlier id frame else None
 handed_in earlier id _ = None
 
 -- of the last attempt, if it was suspended or ended its invocation

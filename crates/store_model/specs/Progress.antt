@@ -18,13 +18,13 @@ use Rattle.store_tables.specs.declared.row.Closing.TheVariants.{Ended, Failed}
 use Rattle.due_laws.specs.Noted.{heard_of, is_awake_kept}
 use Rattle.store_model.specs.Places.{handed_of}
 
-abbrev pub first_of : {A : Type 0} → List A → Option A
-first_of [] = None
-first_of (x ∷ xs) = Some x
+abbrev pub first_item : {A : Type 0} → List A → Option A
+first_item [] = None
+first_item (x ∷ xs) = Some x
 
 abbrev pub second_of : {A : Type 0} → List A → Option A
 second_of [] = None
-second_of (x ∷ xs) = first_of xs
+second_of (x ∷ xs) = first_item xs
 
 abbrev pub or_last : {A : Type 0} → A → Option A → Option A
 or_last x None = Some x
@@ -87,7 +87,7 @@ error_in (Frame.Error code message behavior delay) =
 error_in _ = None
 
 abbrev pub last_error_of : List Event → Text → Option LastError
-last_error_of events id = first_of (filter_map error_in (frames_of events id))
+last_error_of events id = first_item (filter_map error_in (frames_of events id))
 
 -- of an invocation of an object that was just begun: it is open, and its input is the one entry
 abbrev pub begun_progress : Text → Progress
@@ -118,7 +118,7 @@ progress_of events id = record {
   last_error = last_error_of events id;
   attempts = attempts_begun events id;
   attempts_since_entry = length (attempts_since_entry events id);
-  first_moment = number_or_zero (first_of (attempts_since_entry events id));
+  first_moment = number_or_zero (first_item (attempts_since_entry events id));
   last_completion = last_completion (recorded_requests events id);
   entries = 1 + length (entries_of events id);
   heard = heard_of events id;

@@ -27,7 +27,7 @@ sleeps_after_frame version id frame sleeps = if closes version frame then filter
 
 -- after an event, from those before it
 abbrev pub sleeps_after : List Event → Event → List SleepRow → List SleepRow
-sleeps_after events (Event.Take id attempt frame) sleeps = sleeps_after_frame (version_of events id) id frame sleeps
+sleeps_after events (Event.Move id attempt frame) sleeps = sleeps_after_frame (version_of events id) id frame sleeps
 sleeps_after events (Event.Tick now) sleeps = filter (λ s. not (ends_by (due_until now) s)) sleeps
 sleeps_after events _ sleeps = sleeps
 

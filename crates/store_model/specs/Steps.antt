@@ -50,28 +50,28 @@ suspended_or None before = before
 suspended_or (Some suspension) before = Some (payload_of_suspension suspension)
 
 -- after a frame of an invocation that speaks this version, whose attempt was handed what stands before the place
-abbrev pub after_frame : ℕ → ℕ → Frame → Progress → Progress
-after_frame version place (Frame.Command request) p = after_command request p
-after_frame version place (Frame.RunOutcome n value is_acknowledged) p = grown 1 1 p
-after_frame version place (Frame.Suspend suspension) p = record p {
+abbrev pub progress_after_frame : ℕ → ℕ → Frame → Progress → Progress
+progress_after_frame version place (Frame.Command request) p = after_command request p
+progress_after_frame version place (Frame.RunOutcome n value is_acknowledged) p = grown 1 1 p
+progress_after_frame version place (Frame.Suspend suspension) p = record p {
   suspension = suspended_or suspension p.suspension;
   handed = Some place;
 }
-after_frame version place (Frame.Error code message behavior delay) p = record p {
+progress_after_frame version place (Frame.Error code message behavior delay) p = record p {
   last_error = Some (record { code = code; behavior = behavior_number behavior; delay = delay; message = message });
   open_object = if closes version (Frame.Error code message behavior delay) then None else p.open_object;
   closing = if closes version (Frame.Error code message behavior delay) then Some Failed else p.closing;
 }
-after_frame version place Frame.End p = record p { open_object = None; closing = Some Ended; handed = Some place }
-after_frame version place _ p = p
+progress_after_frame version place Frame.End p = record p { open_object = None; closing = Some Ended; handed = Some place }
+progress_after_frame version place _ p = p
 
 -- after an event of the invocation, with what is noted then
 abbrev pub after_event : List Event → Event → Progress → Progress
-after_event events (Event.Complete id n result) p = grown 1 1 p
+after_event events (Event.Result id n result) p = grown 1 1 p
 after_event events (Event.Signal id key result) p = grown 1 1 p
 after_event events (Event.Cancel id) p = grown 1 1 p
 after_event events (Event.Begin id now) p = after_begin now p
-after_event events (Event.Take id attempt frame) p = after_frame (version_of events id) (handed_place events id) frame p
+after_event events (Event.Move id attempt frame) p = progress_after_frame (version_of events id) (handed_place events id) frame p
 after_event events _ p = p
 
 abbrev pub ProgressFollows : Type 0

@@ -39,12 +39,12 @@ ids_of_frame id _ = id ∷ []
 
 -- the invocations, begun before, of which an event changes what is kept
 abbrev pub changed_by : List Event → Event → List Text
-changed_by events (Event.Complete id n result) = id ∷ []
+changed_by events (Event.Result id n result) = id ∷ []
 changed_by events (Event.Signal id key result) = id ∷ []
 changed_by events (Event.Cancel id) = id ∷ []
 changed_by events (Event.Tick now) = filter (ends_sleep events now) (map (λ (new : NewInvocation). new.id) (begun events))
 changed_by events (Event.Begin id now) = id ∷ []
-changed_by events (Event.Take id attempt frame) = ids_of_frame id frame
+changed_by events (Event.Move id attempt frame) = ids_of_frame id frame
 changed_by events _ = []
 
 -- what a request writes of its object's state
@@ -66,7 +66,7 @@ sleep_writes_of version id frame = if closes version frame then CloseSleeps id �
 
 -- a tick closes those that it ends
 abbrev pub sleep_writes : List Event → Event → List Write
-sleep_writes events (Event.Take id attempt frame) = sleep_writes_of (version_of events id) id frame
+sleep_writes events (Event.Move id attempt frame) = sleep_writes_of (version_of events id) id frame
 sleep_writes events (Event.Tick now) = CloseSleepsUntil (due_until now) ∷ []
 sleep_writes events _ = []
 

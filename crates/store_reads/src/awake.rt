@@ -5,9 +5,9 @@ ghost use Rattle.sqlite.specs.Held.{state};
 ghost use Rattle.sqlite.specs.State.{HasCleanDisk};
 ghost use Rattle.journal_model.specs.Event.{Event};
 ghost use Rattle.journal_model.specs.Attempt.{due, is_none, live_attempt};
-ghost use Rattle.store_tables.specs.Looks.{Looks};
+ghost use Rattle.store_tables.specs.Looks.{OnlyAsks};
 ghost use Rattle.store_tables.specs.declared.row.InvocationRow.{InvocationRow as Row};
-ghost use Rattle.store_refusals.specs.Prepared.{Tells};
+ghost use Rattle.store_refusals.specs.Prepared.{TellsOrRefuses};
 ghost use Rattle.store_invocations.specs.Rows.{IsStoreOf};
 ghost use Rattle.store_refusals.specs.Causes.{TellsCause};
 
@@ -38,8 +38,8 @@ fn ids_of(alloc: Global, rows: Vec<InvocationRow>) -> Result<Vec<ByteStr>, Alloc
 /// read, and none of any other.
 pub fn awake_ids<S: Alter>(tables: &mut StoreTables<S>) -> Result<Vec<ByteStr>, Refusal>
     ensures told { HasCleanDisk (state S.Store tables.new) → (events : List Event) → IsStoreOf events (state S.Store tables.old)
-        → Tells (λ ids. due events ≡ filter (λ id. is_none (live_attempt events id)) ids.items) result }
-    ensures looks { Looks S.Store tables.old tables.new }
+        → TellsOrRefuses (λ ids. due events ≡ filter (λ id. is_none (live_attempt events id)) ids.items) result }
+    ensures looks { OnlyAsks S.Store tables.old tables.new }
     ensures cause { IfErr result (TellsCause (state S.Store tables.old) (state S.Store tables.new)) }
 {
     let rows = awake_invocations(tables)?;

@@ -4,12 +4,12 @@ ghost use Rattle.std.specs.Prelude.{◌≡◌, ◌<◌, ◌^◌, ◌-◌, List, 
 ghost use Rattle.sqlite.specs.Held.{state};
 ghost use Rattle.sqlite.specs.State.{HasCleanDisk};
 ghost use Rattle.journal_model.specs.Event.{Event};
-ghost use Rattle.store_tables.specs.Looks.{Looks};
+ghost use Rattle.store_tables.specs.Looks.{OnlyAsks};
 ghost use Rattle.store_model.specs.Kept.{journal_rows};
 ghost use Rattle.store_model.specs.Lookups.{arrival_rows};
 ghost use Rattle.store_live.specs.Input.{next_ordinal, next_row};
 ghost use Rattle.store_live_laws.specs.Memory.{frame_read, row_asked};
-ghost use Rattle.store_refusals.specs.Prepared.{Tells};
+ghost use Rattle.store_refusals.specs.Prepared.{TellsOrRefuses};
 ghost use Rattle.store_invocations.specs.Rows.{IsStoreOf};
 ghost use Rattle.store_reads.specs.Read.{IsCounted};
 ghost use Rattle.store_refusals.specs.Causes.{TellsCause};
@@ -27,8 +27,8 @@ fn known_row<S: Alter>(
     id: &ByteStr,
     place: u32,
 ) -> Result<Option<EntryRow>, Refusal>
-    ensures told { HasCleanDisk (state S.Store tables.new) → (events : List Event) → IsStoreOf events (state S.Store tables.old) → Tells (λ row. row ≡ slice_get (journal_rows events id.now) place) result }
-    ensures looks { Looks S.Store tables.old tables.new }
+    ensures told { HasCleanDisk (state S.Store tables.new) → (events : List Event) → IsStoreOf events (state S.Store tables.old) → TellsOrRefuses (λ row. row ≡ slice_get (journal_rows events id.now) place) result }
+    ensures looks { OnlyAsks S.Store tables.old tables.new }
     ensures cause { IfErr result (TellsCause (state S.Store tables.old) (state S.Store tables.new)) }
 {
     let row = entry_at(tables, id, place)?;
@@ -41,8 +41,8 @@ fn later_row<S: Alter>(
     id: &ByteStr,
     ordinal: u32,
 ) -> Result<Option<EntryRow>, Refusal>
-    ensures told { HasCleanDisk (state S.Store tables.new) → (events : List Event) → IsStoreOf events (state S.Store tables.old) → 0 < ordinal → Tells (λ row. row ≡ slice_get (arrival_rows events id.now) (ordinal - 1)) result }
-    ensures looks { Looks S.Store tables.old tables.new }
+    ensures told { HasCleanDisk (state S.Store tables.new) → (events : List Event) → IsStoreOf events (state S.Store tables.old) → 0 < ordinal → TellsOrRefuses (λ row. row ≡ slice_get (arrival_rows events id.now) (ordinal - 1)) result }
+    ensures looks { OnlyAsks S.Store tables.old tables.new }
     ensures cause { IfErr result (TellsCause (state S.Store tables.old) (state S.Store tables.new)) }
 {
     let row = arrival_at(tables, id, ordinal)?;
@@ -55,8 +55,8 @@ fn row_of_next<S: Alter>(
     id: &ByteStr,
     next: NextRow,
 ) -> Result<Option<EntryRow>, Refusal>
-    ensures told { HasCleanDisk (state S.Store tables.new) → (events : List Event) → IsStoreOf events (state S.Store tables.old) → IsCounted next → Tells (λ row. row ≡ row_asked events id.now next) result }
-    ensures looks { Looks S.Store tables.old tables.new }
+    ensures told { HasCleanDisk (state S.Store tables.new) → (events : List Event) → IsStoreOf events (state S.Store tables.old) → IsCounted next → TellsOrRefuses (λ row. row ≡ row_asked events id.now next) result }
+    ensures looks { OnlyAsks S.Store tables.old tables.new }
     ensures cause { IfErr result (TellsCause (state S.Store tables.old) (state S.Store tables.new)) }
 {
     match next {
@@ -72,8 +72,8 @@ pub fn next_frame<S: Alter>(
     input: &AttemptInput,
 ) -> Result<Option<FrameRead>, Refusal>
     ensures told { HasCleanDisk (state S.Store tables.new) → (events : List Event) → IsStoreOf events (state S.Store tables.old) → next_ordinal input.now < 2 ^ 32
-        → Tells (λ frame. frame ≡ option_map (frame_read input.now.unread (next_row input.now)) (row_asked events id.now (next_row input.now))) result }
-    ensures looks { Looks S.Store tables.old tables.new }
+        → TellsOrRefuses (λ frame. frame ≡ option_map (frame_read input.now.unread (next_row input.now)) (row_asked events id.now (next_row input.now))) result }
+    ensures looks { OnlyAsks S.Store tables.old tables.new }
     ensures cause { IfErr result (TellsCause (state S.Store tables.old) (state S.Store tables.new)) }
 {
     let next = input.next_row();

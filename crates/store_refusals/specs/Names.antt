@@ -27,8 +27,8 @@ cause_name Cause.RunNotOpen = codes "S22"
 cause_name Cause.NumbersUsedUp = codes "S23"
 cause_name Cause.PayloadTooLong = codes "S24"
 
-abbrev pub name_of : Refusal → List ℕ
-name_of (refusal.Cause cause) = cause_name cause
-name_of (refusal.StatementRefused cause) = codes "S19"
-name_of refusal.OutOfMemory = codes "S20"
-name_of refusal.ForeignRow = codes "S21"
+abbrev pub refusal_name_of : Refusal → List ℕ
+refusal_name_of (refusal.Cause cause) = cause_name cause
+refusal_name_of (refusal.StatementRefused cause) = codes "S19"
+refusal_name_of refusal.OutOfMemory = codes "S20"
+refusal_name_of refusal.ForeignRow = codes "S21"

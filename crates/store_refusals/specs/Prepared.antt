@@ -21,6 +21,6 @@ Prepares events event IsMade (Ok made) = (causes_of events event ≡ []) × IsMa
 Prepares events event IsMade (Err why) = IsRefused (causes_of events event) why
 
 -- what is asked of the events is answered, but for a circumstance
-abbrev pub Tells : {A : Type 0} → (A → Type 0) → Result A Refusal → Type 0
-Tells IsAnswer (Ok answer) = IsAnswer answer
-Tells IsAnswer (Err why) = IsRefused [] why
+abbrev pub TellsOrRefuses : {A : Type 0} → (A → Type 0) → Result A Refusal → Type 0
+TellsOrRefuses IsAnswer (Ok answer) = IsAnswer answer
+TellsOrRefuses IsAnswer (Err why) = IsRefused [] why

@@ -10,9 +10,9 @@ use Rattle.store_refusals.specs.declared.refusal.Refusal.{Refusal}
 use Rattle.store_refusals.specs.declared.refusal.Refusal.TheVariants as refusal
 
 -- the least of causes that hold, as a refusal
-abbrev pub first_of : List Cause → Option Refusal
-first_of [] = None
-first_of (c ∷ causes) = Some (refusal.Cause c)
+abbrev pub refusal_of_first_cause : List Cause → Option Refusal
+refusal_of_first_cause [] = None
+refusal_of_first_cause (c ∷ causes) = Some (refusal.Cause c)
 
 -- the refusal of the first test that holds
 abbrev pub refusal_by : Tests → Option Refusal
@@ -27,7 +27,7 @@ is_circumstance _ = false
 
 -- a refusal is that of the least cause, or a circumstance
 abbrev pub IsRefused : List Cause → Refusal → Type 0
-IsRefused causes why = (first_of causes ≡ Some why) ⊎ IsTrue (is_circumstance why)
+IsRefused causes why = (refusal_of_first_cause causes ≡ Some why) ⊎ IsTrue (is_circumstance why)
 
 abbrev pub encoding_refusal : EncodingError → Refusal
 encoding_refusal encoding.PayloadTooLong = refusal.Cause Cause.PayloadTooLong

@@ -1,7 +1,7 @@
 // Why a call is refused.
 ghost use Rattle.std.specs.Prelude.{◌≡◌};
 ghost use Rattle.store_refusals.specs.declared.refusal.Refusal.TheVariants.{OutOfMemory, StatementRefused};
-ghost use Rattle.store_refusals.specs.Names.{cause_name, name_of};
+ghost use Rattle.store_refusals.specs.Names.{cause_name, refusal_name_of};
 ghost use Rattle.store_refusals.specs.Refused.{encoding_refusal, reading_refusal};
 
 use journal_model::Cause;
@@ -55,7 +55,7 @@ fn name_of_cause(cause: Cause) -> &'static str
 impl Refusal {
     /// The name as it is printed.
     pub fn name(self) -> &'static str
-        ensures { result.now ≡ name_of self }
+        ensures { result.now ≡ refusal_name_of self }
     {
         match self {
             Refusal::Cause(cause) => name_of_cause(cause),

@@ -4,7 +4,7 @@ use Rattle.std.specs.List.{AllByRecursion}
 use Rattle.journal_model.specs.Notification.{Bytes, Text}
 use Rattle.journal_model.specs.Request.{Request}
 use Rattle.journal_model.specs.Event.{Event, Frame}
-use Rattle.journal_model.specs.State.{value_at}
+use Rattle.journal_model.specs.State.{value_of_key}
 use Rattle.journal_model.specs.Journal.{closes, frame_of, invocation_begun, object_of, object_state, request_of_frame, version_of}
 use Rattle.journal_model.specs.Cause.{IsAccepted}
 use Rattle.sqlite_keyed.proofs.ListLemmas.{all-append}
@@ -63,7 +63,7 @@ frame_adds_none version id (Frame.Command request) = sleeps_add_none (sleeps_ope
 frame_adds_none version id frame = closing_adds_none (closes version frame) id
 
 closed_add_none : (events : List Event) (event : Event) → AllByRecursion AddsNone (sleep_writes events event)
-closed_add_none events (Event.Take id attempt frame) = frame_adds_none (version_of events id) id frame
+closed_add_none events (Event.Move id attempt frame) = frame_adds_none (version_of events id) id frame
 closed_add_none events (Event.Tick now) = (tt, tt)
 closed_add_none events event = tt
 
@@ -97,7 +97,7 @@ kept_apart events r accepted kept =
     let found = all_found events r accepted kept in
     record {
       ids = λ id. subst (λ l. length l ≤ 1) (sym (found.invocation id)) (few (option_map (invocation_row events) (invocation_begun events id)));
-      keys = λ object key. subst (λ l. length l ≤ 1) (sym (found.value object key)) (few (option_map (λ (value : Bytes). state_row object (key, value)) (value_at (object_state events object) key)));
+      keys = λ object key. subst (λ l. length l ≤ 1) (sym (found.value object key)) (few (option_map (λ (value : Bytes). state_row object (key, value)) (value_of_key (object_state events object) key)));
     }
 
 none_there : {A B : Type 0} (f : A → B) (o : Option A) → is_some o ≡ false → option_to_list (option_map f o) ≡ []

@@ -30,7 +30,7 @@ use Rattle.sqlite.specs.Table.{Table}
 use Rattle.sqlite.specs.Does.{Tally}
 use Rattle.sqlite.specs.Effect.{Answers, Database}
 use Rattle.sqlite.specs.Term.{Term, col, eval_all}
-use Rattle.sql_tables.specs.Causes.{AreRefused, ComesTo, IsRefusedFor, Statement, enforced}
+use Rattle.sql_tables.specs.Causes.{AreRefused, StatementComesTo, IsRefusedFor, Statement, enforced}
 use Rattle.sql_tables.specs.Cells.{long_cell}
 use Rattle.sql_tables.specs.Columns.{plain_orders, table_of}
 use Rattle.sql_tables.specs.Statements.{program_of, rows_of}
@@ -68,7 +68,7 @@ use Rattle.store_sql_laws.proofs.Rows.{from_mapped, only, own_rowid}
 pub record IsFree (limit : Option ℕ) (one : Statement) : Type 0 where
   pub is_tame : IsTame limit one
   pub never : (db : Database) → HasInvocations db → TablesAscend db.trees → IsRefusedFor limit one db rowid_taken → ⊥
-  pub comes : (db new : Database) → HasInvocations db → TablesAscend db.trees → (tally : Tally) → ComesTo limit one db (Ok (tally, new)) → TablesAscend new.trees
+  pub comes : (db new : Database) → HasInvocations db → TablesAscend db.trees → (tally : Tally) → StatementComesTo limit one db (Ok (tally, new)) → TablesAscend new.trees
 
 -- the rows of one of the tables ascend
 abbrev Picks : ℕ → Type 0

@@ -26,9 +26,9 @@ use Rattle.sqlite.specs.Rowids.TheVariants.{Given}
 use Rattle.sqlite.specs.Does.{Tally}
 use Rattle.sqlite.specs.Effect.{Answers, Database}
 use Rattle.sqlite.specs.Term.{Term, col, eval_all}
-use Rattle.sql_tables.specs.Causes.{ComesTo, IsRefusedFor, Statement, enforced}
+use Rattle.sql_tables.specs.Causes.{StatementComesTo, IsRefusedFor, Statement, enforced}
 use Rattle.sql_tables.specs.Cells.{long_cell}
-use Rattle.sql_tables.specs.Changes.{Changes}
+use Rattle.sql_tables.specs.Changes.{ChangesTable}
 use Rattle.sql_tables.specs.Columns.{plain_orders, table_of}
 use Rattle.sql_tables.specs.Content.{HasRows}
 use Rattle.sql_tables.specs.Statements.{program_of, rows_of}
@@ -62,7 +62,7 @@ use Rattle.store_sql_laws.proofs.Stands.{Stands, elsewhere, ids_apart, keys_apar
 -- it is not refused for a key, and turns the records so
 pub record IsSpared (limit : Option ℕ) (one : Statement) (r after : Records) : Type 0 where
   pub never : (db : Database) → Stands db r → IsRefusedFor limit one db key_taken → ⊥
-  pub comes : (db new : Database) → Stands db r → (tally : Tally) → ComesTo limit one db (Ok (tally, new)) → Stands new after
+  pub comes : (db new : Database) → Stands db r → (tally : Tally) → StatementComesTo limit one db (Ok (tally, new)) → Stands new after
 
 module _ (limit : Option ℕ) where
   -- ---- INSERT
@@ -74,7 +74,7 @@ module _ (limit : Option ℕ) where
         let stops = insert_stops store_schema none_refers limit (statement sql row) db has it.plain tree name columns keys (plain_orders keys) at found key_taken refused terms width row it.command accepts it.values casts in
         never_for_key limit db.trees (record { table = table_of tree name columns keys; gone = []; news = (Int (next_rowid (db.trees tree)) ∷ row) ∷ [] }) stops.0 stops.1 stops.2 keeps
 
-    changed_by : (tally : Tally) (new : Database) → ComesTo limit (statement sql row) db (Ok (tally, new)) → Changes store_schema tree (λ rows. rows ++ row ∷ []) db new
+    changed_by : (tally : Tally) (new : Database) → StatementComesTo limit (statement sql row) db (Ok (tally, new)) → ChangesTable store_schema tree (λ rows. rows ++ row ∷ []) db new
     changed_by tally new comes =
         insert_comes store_schema none_refers limit (statement sql row) db has it.plain tree name columns keys (plain_orders keys) at found tally new comes terms width row it.command it.values casts
 
@@ -136,7 +136,7 @@ module _ (limit : Option ℕ) where
           | inr (ids, asked, stops) ↦ never_for_key limit db.trees (edit_of db.trees (table_of tree name columns keys) (ids_of ids) Given 0 []) stop.0 stop.2 (inr stops) (keeps ids)
         ]
 
-    cut_by : (tally : Tally) (new : Database) → ComesTo limit (statement sql params) db (Ok (tally, new)) → Changes store_schema tree (filter (λ (cells : Row). not (match_cells params tests cells))) db new
+    cut_by : (tally : Tally) (new : Database) → StatementComesTo limit (statement sql params) db (Ok (tally, new)) → ChangesTable store_schema tree (filter (λ (cells : Row). not (match_cells params tests cells))) db new
     cut_by tally new comes =
         delete_comes store_schema none_refers limit (statement sql params) db has it.plain tree name columns keys (plain_orders keys) at found tally new comes
         (tests_of tests) (λ (cells : Row). not (match_cells params tests cells)) it.command (λ r. ap not (cells_match params tests r))

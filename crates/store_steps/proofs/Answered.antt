@@ -5,7 +5,7 @@ use Rattle.journal_model.specs.Notification.{Text, Arrival}
 use Rattle.journal_model.specs.declared.notification.NotificationResult.{NotificationResult}
 use Rattle.journal_model.specs.declared.notification.NotificationId.TheVariants.{CompletionId}
 use Rattle.journal_model.specs.Delivery.{value_or_void}
-use Rattle.journal_model.specs.State.{StateMap, value_at, state_keys, state_after}
+use Rattle.journal_model.specs.State.{StateMap, value_of_key, state_keys, state_after}
 use Rattle.journal_model.specs.Request.{Request, completions_asked}
 use Rattle.journal_model.specs.Spelling.{completion_type, notification_payload}
 use Rattle.journal_model.specs.Event.{Frame, Event}
@@ -43,8 +43,8 @@ use Rattle.store_arrivals.proofs.Written.{few_arrivals}
 use Rattle.store_steps.specs.declared.frame.PreparedFrame.{PreparedFrame}
 use Rattle.store_steps.specs.declared.reads.ReadAnswer.{ReadAnswer}
 use Rattle.store_steps.specs.Reads.{IsReadMade, answer_told, with_read}
-use Rattle.store_steps.specs.Taken.{IsReply, IsTaken}
-use Rattle.store_steps.specs.Told.{after_recorded, answers_told, asked_by, command_row, tests_of_told}
+use Rattle.store_steps.specs.Taken.{IsReply, IsFrameTaken}
+use Rattle.store_steps.specs.Told.{after_recorded, answers_told, ids_asked_by, command_row, tests_of_told}
 use Rattle.store_steps.proofs.Tests.{asked_same, command_tests, tests_left}
 use Rattle.store_steps.proofs.Writes.{put_out_same, row_same}
 
@@ -71,7 +71,7 @@ no_answer_told answer e = absurd cc
 pub answer_of : (state : StateMap) (request : Request) (answer : ReadAnswer) → answer_told state (state_use request) (first_asked (completions_asked request)) ≡ Some answer
     → IsAnswerOf state request answer
 answer_of state (Request.GetLazyState key n name) answer e =
-    let is = same_answer (record { ty = types.GetLazyStateCompletionNotification; arrival = completion n (value_or_void (value_at state key)) }) answer e in
+    let is = same_answer (record { ty = types.GetLazyStateCompletionNotification; arrival = completion n (value_or_void (value_of_key state key)) }) answer e in
     record {
       number = n;
       asks = refl;
@@ -164,7 +164,7 @@ behind_all n = omega arith
 module _ (events : List Event) (accepted : IsAccepted events) (id : Text) (number : ℕ) (request : Request) (command : RecordedCommand) (h : IsCommand request command) (row : InvocationRow) (named : row.id ≡ id)
     (far : row.progress ≡ progress_of events id) (answer : ReadAnswer) (is : IsAnswerOf (state_after (recorded_requests events id) (starting_state events id)) request answer) where
   abbrev event : Event
-  event = Event.Take id number (Frame.Command request)
+  event = Event.Move id number (Frame.Command request)
 
   abbrev entries : List Entry
   entries = entries_of events id
@@ -227,16 +227,16 @@ module _ (events : List Event) (accepted : IsAccepted events) (id : Text) (numbe
       let room : nat_lt (2 ^ 32 - 2) (answers_told command.state + (1 + length entries)) ≡ nat_lt (2 ^ 32 - 2) (length entries + 2) =
       ap (λ (k : ℕ). nat_lt (2 ^ 32 - 2) k) (ap (λ (k : ℕ). k + (1 + length entries)) (ap answers_told h.state ∙ is.counted) ∙ sym (behind_all (length entries))) in
       (λ i. those_that_hold (command_tests entries request last (length entries) (sym h.text i) (is.answers i) (asked_same request command h i) (sym h.payload i)))
-      ∙ left_over (not (do_ascend last (asked_by command))) (not command.are_keys_text) (nat_lt (2 ^ 32 - 2) (length entries + 2)) (is_too_long command.payload)
+      ∙ left_over (not (do_ascend last (ids_asked_by command))) (not command.are_keys_text) (nat_lt (2 ^ 32 - 2) (length entries + 2)) (is_too_long command.payload)
       (is_too_long (notification_payload answer.arrival))
-      (sym (ap (λ (b : Bool). refusal_by ((not (do_ascend last (asked_by command)), BadCompletion) ∷ (not command.are_keys_text, KeyNotText) ∷ (b, NumbersUsedUp)
+      (sym (ap (λ (b : Bool). refusal_by ((not (do_ascend last (ids_asked_by command)), BadCompletion) ∷ (not command.are_keys_text, KeyNotText) ∷ (b, NumbersUsedUp)
       ∷ (is_too_long command.payload, PayloadTooLong) ∷ [])) room) ∙ none)
 
   -- the completion ascends then
   up_then : refusal_by (tests_of_told (progress_of events id) true (told.Command command)) ≡ None → do_ascend (last_completion (requests_in (entries_of events id))) (is.number ∷ []) ≡ true
   up_then none =
       ap (do_ascend (last_completion (requests_in (entries_of events id)))) (sym is.asks ∙ asked_same request command h)
-      ∙ by_first (do_ascend (last_completion (requests_in (entries_of events id))) (asked_by command)) none
+      ∙ by_first (do_ascend (last_completion (requests_in (entries_of events id))) (ids_asked_by command)) none
     where
       by_first : (b : Bool) → refusal_by ((not b, BadCompletion) ∷ (not command.are_keys_text, KeyNotText) ∷ (nat_lt (2 ^ 32 - 2) (answers_told command.state + (1 + length entries)), NumbersUsedUp)
           ∷ (is_too_long command.payload, PayloadTooLong) ∷ []) ≡ None → b ≡ true
@@ -246,7 +246,7 @@ module _ (events : List Event) (accepted : IsAccepted events) (id : Text) (numbe
   pub prepared_read : causes_of events event ≡ those_that_hold (tests_left events id number (Frame.Command request))
       → refusal_by (tests_of_told (progress_of events id) true (told.Command command)) ≡ None
       → (result : Result PreparedFrame Refusal) → Decides (payload_tests (notification_payload answer.arrival)) (IsReadMade row command answer) result
-      → Prepares events event (IsTaken events id number (Frame.Command request)) result
+      → Prepares events event (IsFrameTaken events id number (Frame.Command request)) result
   prepared_read causes none (Ok made) decided = (
     causes ∙ causes_left_over none ∙ decided.0,
     record {

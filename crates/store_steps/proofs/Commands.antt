@@ -23,16 +23,16 @@ use Rattle.store_model.specs.Progress.{progress_of}
 use Rattle.store_invocations.specs.Rows.{Decides, IsRowOf, payload_tests}
 use Rattle.store_invocations.proofs.Refusing.{refused_anyway}
 use Rattle.store_refusals.specs.declared.refusal.Refusal.{Refusal}
-use Rattle.store_refusals.specs.Refused.{IsRefused, first_of, refusal_by}
-use Rattle.store_refusals.specs.Prepared.{Tells}
+use Rattle.store_refusals.specs.Refused.{IsRefused, refusal_of_first_cause, refusal_by}
+use Rattle.store_refusals.specs.Prepared.{TellsOrRefuses}
 use Rattle.store_refusals.proofs.First.{first_holds, none_holds}
 use Rattle.store_steps.specs.declared.frame.LiveFacts.{LiveFacts}
 use Rattle.store_steps.specs.declared.frame.PreparedFrame.{PreparedFrame}
 use Rattle.store_steps.specs.declared.reads.ReadAnswer.{ReadAnswer}
 use Rattle.store_steps.proofs.LazyReads.{is_lazy_read}
 use Rattle.store_steps.specs.Reads.{IsReadMade, answer_told}
-use Rattle.store_steps.specs.Taken.{IsLive, Takes}
-use Rattle.store_steps.specs.Told.{HasRoom, answers_told, asked_by, tests_of_told}
+use Rattle.store_steps.specs.Taken.{KnowsLive, TakesAttemptFrame}
+use Rattle.store_steps.specs.Told.{HasRoom, answers_told, ids_asked_by, tests_of_told}
 use Rattle.store_steps.proofs.Live.{live_open}
 use Rattle.store_steps.proofs.Answered.{answer_of, prepared_read}
 use Rattle.store_steps.proofs.Taking.{IsUnread, causes_by_row}
@@ -42,7 +42,7 @@ abbrev four : Bool → Bool → Bool → Bool → Tests
 four a b c d = (a, BadCompletion) ∷ (b, KeyNotText) ∷ (c, NumbersUsedUp) ∷ (d, PayloadTooLong) ∷ []
 
 none_refused : (tests : Tests) → those_that_hold tests ≡ [] → refusal_by tests ≡ None
-none_refused tests e = sym (first_holds tests) ∙ ap first_of e
+none_refused tests e = sym (first_holds tests) ∙ ap refusal_of_first_cause e
 
 -- ---- places
 
@@ -59,7 +59,7 @@ places_left : (p : Progress) (command : RecordedCommand) → refusal_by (tests_o
     → answers_told command.state + p.entries < 2 ^ 32 - 1
 places_left p command e =
     under (answers_told command.state + p.entries)
-    (third_none (not (do_ascend p.last_completion (asked_by command))) (not command.are_keys_text) (nat_lt (2 ^ 32 - 2) (answers_told command.state + p.entries)) (is_too_long command.payload) e)
+    (third_none (not (do_ascend p.last_completion (ids_asked_by command))) (not command.are_keys_text) (nat_lt (2 ^ 32 - 2) (answers_told command.state + p.entries)) (is_too_long command.payload) e)
 
 pub has_room : (p : Progress) (is_closed : Bool) (frame : AttemptFrame) → refusal_by (tests_of_told p is_closed frame) ≡ None → HasRoom p frame
 has_room p is_closed (told.Command command) e = let left = places_left p command e in omega (arith, left)
@@ -73,7 +73,7 @@ room_for_answer p command (Ok (Some answer)) none counted = let left = places_le
 room_for_answer p command (Ok None) none counted = tt
 room_for_answer p command (Err why) none counted = tt
 
-pub decided_told : {A : Type 0} (tests : Tests) (IsAnswer : A → Type 0) (result : Result A Refusal) → refusal_by tests ≡ None → Tells IsAnswer result → Decides tests IsAnswer result
+pub decided_told : {A : Type 0} (tests : Tests) (IsAnswer : A → Type 0) (result : Result A Refusal) → refusal_by tests ≡ None → TellsOrRefuses IsAnswer result → Decides tests IsAnswer result
 decided_told tests IsAnswer (Ok answer) none is = (none_holds tests none, is)
 decided_told tests IsAnswer (Err why) none is = refused_anyway tests why is
 
@@ -118,14 +118,14 @@ module _ (events : List Event) (id : Text) (number : ℕ) (request : Request) (c
       side_by_side (length (entries_of events id)) (answers_told command.state)
       ∙ ap (λ (k : ℕ). length (entries_of events id) + k) (ap (λ (done : StateUse). 1 + answers_told done) h.state ∙ answers_counted state request) in
       (λ i. refusal_by (command_tests entries request last (length entries) (sym h.text i) answers (asked_same request command h i) (sym h.payload i)))
-      ∙ left_first (not (do_ascend last (asked_by command))) (not command.are_keys_text) (nat_lt (2 ^ 32 - 2) (length entries + length (Recorded request ∷ map Arrived answers))) (is_too_long command.payload)
+      ∙ left_first (not (do_ascend last (ids_asked_by command))) (not command.are_keys_text) (nat_lt (2 ^ 32 - 2) (length entries + length (Recorded request ∷ map Arrived answers))) (is_too_long command.payload)
       (list_any (λ entry. is_too_long (entry_payload entry)) (map Arrived answers)) why
-      (subst (λ (k : ℕ). refusal_by (four (not (do_ascend last (asked_by command))) (not command.are_keys_text) (nat_lt (2 ^ 32 - 2) k) (is_too_long command.payload)) ≡ Some why) counted first)
+      (subst (λ (k : ℕ). refusal_by (four (not (do_ascend last (ids_asked_by command))) (not command.are_keys_text) (nat_lt (2 ^ 32 - 2) k) (is_too_long command.payload)) ≡ Some why) counted first)
 
-  refused_so : (why : Refusal) → causes_of events (Event.Take id number (Frame.Command request)) ≡ those_that_hold (tests_left events id number (Frame.Command request))
-      → IsRefused (those_that_hold (tests_of_told (progress_of events id) true (told.Command command))) why → IsRefused (causes_of events (Event.Take id number (Frame.Command request))) why
+  refused_so : (why : Refusal) → causes_of events (Event.Move id number (Frame.Command request)) ≡ those_that_hold (tests_left events id number (Frame.Command request))
+      → IsRefused (those_that_hold (tests_of_told (progress_of events id) true (told.Command command))) why → IsRefused (causes_of events (Event.Move id number (Frame.Command request))) why
   refused_so why causes (inl e) =
-      inl (ap first_of causes ∙ first_holds (tests_left events id number (Frame.Command request))
+      inl (ap refusal_of_first_cause causes ∙ first_holds (tests_left events id number (Frame.Command request))
       ∙ first_left why (sym (first_holds (tests_of_told (progress_of events id) true (told.Command command))) ∙ e))
   refused_so why causes (inr e) = inr e
 
@@ -138,14 +138,14 @@ module _ (events : List Event) (accepted : IsAccepted events) (id : Text) (row :
   named : row.id ≡ id
   named = ap (λ (r : InvocationRow). r.id) of.is ∙ of.named
 
-  opened : (number : ℕ) → IsLive events id number attempt → is_open events id ≡ true
+  opened : (number : ℕ) → KnowsLive events id number attempt → is_open events id ≡ true
   opened number live = live_open events id number accepted live.live
 
   -- the state of its object is that before the command
   state_is : is_open events id ≡ true → object_state events row.object ≡ state_after (recorded_requests events id) (starting_state events id)
   state_is is = ap (λ (r : InvocationRow). object_state events r.object) of.is ∙ accepted_followed events accepted id of.new of.begun is
 
-  pub command_refused : (why : Refusal) → IsRefused (those_that_hold (tests_of_told row.progress true (told.Command command))) why → Takes events id attempt (told.Command command) (Err why)
+  pub command_refused : (why : Refusal) → IsRefused (those_that_hold (tests_of_told row.progress true (told.Command command))) why → TakesAttemptFrame events id attempt (told.Command command) (Err why)
   command_refused why refused number (Frame.Command request) live from h =
       refused_so events id number request command h why (causes_by_row events id row accepted of attempt number (Frame.Command request) live)
       (subst (λ (p : Progress). IsRefused (those_that_hold (tests_of_told p true (told.Command command))) why) far refused)
@@ -156,7 +156,7 @@ module _ (events : List Event) (accepted : IsAccepted events) (id : Text) (row :
   pub command_answered : (answer : ReadAnswer) → Some answer ≡ answer_told (object_state events row.object) command.state command.completion
       → those_that_hold (tests_of_told row.progress true (told.Command command)) ≡ []
       → (result : Result PreparedFrame Refusal) → Decides (payload_tests (notification_payload answer.arrival)) (IsReadMade row command answer) result
-      → Takes events id attempt (told.Command command) result
+      → TakesAttemptFrame events id attempt (told.Command command) result
   command_answered answer is none result decided number (Frame.Command request) live from h =
       prepared_read events accepted id number request command h row named far answer
       (answer_of (state_after (recorded_requests events id) (starting_state events id)) request answer

@@ -62,12 +62,12 @@ open_of (Event.Begin other now ∷ earlier) accepted id n e =
         → (live_attempt earlier id ≡ Some n → is_open earlier id ≡ true) → is_open earlier id ≡ true
     by_test true same e later = open_when_accepted earlier (Event.Begin other now) id refl same accepted.0
     by_test false same e later = later e
-open_of (Event.Take other attempt frame ∷ earlier) accepted id n e =
+open_of (Event.Move other attempt frame ∷ earlier) accepted id n e =
     by_test (bytes_eq other id) (ends_attempt frame) refl e (open_of earlier accepted.1 id n)
   where
     by_test : (b ends : Bool) → ends_attempt frame ≡ ends → (if b && ends then None else live_attempt earlier id) ≡ Some n
         → (live_attempt earlier id ≡ Some n → is_open earlier id ≡ true)
-        → opened (invocation_begun earlier id) (filter_map frame_of (if b then Event.Take other attempt frame ∷ filter (is_of id) earlier else filter (is_of id) earlier)) ≡ true
+        → opened (invocation_begun earlier id) (filter_map frame_of (if b then Event.Move other attempt frame ∷ filter (is_of id) earlier else filter (is_of id) earlier)) ≡ true
     by_test true true is e later = cc
     by_test true false is e later = opened-going (invocation_begun earlier id) frame (frames_of earlier id) is ∙ later e
     by_test false ends is e later = later e

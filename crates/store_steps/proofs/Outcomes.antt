@@ -25,12 +25,12 @@ use Rattle.store_steps.specs.declared.frame.FrameReply.TheVariants as replies
 use Rattle.store_steps.specs.declared.frame.LiveFacts.{LiveFacts}
 use Rattle.store_steps.specs.declared.frame.PreparedFrame.{PreparedFrame}
 use Rattle.store_steps.specs.Reads.{acknowledged_if}
-use Rattle.store_steps.specs.Taken.{IsLive, IsReply, IsTaken, Takes}
+use Rattle.store_steps.specs.Taken.{KnowsLive, IsReply, IsFrameTaken, TakesAttemptFrame}
 use Rattle.store_steps.proofs.Live.{live_open}
 use Rattle.store_steps.proofs.Taking.{causes_by_row, version_by_row}
 
 acknowledged_is : (version : ℕ) (id : Text) (number n : ℕ) (value : NonEmptyValue) (asks : Bool)
-    → acknowledged_if version n asks ≡ acknowledged version id (Event.Take id number (Frame.RunOutcome n value asks))
+    → acknowledged_if version n asks ≡ acknowledged version id (Event.Move id number (Frame.RunOutcome n value asks))
 acknowledged_is version id number n value true = by_both (has_feature version Acknowledgement) (bytes_eq id id) (itself id)
   where
     by_both : (a b : Bool) → b ≡ true → (if a then Some n else None) ≡ (if a && b then Some n else None)
@@ -44,8 +44,8 @@ module _ (events : List Event) (accepted : IsAccepted events) (id : Text) (row :
   own_recorded : (arrival : PreparedArrival) → DecidesOutcome events id completion brought (Ok arrival) → (made : PreparedFrame) → made.writes.items ≡ arrival.writes.items
       → made.reply ≡ replies.Recorded arrival.place
       → made.acknowledged ≡ acknowledged_if (version_number row.version) completion asks
-      → (number : ℕ) (value : NonEmptyValue) → IsLive events id number attempt → brought ≡ result_of_value value
-      → Prepares events (Event.Take id number (Frame.RunOutcome completion value asks)) (IsTaken events id number (Frame.RunOutcome completion value asks)) (Ok made)
+      → (number : ℕ) (value : NonEmptyValue) → KnowsLive events id number attempt → brought ≡ result_of_value value
+      → Prepares events (Event.Move id number (Frame.RunOutcome completion value asks)) (IsFrameTaken events id number (Frame.RunOutcome completion value asks)) (Ok made)
   own_recorded arrival decided made writes_are reply_is acknowledged_are number value live same =
       let frame = Frame.RunOutcome completion value asks in
       let ready = decided number value asks (live_open events id number accepted live.live) live.live same in (
@@ -62,22 +62,22 @@ module _ (events : List Event) (accepted : IsAccepted events) (id : Text) (row :
   pub outcome_recorded : (arrival : PreparedArrival) → DecidesOutcome events id completion brought (Ok arrival) → (made : PreparedFrame) → made.writes.items ≡ arrival.writes.items
       → made.reply ≡ replies.Recorded arrival.place
       → made.acknowledged ≡ acknowledged_if (version_number row.version) completion asks
-      → Takes events id attempt (told.RunOutcome completion brought asks) (Ok made)
+      → TakesAttemptFrame events id attempt (told.RunOutcome completion brought asks) (Ok made)
   outcome_recorded arrival decided made writes_are reply_is acknowledged_are number (Frame.RunOutcome n value asked) live from h =
-      subst₂ (λ (k : ℕ) (b : Bool). Prepares events (Event.Take id number (Frame.RunOutcome k value b)) (IsTaken events id number (Frame.RunOutcome k value b)) (Ok made))
+      subst₂ (λ (k : ℕ) (b : Bool). Prepares events (Event.Move id number (Frame.RunOutcome k value b)) (IsFrameTaken events id number (Frame.RunOutcome k value b)) (Ok made))
       h.completion_is h.acknowledged_is (own_recorded arrival decided made writes_are reply_is acknowledged_are number value live h.result_is)
   outcome_recorded arrival decided made writes_are reply_is acknowledged_are number (Frame.Suspend None) live from h = absurd h
   outcome_recorded arrival decided made writes_are reply_is acknowledged_are number (Frame.Suspend (Some suspension)) live from h = absurd h
   outcome_recorded arrival decided made writes_are reply_is acknowledged_are number _ live from h = absurd h
 
-  own_refused : (why : Refusal) → DecidesOutcome events id completion brought (Err why) → (number : ℕ) (value : NonEmptyValue) → IsLive events id number attempt → brought ≡ result_of_value value
-      → Prepares events (Event.Take id number (Frame.RunOutcome completion value asks)) (IsTaken events id number (Frame.RunOutcome completion value asks)) (Err why)
+  own_refused : (why : Refusal) → DecidesOutcome events id completion brought (Err why) → (number : ℕ) (value : NonEmptyValue) → KnowsLive events id number attempt → brought ≡ result_of_value value
+      → Prepares events (Event.Move id number (Frame.RunOutcome completion value asks)) (IsFrameTaken events id number (Frame.RunOutcome completion value asks)) (Err why)
   own_refused why decided number value live same =
       subst (λ (causes : List Cause). IsRefused causes why) (sym (causes_by_row events id row accepted of attempt number (Frame.RunOutcome completion value asks) live)) (decided number value asks (live_open events id number accepted live.live) live.live same)
 
-  pub outcome_refused : (why : Refusal) → DecidesOutcome events id completion brought (Err why) → Takes events id attempt (told.RunOutcome completion brought asks) (Err why)
+  pub outcome_refused : (why : Refusal) → DecidesOutcome events id completion brought (Err why) → TakesAttemptFrame events id attempt (told.RunOutcome completion brought asks) (Err why)
   outcome_refused why decided number (Frame.RunOutcome n value asked) live from h =
-      subst₂ (λ (k : ℕ) (b : Bool). Prepares events (Event.Take id number (Frame.RunOutcome k value b)) (IsTaken events id number (Frame.RunOutcome k value b)) (Err why))
+      subst₂ (λ (k : ℕ) (b : Bool). Prepares events (Event.Move id number (Frame.RunOutcome k value b)) (IsFrameTaken events id number (Frame.RunOutcome k value b)) (Err why))
       h.completion_is h.acknowledged_is (own_refused why decided number value live h.result_is)
   outcome_refused why decided number (Frame.Suspend None) live from h = absurd h
   outcome_refused why decided number (Frame.Suspend (Some suspension)) live from h = absurd h

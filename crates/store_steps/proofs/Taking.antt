@@ -26,13 +26,13 @@ use Rattle.store_model.proofs.Finding.{all_found}
 use Rattle.store_invocations.specs.Rows.{IsRowOf}
 use Rattle.store_refusals.specs.declared.refusal.Refusal.{Refusal}
 use Rattle.store_refusals.specs.declared.refusal.Refusal.TheVariants.{OutOfMemory}
-use Rattle.store_refusals.specs.Refused.{IsRefused, first_of, is_circumstance, refusal_by, reading_refusal}
+use Rattle.store_refusals.specs.Refused.{IsRefused, refusal_of_first_cause, is_circumstance, refusal_by, reading_refusal}
 use Rattle.store_refusals.specs.Prepared.{Keeps, Prepares}
 use Rattle.store_refusals.proofs.First.{first_holds, none_holds}
 use Rattle.store_steps.specs.declared.frame.LiveFacts.{LiveFacts}
 use Rattle.store_steps.specs.declared.frame.PreparedFrame.{PreparedFrame}
 use Rattle.store_steps.specs.Told.{tests_of_told, writes_of_told}
-use Rattle.store_steps.specs.Taken.{IsAwakeAtOnce, IsLive, IsReply, IsTaken, Takes, IsMade, IsWhy, WakesAtOnce}
+use Rattle.store_steps.specs.Taken.{IsAwakeAtOnce, KnowsLive, IsReply, IsFrameTaken, TakesAttemptFrame, IsFrameMade, IsWhy, WakesAtOnce}
 use Rattle.store_steps.proofs.LazyReads.{IsByRow}
 use Rattle.store_steps.proofs.Live.{begun_open, live_open}
 use Rattle.store_steps.proofs.Tests.{tests_left, causes_left, tests_same}
@@ -43,15 +43,15 @@ abbrev pub IsUnread : AttemptFrame → Type 0
 IsUnread read = (frame : Frame) → IsFrame frame read → IsByRow frame
 
 -- such a frame is not acknowledged
-none_acknowledged : (version : ℕ) (id : Text) (number : ℕ) (frame : Frame) → IsByRow frame → acknowledged version id (Event.Take id number frame) ≡ None
+none_acknowledged : (version : ℕ) (id : Text) (number : ℕ) (frame : Frame) → IsByRow frame → acknowledged version id (Event.Move id number frame) ≡ None
 none_acknowledged version id number (Frame.RunOutcome n value asks) unread = absurd unread
 none_acknowledged version id number _ unread = refl
 
 -- ---- a frame of a live attempt of an invocation that was begun so
 
 module _ (events : List Event) (accepted : IsAccepted events) (id : Text) (number : ℕ) (new : NewInvocation) (is : invocation_begun events id ≡ Some new) (opened : is_open events id ≡ true)
-    (attempt : LiveFacts) (live : IsLive events id number attempt) (frame : Frame) (read : AttemptFrame) (unread : IsByRow frame) (h : IsFrame frame read) where
-  causes_are : causes_of events (Event.Take id number frame) ≡ those_that_hold (tests_left events id number frame)
+    (attempt : LiveFacts) (live : KnowsLive events id number attempt) (frame : Frame) (read : AttemptFrame) (unread : IsByRow frame) (h : IsFrame frame read) where
+  causes_are : causes_of events (Event.Move id number frame) ≡ those_that_hold (tests_left events id number frame)
   causes_are = causes_left events id number frame (ap (λ (o : Option NewInvocation). is_some o) is) opened live.live
 
   same : refusal_by (tests_left events id number frame) ≡ refusal_by (tests_of_told (progress_of events id) attempt.is_input_closed read)
@@ -60,11 +60,11 @@ module _ (events : List Event) (accepted : IsAccepted events) (id : Text) (numbe
   version_is : new.version ≡ version_of events id
   version_is = sym (ap (λ (o : Option NewInvocation). unwrap_or (option_map (λ (begun : NewInvocation). begun.version) o) 0) is)
 
-  none_of : (made : PreparedFrame) (is_awake : Bool) → IsMade id new.object new.version (progress_of events id) attempt is_awake read made → causes_of events (Event.Take id number frame) ≡ []
+  none_of : (made : PreparedFrame) (is_awake : Bool) → IsFrameMade id new.object new.version (progress_of events id) attempt is_awake read made → causes_of events (Event.Move id number frame) ≡ []
   none_of made is_awake ok = causes_are ∙ none_holds (tests_left events id number frame) (same ∙ ok.accepted)
 
-  pub prepared : (is_awake : Bool) → IsAwakeAtOnce events id frame is_awake → (result : Result PreparedFrame Refusal) → IfOk result (IsMade id new.object new.version (progress_of events id) attempt is_awake read) → IfErr result (IsWhy (progress_of events id) attempt read)
-      → Prepares events (Event.Take id number frame) (IsTaken events id number frame) result
+  pub prepared : (is_awake : Bool) → IsAwakeAtOnce events id frame is_awake → (result : Result PreparedFrame Refusal) → IfOk result (IsFrameMade id new.object new.version (progress_of events id) attempt is_awake read) → IfErr result (IsWhy (progress_of events id) attempt read)
+      → Prepares events (Event.Move id number frame) (IsFrameTaken events id number frame) result
   prepared is_awake awake (Ok made) ok err = (
     none_of made is_awake ok,
     record {
@@ -80,16 +80,16 @@ module _ (events : List Event) (accepted : IsAccepted events) (id : Text) (numbe
   prepared is_awake awake (Err why) ok err = by_first (refusal_by (tests_of_told (progress_of events id) attempt.is_input_closed read)) refl
     where
       by_first : (first : Option Refusal) → refusal_by (tests_of_told (progress_of events id) attempt.is_input_closed read) ≡ first
-          → IsRefused (causes_of events (Event.Take id number frame)) why
+          → IsRefused (causes_of events (Event.Move id number frame)) why
       by_first None e = inr (ap is_circumstance (err ∙ ap (λ (o : Option Refusal). unwrap_or o OutOfMemory) e))
       by_first (Some refusal) e =
-          inl (ap first_of causes_are ∙ first_holds (tests_left events id number frame) ∙ same ∙ e
+          inl (ap refusal_of_first_cause causes_are ∙ first_holds (tests_left events id number frame) ∙ same ∙ e
           ∙ ap Some (sym (err ∙ ap (λ (o : Option Refusal). unwrap_or o OutOfMemory) e)))
 
 -- ---- by the row of its invocation
 
-pub causes_by_row : (events : List Event) (id : Text) (row : InvocationRow) → IsAccepted events → IsRowOf events id row → (attempt : LiveFacts) (number : ℕ) (frame : Frame) → IsLive events id number attempt
-    → causes_of events (Event.Take id number frame) ≡ those_that_hold (tests_left events id number frame)
+pub causes_by_row : (events : List Event) (id : Text) (row : InvocationRow) → IsAccepted events → IsRowOf events id row → (attempt : LiveFacts) (number : ℕ) (frame : Frame) → KnowsLive events id number attempt
+    → causes_of events (Event.Move id number frame) ≡ those_that_hold (tests_left events id number frame)
 causes_by_row events id row accepted of attempt number frame live =
     causes_left events id number frame (ap (λ (o : Option NewInvocation). is_some o) of.begun) (live_open events id number accepted live.live) live.live
 
@@ -100,10 +100,10 @@ version_by_row events id row accepted of =
 
 module _ (events : List Event) (accepted : IsAccepted events) (id : Text) where
   made_as : (attempt : LiveFacts) (is_awake : Bool) (read : AttemptFrame) (result : Result PreparedFrame Refusal) (o object : Text) (v version : ℕ) (p progress : Progress) → o ≡ object → v ≡ version → p ≡ progress
-      → IfOk result (IsMade id o v p attempt is_awake read) → IfOk result (IsMade id object version progress attempt is_awake read)
+      → IfOk result (IsFrameMade id o v p attempt is_awake read) → IfOk result (IsFrameMade id object version progress attempt is_awake read)
   made_as attempt is_awake read result o object v version p progress same_object same_version same_progress ok =
-      subst (λ (o : Text). IfOk result (IsMade id o version progress attempt is_awake read)) same_object
-      (subst₂ (λ (v : ℕ) (p : Progress). IfOk result (IsMade id o v p attempt is_awake read)) same_version same_progress ok)
+      subst (λ (o : Text). IfOk result (IsFrameMade id o version progress attempt is_awake read)) same_object
+      (subst₂ (λ (v : ℕ) (p : Progress). IfOk result (IsFrameMade id o v p attempt is_awake read)) same_version same_progress ok)
 
   why_as : (attempt : LiveFacts) (read : AttemptFrame) (result : Result PreparedFrame Refusal) (p progress : Progress) → p ≡ progress
       → IfErr result (IsWhy p attempt read) → IfErr result (IsWhy progress attempt read)
@@ -111,7 +111,7 @@ module _ (events : List Event) (accepted : IsAccepted events) (id : Text) where
 
   pub taken_by_row : (row : InvocationRow) → IsRowOf events id row → (attempt : LiveFacts) (is_awake : Bool) (read : AttemptFrame) (result : Result PreparedFrame Refusal) → IsUnread read
       → WakesAtOnce events id attempt read (Ok is_awake)
-      → IfOk result (IsMade id row.object (version_number row.version) row.progress attempt is_awake read) → IfErr result (IsWhy row.progress attempt read) → Takes events id attempt read result
+      → IfOk result (IsFrameMade id row.object (version_number row.version) row.progress attempt is_awake read) → IfErr result (IsWhy row.progress attempt read) → TakesAttemptFrame events id attempt read result
   taken_by_row row of attempt is_awake read result unread awake ok err number frame live from h =
       let progress_is : row.progress ≡ progress_of events id = ap (λ (r : InvocationRow). r.progress) of.is ∙ ap (progress_of events) of.named in
       let version_is : version_number row.version ≡ of.new.version = ap (λ (r : InvocationRow). version_number r.version) of.is ∙ begun_number events id of.new accepted of.begun in
@@ -150,7 +150,7 @@ module _ (events : List Event) (s : State) (keeps : Keeps events s) (id : Text) 
         is = same_row row (invocation_row events new) (row_found (Some row) found ∙ ap (option_map (invocation_row events)) e);
       }
 
-  pub never_missing : IsFound (λ r. r.invocations) (has_id id) s.now.trees None → (attempt : LiveFacts) (read : AttemptFrame) (result : Result PreparedFrame Refusal) → Takes events id attempt read result
+  pub never_missing : IsFound (λ r. r.invocations) (has_id id) s.now.trees None → (attempt : LiveFacts) (read : AttemptFrame) (result : Result PreparedFrame Refusal) → TakesAttemptFrame events id attempt read result
   never_missing found attempt read result number frame live from h = absurd (by_begun (invocation_begun events id) refl)
     where
       by_begun : (o : Option NewInvocation) → invocation_begun events id ≡ o → ⊥
@@ -167,7 +167,7 @@ was_asked (Err why) it = tt
 
 -- a row that could not be read, and is no foreign one
 pub read_failed : (events : List Event) (id : Text) (error : ReadError) → (error ≡ reading.Foreign → ⊥) → (attempt : LiveFacts) (read : AttemptFrame)
-    → Takes events id attempt read (Err (reading_refusal error))
+    → TakesAttemptFrame events id attempt read (Err (reading_refusal error))
 read_failed events id (reading.Refused cause) foreign attempt read number frame live from h = inr refl
 read_failed events id reading.Foreign foreign attempt read number frame live from h = absurd (foreign refl)
 read_failed events id reading.OutOfMemory foreign attempt read number frame live from h = inr refl

@@ -16,7 +16,7 @@ use Rattle.store_frames.specs.declared.frame.AttemptFrame.TheVariants as told
 use Rattle.store_frames.specs.Commands.{first_asked, second_asked}
 use Rattle.store_frames.specs.Answer.{IsCommand, IsFrame}
 use Rattle.store_model.specs.Progress.{progress_of}
-use Rattle.store_steps.specs.Told.{answers_told, asked, asked_by, tests_of_told}
+use Rattle.store_steps.specs.Told.{answers_told, asked, ids_asked_by, tests_of_told}
 use Rattle.store_steps.proofs.LazyReads.{is_lazy_read, IsByRow, no_answer, none_told}
 
 -- ---- completions
@@ -25,14 +25,14 @@ asked_twice : (request : Request) → completions_asked request ≡ asked (first
 asked_twice (Request.CallService call m n name) = refl
 asked_twice _ = refl
 
-pub asked_same : (request : Request) (command : RecordedCommand) → IsCommand request command → completions_asked request ≡ asked_by command
+pub asked_same : (request : Request) (command : RecordedCommand) → IsCommand request command → completions_asked request ≡ ids_asked_by command
 asked_same request command h = asked_twice request ∙ ap₂ asked (sym h.completion) (sym h.second_completion)
 
 -- ---- tests of a live attempt
 
 -- what is left of the tests where the invocation is open and the attempt live
 abbrev pub tests_left : List Event → Text → ℕ → Frame → Tests
-tests_left events id number frame = frame_tests events id frame ++ adding_tests events id (Event.Take id number frame)
+tests_left events id number frame = frame_tests events id frame ++ adding_tests events id (Event.Move id number frame)
 
 none_of_first : (begun opened live : Bool) (tests : Tests) → begun ≡ true → opened ≡ true → live ≡ true
     → those_that_hold ((not begun, UnknownInvocation) ∷ (begun && not opened, InvocationClosed) ∷ (not live, AttemptNotLive) ∷ tests) ≡ those_that_hold tests
@@ -42,7 +42,7 @@ none_of_first true false live tests e f g = cc
 none_of_first true true false tests e f g = cc
 
 pub causes_left : (events : List Event) (id : Text) (number : ℕ) (frame : Frame) → is_some (invocation_begun events id) ≡ true → is_open events id ≡ true → is_live events id number ≡ true
-    → causes_of events (Event.Take id number frame) ≡ those_that_hold (tests_left events id number frame)
+    → causes_of events (Event.Move id number frame) ≡ those_that_hold (tests_left events id number frame)
 causes_left events id number frame begun opened live =
     none_of_first (is_some (invocation_begun events id)) (is_open events id) (is_live events id number) (tests_left events id number frame) begun opened live
 
@@ -70,11 +70,11 @@ module _ (events : List Event) (id : Text) (number : ℕ) where
       let last = last_completion (requests_in (entries_of events id)) in
       let state = state_after (requests_in (entries_of events id)) (starting_state events id) in
       let told_tests = tests_of_told (progress_of events id) (is_input_closed events id) (told.Command command) in
-      let left : refusal_by (tests_left events id number (Frame.Command request)) ≡ refusal_by (command_tests entries request last (length entries) command.are_keys_text [] (asked_by command) command.payload) =
+      let left : refusal_by (tests_left events id number (Frame.Command request)) ≡ refusal_by (command_tests entries request last (length entries) command.are_keys_text [] (ids_asked_by command) command.payload) =
       (λ i. refusal_by (command_tests entries request last (length entries) (sym h.text i) (no_answer state request unread i) (asked_same request command h i) (sym h.payload i))) in
       let alone : answers_told command.state ≡ 0 = ap answers_told h.state ∙ none_told request unread in
-      let right : refusal_by (command_tests entries request last (length entries) command.are_keys_text [] (asked_by command) command.payload) ≡ refusal_by told_tests =
-      (λ i. refusal_by ((not (do_ascend last (asked_by command)), BadCompletion) ∷ (not command.are_keys_text, KeyNotText)
+      let right : refusal_by (command_tests entries request last (length entries) command.are_keys_text [] (ids_asked_by command) command.payload) ≡ refusal_by told_tests =
+      (λ i. refusal_by ((not (do_ascend last (ids_asked_by command)), BadCompletion) ∷ (not command.are_keys_text, KeyNotText)
       ∷ (nat_lt (2 ^ 32 - 2) ((one_more (length entries) ∙ ap (λ (k : ℕ). k + (1 + length entries)) (sym alone)) i), NumbersUsedUp) ∷ (or_false (is_too_long command.payload) i, PayloadTooLong) ∷ [])) in
       left ∙ right
 

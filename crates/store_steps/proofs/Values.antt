@@ -6,7 +6,7 @@ use Rattle.journal_model.specs.declared.notification.NotificationResult.{Notific
 use Rattle.journal_model.specs.Delivery.{value_or_void}
 use Rattle.journal_model.specs.Event.{Event}
 use Rattle.journal_model.specs.Journal.{object_state}
-use Rattle.journal_model.specs.State.{StateMap, state_keys, value_at}
+use Rattle.journal_model.specs.State.{StateMap, state_keys, value_of_key}
 use Rattle.store_tables.specs.Records.{Records, is_at_key}
 use Rattle.store_tables.specs.Questions.{IsFound}
 use Rattle.store_tables.specs.declared.row.StateRow.{StateRow}
@@ -18,7 +18,7 @@ use Rattle.store_refusals.specs.Prepared.{Keeps}
 -- ---- the value of a key
 
 abbrev pub row_at_key : List Event → Text → Bytes → Option StateRow
-row_at_key events object key = option_map (λ (value : Bytes). state_row object (key, value)) (value_at (object_state events object) key)
+row_at_key events object key = option_map (λ (value : Bytes). state_row object (key, value)) (value_of_key (object_state events object) key)
 
 -- it is kept once at most
 pub value_kept : (events : List Event) (object : Text) (key : Bytes) → KeepsOnly events (λ (r : Records). r.states) (is_at_key object key) (row_at_key events object key)
@@ -38,14 +38,14 @@ no_value_read object key (Some value) e = cc
 
 module _ (events : List Event) (s : State) (keeps : Keeps events s) (object : Text) (key : Bytes) where
   pub value_found : (row : StateRow) → IsFound (λ r. r.states) (is_at_key object key) s.now.trees (Some row)
-      → NotificationResult.Value row.value ≡ value_or_void (value_at (object_state events object) key)
+      → NotificationResult.Value row.value ≡ value_or_void (value_of_key (object_state events object) key)
   value_found row found =
-      value_read object key (value_at (object_state events object) key) row
+      value_read object key (value_of_key (object_state events object) key) row
       (found_is events s (λ r. r.states) (is_at_key object key) (row_at_key events object key) (Some row) keeps (value_kept events object key) found)
 
-  pub none_found : IsFound (λ r. r.states) (is_at_key object key) s.now.trees None → NotificationResult.Void ≡ value_or_void (value_at (object_state events object) key)
+  pub none_found : IsFound (λ r. r.states) (is_at_key object key) s.now.trees None → NotificationResult.Void ≡ value_or_void (value_of_key (object_state events object) key)
   none_found found =
-      no_value_read object key (value_at (object_state events object) key)
+      no_value_read object key (value_of_key (object_state events object) key)
       (found_is events s (λ r. r.states) (is_at_key object key) (row_at_key events object key) None keeps (value_kept events object key) found)
 
 -- ---- all keys

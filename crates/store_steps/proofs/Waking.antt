@@ -18,9 +18,9 @@ use Rattle.store_model.proofs.Versions.{kept_number}
 use Rattle.store_invocations.specs.Rows.{IsRowOf}
 use Rattle.store_refusals.specs.declared.refusal.Refusal.{Refusal}
 use Rattle.store_refusals.specs.Refused.{IsRefused}
-use Rattle.store_refusals.specs.Prepared.{Tells}
+use Rattle.store_refusals.specs.Prepared.{TellsOrRefuses}
 use Rattle.store_steps.specs.declared.frame.LiveFacts.{LiveFacts}
-use Rattle.store_steps.specs.Taken.{IsAwakeAtOnce, IsOther, Takes, WakesAtOnce}
+use Rattle.store_steps.specs.Taken.{IsAwakeAtOnce, IsOtherFrame, TakesAttemptFrame, WakesAtOnce}
 use Rattle.store_steps.proofs.Taking.{IsUnread}
 
 -- a command is no suspension
@@ -36,7 +36,7 @@ pub not_suspended : (events : List Event) (id : Text) (attempt : LiveFacts) (rea
 not_suspended events id attempt read other number (Frame.Suspend (Some suspension)) live from h = by_read read other h
   where
     by_read : (read : AttemptFrame) → ((payload : Bytes) → read ≡ told.Suspension payload → ⊥) → IsFrame (Frame.Suspend (Some suspension)) read
-        → Tells (IsAwakeAtOnce events id (Frame.Suspend (Some suspension))) (Ok false)
+        → TellsOrRefuses (IsAwakeAtOnce events id (Frame.Suspend (Some suspension))) (Ok false)
     by_read (told.Suspension payload) other h = absurd (other payload refl)
     by_read _ other h = absurd h
 not_suspended events id attempt read other number (Frame.Suspend None) live from h = tt
@@ -52,10 +52,10 @@ module _ (events : List Event) (accepted : IsAccepted events) (id : Text) (row :
 
   pub wakes_by : (payload slice : Bytes) (heard : ℕ) (result : Result Bool Refusal) → slice ≡ payload → heard ≡ attempt.heard
       → ((suspended : Suspension) → IsFrameRead (version_number row.version) (Frame.Suspend (Some suspended)) → KeepsSuspension suspended slice
-      → Tells (λ woken. woken ≡ is_woken (drop heard (recorded_arrivals events id) ++ []) (Some suspended)) result)
+      → TellsOrRefuses (λ woken. woken ≡ is_woken (drop heard (recorded_arrivals events id) ++ []) (Some suspended)) result)
       → WakesAtOnce events id attempt (told.Suspension payload) result
   wakes_by payload slice heard result same is tells number (Frame.Suspend (Some suspension)) live from h =
-      subst (λ (arrivals : List Arrival). Tells (λ woken. woken ≡ is_woken arrivals (Some suspension)) result)
+      subst (λ (arrivals : List Arrival). TellsOrRefuses (λ woken. woken ≡ is_woken arrivals (Some suspension)) result)
       (append-nil (drop heard (recorded_arrivals events id))
       ∙ ap (λ (n : ℕ). drop n (recorded_arrivals events id)) (is ∙ live.heard))
       (tells suspension (subst (λ (version : ℕ). IsFrameRead version (Frame.Suspend (Some suspension))) (sym spoken) from) (subst (KeepsSuspension suspension) (sym same) h))
@@ -64,15 +64,15 @@ module _ (events : List Event) (accepted : IsAccepted events) (id : Text) (row :
   wakes_by payload slice heard result same is tells number _ live from h = absurd h
 
   -- what the test refuses, for a circumstance, is refused
-  pub test_refused : (read : AttemptFrame) (why : Refusal) → WakesAtOnce events id attempt read (Err why) → Takes events id attempt read (Err why)
+  pub test_refused : (read : AttemptFrame) (why : Refusal) → WakesAtOnce events id attempt read (Err why) → TakesAttemptFrame events id attempt read (Err why)
   test_refused read why refused number frame live from h = by_reason (refused number frame live from h)
     where
-      by_reason : IsRefused [] why → IsRefused (causes_of events (Event.Take id number frame)) why
+      by_reason : IsRefused [] why → IsRefused (causes_of events (Event.Move id number frame)) why
       by_reason (inl e) = cc
       by_reason (inr e) = inr e
 
 -- of a frame that is neither a command nor an outcome the row decides
-pub unread_here : (read : AttemptFrame) → IsOther read → IsUnread read
+pub unread_here : (read : AttemptFrame) → IsOtherFrame read → IsUnread read
 unread_here (told.Command command) none frame h = absurd none
 unread_here (told.RunOutcome completion result asks) none frame h = absurd none
 unread_here _ none (Frame.Command request) h = absurd h
@@ -80,7 +80,7 @@ unread_here _ none (Frame.RunOutcome n value asks) h = absurd h
 unread_here _ none _ h = tt
 
 pub no_other : (read : AttemptFrame) → ((command : RecordedCommand) → read ≡ told.Command command → ⊥)
-    → ((completion : ℕ) (result : NotificationResult) (asks : Bool) → read ≡ told.RunOutcome completion result asks → ⊥) → IsOther read
+    → ((completion : ℕ) (result : NotificationResult) (asks : Bool) → read ≡ told.RunOutcome completion result asks → ⊥) → IsOtherFrame read
 no_other (told.Command command) other no_outcome = absurd (other command refl)
 no_other (told.RunOutcome completion result asks) other no_outcome = absurd (no_outcome completion result asks refl)
 no_other _ other no_outcome = tt

@@ -9,7 +9,7 @@ use Rattle.journal_model.specs.Event.{Behavior, Frame, Event}
 use Rattle.journal_model.specs.Journal.{Entry, Recorded, Arrived, invocation_begun, version_of, object_of, closes, sleep_in, never, starting_state, requests_in, entries_of}
 use Rattle.journal_model.specs.Cause.{greatest, causes_of, IsAccepted}
 use Rattle.due_laws.specs.Noted.{Noted, noted_of}
-use Rattle.due_laws.specs.Awake.{after_frame as noted_after}
+use Rattle.due_laws.specs.Awake.{noted_after_frame}
 use Rattle.due_laws.proofs.Noting.{noted_follows}
 use Rattle.store_frames.specs.declared.frame.RecordedCommand.{RecordedCommand}
 use Rattle.store_frames.specs.declared.frame.ErrorBehavior.{ErrorBehavior}
@@ -26,15 +26,15 @@ use Rattle.store_tables.specs.declared.row.SleepRow.{SleepRow}
 use Rattle.store_tables.specs.declared.row.Write.{Write}
 use Rattle.store_tables.specs.declared.row.Write.TheVariants.{SetProgress, AddEntry, OpenSleep}
 use Rattle.store_model.specs.Places.{handed_place}
-use Rattle.store_model.specs.Progress.{first_of, second_of, output_payload, behavior_number, progress_of}
+use Rattle.store_model.specs.Progress.{first_item, second_of, output_payload, behavior_number, progress_of}
 use Rattle.store_model.specs.Kept.{moment_of, entry_row, rows_from}
 use Rattle.store_model.specs.Sleeps.{sleep_row, sleeps_opened}
 use Rattle.store_model.specs.Writes.{state_write, state_writes, writes_of}
-use Rattle.store_model.specs.Steps.{noted_into, grown, payload_or, after_command, after_frame}
+use Rattle.store_model.specs.Steps.{noted_into, grown, payload_or, after_command, progress_after_frame}
 use Rattle.store_model.proofs.Following.{follows}
 use Rattle.store_model.proofs.States.{itself}
 use Rattle.store_steps.specs.declared.frame.LiveFacts.{LiveFacts}
-use Rattle.store_steps.specs.Taken.{IsAwakeAtOnce, IsLive, IsReply}
+use Rattle.store_steps.specs.Taken.{IsAwakeAtOnce, KnowsLive, IsReply}
 use Rattle.protocol_stream.specs.CommandFacts.{facts_of}
 use Rattle.store_steps.specs.Told.{puts_out, value_put_out, command_row, keeps_moment, sleep_if, sleep_told, state_told, closing_writes, tests_of_told, reply_to_told, after_recorded, number_of_behavior, does_fail, after_suspension, after_error, after_end, error_told, writes_of_told}
 use Rattle.store_steps.proofs.LazyReads.{is_lazy_read, IsByRow, no_answer, none_at_once}
@@ -43,7 +43,7 @@ use Rattle.store_steps.proofs.Lists.{payload_kept}
 
 -- ---- commands
 
-first_same : (ns : List ℕ) → first_of ns ≡ first_asked ns
+first_same : (ns : List ℕ) → first_item ns ≡ first_asked ns
 first_same [] = refl
 first_same (n ∷ ns) = refl
 
@@ -72,7 +72,7 @@ row_same id before place request command h = λ i. record {
     kind : request_type request ≡ command.kind
     kind = sym h.kind
 
-    first : first_of (completions_asked request) ≡ command.completion
+    first : first_item (completions_asked request) ≡ command.completion
     first = first_same (completions_asked request) ∙ sym h.completion
 
     second : second_of (completions_asked request) ≡ command.second_completion
@@ -151,7 +151,7 @@ fails_same version code message behavior delay told_behavior meant =
 
 error_progress : (version place code : ℕ) (message : Text) (behavior : Behavior) (delay : Option ℕ) (told_code : ℕ) (told_message : Text) (told_behavior : ErrorBehavior) (told_delay : Option ℕ) (p : Progress)
     → IsError code message behavior delay told_code told_message told_behavior told_delay
-    → after_frame version place (Frame.Error code message behavior delay) (record p { is_awake = if closes version (Frame.Error code message behavior delay) then false else p.is_awake })
+    → progress_after_frame version place (Frame.Error code message behavior delay) (record p { is_awake = if closes version (Frame.Error code message behavior delay) then false else p.is_awake })
     ≡ after_error (error_told told_code told_message told_behavior told_delay) (does_fail version told_behavior) p
 error_progress version place code message behavior delay told_code told_message told_behavior told_delay p h = λ i. record p {
   last_error = Some (record { code = sym h.code_is i; behavior = number i; delay = sym h.delay_is i; message = sym h.message_is i });
@@ -170,37 +170,37 @@ error_progress version place code message behavior delay told_code told_message 
 
 module _ (events : List Event) (accepted : IsAccepted events) (id : Text) (number : ℕ) where
   abbrev object : Frame → Option Text
-  object frame = object_of events (Event.Take id number frame)
+  object frame = object_of events (Event.Move id number frame)
 
   abbrev after : Frame → Progress
-  after frame = progress_of (Event.Take id number frame ∷ events) id
+  after frame = progress_of (Event.Move id number frame ∷ events) id
 
   -- what is noted after a frame that is accepted
   abbrev noted : Frame → Noted
-  noted frame = noted_after events id frame (noted_of events id)
+  noted frame = noted_after_frame events id frame (noted_of events id)
 
   abbrev IsTakenIn : Frame → Type 0
-  IsTakenIn frame = causes_of events (Event.Take id number frame) ≡ []
+  IsTakenIn frame = causes_of events (Event.Move id number frame) ≡ []
 
   -- the progress then, as it is told
   progress_is : (frame : Frame) (p : Progress) → IsTakenIn frame
-      → after_frame (version_of events id) (handed_place events id) frame (noted_into (noted frame) (progress_of events id)) ≡ p → after frame ≡ p
+      → progress_after_frame (version_of events id) (handed_place events id) frame (noted_into (noted frame) (progress_of events id)) ≡ p → after frame ≡ p
   progress_is frame p none e =
-      follows events (Event.Take id number frame) id refl refl
-      ∙ ap (λ (n : Noted). after_frame (version_of events id) (handed_place events id) frame (noted_into n (progress_of events id)))
-      (noted_follows events (Event.Take id number frame) id (none, accepted) (itself id) refl)
+      follows events (Event.Move id number frame) id refl refl
+      ∙ ap (λ (n : Noted). progress_after_frame (version_of events id) (handed_place events id) frame (noted_into n (progress_of events id)))
+      (noted_follows events (Event.Move id number frame) id (none, accepted) (itself id) refl)
       ∙ e
 
   only_progress : (frame : Frame) (p : Progress) (is_closed : Bool) → IsTakenIn frame
-      → writes_of events (Event.Take id number frame) ≡ SetProgress id (after frame) ∷ (closing_writes (closes (version_of events id) frame) id ++ state_writes (object frame) [])
-      → after_frame (version_of events id) (handed_place events id) frame (noted_into (noted frame) (progress_of events id)) ≡ p → closes (version_of events id) frame ≡ is_closed
-      → writes_of events (Event.Take id number frame) ≡ SetProgress id p ∷ closing_writes is_closed id
+      → writes_of events (Event.Move id number frame) ≡ SetProgress id (after frame) ∷ (closing_writes (closes (version_of events id) frame) id ++ state_writes (object frame) [])
+      → progress_after_frame (version_of events id) (handed_place events id) frame (noted_into (noted frame) (progress_of events id)) ≡ p → closes (version_of events id) frame ≡ is_closed
+      → writes_of events (Event.Move id number frame) ≡ SetProgress id p ∷ closing_writes is_closed id
   only_progress frame p is_closed none shape e f =
       shape ∙ ap₂ (λ (q : Progress) (writes : List Write). SetProgress id q ∷ writes) (progress_is frame p none e)
       (ap₂ (λ (c : Bool) (writes : List Write). closing_writes c id ++ writes) f (nothing_written (object frame)) ∙ append-nil (closing_writes is_closed id))
 
   command_written : (kept : Text) (request : Request) (command : RecordedCommand) → object (Frame.Command request) ≡ Some kept → IsTakenIn (Frame.Command request) → is_lazy_read request ≡ false → IsCommand request command
-      → writes_of events (Event.Take id number (Frame.Command request))
+      → writes_of events (Event.Move id number (Frame.Command request))
       ≡ AddEntry (command_row id (1 + length (entries_of events id)) command) ∷ SetProgress id (after_recorded command (progress_of events id))
       ∷ (map OpenSleep (sleep_told id command) ++ state_told kept command.state)
   command_written kept request command is none unread h =
@@ -218,9 +218,9 @@ module _ (events : List Event) (accepted : IsAccepted events) (id : Text) (numbe
 
   -- of a frame that is accepted
   pub written : (kept : Text) (attempt : LiveFacts) (is_awake : Bool) (frame : Frame) (read : AttemptFrame)
-      → option_map (λ (new : NewInvocation). new.object) (invocation_begun events id) ≡ Some kept → IsLive events id number attempt → IsAwakeAtOnce events id frame is_awake
+      → option_map (λ (new : NewInvocation). new.object) (invocation_begun events id) ≡ Some kept → KnowsLive events id number attempt → IsAwakeAtOnce events id frame is_awake
       → IsTakenIn frame → IsByRow frame → IsFrame frame read → refusal_by (tests_of_told (progress_of events id) attempt.is_input_closed read) ≡ None
-      → writes_of events (Event.Take id number frame) ≡ writes_of_told id kept (version_of events id) attempt is_awake (progress_of events id) read
+      → writes_of events (Event.Move id number frame) ≡ writes_of_told id kept (version_of events id) attempt is_awake (progress_of events id) read
   written kept attempt is_awake (Frame.Command request) (told.Command command) of live awake none unread h e = command_written kept request command of none unread h
   written kept attempt is_awake Frame.AwaitingOn told.AwaitingOn of live awake none unread h e = nothing_written (object Frame.AwaitingOn)
   written kept attempt is_awake (Frame.Suspend None) told.Broken of live awake none unread h e = cc

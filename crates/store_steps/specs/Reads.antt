@@ -2,7 +2,7 @@
 use Rattle.std.specs.Prelude.{◌≡◌, ℕ, Bool, ◌&&◌, if◌then◌else◌, [], ◌∷◌, Option, Some, None}
 use Rattle.journal_model.specs.declared.notification.NotificationResult.{NotificationResult}
 use Rattle.journal_model.specs.Delivery.{value_or_void}
-use Rattle.journal_model.specs.State.{StateMap, value_at, state_keys}
+use Rattle.journal_model.specs.State.{StateMap, value_of_key, state_keys}
 use Rattle.journal_model.specs.Spelling.{notification_payload}
 use Rattle.journal_model.specs.Journal.{completion}
 use Rattle.protocol_types.specs.declared.feature.Feature.TheVariants.{Acknowledgement}
@@ -30,7 +30,7 @@ acknowledged_if version n asks = if asks && has_feature version Acknowledgement 
 -- the answer, from the state of the object; a command that is no read has none
 abbrev pub answer_told : StateMap → StateUse → Option ℕ → Option ReadAnswer
 answer_told state (uses.ReadValue key) (Some n) =
-    Some (record { ty = types.GetLazyStateCompletionNotification; arrival = completion n (value_or_void (value_at state key)) })
+    Some (record { ty = types.GetLazyStateCompletionNotification; arrival = completion n (value_or_void (value_of_key state key)) })
 answer_told state uses.ReadKeys (Some n) =
     Some (record { ty = types.GetLazyStateKeysCompletionNotification; arrival = completion n (NotificationResult.StateKeys (state_keys state)) })
 answer_told state _ _ = None

@@ -14,7 +14,7 @@ use Rattle.store_frames.specs.declared.frame.AttemptFrame.TheVariants as told
 use Rattle.store_tables.specs.declared.row.Progress.{Progress}
 use Rattle.store_model.specs.Places.{handed_place}
 use Rattle.store_model.specs.Writes.{writes_of}
-use Rattle.store_refusals.specs.Prepared.{Prepares, Tells}
+use Rattle.store_refusals.specs.Prepared.{Prepares, TellsOrRefuses}
 use Rattle.store_refusals.specs.Refused.{refusal_by}
 use Rattle.store_refusals.specs.declared.refusal.Refusal.{Refusal}
 use Rattle.store_refusals.specs.declared.refusal.Refusal.TheVariants as refusal
@@ -27,7 +27,7 @@ use Rattle.store_steps.specs.Told.{tests_of_told, writes_of_told, reply_to_told}
 -- ---- by the events
 
 -- the attempt is live, and this is known of it
-pub record IsLive (events : List Event) (id : Text) (number : ℕ) (attempt : LiveFacts) : Type 0 where
+pub record KnowsLive (events : List Event) (id : Text) (number : ℕ) (attempt : LiveFacts) : Type 0 where
   pub live : is_live events id number ≡ true
   pub closed : attempt.is_input_closed ≡ is_input_closed events id
   pub handed : attempt.handed ≡ handed_place events id
@@ -48,30 +48,30 @@ IsReply events id (Frame.Error code message behavior delay) replies.Failed = Uni
 IsReply events id Frame.End replies.Ended = Unit {0}
 IsReply events id _ _ = ⊥
 
-pub record IsTaken (events : List Event) (id : Text) (number : ℕ) (frame : Frame) (made : PreparedFrame) : Type 0 where
-  pub writes : made.writes.items ≡ writes_of events (Event.Take id number frame)
+pub record IsFrameTaken (events : List Event) (id : Text) (number : ℕ) (frame : Frame) (made : PreparedFrame) : Type 0 where
+  pub writes : made.writes.items ≡ writes_of events (Event.Move id number frame)
   pub reply : IsReply events id frame made.reply
-  pub acknowledged : made.acknowledged ≡ acknowledged (version_of events id) id (Event.Take id number frame)
+  pub acknowledged : made.acknowledged ≡ acknowledged (version_of events id) id (Event.Move id number frame)
 
 -- whichever frame this is, and whatever number the live attempt has
-abbrev pub Takes : List Event → Text → LiveFacts → AttemptFrame → Result PreparedFrame Refusal → Type 0
-Takes events id attempt read result = (number : ℕ) (frame : Frame) → IsLive events id number attempt → IsFrameRead (version_of events id) frame → IsFrame frame read
-    → Prepares events (Event.Take id number frame) (IsTaken events id number frame) result
+abbrev pub TakesAttemptFrame : List Event → Text → LiveFacts → AttemptFrame → Result PreparedFrame Refusal → Type 0
+TakesAttemptFrame events id attempt read result = (number : ℕ) (frame : Frame) → KnowsLive events id number attempt → IsFrameRead (version_of events id) frame → IsFrame frame read
+    → Prepares events (Event.Move id number frame) (IsFrameTaken events id number frame) result
 
 -- whether it is awake at once is told, whichever suspension this is
 abbrev pub WakesAtOnce : List Event → Text → LiveFacts → AttemptFrame → Result Bool Refusal → Type 0
-WakesAtOnce events id attempt read result = (number : ℕ) (frame : Frame) → IsLive events id number attempt → IsFrameRead (version_of events id) frame → IsFrame frame read
-    → Tells (IsAwakeAtOnce events id frame) result
+WakesAtOnce events id attempt read result = (number : ℕ) (frame : Frame) → KnowsLive events id number attempt → IsFrameRead (version_of events id) frame → IsFrame frame read
+    → TellsOrRefuses (IsAwakeAtOnce events id frame) result
 
 -- no command, and no outcome of a run
-abbrev pub IsOther : AttemptFrame → Type 0
-IsOther (told.Command command) = ⊥
-IsOther (told.RunOutcome completion result asks) = ⊥
-IsOther _ = Unit {0}
+abbrev pub IsOtherFrame : AttemptFrame → Type 0
+IsOtherFrame (told.Command command) = ⊥
+IsOtherFrame (told.RunOutcome completion result asks) = ⊥
+IsOtherFrame _ = Unit {0}
 
 -- ---- by what is kept of the invocation
 
-pub record IsMade (id object : Text) (version : ℕ) (p : Progress) (attempt : LiveFacts) (is_awake : Bool) (read : AttemptFrame) (made : PreparedFrame) : Type 0 where
+pub record IsFrameMade (id object : Text) (version : ℕ) (p : Progress) (attempt : LiveFacts) (is_awake : Bool) (read : AttemptFrame) (made : PreparedFrame) : Type 0 where
   pub accepted : refusal_by (tests_of_told p attempt.is_input_closed read) ≡ None
   pub writes : made.writes.items ≡ writes_of_told id object version attempt is_awake p read
   pub reply : made.reply ≡ reply_to_told p read
@@ -99,5 +99,5 @@ abbrev pub TellsEnd : FrameReply → Bool → Type 0
 TellsEnd reply does = (events : List Event) (id : Text) (frame : Frame) → IsReply events id frame reply → does ≡ ends_attempt frame
 
 -- a refusal says whether its cause lies in the frame
-abbrev pub TellsCause : Refusal → Bool → Type 0
-TellsCause why does = (cause : Cause) → refusal.Cause cause ≡ why → does ≡ is_of_frame cause
+abbrev pub TellsFrameCause : Refusal → Bool → Type 0
+TellsFrameCause why does = (cause : Cause) → refusal.Cause cause ≡ why → does ≡ is_of_frame cause

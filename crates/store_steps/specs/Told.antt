@@ -34,8 +34,8 @@ abbrev pub asked : Option ℕ → Option ℕ → List ℕ
 asked None second = []
 asked (Some n) second = n ∷ option_to_list second
 
-abbrev pub asked_by : RecordedCommand → List ℕ
-asked_by command = asked command.completion command.second_completion
+abbrev pub ids_asked_by : RecordedCommand → List ℕ
+ids_asked_by command = asked command.completion command.second_completion
 
 -- whether a command of this line puts a value out
 abbrev pub puts_out : Option CommandFacts → Bool
@@ -91,7 +91,7 @@ after_recorded command p = record p {
   entries = p.entries + 1;
   attempts_since_entry = 0;
   first_moment = 0;
-  last_completion = max p.last_completion (greatest (asked_by command));
+  last_completion = max p.last_completion (greatest (ids_asked_by command));
   answer = payload_or (value_put_out command) p.answer;
 }
 
@@ -141,7 +141,7 @@ error_told code message behavior delay = record { code = code; behavior = number
 -- why a frame of an attempt is refused, whose input is closed or not
 abbrev pub tests_of_told : Progress → Bool → AttemptFrame → Tests
 tests_of_told p is_closed (told.Command command) =
-    (not (do_ascend p.last_completion (asked_by command)), BadCompletion)
+    (not (do_ascend p.last_completion (ids_asked_by command)), BadCompletion)
     ∷ (not command.are_keys_text, KeyNotText)
     ∷ (nat_lt (2 ^ 32 - 2) (answers_told command.state + p.entries), NumbersUsedUp)
     ∷ (is_too_long command.payload, PayloadTooLong) ∷ []

@@ -1,7 +1,7 @@
 // Whether an attempt is over once its frame was answered.
 ghost use Rattle.std.specs.Prelude.{◌≡◌};
 ghost use Rattle.journal_model.specs.Cause.{is_of_frame};
-ghost use Rattle.store_steps.specs.Taken.{TellsCause, TellsEnd, does_end, lies_in_frame};
+ghost use Rattle.store_steps.specs.Taken.{TellsFrameCause, TellsEnd, does_end, lies_in_frame};
 
 use crate::frame::FrameReply;
 use store_refusals::{Cause, Refusal};
@@ -38,7 +38,7 @@ fn is_of_frame(cause: Cause) -> bool
 /// Whether a refused frame ends its attempt. Of any other refusal the frame waits, and is taken once more.
 pub fn refusal_ends_attempt(refusal: Refusal) -> bool
     ensures value { result ≡ lies_in_frame refusal }
-    ensures cause { TellsCause refusal result }
+    ensures cause { TellsFrameCause refusal result }
 {
     match refusal {
         Refusal::Cause(cause) => is_of_frame(cause),

@@ -6,11 +6,11 @@ ghost use Rattle.sqlite.specs.State.{HasCleanDisk};
 ghost use Rattle.journal_model.specs.Event.{Event};
 ghost use Rattle.protocol_types.specs.Version.{version_number};
 ghost use Rattle.store_frames.specs.declared.frame.AttemptFrame.{AttemptFrame};
-ghost use Rattle.store_tables.specs.Looks.{Looks};
+ghost use Rattle.store_tables.specs.Looks.{OnlyAsks};
 ghost use Rattle.store_invocations.specs.Rows.{IsRowOf, IsStoreOf};
 ghost use Rattle.store_steps.specs.declared.frame.LiveFacts.{LiveFacts};
 ghost use Rattle.store_steps.specs.Reads.{acknowledged_if};
-ghost use Rattle.store_steps.specs.Taken.{Takes};
+ghost use Rattle.store_steps.specs.Taken.{TakesAttemptFrame};
 ghost use Rattle.store_refusals.specs.Causes.{TellsCause};
 
 use crate::frame::{FrameReply, PreparedFrame};
@@ -43,8 +43,8 @@ pub(crate) fn outcome_by_row<S: Alter>(
     is_acknowledged: bool,
 ) -> Result<PreparedFrame, Refusal>
     ensures prepared { HasCleanDisk (state S.Store tables.new) → (events : List Event) → IsStoreOf events (state S.Store tables.old) → IsRowOf events id.now row
-        → (attempt : LiveFacts) → Takes events id.now attempt (AttemptFrame.RunOutcome completion brought is_acknowledged) result }
-    ensures looks { Looks S.Store tables.old tables.new }
+        → (attempt : LiveFacts) → TakesAttemptFrame events id.now attempt (AttemptFrame.RunOutcome completion brought is_acknowledged) result }
+    ensures looks { OnlyAsks S.Store tables.old tables.new }
     ensures cause { IfErr result (TellsCause (state S.Store tables.old) (state S.Store tables.new)) }
 {
     let acknowledged = acknowledged_by(row.version, completion, is_acknowledged);

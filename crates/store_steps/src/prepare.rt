@@ -3,13 +3,13 @@ ghost use Rattle.std.specs.Prelude.{true, ◌≡◌, ◌+◌, ◌-◌, ◌<◌, 
 ghost use Rattle.sqlite.specs.Held.{state};
 ghost use Rattle.sqlite.specs.State.{HasCleanDisk};
 ghost use Rattle.protocol_types.specs.Version.{version_number};
-ghost use Rattle.store_tables.specs.Looks.{Looks};
+ghost use Rattle.store_tables.specs.Looks.{OnlyAsks};
 ghost use Rattle.journal_model.specs.Event.{Event};
 ghost use Rattle.journal_model.specs.Journal.{object_state};
 ghost use Rattle.store_invocations.specs.Rows.{Decides, IsRowOf, IsStoreOf};
 ghost use Rattle.store_steps.specs.Reads.{answer_told};
 ghost use Rattle.store_steps.specs.Told.{tests_of_told};
-ghost use Rattle.store_steps.specs.Taken.{IsMade, IsOther, IsWhy, Takes, WakesAtOnce};
+ghost use Rattle.store_steps.specs.Taken.{IsFrameMade, IsOtherFrame, IsWhy, TakesAttemptFrame, WakesAtOnce};
 ghost use Rattle.store_refusals.specs.Causes.{TellsCause};
 
 use crate::frame::{LiveFacts, PreparedFrame};
@@ -37,7 +37,7 @@ fn decide(
     is_awake: bool,
     frame: AttemptFrame,
 ) -> Result<PreparedFrame, Refusal>
-    ensures ok { IfOk result (IsMade id.now object (version_number version) progress attempt is_awake frame) }
+    ensures ok { IfOk result (IsFrameMade id.now object (version_number version) progress attempt is_awake frame) }
     ensures err { IfErr result (IsWhy progress attempt frame) }
 {
     match frame_refusal(&progress, attempt, &frame) {
@@ -69,7 +69,7 @@ fn decide_by_row(
     is_awake: bool,
     frame: AttemptFrame,
 ) -> Result<PreparedFrame, Refusal>
-    ensures ok { IfOk result (IsMade id.now row.object (version_number row.version) row.progress attempt is_awake frame) }
+    ensures ok { IfOk result (IsFrameMade id.now row.object (version_number row.version) row.progress attempt is_awake frame) }
     ensures err { IfErr result (IsWhy row.progress attempt frame) }
 {
     decide(
@@ -93,7 +93,7 @@ fn answer_at_once<S: Alter>(
     ensures decided { HasCleanDisk (state S.Store tables.new) → (events : List Event) → IsStoreOf events (state S.Store tables.old)
         → Decides (tests_of_told row.now.progress true (AttemptFrame.Command command.now)) (λ answer. answer ≡ answer_told (object_state events row.now.object) command.now.state command.now.completion) result }
     ensures room { IfOk result (λ answer. IfSome answer (λ _. row.now.progress.entries + 1 < 2 ^ 32 - 1)) }
-    ensures looks { Looks S.Store tables.old tables.new }
+    ensures looks { OnlyAsks S.Store tables.old tables.new }
     ensures cause { IfErr result (TellsCause (state S.Store tables.old) (state S.Store tables.new)) }
 {
     match command_refusal(&row.progress, command) {
@@ -110,8 +110,8 @@ fn command_by_row<S: Alter>(
     attempt: LiveFacts,
     command: RecordedCommand,
 ) -> Result<PreparedFrame, Refusal>
-    ensures prepared { HasCleanDisk (state S.Store tables.new) → (events : List Event) → IsStoreOf events (state S.Store tables.old) → IsRowOf events id.now row → Takes events id.now attempt (AttemptFrame.Command command) result }
-    ensures looks { Looks S.Store tables.old tables.new }
+    ensures prepared { HasCleanDisk (state S.Store tables.new) → (events : List Event) → IsStoreOf events (state S.Store tables.old) → IsRowOf events id.now row → TakesAttemptFrame events id.now attempt (AttemptFrame.Command command) result }
+    ensures looks { OnlyAsks S.Store tables.old tables.new }
     ensures cause { IfErr result (TellsCause (state S.Store tables.old) (state S.Store tables.new)) }
 {
     match answer_at_once(tables, &row, &command) {
@@ -137,7 +137,7 @@ fn wakes_at_once<S: Alter>(
     frame: &AttemptFrame,
 ) -> Result<bool, Refusal>
     ensures told { HasCleanDisk (state S.Store tables.new) → (events : List Event) → IsStoreOf events (state S.Store tables.old) → IsRowOf events id.now row.now → WakesAtOnce events id.now attempt frame.now result }
-    ensures looks { Looks S.Store tables.old tables.new }
+    ensures looks { OnlyAsks S.Store tables.old tables.new }
     ensures cause { IfErr result (TellsCause (state S.Store tables.old) (state S.Store tables.new)) }
 {
     match frame {
@@ -163,8 +163,8 @@ fn other_by_row<S: Alter>(
     attempt: LiveFacts,
     frame: AttemptFrame,
 ) -> Result<PreparedFrame, Refusal>
-    ensures prepared { HasCleanDisk (state S.Store tables.new) → (events : List Event) → IsStoreOf events (state S.Store tables.old) → IsRowOf events id.now row → IsOther frame → Takes events id.now attempt frame result }
-    ensures looks { Looks S.Store tables.old tables.new }
+    ensures prepared { HasCleanDisk (state S.Store tables.new) → (events : List Event) → IsStoreOf events (state S.Store tables.old) → IsRowOf events id.now row → IsOtherFrame frame → TakesAttemptFrame events id.now attempt frame result }
+    ensures looks { OnlyAsks S.Store tables.old tables.new }
     ensures cause { IfErr result (TellsCause (state S.Store tables.old) (state S.Store tables.new)) }
 {
     match wakes_at_once(tables, id, &row, attempt, &frame) {
@@ -186,9 +186,9 @@ pub fn prepare_frame<S: Alter>(
     attempt: LiveFacts,
     frame: AttemptFrame,
 ) -> Result<PreparedFrame, Refusal>
-    ensures prepared { HasCleanDisk (state S.Store tables.new) → (events : List Event) → IsStoreOf events (state S.Store tables.old) → Takes events id.now attempt frame result }
+    ensures prepared { HasCleanDisk (state S.Store tables.new) → (events : List Event) → IsStoreOf events (state S.Store tables.old) → TakesAttemptFrame events id.now attempt frame result }
     ensures asked { HasCleanDisk (state S.Store tables.new) → OnOk result (IsTrue (state S.Store tables.old).is_open) }
-    ensures looks { Looks S.Store tables.old tables.new }
+    ensures looks { OnlyAsks S.Store tables.old tables.new }
     ensures cause { IfErr result (TellsCause (state S.Store tables.old) (state S.Store tables.new)) }
 {
     match invocation_by_id(tables, id) {

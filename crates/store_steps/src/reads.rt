@@ -8,11 +8,11 @@ ghost use Rattle.journal_model.specs.Delivery.{value_or_void};
 ghost use Rattle.journal_model.specs.Event.{Event};
 ghost use Rattle.journal_model.specs.Journal.{completion as arrival_of, object_state};
 ghost use Rattle.journal_model.specs.Spelling.{notification_payload};
-ghost use Rattle.journal_model.specs.State.{state_keys, value_at};
-ghost use Rattle.store_tables.specs.Looks.{Looks};
+ghost use Rattle.journal_model.specs.State.{state_keys, value_of_key};
+ghost use Rattle.store_tables.specs.Looks.{OnlyAsks};
 ghost use Rattle.store_tables.specs.declared.row.StateRow.{StateRow as Row};
 ghost use Rattle.store_tables.specs.declared.row.Write.{Write as RowWrite};
-ghost use Rattle.store_refusals.specs.Prepared.{Tells};
+ghost use Rattle.store_refusals.specs.Prepared.{TellsOrRefuses};
 ghost use Rattle.store_invocations.specs.Rows.{Decides, IsStoreOf, payload_tests};
 ghost use Rattle.store_steps.specs.Reads.{IsReadMade, answer_told, with_read};
 ghost use Rattle.store_steps.specs.Told.{answers_told, command_row};
@@ -46,8 +46,8 @@ fn value_of<S: Alter>(
     object: &ByteStr,
     key: &Bytes,
 ) -> Result<NotificationResult, Refusal>
-    ensures told { HasCleanDisk (state S.Store tables.new) → (events : List Event) → IsStoreOf events (state S.Store tables.old) → Tells (λ value. value ≡ value_or_void (value_at (object_state events object.now) key.now)) result }
-    ensures looks { Looks S.Store tables.old tables.new }
+    ensures told { HasCleanDisk (state S.Store tables.new) → (events : List Event) → IsStoreOf events (state S.Store tables.old) → TellsOrRefuses (λ value. value ≡ value_or_void (value_of_key (object_state events object.now) key.now)) result }
+    ensures looks { OnlyAsks S.Store tables.old tables.new }
     ensures cause { IfErr result (TellsCause (state S.Store tables.old) (state S.Store tables.new)) }
 {
     let found = state_at(tables, object, key)?;
@@ -80,8 +80,8 @@ fn keys_of<S: Alter>(
     tables: &mut StoreTables<S>,
     object: &ByteStr,
 ) -> Result<NotificationResult, Refusal>
-    ensures told { HasCleanDisk (state S.Store tables.new) → (events : List Event) → IsStoreOf events (state S.Store tables.old) → Tells (λ keys. keys ≡ Brought.StateKeys (state_keys (object_state events object.now))) result }
-    ensures looks { Looks S.Store tables.old tables.new }
+    ensures told { HasCleanDisk (state S.Store tables.new) → (events : List Event) → IsStoreOf events (state S.Store tables.old) → TellsOrRefuses (λ keys. keys ≡ Brought.StateKeys (state_keys (object_state events object.now))) result }
+    ensures looks { OnlyAsks S.Store tables.old tables.new }
     ensures cause { IfErr result (TellsCause (state S.Store tables.old) (state S.Store tables.new)) }
 {
     let states = object_states(tables, object)?;
@@ -108,9 +108,9 @@ pub(crate) fn answer_to<S: Alter>(
     command: &RecordedCommand,
 ) -> Result<Option<ReadAnswer>, Refusal>
     ensures told { HasCleanDisk (state S.Store tables.new) → (events : List Event) → IsStoreOf events (state S.Store tables.old)
-        → Tells (λ answer. answer ≡ answer_told (object_state events object.now) command.now.state command.now.completion) result }
+        → TellsOrRefuses (λ answer. answer ≡ answer_told (object_state events object.now) command.now.state command.now.completion) result }
     ensures counted { IfOk result (λ answer. IfSome answer (λ _. answers_told command.now.state ≡ 1)) }
-    ensures looks { Looks S.Store tables.old tables.new }
+    ensures looks { OnlyAsks S.Store tables.old tables.new }
     ensures cause { IfErr result (TellsCause (state S.Store tables.old) (state S.Store tables.new)) }
 {
     match (&command.state, command.completion) {

@@ -15,14 +15,14 @@ use Rattle.sqlite.specs.Listing.{reads_listing, understood}
 use Rattle.sqlite_tied.specs.Compute.{everything}
 use Rattle.sqlite.proofs.Callers.{IsPlain, command_of}
 use Rattle.sqlite_schema.specs.declared.schema.Column.{Column}
-use Rattle.sql_tables.specs.Asking.{IsAnswer}
+use Rattle.sql_tables.specs.QueryAnswers.{IsAnswer}
 use Rattle.sql_tables.specs.Cells.{flag_cell, long_cell, short_cell}
 use Rattle.sql_tables.specs.Content.{HasRows}
-use Rattle.sql_tables.specs.Statements.{by_columns, first_of, rows_of, program_of}
+use Rattle.sql_tables.specs.Statements.{by_columns, first_row_query, rows_of, program_of}
 use Rattle.sql_tables.proofs.Cells.{above_null, above_short, are_same, at_least_int, at_most_int, is_above as is_above_cell, same_blob, same_flag, same_text, same_short, same_null-Int, same_null-Text}
 use Rattle.sql_tables.proofs.Ordered.{record_first, records_ordered}
-use Rattle.sql_tables.proofs.Reading.{listed, records_read, rows_shown}
-use Rattle.store_tables.specs.Asks.{Asks, AsksFirst, AsksInOrder}
+use Rattle.sql_tables.proofs.RowReads.{listed, records_read, rows_shown}
+use Rattle.store_tables.specs.Asks.{AsksRows, AsksFirst, AsksInOrder}
 use Rattle.store_tables.specs.Tables.{store_schema, entry_columns, invocation_columns, meta_columns, sleep_columns, state_columns}
 use Rattle.store_tables.specs.Statements.{arrival_at_text, arrivals_after_text, awake_invocations_text, entries_text, entry_at_text, entry_by_answered_text, entry_by_completion_text, entry_by_second_completion_text, first_sleep_text, invocation_by_id_text, marks_text, open_invocation_text, sleeps_until_text, state_at_text, states_text}
 use Rattle.store_tables.specs.Records.{EntryRow, FitsEntry, FitsInvocation, FitsMark, FitsSleep, FitsState, Holds, IsMarked, Records, cells_of_mark, ends_by, ends_from, entry_cells, invocation_cells, mark_cells, sleep_cells, state_cells, the_mark}
@@ -46,12 +46,12 @@ pub record IsSelect (sql : List ℕ) (tree : ℕ) (columns : List Column) (width
 
 -- the text asks for the first of them
 pub record IsFirstSelect (sql : List ℕ) (tree : ℕ) (columns : List Column) (width : ℕ) (places : List Test) (order : List (Term × Key)) : Type 0 where
-  pub command : command_of (understood store_schema sql) ≡ Select (program_of (first_of (rows_of tree (tests_of places) (columns_from 1 width) order))) (map (λ (c : Column). c.name) columns)
+  pub command : command_of (understood store_schema sql) ≡ Select (program_of (first_row_query (rows_of tree (tests_of places) (columns_from 1 width) order))) (map (λ (c : Column). c.name) columns)
   pub plain : IsPlain (understood store_schema sql)
   pub unlisted : reads_listing store_schema sql ≡ false
 
 module _ {X : Type 0} (tree width : ℕ) (cells : X → Row) (Fits : X → Type 0) (records : Records → List X) (kept : Keeps tree width cells Fits records) (columns : List Column) (sql : List ℕ) (places : List Test) where
-  pub asks_of : (order : List (Term × Key)) → IsSelect sql tree columns width places order → (params : Row) (s : State) (test : X → Bool) → ((x : X) → match_cells params places (cells x) ≡ test x) → Asks cells Fits records test sql params s
+  pub asks_of : (order : List (Term × Key)) → IsSelect sql tree columns width places order → (params : Row) (s : State) (test : X → Bool) → ((x : X) → match_cells params places (cells x) ≡ test x) → AsksRows cells Fits records test sql params s
   asks_of order select params s test same = record {
     back = kept.back;
     told = kept.told;
@@ -87,7 +87,7 @@ pub selects_id : IsSelect invocation_by_id_text 1 invocation_columns 22 (equal 0
 unfolding understood everything
 selects_id = record { command = refl; plain = (refl, refl); unlisted = refl }
 
-pub asks_id : (s : State) (id : List ℕ) → Asks invocation_cells FitsInvocation (λ r. r.invocations) (has_id id) invocation_by_id_text (Text id ∷ []) s
+pub asks_id : (s : State) (id : List ℕ) → AsksRows invocation_cells FitsInvocation (λ r. r.invocations) (has_id id) invocation_by_id_text (Text id ∷ []) s
 asks_id s id = asks_of 1 22 invocation_cells FitsInvocation (λ r. r.invocations) kept_invocations invocation_columns _ (equal 0 0 ∷ []) _ selects_id _ s _ (λ i. one_test _ _ (same_text i.id id))
 
 pub selects_open : IsSelect open_invocation_text 1 invocation_columns 22 (equal 5 0 ∷ []) []
@@ -98,7 +98,7 @@ same_optional_text : (o : Option (List ℕ)) (t : List ℕ) → are_same (or_nul
 same_optional_text None t = same_null-Text t
 same_optional_text (Some s) t = same_text s t
 
-pub asks_open : (s : State) (object : List ℕ) → Asks invocation_cells FitsInvocation (λ r. r.invocations) (is_open_of object) open_invocation_text (Text object ∷ []) s
+pub asks_open : (s : State) (object : List ℕ) → AsksRows invocation_cells FitsInvocation (λ r. r.invocations) (is_open_of object) open_invocation_text (Text object ∷ []) s
 asks_open s object = asks_of 1 22 invocation_cells FitsInvocation (λ r. r.invocations) kept_invocations invocation_columns _ (equal 5 0 ∷ []) _ selects_open _ s _ (λ i. one_test _ _ (same_optional_text i.progress.open_object object))
 
 pub selects_awake : IsSelect awake_invocations_text 1 invocation_columns 22 (equal 21 0 ∷ []) (by_columns (1 ∷ []))
@@ -119,7 +119,7 @@ same_number (Some m) n = same_short m n
 
 -- by a number of the entry that may be null
 asks_number : (at : ℕ) (field : EntryRow → Option ℕ) (sql : List ℕ) → ((e : EntryRow) → column (entry_cells e) at ≡ or_null short_cell (field e)) → IsSelect sql 0 entry_columns 9 (equal 0 0 ∷ equal at 1 ∷ []) []
-    → (s : State) (invocation : List ℕ) (n : ℕ) → Asks entry_cells FitsEntry (λ r. r.entries) (λ e. bytes_eq e.invocation invocation && is_number n (field e)) sql (Text invocation ∷ short_cell n ∷ []) s
+    → (s : State) (invocation : List ℕ) (n : ℕ) → AsksRows entry_cells FitsEntry (λ r. r.entries) (λ e. bytes_eq e.invocation invocation && is_number n (field e)) sql (Text invocation ∷ short_cell n ∷ []) s
 asks_number at field sql is select s invocation n =
     asks_of 0 9 entry_cells FitsEntry (λ r. r.entries) kept_entries entry_columns sql (equal 0 0 ∷ equal at 1 ∷ []) [] select _ s _
     (λ e. two_tests _ _ _ _ (same_text e.invocation invocation) (ap (λ v. are_same v (short_cell n)) (is e) ∙ same_number (field e) n))
@@ -128,35 +128,35 @@ pub selects_completion : IsSelect entry_by_completion_text 0 entry_columns 9 (eq
 unfolding understood everything
 selects_completion = record { command = refl; plain = (refl, refl); unlisted = refl }
 
-pub asks_completion : (s : State) (invocation : List ℕ) (n : ℕ) → Asks entry_cells FitsEntry (λ r. r.entries) (asks_for invocation n) entry_by_completion_text (Text invocation ∷ short_cell n ∷ []) s
+pub asks_completion : (s : State) (invocation : List ℕ) (n : ℕ) → AsksRows entry_cells FitsEntry (λ r. r.entries) (asks_for invocation n) entry_by_completion_text (Text invocation ∷ short_cell n ∷ []) s
 asks_completion = asks_number 4 (λ e. e.completion) _ (λ e. refl) selects_completion
 
 pub selects_second : IsSelect entry_by_second_completion_text 0 entry_columns 9 (equal 0 0 ∷ equal 5 1 ∷ []) []
 unfolding understood everything
 selects_second = record { command = refl; plain = (refl, refl); unlisted = refl }
 
-pub asks_second : (s : State) (invocation : List ℕ) (n : ℕ) → Asks entry_cells FitsEntry (λ r. r.entries) (asks_second_for invocation n) entry_by_second_completion_text (Text invocation ∷ short_cell n ∷ []) s
+pub asks_second : (s : State) (invocation : List ℕ) (n : ℕ) → AsksRows entry_cells FitsEntry (λ r. r.entries) (asks_second_for invocation n) entry_by_second_completion_text (Text invocation ∷ short_cell n ∷ []) s
 asks_second = asks_number 5 (λ e. e.second_completion) _ (λ e. refl) selects_second
 
 pub selects_answered : IsSelect entry_by_answered_text 0 entry_columns 9 (equal 0 0 ∷ equal 6 1 ∷ []) []
 unfolding understood everything
 selects_answered = record { command = refl; plain = (refl, refl); unlisted = refl }
 
-pub asks_answered : (s : State) (invocation : List ℕ) (n : ℕ) → Asks entry_cells FitsEntry (λ r. r.entries) (answers invocation n) entry_by_answered_text (Text invocation ∷ short_cell n ∷ []) s
+pub asks_answered : (s : State) (invocation : List ℕ) (n : ℕ) → AsksRows entry_cells FitsEntry (λ r. r.entries) (answers invocation n) entry_by_answered_text (Text invocation ∷ short_cell n ∷ []) s
 asks_answered = asks_number 6 (λ e. e.answered) _ (λ e. refl) selects_answered
 
 pub selects_arrival : IsSelect arrival_at_text 0 entry_columns 9 (equal 0 0 ∷ equal 7 1 ∷ []) []
 unfolding understood everything
 selects_arrival = record { command = refl; plain = (refl, refl); unlisted = refl }
 
-pub asks_arrival : (s : State) (invocation : List ℕ) (n : ℕ) → Asks entry_cells FitsEntry (λ r. r.entries) (is_arrival_at invocation n) arrival_at_text (Text invocation ∷ short_cell n ∷ []) s
+pub asks_arrival : (s : State) (invocation : List ℕ) (n : ℕ) → AsksRows entry_cells FitsEntry (λ r. r.entries) (is_arrival_at invocation n) arrival_at_text (Text invocation ∷ short_cell n ∷ []) s
 asks_arrival = asks_number 7 (λ e. e.arrival) _ (λ e. refl) selects_arrival
 
 pub selects_place : IsSelect entry_at_text 0 entry_columns 9 (equal 0 0 ∷ equal 1 1 ∷ []) []
 unfolding understood everything
 selects_place = record { command = refl; plain = (refl, refl); unlisted = refl }
 
-pub asks_place : (s : State) (invocation : List ℕ) (place : ℕ) → Asks entry_cells FitsEntry (λ r. r.entries) (is_at_place invocation place) entry_at_text (Text invocation ∷ short_cell place ∷ []) s
+pub asks_place : (s : State) (invocation : List ℕ) (place : ℕ) → AsksRows entry_cells FitsEntry (λ r. r.entries) (is_at_place invocation place) entry_at_text (Text invocation ∷ short_cell place ∷ []) s
 asks_place s invocation place =
     asks_of 0 9 entry_cells FitsEntry (λ r. r.entries) kept_entries entry_columns _ (equal 0 0 ∷ equal 1 1 ∷ []) [] selects_place _ s _
     (λ e. two_tests _ _ _ _ (same_text e.invocation invocation) (same_short e.place place))
@@ -190,7 +190,7 @@ pub selects_state : IsSelect state_at_text 5 state_columns 3 (equal 0 0 ∷ equa
 unfolding understood everything
 selects_state = record { command = refl; plain = (refl, refl); unlisted = refl }
 
-pub asks_state : (s : State) (object key : List ℕ) → Asks state_cells FitsState (λ r. r.states) (is_at_key object key) state_at_text (Text object ∷ Blob key ∷ []) s
+pub asks_state : (s : State) (object key : List ℕ) → AsksRows state_cells FitsState (λ r. r.states) (is_at_key object key) state_at_text (Text object ∷ Blob key ∷ []) s
 asks_state s object key =
     asks_of 5 3 state_cells FitsState (λ r. r.states) kept_states state_columns _ (equal 0 0 ∷ equal 1 1 ∷ []) [] selects_state _ s _
     (λ x. two_tests _ _ _ _ (same_text x.object object) (same_blob x.key key))
@@ -230,7 +230,7 @@ pub selects_marks : IsSelect marks_text 3 meta_columns 2 [] []
 unfolding understood everything
 selects_marks = record { command = refl; plain = (refl, refl); unlisted = refl }
 
-pub asks_marks : (s : State) → Asks cells_of_mark FitsMark (λ r. the_mark ∷ []) (λ m. true) marks_text [] s
+pub asks_marks : (s : State) → AsksRows cells_of_mark FitsMark (λ r. the_mark ∷ []) (λ m. true) marks_text [] s
 asks_marks s = asks_of 3 2 cells_of_mark FitsMark (λ r. the_mark ∷ []) kept_marks meta_columns marks_text [] [] selects_marks [] s (λ m. true) (λ m. refl)
 
 two_columns : (params r : Row) → eval_all (columns_from 1 2) (params ∷ r ∷ []) ≡ column r 1 ∷ column r 2 ∷ []

@@ -6,7 +6,7 @@ use Rattle.std.specs.Ordering.{int_eq}
 use Rattle.std.proofs.lemmas.Int.{of_z-to_z}
 use Rattle.protocol_types.specs.declared.message_type.MessageType.{MessageType}
 use Rattle.protocol_types.specs.declared.message_type.MessageType.TheVariants.{Start}
-use Rattle.protocol_types.specs.MessageType.{number_of}
+use Rattle.protocol_types.specs.MessageType.{type_number}
 use Rattle.protocol_types.specs.declared.version.Version.{Version}
 use Rattle.protocol_types.specs.Version.{oldest_version, version_at, version_number}
 use Rattle.protocol_types.proofs.Versions.{versions_read_back}
@@ -86,7 +86,7 @@ sleep_back_is s fits = rw (long_back s.moment fits.moment, short_back s.completi
 kind_in : Value → MessageType
 kind_in v = unwrap_or (kind_kept (short_in v)) Start
 
-kind_in_back : (kind : MessageType) → number_of kind < 2 ^ 16 → kind_in (short_cell (kept_kind kind)) ≡ kind
+kind_in_back : (kind : MessageType) → type_number kind < 2 ^ 16 → kind_in (short_cell (kept_kind kind)) ≡ kind
 unfolding kind_in
 kind_in_back kind small = ap (λ (o : Option MessageType). unwrap_or o Start) (ap kind_kept (short_back (kept_kind kind)) ∙ kind_back kind small)
 

@@ -6,12 +6,12 @@ use Rattle.sqlite.specs.Held.{Held, state}
 use Rattle.sqlite.specs.State.{State, HasCleanDisk, KeepsCounts, Shows}
 use Rattle.sqlite.proofs.StateLemmas.{survives_then}
 use Rattle.sql_tables.proofs.Queries.{on_ok}
-use Rattle.store_tables.specs.Looks.{Lasts, Looks}
+use Rattle.store_tables.specs.Looks.{Lasts, OnlyAsks}
 
-pub clean_before : {S : Type 0} (g : Ghosts S) (a b : Held S) → Looks g a b → HasCleanDisk (state g b) → HasCleanDisk (state g a)
+pub clean_before : {S : Type 0} (g : Ghosts S) (a b : Held S) → OnlyAsks g a b → HasCleanDisk (state g b) → HasCleanDisk (state g a)
 clean_before g a b looks clean = omega (arith, looks.crash.clean, clean)
 
-pub looks_on : {S : Type 0} (g : Ghosts S) (a b c : Held S) → Looks g a b → Looks g b c → Looks g a c
+pub looks_on : {S : Type 0} (g : Ghosts S) (a b c : Held S) → OnlyAsks g a b → OnlyAsks g b c → OnlyAsks g a c
 looks_on g a b c one two = record {
   kept = λ clean is_open.
       let later = two.kept clean is_open in

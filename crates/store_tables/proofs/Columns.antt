@@ -8,7 +8,7 @@ use Rattle.sqlite.specs.declared.types.Value.TheVariants.{Text}
 use Rattle.sqlite.specs.Values.{or_null}
 use Rattle.sqlite_value.specs.Order.{Row, column}
 use Rattle.sql_tables.specs.Cells.{IsShort, short_cell}
-use Rattle.sql_tables.proofs.Reading.{listed_as}
+use Rattle.sql_tables.proofs.RowReads.{listed_as}
 use Rattle.store_tables.specs.Parts.{progress_columns}
 use Rattle.store_tables.specs.Records.{Closing, FitsError, LastError, closing_cell}
 use Rattle.store_tables.specs.declared.row.Closing.TheVariants.{Ended, Failed}

@@ -9,14 +9,14 @@ use Rattle.sqlite.specs.Held.{Held, state}
 use Rattle.sqlite.specs.State.{State, HasCleanDisk, IsRolledBack, KeepsCommit, KeepsCounts, Shows, Survives}
 use Rattle.sqlite.specs.Steps.{FailsToCommit}
 use Rattle.sqlite.proofs.StateLemmas.{survives_then}
-use Rattle.sql_tables.specs.Asking.{IsKept}
+use Rattle.sql_tables.specs.QueryAnswers.{AreTablesKept}
 use Rattle.sql_tables.proofs.InTurn.{cause_to_write, write_cause_before, write_cause_later, write_cause_more}
 use Rattle.sql_tables.proofs.Queries.{on_ok}
 use Rattle.store_tables.specs.Records.{Records, Write, applied_all}
 use Rattle.store_tables.specs.Statements.{statements_of, statements_of_all}
-use Rattle.store_tables.specs.Steps.{Lands, Steps, Turns}
-use Rattle.store_tables.specs.Looks.{Makes}
-use Rattle.sql_tables.specs.Causes.{IsCause, IsCauseToWrite, Statement, TellsCause, TellsWriteCause}
+use Rattle.store_tables.specs.Steps.{Lands, Steps, TurnsRecords}
+use Rattle.store_tables.specs.Looks.{MakesWrites}
+use Rattle.sql_tables.specs.Causes.{IsCause, IsCauseToWrite, Statement, TellsErrorCause, TellsWriteCause}
 use Rattle.store_tables.proofs.Caused.{told_of_commit}
 use Rattle.store_tables.proofs.Chained.{IsSettling, lasts}
 
@@ -38,8 +38,8 @@ module _ {S : Type 0} (g : Ghosts S) (old mid : Held S) where
   pub opened_from : (began : Held S) (writes : List Write) → began ≡ begun old → (writes ≡ []) ⊎ IsTrue (state g began).is_open → (writes ≡ []) ⊎ IsTrue (state g old).is_open
   opened_from began writes is o = subst (λ (h : Held S). (writes ≡ []) ⊎ IsTrue (state g h).is_open) is o
 
-  pub turns_from : (began : Held S) (change : Records → Records) → began ≡ begun old → Turns change (state g began).now.trees (state g mid).now.trees → Turns change (state g old).now.trees (state g mid).now.trees
-  turns_from began change is t = subst (λ (h : Held S). Turns change (state g h).now.trees (state g mid).now.trees) is t
+  pub turns_from : (began : Held S) (change : Records → Records) → began ≡ begun old → TurnsRecords change (state g began).now.trees (state g mid).now.trees → TurnsRecords change (state g old).now.trees (state g mid).now.trees
+  turns_from began change is t = subst (λ (h : Held S). TurnsRecords change (state g h).now.trees (state g mid).now.trees) is t
 
   pub steps_from : (began : Held S) (change : Records → Records) (statements : List Statement) → began ≡ begun old
       → (IsTrue (state g began).is_open → Steps change statements (state g began) (state g mid)) → IsTrue (state g old).is_open → Steps change statements (state g old) (state g mid)
@@ -47,7 +47,7 @@ module _ {S : Type 0} (g : Ghosts S) (old mid : Held S) where
       let it = subst (λ (h : Held S). IsTrue (state g h).is_open → Steps change statements (state g h) (state g mid)) is s was_open in
       record { was_open = it.was_open; schema = it.schema; inside = it.inside; records = it.records; made = it.made }
 
-to_write : {A : Type 0} (writes : List Write) (a b : State) (r : Result A Error) → IfErr r (TellsCause a b) → IfErr r (TellsWriteCause (statements_of_all writes) a b)
+to_write : {A : Type 0} (writes : List Write) (a b : State) (r : Result A Error) → IfErr r (TellsErrorCause a b) → IfErr r (TellsWriteCause (statements_of_all writes) a b)
 to_write writes a b (Ok x) tells = tt
 to_write writes a b (Err e) tells = λ clean. cause_to_write (statements_of_all writes) a b e (tells clean)
 
@@ -56,7 +56,7 @@ module _ {S : Type 0} (g : Ghosts S) (law : IsSettling g) (old mid new : Held S)
     (survives : Survives (state g old) (state g mid) (λ _. ⊥))
     (kept : HasCleanDisk (state g mid) → KeepsCommit (state g old) (state g mid))
     (opened : HasCleanDisk (state g mid) → (writes ≡ []) ⊎ IsTrue (state g old).is_open)
-    (turns : HasCleanDisk (state g mid) → Turns (applied_all writes) (state g old).now.trees (state g mid).now.trees)
+    (turns : HasCleanDisk (state g mid) → TurnsRecords (applied_all writes) (state g old).now.trees (state g mid).now.trees)
     (steps : HasCleanDisk (state g mid) → IsTrue (state g old).is_open → Steps (applied_all writes) (statements_of_all writes) (state g old) (state g mid))
     (inside : HasCleanDisk (state g mid) → IsTrue (state g mid).in_transaction)
     (lives : Survives (state g mid) (state g new) (λ db. db ≡ (state g mid).now.trees)) where
@@ -66,16 +66,16 @@ module _ {S : Type 0} (g : Ghosts S) (law : IsSettling g) (old mid new : Held S)
   written : HasCleanDisk (state g new) → Shows (state g mid) (state g new) (state g mid).now (state g mid).now false → Lands writes (state g old) (state g new).now.trees
   written clean shows = (
     (kept (earlier clean)).was_open shows.was_open,
-    subst (λ (db : Database). Turns (applied_all writes) (state g old).now.trees db.trees) (sym shows.now_is) (turns (earlier clean)),
+    subst (λ (db : Database). TurnsRecords (applied_all writes) (state g old).now.trees db.trees) (sym shows.now_is) (turns (earlier clean)),
   )
 
   lands : HasCleanDisk (state g new) → (db : Trees) → db ≡ (state g mid).now.trees → Lands writes (state g old) db
   lands clean db is = elim (opened (earlier clean)) [
     | inl none ↦ absurd (some none)
-    | inr was_open ↦ (was_open, subst (λ (trees : Trees). Turns (applied_all writes) (state g old).now.trees trees) (sym is) (turns (earlier clean)))
+    | inr was_open ↦ (was_open, subst (λ (trees : Trees). TurnsRecords (applied_all writes) (state g old).now.trees trees) (sym is) (turns (earlier clean)))
   ]
 
-  undone_by : (result : Result (Unit {0}) Error) → (HasCleanDisk (state g new) → IfErr result (FailsToCommit (state g mid) (state g new))) → OnErr result (IsKept (state g old) (state g new))
+  undone_by : (result : Result (Unit {0}) Error) → (HasCleanDisk (state g new) → IfErr result (FailsToCommit (state g mid) (state g new))) → OnErr result (AreTablesKept (state g old) (state g new))
   undone_by (Ok x) told = tt
   undone_by (Err e) told = λ clean is_open.
       let k = kept (earlier clean) in
@@ -91,7 +91,7 @@ module _ {S : Type 0} (g : Ghosts S) (law : IsSettling g) (old mid new : Held S)
   pub committed : (result : Result (Unit {0}) Error)
       → (HasCleanDisk (state g new) → OnOk result (IsTrue (state g mid).in_transaction × Shows (state g mid) (state g new) (state g mid).now (state g mid).now false × KeepsCounts (state g mid) (state g new) × ((state g new).marks ≡ [])))
       → (HasCleanDisk (state g new) → IfErr result (FailsToCommit (state g mid) (state g new)))
-      → Makes g writes (TellsWriteCause (statements_of_all writes) (state g old) (state g new)) old new result
+      → MakesWrites g writes (TellsWriteCause (statements_of_all writes) (state g old) (state g new)) old new result
   committed result told failed = record {
     done = λ clean. on_ok result (told clean) (λ it. inr (written clean it.1));
     lasts = λ clean. on_ok result (lasts g law (state g mid) new result told clean) (λ it. inr it);
@@ -135,7 +135,7 @@ pub given_up : {S : Type 0} (g : Ghosts S) (old began mid new : Held S) (writes 
     → began ≡ begun old → (IsTrue (state g old).is_open → (state g old).now ≡ (state g old).committed)
     → Survives (state g began) (state g mid) (λ _. ⊥) → (HasCleanDisk (state g mid) → KeepsCommit (state g began) (state g mid)) → TellsWriteCause (statements_of_all writes) (state g began) (state g mid) e
     → Survives (state g mid) (state g new) (λ _. ⊥) → (HasCleanDisk (state g new) → IsRolledBack (state g mid) (state g new))
-    → Makes g writes (TellsWriteCause (statements_of_all writes) (state g old) (state g new)) old new result
+    → MakesWrites g writes (TellsWriteCause (statements_of_all writes) (state g old) (state g new)) old new result
 given_up g old began mid new writes e (Ok x) gives is idle survives kept tells lives undone = absurd gives
 given_up g old began mid new writes e (Err other) gives is idle survives kept tells lives undone = record {
   done = λ clean. tt;

@@ -11,7 +11,7 @@ use Rattle.sqlite.specs.Kind.TheVariants.{Integer}
 use Rattle.sqlite.specs.State.{State}
 use Rattle.sqlite.specs.Listing.{understood}
 use Rattle.sqlite_tied.specs.Compute.{everything}
-use Rattle.sql_tables.specs.Asking.{HasRun}
+use Rattle.sql_tables.specs.QueryAnswers.{HasRun}
 use Rattle.sql_tables.specs.Cells.{short_cell}
 use Rattle.sql_tables.specs.Content.{HasRows}
 use Rattle.sql_tables.proofs.Cells.{cast_or_null}

@@ -13,14 +13,14 @@ use Rattle.sqlite_trees.proofs.ListLemmas.{all-permutation}
 use Rattle.sqlite_value.specs.Order.{Row, column}
 use Rattle.sqlite_value.proofs.OrderLemmas.{value_cmp_total}
 use Rattle.sqlite.specs.State.{State}
-use Rattle.sql_tables.specs.Asking.{IsAnswer, IsOther}
+use Rattle.sql_tables.specs.QueryAnswers.{IsAnswer, IsOtherRow}
 use Rattle.sql_tables.specs.Statements.{IsFirst, cells_cmp}
 use Rattle.sql_tables.specs.declared.read.ReadError.{ReadError}
 use Rattle.sql_tables.specs.declared.read.ReadError.TheVariants.{Foreign}
-use Rattle.sql_tables.proofs.Reading.{all_back, found_as, no_more, only_one, same_records}
+use Rattle.sql_tables.proofs.RowReads.{all_back, found_as, no_more, only_one, same_records}
 use Rattle.sqlite_keyed.specs.Lists.{sort_by}
 use Rattle.sqlite_keyed.proofs.SortLemmas.{IsPermutation-sort_by}
-use Rattle.store_tables.specs.Asks.{AreTold, Asks, AsksFirst, AsksInOrder, by_cells}
+use Rattle.store_tables.specs.Asks.{AreTold, AsksRows, AsksFirst, AsksInOrder, by_cells}
 use Rattle.store_tables.specs.Records.{Records, Holds}
 use Rattle.store_tables.specs.Questions.{IsAmbiguous, IsFound}
 use Rattle.store_tables.specs.Tables.{store_schema}
@@ -29,7 +29,7 @@ fits_listed : {X : Type 0} (Fits : X → Type 0) (o : Option X) → IfSome o Fit
 fits_listed Fits None fits = tt
 fits_listed Fits (Some x) fits = (fits, tt)
 
-module _ {X : Type 0} (cells : X → Row) (Fits : X → Type 0) (records : Records → List X) (test : X → Bool) (sql : List ℕ) (params : Row) (s : State) (has : s.now.schema ≡ store_schema) (asks : Asks cells Fits records test sql params s) where
+module _ {X : Type 0} (cells : X → Row) (Fits : X → Type 0) (records : Records → List X) (test : X → Bool) (sql : List ℕ) (params : Row) (s : State) (has : s.now.schema ≡ store_schema) (asks : AsksRows cells Fits records test sql params s) where
   fit_passing : (r : Records) → Holds s.now.trees r → AllByRecursion Fits (filter test (records r))
   fit_passing r h = all-filter Fits test (records r) (asks.fit r h)
 
@@ -39,7 +39,7 @@ module _ {X : Type 0} (cells : X → Row) (Fits : X → Type 0) (records : Recor
   pub one_found : (o : Option X) → IsAnswer sql params s (map cells (option_to_list o)) → IfSome o Fits → IsFound records test s.now.trees o
   one_found o answer fits r h = found_as test (records r) o (all_found (option_to_list o) answer (fits_listed Fits o fits) r h)
 
-  pub one_ambiguous : IsOther sql params s (λ rows. (o : Option X) × IfSome o Fits × (map cells (option_to_list o) ≡ rows)) → IsAmbiguous records test s.now.trees
+  pub one_ambiguous : IsOtherRow sql params s (λ rows. (o : Option X) × IfSome o Fits × (map cells (option_to_list o) ≡ rows)) → IsAmbiguous records test s.now.trees
   one_ambiguous other r h few = by_list (filter test (records r)) few (fit_passing r h) (asks.read has other.0 other.1 r h)
     where
       by_list : (xs : List X) → length xs ≤ 1 → AllByRecursion Fits xs → IsPermutation (map cells xs) other.0 → ⊥
@@ -69,7 +69,7 @@ module _ {X : Type 0} (cells : X → Row) (Fits : X → Type 0) (records : Recor
       sym (all_back cells it.asks.back Fits it.asks.told xs fits) ∙ ap (map it.asks.back) (it.ordered has (map cells xs) answer r h zs same told)
       ∙ all_back cells it.asks.back Fits it.asks.told (sort_by (by_cells cells order) zs) (fit_arranged r h zs same)
 
-  pub all_other : IsOther sql params s (λ rows. (xs : List X) × AllByRecursion Fits xs × (map cells xs ≡ rows)) → (r : Records) → Holds s.now.trees r → (zs : List X) → IsPermutation (filter test (records r)) zs → AreTold cells order zs → ⊥
+  pub all_other : IsOtherRow sql params s (λ rows. (xs : List X) × AllByRecursion Fits xs × (map cells xs ≡ rows)) → (r : Records) → Holds s.now.trees r → (zs : List X) → IsPermutation (filter test (records r)) zs → AreTold cells order zs → ⊥
   all_other other r h zs same told = other.2 (sort_by (by_cells cells order) zs, fit_arranged r h zs same, sym (it.ordered has other.0 other.1 r h zs same told))
 
 -- the first of the records in that order
@@ -91,7 +91,7 @@ module _ {X : Type 0} (cells : X → Row) (Fits : X → Type 0) (records : Recor
       let read = it.read has (map cells (option_to_list o)) answer r h in
       subst (IsFirst (by_cells cells order) (filter test (records r))) (sym (same_one o read.0 fits (fits_first r h read.0 read.1) read.2)) read.1
 
-  pub first_other : IsOther sql params s (λ rows. (o : Option X) × IfSome o Fits × (map cells (option_to_list o) ≡ rows)) → (r : Records) → Holds s.now.trees r → ⊥
+  pub first_other : IsOtherRow sql params s (λ rows. (o : Option X) × IfSome o Fits × (map cells (option_to_list o) ≡ rows)) → (r : Records) → Holds s.now.trees r → ⊥
   first_other other r h =
       let read = it.read has other.0 other.1 r h in
       other.2 (read.0, fits_first r h read.0 read.1, sym read.2)
@@ -100,11 +100,11 @@ module _ {X : Type 0} (cells : X → Row) (Fits : X → Type 0) (records : Recor
 
 module _ {X : Type 0} (cells : X → Row) (Fits : X → Type 0) (sql : List ℕ) (params : Row) (s : State) (store : IsTrue s.is_open → s.now.schema ≡ store_schema) where
   pub tells_one : (o : Result (Option X) ReadError) → IfOk o (λ x. IsTrue s.is_open × IsAnswer sql params s (map cells (option_to_list x)) × IfSome x Fits)
-      → IfOk o (λ x. (records : Records → List X) (test : X → Bool) → Asks cells Fits records test sql params s → IsFound records test s.now.trees x)
+      → IfOk o (λ x. (records : Records → List X) (test : X → Bool) → AsksRows cells Fits records test sql params s → IsFound records test s.now.trees x)
   tells_one (Ok x) it = λ records test asks. one_found cells Fits records test sql params s (store it.0) asks x it.1 it.2
   tells_one (Err e) it = tt
 
-  pub tells_ambiguous : {A : Type 0} (o : Result A ReadError) → IfErr o (λ e. e ≡ Foreign → IsTrue s.is_open × IsOther sql params s (λ rows. (x : Option X) × IfSome x Fits × (map cells (option_to_list x) ≡ rows)))
-      → IfErr o (λ e. e ≡ Foreign → (records : Records → List X) (test : X → Bool) → Asks cells Fits records test sql params s → IsAmbiguous records test s.now.trees)
+  pub tells_ambiguous : {A : Type 0} (o : Result A ReadError) → IfErr o (λ e. e ≡ Foreign → IsTrue s.is_open × IsOtherRow sql params s (λ rows. (x : Option X) × IfSome x Fits × (map cells (option_to_list x) ≡ rows)))
+      → IfErr o (λ e. e ≡ Foreign → (records : Records → List X) (test : X → Bool) → AsksRows cells Fits records test sql params s → IsAmbiguous records test s.now.trees)
   tells_ambiguous (Ok x) it = tt
   tells_ambiguous (Err e) it = λ is records test asks. one_ambiguous cells Fits records test sql params s (store (it is).0) asks (it is).1

@@ -17,7 +17,7 @@ use Rattle.sqlite.specs.State.{State}
 use Rattle.sqlite.specs.Listing.{understood}
 use Rattle.sqlite_tied.specs.Compute.{everything}
 use Rattle.sqlite.proofs.Callers.{IsPlain, command_of}
-use Rattle.sql_tables.specs.Asking.{HasRun}
+use Rattle.sql_tables.specs.QueryAnswers.{HasRun}
 use Rattle.sql_tables.specs.Cells.{IsLong, IsShort, long_cell, short_cell}
 use Rattle.sql_tables.specs.Columns.{plain_orders}
 use Rattle.sql_tables.specs.Content.{HasRows}

@@ -10,7 +10,7 @@ use Rattle.sqlite.specs.Table.{Table}
 use Rattle.sqlite_catalog.specs.Change.{KeepsRows, created, indexed, next_tree}
 use Rattle.sqlite_schema.specs.declared.schema.Index.{Index}
 use Rattle.sqlite_trees.specs.Tree.{Trees}
-use Rattle.sql_tables.specs.Asking.{HasRun}
+use Rattle.sql_tables.specs.QueryAnswers.{HasRun}
 use Rattle.sqlite.specs.Listing.{understood}
 use Rattle.sqlite_tied.specs.Compute.{everything}
 use Rattle.sql_tables.proofs.Making.{IsIndexing, IsMaking, index_made, table_made, has_none}
@@ -18,7 +18,7 @@ use Rattle.sql_tables.proofs.Writes.{cast_int}
 use Rattle.store_tables.specs.Tables.{meta_columns, store_schema}
 use Rattle.store_tables.specs.Statements.{mark_text}
 use Rattle.store_tables.specs.Records.{Holds, mark_cells, no_records}
-use Rattle.store_tables.specs.Steps.{IsMade}
+use Rattle.store_tables.specs.Steps.{AreTablesMade}
 use Rattle.store_tables.proofs.Moves.{IsInsert, inserted}
 
 -- tables that were bare are so still
@@ -34,7 +34,7 @@ abbrev pub AreBare : Schema → State → Type 0
 AreBare schema s = AllByRecursion (λ t. s.now.trees t.tree ≡ []) schema.tables
 
 -- one table more
-pub with_table : (schema : Schema) (sql : List ℕ) (table : Table) → IsMaking schema sql table → (old new : State) → old.now.schema ≡ schema → AreBare schema old → HasRun sql [] old new → IsMade (created schema table) new
+pub with_table : (schema : Schema) (sql : List ℕ) (table : Table) → IsMaking schema sql table → (old new : State) → old.now.schema ≡ schema → AreBare schema old → HasRun sql [] old new → AreTablesMade (created schema table) new
 with_table schema sql table it old new has bare run =
     let made = table_made schema sql table it old new run.count has run.ran in
     record {
@@ -44,7 +44,7 @@ with_table schema sql table it old new has bare run =
     }
 
 -- one index more
-pub with_index : (schema : Schema) (sql : List ℕ) (at : ℕ) (table : Table) (index : Index) → IsIndexing schema sql at table index → (old new : State) → IsMade schema old → HasRun sql [] old new → IsMade (indexed schema table index) new
+pub with_index : (schema : Schema) (sql : List ℕ) (at : ℕ) (table : Table) (index : Index) → IsIndexing schema sql at table index → (old new : State) → AreTablesMade schema old → HasRun sql [] old new → AreTablesMade (indexed schema table index) new
 with_index schema sql at table index it old new has run =
     let made = index_made schema sql at table index it old new run.count has.schema run.ran in
     record { schema = made.0; inside = run.inside; bare = still_bare schema.tables old.now.trees new.now.trees made.1 has.bare }
@@ -59,7 +59,7 @@ adds = record { command = refl; plain = (refl, refl); values = refl }
 pub mark_casts : cast_all meta_columns mark_cells ≡ mark_cells
 mark_casts = rw (cast_int (pos 1)) refl
 
-pub marked : (old new : State) → IsMade store_schema old → HasRun mark_text [] old new → (new.now.schema ≡ store_schema) × Holds new.now.trees no_records
+pub marked : (old new : State) → AreTablesMade store_schema old → HasRun mark_text [] old new → (new.now.schema ≡ store_schema) × Holds new.now.trees no_records
 marked old new has run =
     let change = inserted mark_text [] mark_cells 2 mark_terms 3 adds 3 (codes "meta") meta_columns [] refl mark_casts old new has.schema run in (
       change.schema,

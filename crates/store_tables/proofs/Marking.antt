@@ -23,14 +23,14 @@ use Rattle.sqlite.specs.Listing.{understood}
 use Rattle.sqlite.specs.State.{State, HasCleanDisk, Survives}
 use Rattle.sqlite.specs.declared.error.Error.{Error}
 use Rattle.sqlite_tied.specs.Compute.{everything}
-use Rattle.sql_tables.specs.Causes.{IsCause, IsRefusedFor, RefusesToRun, TellsCause}
+use Rattle.sql_tables.specs.Causes.{IsCause, IsRefusedFor, RefusesToRun, TellsErrorCause}
 use Rattle.sql_tables.proofs.Places.{insert_stops}
 use Rattle.sql_tables.proofs.Refusals.{StopsEdit, told as told_as}
 use Rattle.sql_tables.proofs.Unrefused.{alone}
 use Rattle.store_tables.specs.Tables.{meta, meta_columns, store_schema}
 use Rattle.store_tables.specs.Statements.{mark_text}
 use Rattle.store_tables.specs.Records.{mark_cells}
-use Rattle.store_tables.specs.Steps.{IsMade}
+use Rattle.store_tables.specs.Steps.{AreTablesMade}
 use Rattle.store_tables.proofs.Making.{adds, mark_casts, mark_terms}
 use Rattle.store_tables.proofs.Moves.{none_refers}
 use Rattle.store_tables.proofs.Unrefused.{IsChanging, cause_of}
@@ -93,7 +93,7 @@ module _ (db : Trees) (bare : AllByRecursion (λ t. db t.tree ≡ []) store_sche
   goes_in stop (inr (row, has, big, is)) = not_oversized row has big
 
 -- so it is refused for a limit on steps alone
-ruled : (a b : State) (e : Error) → IsMade store_schema a → IsRefusedFor a.step_limit (alone mark_text) a.now e → IsCause a b e
+ruled : (a b : State) (e : Error) → AreTablesMade store_schema a → IsRefusedFor a.step_limit (alone mark_text) a.now e → IsCause a b e
 unfolding IsCause
 ruled a b e made refused =
     let it = insert_stops store_schema none_refers a.step_limit (alone mark_text) a.now made.schema adds.plain 3 meta.name meta_columns [] [] 2 refl e refused mark_terms 3 mark_cells adds.command accepts_mark adds.values mark_casts in
@@ -104,7 +104,7 @@ ruled a b e made refused =
           absurd (goes_in a.now.trees made.bare it.0 (subst (λ id. StopsEdit store_schema Enforced a.now.trees (record { table = meta; gone = []; news = (Int id ∷ mark_cells) ∷ [] }) it.0) first stops))
     ]
 
-pub mark_told : (a b : State) → Survives a b (λ _. ⊥) → (HasCleanDisk a → IsMade store_schema a) → (e : Error) → (HasCleanDisk b → RefusesToRun mark_text [] a b e) → TellsCause a b e
+pub mark_told : (a b : State) → Survives a b (λ _. ⊥) → (HasCleanDisk a → AreTablesMade store_schema a) → (e : Error) → (HasCleanDisk b → RefusesToRun mark_text [] a b e) → TellsErrorCause a b e
 mark_told a b on made e refused clean =
     let has = made (omega (arith, on.clean, clean)) in
     cause_of store_schema mark_text marking a b e (λ opened. has.schema) has.inside (λ opened told. ruled a b e has told) (refused clean)

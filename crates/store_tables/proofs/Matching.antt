@@ -6,7 +6,7 @@ use Rattle.sqlite.specs.Term.{Term, col, eval_all, holds}
 use Rattle.sql_tables.specs.Statements.{above, at_least, at_most, equals}
 use Rattle.sql_tables.proofs.Answers.{passes}
 use Rattle.sql_tables.proofs.Cells.{both_true}
-use Rattle.sql_tables.proofs.Reading.{listed}
+use Rattle.sql_tables.proofs.RowReads.{listed}
 
 -- a column equals a parameter, or is at most that, at least that or above it, both counted from 0
 pub data Test : Type 0 where

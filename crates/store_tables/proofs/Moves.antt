@@ -16,8 +16,8 @@ use Rattle.sqlite.specs.Source.TheVariants.{Values}
 use Rattle.sqlite.specs.State.{State, HasCleanDisk, KeepsCommit, Survives}
 use Rattle.sqlite.specs.Term.{Term, col}
 use Rattle.sqlite.proofs.Callers.{IsPlain, command_of}
-use Rattle.sql_tables.specs.Asking.{HasRun}
-use Rattle.sql_tables.specs.Changes.{Changes, KeepsOthers}
+use Rattle.sql_tables.specs.QueryAnswers.{HasRun}
+use Rattle.sql_tables.specs.Changes.{ChangesTable, KeepsOthers}
 use Rattle.sql_tables.specs.Columns.{NoneRefers, plain_orders, table_of}
 use Rattle.sql_tables.specs.Content.{HasRows}
 use Rattle.sql_tables.specs.Statements.{rows_of, program_of}
@@ -30,7 +30,7 @@ use Rattle.sql_tables.proofs.Tables.{delete_changes, insert_changes}
 use Rattle.store_tables.specs.Tables.{store_schema}
 use Rattle.store_tables.specs.Records.{EntryRow, FitsEntry, FitsInvocation, FitsSleep, FitsState, Holds, InvocationRow, Records, SleepRow, StateRow, Write, applied, applied_all, entry_cells, invocation_cells, sleep_cells, state_cells}
 use Rattle.store_tables.specs.Statements.{statement, statements_of, statements_of_all}
-use Rattle.store_tables.specs.Steps.{Alters, IsWriting, Steps, Turns}
+use Rattle.store_tables.specs.Steps.{Alters, IsWriting, Steps, TurnsRecords}
 use Rattle.store_tables.proofs.Caused.{survives_on}
 use Rattle.store_tables.proofs.Matching.{Test, cells_match, match_cells, tests_of}
 
@@ -47,7 +47,7 @@ pub record IsInsert (sql : List ℕ) (params cells : Row) (at : ℕ) (terms : Li
 
 pub inserted : (sql : List ℕ) (params cells : Row) (at : ℕ) (terms : List Term) (width : ℕ) → IsInsert sql params cells at terms width
     → (tree : ℕ) (name : List ℕ) (columns : List Column) (keys : List (List ℕ)) → slice_get store_schema.tables at ≡ Some (table_of tree name columns keys) → cast_all columns cells ≡ cells
-    → (old new : State) → old.now.schema ≡ store_schema → HasRun sql params old new → Changes store_schema tree (λ rows. rows ++ cells ∷ []) old.now new.now
+    → (old new : State) → old.now.schema ≡ store_schema → HasRun sql params old new → ChangesTable store_schema tree (λ rows. rows ++ cells ∷ []) old.now new.now
 inserted sql params cells at terms width it tree name columns keys found casts old new has run =
     insert_changes store_schema none_refers sql params old new has it.plain run.count run.ran tree name columns keys (plain_orders keys) at found terms width cells it.command it.values casts
 
@@ -133,7 +133,7 @@ module _ (old new : Database) (r : Records) (h : Holds old.trees r) where
 -- ---- one statement
 
 abbrev pub Moves : (Records → Records) → State → State → Type 0
-Moves change old new = (new.now.schema ≡ store_schema) × Turns change old.now.trees new.now.trees
+Moves change old new = (new.now.schema ≡ store_schema) × TurnsRecords change old.now.trees new.now.trees
 
 module _ {S : Type 0} (g : Ghosts S) (change : Records → Records) (sql : List ℕ) (params : Row) (old new : Held S) (it : IsChange store_schema sql params) (writing : IsWriting (state g old))
     (survives : Survives (state g old) (state g new) (λ _. ⊥)) (clean : HasCleanDisk (state g new)) where
@@ -243,5 +243,5 @@ steps_on ws w a b c limit one two =
       made = subst (λ (xs : List Statement). AreMade a.step_limit xs a.now c.now) (sym (statements_last ws w)) both.made;
     }
 
-pub turns_on : (ws : List Write) (w : Write) (a b c : Trees) → Turns (applied_all ws) a b → Turns (applied w) b c → Turns (applied_all (ws ++ w ∷ [])) a c
+pub turns_on : (ws : List Write) (w : Write) (a b c : Trees) → TurnsRecords (applied_all ws) a b → TurnsRecords (applied w) b c → TurnsRecords (applied_all (ws ++ w ∷ [])) a c
 turns_on ws w a b c one two = λ r h. rw applied_last (two (applied_all ws r) (one r h))

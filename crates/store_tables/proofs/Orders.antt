@@ -16,7 +16,7 @@ use Rattle.sqlite_value.proofs.OrderLemmas.{value_cmp-Int, value_cmp-Blob, value
 use Rattle.std.proofs.lemmas.Option.{slice_get_read}
 use Rattle.sqlite_rules.specs.Lists.{Has}
 use Rattle.sql_tables.proofs.Ordered.{rising_apart, rising_sorted}
-use Rattle.sql_tables.proofs.Reading.{permuted}
+use Rattle.sql_tables.proofs.RowReads.{permuted}
 use Rattle.store_tables.specs.Asks.{AreTold, by_cells}
 use Rattle.store_tables.specs.Orders.{AreApart, moment_cmp, sleep_cmp}
 use Rattle.sql_tables.specs.Cells.{short_cell}

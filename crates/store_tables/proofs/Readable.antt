@@ -14,7 +14,7 @@ use Rattle.sqlite.specs.Listing.{understood}
 use Rattle.sqlite_tied.specs.Compute.{everything}
 use Rattle.sql_tables.specs.Causes.{IsReadable}
 use Rattle.sql_tables.specs.Cells.{flag_cell, long_cell, short_cell}
-use Rattle.sql_tables.specs.Statements.{by_columns, first_of, program_of, rows_of}
+use Rattle.sql_tables.specs.Statements.{by_columns, first_row_query, program_of, rows_of}
 use Rattle.sql_tables.proofs.Readable.{IsWhole, readable_by}
 use Rattle.store_tables.specs.Tables.{store_schema, entry_columns, invocation_columns, meta_columns, sleep_columns, state_columns}
 use Rattle.store_tables.specs.Statements.{arrival_at_text, arrivals_after_text, awake_invocations_text, entries_text, entry_at_text, entry_by_answered_text, entry_by_completion_text, entry_by_second_completion_text, first_sleep_text, invocation_by_id_text, marks_text, open_invocation_text, sleeps_until_text, state_at_text, states_text}
@@ -133,7 +133,7 @@ reads_marks = select_readable 3 meta_columns 2 [] [] marks_text [] selects_marks
 
 module _ (tree : ℕ) (columns : List Column) (width : ℕ) (places : List Test) (order : List (Term × Key)) (sql : List ℕ) (params : Row) where
   abbrev first : Program
-  first = program_of (first_of (rows_of tree (tests_of places) (columns_from 1 width) order))
+  first = program_of (first_row_query (rows_of tree (tests_of places) (columns_from 1 width) order))
 
   no_sums_first : (db : Trees) → ProgramOverflows db params [] (lets_of first) first.body → ⊥
   no_sums_first db (inl group) = group

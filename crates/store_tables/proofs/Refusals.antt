@@ -15,9 +15,9 @@ use Rattle.sqlite.specs.Does.{Tally}
 use Rattle.sqlite.specs.Effect.{Database}
 use Rattle.sqlite.specs.Term.{Term, col, eval_all}
 use Rattle.sqlite.specs.declared.error.Error.{Error}
-use Rattle.sql_tables.specs.Causes.{ComesTo, IsRefusedFor, Statement}
+use Rattle.sql_tables.specs.Causes.{StatementComesTo, IsRefusedFor, Statement}
 use Rattle.sql_tables.specs.Cells.{long_cell}
-use Rattle.sql_tables.specs.Changes.{Changes, KeepsOthers}
+use Rattle.sql_tables.specs.Changes.{ChangesTable, KeepsOthers}
 use Rattle.sql_tables.specs.Columns.{plain_orders, table_of}
 use Rattle.sql_tables.specs.Content.{HasRows}
 use Rattle.sql_tables.specs.Refusals.{IsPlaceCause}
@@ -44,7 +44,7 @@ pub record HasInvocations (db : Database) : Type 0 where
 -- it is refused for nothing of its own but a row that finds no place, and leaves such tables behind it
 pub record IsTame (limit : Option ℕ) (one : Statement) : Type 0 where
   pub refused : (db : Database) → HasInvocations db → (cause : Error) → IsRefusedFor limit one db cause → IsPlaceCause limit cause
-  pub comes : (db after : Database) → HasInvocations db → (tally : Tally) → ComesTo limit one db (Ok (tally, after)) → HasInvocations after
+  pub comes : (db after : Database) → HasInvocations db → (tally : Tally) → StatementComesTo limit one db (Ok (tally, after)) → HasInvocations after
 
 -- a change of another table
 elsewhere : (tree : ℕ) → (1 ≡ tree → ⊥) → (db after : Database) → HasInvocations db → after.schema ≡ store_schema → KeepsOthers store_schema tree db after → HasInvocations after
@@ -59,7 +59,7 @@ module _ (limit : Option ℕ) where
     refused_insert fits db h cause refused =
         insert_place store_schema none_refers limit (statement sql cells) db h.schema it.plain tree name columns keys (plain_orders keys) at found cause refused terms width cells it.command accepts it.values casts fits
 
-    changed_by_insert : (db after : Database) → HasInvocations db → (tally : Tally) → ComesTo limit (statement sql cells) db (Ok (tally, after)) → Changes store_schema tree (λ rows. rows ++ cells ∷ []) db after
+    changed_by_insert : (db after : Database) → HasInvocations db → (tally : Tally) → StatementComesTo limit (statement sql cells) db (Ok (tally, after)) → ChangesTable store_schema tree (λ rows. rows ++ cells ∷ []) db after
     changed_by_insert db after h tally comes =
         insert_comes store_schema none_refers limit (statement sql cells) db h.schema it.plain tree name columns keys (plain_orders keys) at found tally after comes terms width cells it.command it.values casts
 

@@ -10,7 +10,7 @@ use Rattle.sqlite.specs.Cast.{cast_all}
 use Rattle.sqlite.specs.State.{State}
 use Rattle.sqlite.specs.Listing.{understood}
 use Rattle.sqlite_tied.specs.Compute.{everything}
-use Rattle.sql_tables.specs.Asking.{HasRun}
+use Rattle.sql_tables.specs.QueryAnswers.{HasRun}
 use Rattle.sql_tables.specs.Cells.{long_cell}
 use Rattle.sql_tables.specs.Content.{HasRows}
 use Rattle.sql_tables.proofs.Cells.{at_most_int, same_text}

@@ -9,7 +9,7 @@ use Rattle.sqlite.specs.Cast.{cast_all}
 use Rattle.sqlite.specs.State.{State}
 use Rattle.sqlite.specs.Listing.{understood}
 use Rattle.sqlite_tied.specs.Compute.{everything}
-use Rattle.sql_tables.specs.Asking.{HasRun}
+use Rattle.sql_tables.specs.QueryAnswers.{HasRun}
 use Rattle.sql_tables.specs.Content.{HasRows}
 use Rattle.sql_tables.proofs.Cells.{same_text, same_blob}
 use Rattle.store_tables.specs.Tables.{store_schema, state_columns, state_keys}

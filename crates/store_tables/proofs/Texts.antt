@@ -9,15 +9,13 @@ use Rattle.sqlite.specs.Table.{Table}
 use Rattle.sqlite.specs.Listing.{understood}
 use Rattle.sqlite_schema.specs.declared.schema.Index.{Index}
 use Rattle.sqlite_tied.specs.Compute.{everything}
-use Rattle.sqlite_trees.specs.Sound.{begins, fits_kind, is_free_name, same_name as same_word}
+use Rattle.sqlite_trees.specs.Sound.{begins, fits_kind, is_free_name, same_name}
 use Rattle.sqlite_value.specs.Order.{value_cmp}
 use Rattle.sql_tables.specs.Columns.{no_schema}
 use Rattle.sql_tables.proofs.Making.{IsIndexing, IsMaking}
 use Rattle.sql_tables.proofs.Readable.{IsWhole}
 use Rattle.sql_tables.proofs.Unrefused.{IsIndexable, IsMakable}
-use Rattle.store_tables.specs.Tables.{meta, invocation, entry, state_table, sleep_table, by_open_object, by_awake, by_place, by_completion, by_second_completion, by_answered, by_arrival, by_sleeper, by_moment}
-use Rattle.store_tables.specs.Tables.{with_meta, with_invocation, with_entry, with_state, with_sleep, with_open_object, with_awake, with_place, with_completion, with_second_completion, with_answered, with_arrival, with_sleeper}
-use Rattle.store_tables.specs.Tables.{meta_text, invocation_text, entry_text, state_text, sleep_text, by_open_object_text, by_awake_text, by_place_text, by_completion_text, by_second_completion_text, by_answered_text, by_arrival_text, by_sleeper_text, by_moment_text}
+use Rattle.store_tables.specs.Tables.{meta, invocation, entry, state_table, sleep_table, by_open_object, by_awake, by_place, by_completion, by_second_completion, by_answered, by_arrival, by_sleeper, by_moment, with_meta, with_invocation, with_entry, with_state, with_sleep, with_open_object, with_awake, with_place, with_completion, with_second_completion, with_answered, with_arrival, with_sleeper, meta_text, invocation_text, entry_text, state_text, sleep_text, by_open_object_text, by_awake_text, by_place_text, by_completion_text, by_second_completion_text, by_answered_text, by_arrival_text, by_sleeper_text, by_moment_text}
 
 ascii : (bytes : List ℕ) → list_all (λ b. ltb b 128) bytes ≡ true → (i : ℕ) → get_or bytes i 0 < 128
 ascii [] h i = omega arith
@@ -41,7 +39,7 @@ pub record MakesIndex (schema : Schema) (sql : List ℕ) (at : ℕ) (table : Tab
   pub indexable : IsIndexable schema sql table index
 
 pub makes_entry : MakesTable no_schema entry_text (record entry { tree = 0 })
-unfolding understood everything fits_kind is_free_name begins same_word value_cmp lib.Ieee.is_nan lib.Ieee.lt
+unfolding understood everything fits_kind is_free_name begins same_name value_cmp lib.Ieee.is_nan lib.Ieee.lt
 makes_entry = record {
   making = record { command = refl; text = refl; plain = (refl, refl); defined = refl; uncounted = refl };
   whole = (omega arith, refl);
@@ -49,7 +47,7 @@ makes_entry = record {
 }
 
 pub makes_invocation : MakesTable with_entry invocation_text (record invocation { tree = 0 })
-unfolding understood everything fits_kind is_free_name begins same_word value_cmp lib.Ieee.is_nan lib.Ieee.lt
+unfolding understood everything fits_kind is_free_name begins same_name value_cmp lib.Ieee.is_nan lib.Ieee.lt
 makes_invocation = record {
   making = record { command = refl; text = refl; plain = (refl, refl); defined = refl; uncounted = refl };
   whole = (omega arith, refl);
@@ -57,7 +55,7 @@ makes_invocation = record {
 }
 
 pub makes_meta : MakesTable with_invocation meta_text (record meta { tree = 0 })
-unfolding understood everything fits_kind is_free_name begins same_word value_cmp lib.Ieee.is_nan lib.Ieee.lt
+unfolding understood everything fits_kind is_free_name begins same_name value_cmp lib.Ieee.is_nan lib.Ieee.lt
 makes_meta = record {
   making = record { command = refl; text = refl; plain = (refl, refl); defined = refl; uncounted = refl };
   whole = (omega arith, refl);
@@ -65,7 +63,7 @@ makes_meta = record {
 }
 
 pub makes_sleep : MakesTable with_meta sleep_text (record sleep_table { tree = 0 })
-unfolding understood everything fits_kind is_free_name begins same_word value_cmp lib.Ieee.is_nan lib.Ieee.lt
+unfolding understood everything fits_kind is_free_name begins same_name value_cmp lib.Ieee.is_nan lib.Ieee.lt
 makes_sleep = record {
   making = record { command = refl; text = refl; plain = (refl, refl); defined = refl; uncounted = refl };
   whole = (omega arith, refl);
@@ -73,7 +71,7 @@ makes_sleep = record {
 }
 
 pub makes_state : MakesTable with_sleep state_text (record state_table { tree = 0 })
-unfolding understood everything fits_kind is_free_name begins same_word value_cmp lib.Ieee.is_nan lib.Ieee.lt
+unfolding understood everything fits_kind is_free_name begins same_name value_cmp lib.Ieee.is_nan lib.Ieee.lt
 makes_state = record {
   making = record { command = refl; text = refl; plain = (refl, refl); defined = refl; uncounted = refl };
   whole = (omega arith, refl);
@@ -81,7 +79,7 @@ makes_state = record {
 }
 
 pub makes_by_open_object : MakesIndex with_state by_open_object_text 1 invocation by_open_object
-unfolding understood everything fits_kind is_free_name begins same_word value_cmp lib.Ieee.is_nan lib.Ieee.lt
+unfolding understood everything fits_kind is_free_name begins same_name value_cmp lib.Ieee.is_nan lib.Ieee.lt
 makes_by_open_object = record {
   indexing = record { command = refl; text = refl; plain = (refl, refl); found = refl; defined = refl };
   whole = (omega arith, refl);
@@ -89,7 +87,7 @@ makes_by_open_object = record {
 }
 
 pub makes_by_awake : MakesIndex with_open_object by_awake_text 1 invocation by_awake
-unfolding understood everything fits_kind is_free_name begins same_word value_cmp lib.Ieee.is_nan lib.Ieee.lt
+unfolding understood everything fits_kind is_free_name begins same_name value_cmp lib.Ieee.is_nan lib.Ieee.lt
 makes_by_awake = record {
   indexing = record { command = refl; text = refl; plain = (refl, refl); found = refl; defined = refl };
   whole = (omega arith, refl);
@@ -97,7 +95,7 @@ makes_by_awake = record {
 }
 
 pub makes_by_place : MakesIndex with_awake by_place_text 0 entry by_place
-unfolding understood everything fits_kind is_free_name begins same_word value_cmp lib.Ieee.is_nan lib.Ieee.lt
+unfolding understood everything fits_kind is_free_name begins same_name value_cmp lib.Ieee.is_nan lib.Ieee.lt
 makes_by_place = record {
   indexing = record { command = refl; text = refl; plain = (refl, refl); found = refl; defined = refl };
   whole = (omega arith, refl);
@@ -105,7 +103,7 @@ makes_by_place = record {
 }
 
 pub makes_by_completion : MakesIndex with_place by_completion_text 0 entry by_completion
-unfolding understood everything fits_kind is_free_name begins same_word value_cmp lib.Ieee.is_nan lib.Ieee.lt
+unfolding understood everything fits_kind is_free_name begins same_name value_cmp lib.Ieee.is_nan lib.Ieee.lt
 makes_by_completion = record {
   indexing = record { command = refl; text = refl; plain = (refl, refl); found = refl; defined = refl };
   whole = (omega arith, refl);
@@ -113,7 +111,7 @@ makes_by_completion = record {
 }
 
 pub makes_by_second_completion : MakesIndex with_completion by_second_completion_text 0 entry by_second_completion
-unfolding understood everything fits_kind is_free_name begins same_word value_cmp lib.Ieee.is_nan lib.Ieee.lt
+unfolding understood everything fits_kind is_free_name begins same_name value_cmp lib.Ieee.is_nan lib.Ieee.lt
 makes_by_second_completion = record {
   indexing = record { command = refl; text = refl; plain = (refl, refl); found = refl; defined = refl };
   whole = (omega arith, refl);
@@ -121,7 +119,7 @@ makes_by_second_completion = record {
 }
 
 pub makes_by_answered : MakesIndex with_second_completion by_answered_text 0 entry by_answered
-unfolding understood everything fits_kind is_free_name begins same_word value_cmp lib.Ieee.is_nan lib.Ieee.lt
+unfolding understood everything fits_kind is_free_name begins same_name value_cmp lib.Ieee.is_nan lib.Ieee.lt
 makes_by_answered = record {
   indexing = record { command = refl; text = refl; plain = (refl, refl); found = refl; defined = refl };
   whole = (omega arith, refl);
@@ -129,7 +127,7 @@ makes_by_answered = record {
 }
 
 pub makes_by_arrival : MakesIndex with_answered by_arrival_text 0 entry by_arrival
-unfolding understood everything fits_kind is_free_name begins same_word value_cmp lib.Ieee.is_nan lib.Ieee.lt
+unfolding understood everything fits_kind is_free_name begins same_name value_cmp lib.Ieee.is_nan lib.Ieee.lt
 makes_by_arrival = record {
   indexing = record { command = refl; text = refl; plain = (refl, refl); found = refl; defined = refl };
   whole = (omega arith, refl);
@@ -137,7 +135,7 @@ makes_by_arrival = record {
 }
 
 pub makes_by_sleeper : MakesIndex with_arrival by_sleeper_text 3 sleep_table by_sleeper
-unfolding understood everything fits_kind is_free_name begins same_word value_cmp lib.Ieee.is_nan lib.Ieee.lt
+unfolding understood everything fits_kind is_free_name begins same_name value_cmp lib.Ieee.is_nan lib.Ieee.lt
 makes_by_sleeper = record {
   indexing = record { command = refl; text = refl; plain = (refl, refl); found = refl; defined = refl };
   whole = (omega arith, refl);
@@ -145,7 +143,7 @@ makes_by_sleeper = record {
 }
 
 pub makes_by_moment : MakesIndex with_sleeper by_moment_text 3 sleep_table by_moment
-unfolding understood everything fits_kind is_free_name begins same_word value_cmp lib.Ieee.is_nan lib.Ieee.lt
+unfolding understood everything fits_kind is_free_name begins same_name value_cmp lib.Ieee.is_nan lib.Ieee.lt
 makes_by_moment = record {
   indexing = record { command = refl; text = refl; plain = (refl, refl); found = refl; defined = refl };
   whole = (omega arith, refl);

@@ -8,15 +8,15 @@ use Rattle.sqlite.specs.declared.error.Error.{Error}
 use Rattle.sqlite.proofs.Callers.{IsPlain, command_of}
 use Rattle.sqlite_catalog.specs.Change.{created, indexed}
 use Rattle.sqlite_schema.specs.declared.schema.Index.{Index}
-use Rattle.sql_tables.specs.Asking.{HasRun}
-use Rattle.sql_tables.specs.Causes.{IsCause, IsRefusedFor, RefusesToRun, TellsCause}
+use Rattle.sql_tables.specs.QueryAnswers.{HasRun}
+use Rattle.sql_tables.specs.Causes.{IsCause, IsRefusedFor, RefusesToRun, TellsErrorCause}
 use Rattle.sql_tables.proofs.InTurn.{unrefused}
 use Rattle.sql_tables.proofs.Readable.{IsWhole}
 use Rattle.sql_tables.proofs.Refused.{change_by, is_change, refused_cause}
 use Rattle.sql_tables.proofs.Unrefused.{alone, index_unrefused, never_refused, table_unrefused}
 use Rattle.sql_tables.specs.Columns.{no_schema}
 use Rattle.store_tables.specs.Tables.{entry, entry_text, with_entry}
-use Rattle.store_tables.specs.Steps.{IsMade}
+use Rattle.store_tables.specs.Steps.{AreTablesMade}
 use Rattle.store_tables.proofs.Making.{with_index, with_table}
 use Rattle.store_tables.proofs.Texts.{MakesIndex, MakesTable, makes_entry}
 
@@ -34,7 +34,7 @@ cause_of schema sql it a b e has inside ruled refused =
 
 -- the tables that are there, where the disk returned what was written
 abbrev pub IsMadeIf : Schema → State → Type 0
-IsMadeIf schema s = HasCleanDisk s → IsMade schema s
+IsMadeIf schema s = HasCleanDisk s → AreTablesMade schema s
 
 -- a connection that is open has these tables, and a transaction is under way
 abbrev pub IsUnderWay : Schema → State → Type 0
@@ -50,7 +50,7 @@ module _ {schema : Schema} {sql : List ℕ} {table : Table} (it : MakesTable sch
   pub table_there : IsMadeIf schema a → (HasCleanDisk b → HasRun sql [] a b) → IsMadeIf (created schema table) b
   table_there made ran clean = let has = made (earlier_table clean) in with_table schema sql table it.making a b has.schema has.bare (ran clean)
 
-  pub table_told : IsUnderWay schema a → (e : Error) → (HasCleanDisk b → RefusesToRun sql [] a b e) → TellsCause a b e
+  pub table_told : IsUnderWay schema a → (e : Error) → (HasCleanDisk b → RefusesToRun sql [] a b e) → TellsErrorCause a b e
   table_told way e refused clean =
       let has = way (earlier_table clean) in
       cause_of schema sql (record { plain = it.making.plain; whole = it.whole; changes = ap is_change it.making.command }) a b e has.0 has.1
@@ -63,7 +63,7 @@ module _ {schema : Schema} {sql : List ℕ} {at : ℕ} {table : Table} {index : 
   pub index_there : (HasCleanDisk b → HasRun sql [] a b) → IsMadeIf (indexed schema table index) b
   index_there ran clean = with_index schema sql at table index it.indexing a b (made (earlier_index clean)) (ran clean)
 
-  pub index_told : (e : Error) → (HasCleanDisk b → RefusesToRun sql [] a b e) → TellsCause a b e
+  pub index_told : (e : Error) → (HasCleanDisk b → RefusesToRun sql [] a b e) → TellsErrorCause a b e
   index_told e refused clean =
       let has = made (earlier_index clean) in
       cause_of schema sql (record { plain = it.indexing.plain; whole = it.whole; changes = ap is_change it.indexing.command }) a b e (λ opened. has.schema) has.inside

@@ -9,13 +9,13 @@ use Rattle.sqlite_trees.specs.Tree.{IsAscending}
 use Rattle.sqlite_keyed.specs.Lists.{sort_by}
 use Rattle.sqlite_value.specs.Order.{Row}
 use Rattle.sqlite.specs.State.{State}
-use Rattle.sql_tables.specs.Asking.{IsAnswer}
+use Rattle.sql_tables.specs.QueryAnswers.{IsAnswer}
 use Rattle.sql_tables.specs.Statements.{IsFirst, cells_cmp}
 use Rattle.store_tables.specs.Records.{Records, Holds}
 use Rattle.store_tables.specs.Tables.{store_schema}
 
 -- a store's tables answer it by the rows of the records that pass, and a row tells which record it is of
-pub record Asks {X : Type 0} (cells : X → Row) (Fits : X → Type 0) (records : Records → List X) (test : X → Bool) (sql : List ℕ) (params : Row) (s : State) : Type 0 where
+pub record AsksRows {X : Type 0} (cells : X → Row) (Fits : X → Type 0) (records : Records → List X) (test : X → Bool) (sql : List ℕ) (params : Row) (s : State) : Type 0 where
   pub back : Row → X
   pub told : (x : X) → Fits x → back (cells x) ≡ x
   pub fit : (r : Records) → Holds s.now.trees r → AllByRecursion Fits (records r)
@@ -31,7 +31,7 @@ AreTold cells order xs = IsAscending (λ a b. is_eq (by_cells cells order a b) �
 
 -- and the answer is in the order of these cells, if they tell the records apart
 pub record AsksInOrder {X : Type 0} (cells : X → Row) (Fits : X → Type 0) (records : Records → List X) (test : X → Bool) (order : List ℕ) (sql : List ℕ) (params : Row) (s : State) : Type 0 where
-  pub asks : Asks cells Fits records test sql params s
+  pub asks : AsksRows cells Fits records test sql params s
   pub ordered : s.now.schema ≡ store_schema → (rows : List Row) → IsAnswer sql params s rows → (r : Records) → Holds s.now.trees r
       → (zs : List X) → IsPermutation (filter test (records r)) zs → AreTold cells order zs → rows ≡ map cells (sort_by (by_cells cells order) zs)
 

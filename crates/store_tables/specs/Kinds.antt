@@ -2,11 +2,11 @@
 use Rattle.std.specs.Prelude.{ℕ, ◌+◌, ◌-◌, ◌^◌, nat_lt, if◌then◌else◌, Option, Some, None}
 use Rattle.protocol_types.specs.declared.message_type.MessageType.{MessageType}
 use Rattle.protocol_types.specs.declared.message_type.MessageType.TheVariants.{CustomEntry}
-use Rattle.protocol_types.specs.MessageType.{number_of, named_type}
+use Rattle.protocol_types.specs.MessageType.{type_number, named_type}
 
 abbrev pub kept_kind : MessageType → ℕ
 kept_kind (CustomEntry number) = 2 ^ 16 + number
-kept_kind kind = number_of kind
+kept_kind kind = type_number kind
 
 abbrev pub kind_kept : ℕ → Option MessageType
 kind_kept number = if nat_lt number (2 ^ 16) then named_type number else if nat_lt number (2 ^ 17) then Some (CustomEntry (number - 2 ^ 16)) else None

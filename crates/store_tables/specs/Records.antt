@@ -9,7 +9,7 @@ use Rattle.sqlite.specs.declared.types.Value.TheVariants.{Text, Blob}
 use Rattle.sqlite.specs.Values.{or_null}
 use Rattle.sqlite_value.specs.Order.{Row, column}
 use Rattle.sqlite_trees.specs.Tree.{Trees}
-use Rattle.protocol_types.specs.MessageType.{number_of}
+use Rattle.protocol_types.specs.MessageType.{type_number}
 use Rattle.protocol_types.specs.Version.{version_number}
 use Rattle.sql_tables.specs.Cells.{IsLong, IsShort, flag_cell, long_cell, short_cell}
 use Rattle.sql_tables.specs.Content.{HasRows}
@@ -65,7 +65,7 @@ pub record FitsInvocation (i : InvocationRow) : Type 0 where
 pub record FitsEntry (e : EntryRow) : Type 0 where
   pub invocation : IsUtf8 e.invocation
   pub place : IsShort e.place
-  pub kind : number_of e.kind < 2 ^ 16
+  pub kind : type_number e.kind < 2 ^ 16
   pub completion : IfSome e.completion IsShort
   pub second_completion : IfSome e.second_completion IsShort
   pub answered : IfSome e.answered IsShort

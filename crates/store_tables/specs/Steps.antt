@@ -14,15 +14,15 @@ use Rattle.store_tables.specs.Records.{Records, Write, Holds, applied_all}
 use Rattle.store_tables.specs.Tables.{store_schema}
 
 -- whatever records the tables had, they have the changed ones then
-abbrev pub Turns : (Records → Records) → Trees → Trees → Type 0
-Turns change old new = (r : Records) → Holds old r → Holds new (change r)
+abbrev pub TurnsRecords : (Records → Records) → Trees → Trees → Type 0
+TurnsRecords change old new = (r : Records) → Holds old r → Holds new (change r)
 
 -- inside a transaction these statements change the records so
 pub record Steps (change : Records → Records) (statements : List Statement) (old new : State) : Type 0 where
   pub was_open : IsTrue old.is_open
   pub schema : new.now.schema ≡ store_schema
   pub inside : IsTrue new.in_transaction
-  pub records : Turns change old.now.trees new.now.trees
+  pub records : TurnsRecords change old.now.trees new.now.trees
   pub made : AreMade old.step_limit statements old.now new.now
 
 -- inside a transaction these statements change the records so, or one of them is refused; until the commit, a crash knows nothing of it
@@ -41,14 +41,14 @@ abbrev pub IsWriting : State → Type 0
 IsWriting s = IsStore s × (HasCleanDisk s → IsTrue s.in_transaction)
 
 -- these tables are just made, inside a transaction: they have no rows
-pub record IsMade (whole : Schema) (s : State) : Type 0 where
+pub record AreTablesMade (whole : Schema) (s : State) : Type 0 where
   pub schema : s.now.schema ≡ whole
   pub inside : IsTrue s.in_transaction
   pub bare : AllByRecursion (λ t. s.now.trees t.tree ≡ []) whole.tables
 
 -- the connection was open, and the records are changed so
 abbrev pub Lands : List Write → State → Trees → Type 0
-Lands writes old trees = IsTrue old.is_open × Turns (applied_all writes) old.now.trees trees
+Lands writes old trees = IsTrue old.is_open × TurnsRecords (applied_all writes) old.now.trees trees
 
 -- a question that was answered, or that met a foreign row, was asked of an open connection
 abbrev pub WasAsked : {A : Type 0} → Result A ReadError → State → Type 0

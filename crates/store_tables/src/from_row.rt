@@ -3,7 +3,7 @@
 ghost use Rattle.std.specs.Prelude.{◌≡◌, ◌≢◌, ◌<◌, ◌^◌, IfErr, IfOk};
 ghost use Rattle.sqlite_value.specs.Order.{column};
 ghost use Rattle.sqlite.specs.Values.{or_null};
-ghost use Rattle.protocol_types.specs.MessageType.{number_of};
+ghost use Rattle.protocol_types.specs.MessageType.{type_number};
 ghost use Rattle.protocol_types.specs.Version.{version_number};
 ghost use Rattle.sql_tables.specs.Cells.{short_cell};
 ghost use Rattle.store_tables.specs.Kinds.{kept_kind};
@@ -101,7 +101,7 @@ impl Stored for SleepRow {
 }
 
 fn kind_from(row: &Row) -> Result<MessageType, RowError>
-    ensures ok { IfOk result (λ kind. (short_cell (kept_kind kind) ≡ column row.now 2) × (number_of kind < 2 ^ 16)) }
+    ensures ok { IfOk result (λ kind. (short_cell (kept_kind kind) ≡ column row.now 2) × (type_number kind < 2 ^ 16)) }
     ensures foreign { IfErr result (λ e. e ≡ RowError.Foreign → (x : Entry) → FitsEntry x → entry_cells x ≢ row.now) }
 {
     let number = short_at(row, 2)?;

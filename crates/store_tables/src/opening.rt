@@ -3,11 +3,11 @@
 ghost use Rattle.std.specs.Prelude.{◌≡◌, ◌≢◌, Some, false, IfErr, IfOk, IsTrue, OnErr, OnOk};
 ghost use Rattle.sqlite.specs.Held.{state};
 ghost use Rattle.sqlite.specs.State.{HasCleanDisk, KeepsCommit, Survives};
-ghost use Rattle.sql_tables.specs.Asking.{IsKept};
-ghost use Rattle.sql_tables.specs.Causes.{TellsCause, TellsReadCause};
+ghost use Rattle.sql_tables.specs.QueryAnswers.{AreTablesKept};
+ghost use Rattle.sql_tables.specs.Causes.{TellsErrorCause, TellsReadCause};
 ghost use Rattle.sql_tables.specs.Columns.{no_schema};
 ghost use Rattle.store_tables.specs.Records.{Holds, IsMarked, Records, no_records, the_mark};
-ghost use Rattle.store_tables.specs.Steps.{IsMade, IsStore};
+ghost use Rattle.store_tables.specs.Steps.{AreTablesMade, IsStore};
 ghost use Rattle.store_tables.specs.Tables.{store_schema, with_arrival, with_awake, with_state};
 
 use crate::layout::{is_empty_schema, is_store_schema};
@@ -22,8 +22,8 @@ fn make_tables<S: Alter>(tx: &mut Transaction<'_, S>) -> Result<(), Error>
     requires empty { HasCleanDisk (state S.Store tx.old.conn.now) → IsTrue (state S.Store tx.old.conn.now).is_open → (state S.Store tx.old.conn.now).now.schema ≡ no_schema }
     requires inside { HasCleanDisk (state S.Store tx.old.conn.now) → IsTrue (state S.Store tx.old.conn.now).in_transaction }
     ensures same_reference { tx.new.conn.ghost_name ≡ tx.old.conn.ghost_name }
-    ensures ok { HasCleanDisk (state S.Store tx.new.conn.now) → OnOk result (IsMade with_state (state S.Store tx.new.conn.now)) }
-    ensures cause { IfErr result (TellsCause (state S.Store tx.old.conn.now) (state S.Store tx.new.conn.now)) }
+    ensures ok { HasCleanDisk (state S.Store tx.new.conn.now) → OnOk result (AreTablesMade with_state (state S.Store tx.new.conn.now)) }
+    ensures cause { IfErr result (TellsErrorCause (state S.Store tx.old.conn.now) (state S.Store tx.new.conn.now)) }
     ensures kept { HasCleanDisk (state S.Store tx.new.conn.now) → KeepsCommit (state S.Store tx.old.conn.now) (state S.Store tx.new.conn.now) }
     ensures survives { Survives (state S.Store tx.old.conn.now) (state S.Store tx.new.conn.now) (λ _. ⊥) }
 {
@@ -55,10 +55,10 @@ fn make_tables<S: Alter>(tx: &mut Transaction<'_, S>) -> Result<(), Error>
 }
 
 fn index_invocations<S: Alter>(tx: &mut Transaction<'_, S>) -> Result<(), Error>
-    requires { HasCleanDisk (state S.Store tx.old.conn.now) → IsMade with_state (state S.Store tx.old.conn.now) }
+    requires { HasCleanDisk (state S.Store tx.old.conn.now) → AreTablesMade with_state (state S.Store tx.old.conn.now) }
     ensures same_reference { tx.new.conn.ghost_name ≡ tx.old.conn.ghost_name }
-    ensures ok { HasCleanDisk (state S.Store tx.new.conn.now) → OnOk result (IsMade with_awake (state S.Store tx.new.conn.now)) }
-    ensures cause { IfErr result (TellsCause (state S.Store tx.old.conn.now) (state S.Store tx.new.conn.now)) }
+    ensures ok { HasCleanDisk (state S.Store tx.new.conn.now) → OnOk result (AreTablesMade with_awake (state S.Store tx.new.conn.now)) }
+    ensures cause { IfErr result (TellsErrorCause (state S.Store tx.old.conn.now) (state S.Store tx.new.conn.now)) }
     ensures kept { HasCleanDisk (state S.Store tx.new.conn.now) → KeepsCommit (state S.Store tx.old.conn.now) (state S.Store tx.new.conn.now) }
     ensures survives { Survives (state S.Store tx.old.conn.now) (state S.Store tx.new.conn.now) (λ _. ⊥) }
 {
@@ -75,10 +75,10 @@ fn index_invocations<S: Alter>(tx: &mut Transaction<'_, S>) -> Result<(), Error>
 }
 
 fn index_entries<S: Alter>(tx: &mut Transaction<'_, S>) -> Result<(), Error>
-    requires { HasCleanDisk (state S.Store tx.old.conn.now) → IsMade with_awake (state S.Store tx.old.conn.now) }
+    requires { HasCleanDisk (state S.Store tx.old.conn.now) → AreTablesMade with_awake (state S.Store tx.old.conn.now) }
     ensures same_reference { tx.new.conn.ghost_name ≡ tx.old.conn.ghost_name }
-    ensures ok { HasCleanDisk (state S.Store tx.new.conn.now) → OnOk result (IsMade with_arrival (state S.Store tx.new.conn.now)) }
-    ensures cause { IfErr result (TellsCause (state S.Store tx.old.conn.now) (state S.Store tx.new.conn.now)) }
+    ensures ok { HasCleanDisk (state S.Store tx.new.conn.now) → OnOk result (AreTablesMade with_arrival (state S.Store tx.new.conn.now)) }
+    ensures cause { IfErr result (TellsErrorCause (state S.Store tx.old.conn.now) (state S.Store tx.new.conn.now)) }
     ensures kept { HasCleanDisk (state S.Store tx.new.conn.now) → KeepsCommit (state S.Store tx.old.conn.now) (state S.Store tx.new.conn.now) }
     ensures survives { Survives (state S.Store tx.old.conn.now) (state S.Store tx.new.conn.now) (λ _. ⊥) }
 {
@@ -110,10 +110,10 @@ fn index_entries<S: Alter>(tx: &mut Transaction<'_, S>) -> Result<(), Error>
 }
 
 fn index_sleeps<S: Alter>(tx: &mut Transaction<'_, S>) -> Result<(), Error>
-    requires { HasCleanDisk (state S.Store tx.old.conn.now) → IsMade with_arrival (state S.Store tx.old.conn.now) }
+    requires { HasCleanDisk (state S.Store tx.old.conn.now) → AreTablesMade with_arrival (state S.Store tx.old.conn.now) }
     ensures same_reference { tx.new.conn.ghost_name ≡ tx.old.conn.ghost_name }
-    ensures ok { HasCleanDisk (state S.Store tx.new.conn.now) → OnOk result (IsMade store_schema (state S.Store tx.new.conn.now)) }
-    ensures cause { IfErr result (TellsCause (state S.Store tx.old.conn.now) (state S.Store tx.new.conn.now)) }
+    ensures ok { HasCleanDisk (state S.Store tx.new.conn.now) → OnOk result (AreTablesMade store_schema (state S.Store tx.new.conn.now)) }
+    ensures cause { IfErr result (TellsErrorCause (state S.Store tx.old.conn.now) (state S.Store tx.new.conn.now)) }
     ensures kept { HasCleanDisk (state S.Store tx.new.conn.now) → KeepsCommit (state S.Store tx.old.conn.now) (state S.Store tx.new.conn.now) }
     ensures survives { Survives (state S.Store tx.old.conn.now) (state S.Store tx.new.conn.now) (λ _. ⊥) }
 {
@@ -130,8 +130,8 @@ fn make_schema<S: Alter>(tx: &mut Transaction<'_, S>) -> Result<(), Error>
     requires empty { HasCleanDisk (state S.Store tx.old.conn.now) → IsTrue (state S.Store tx.old.conn.now).is_open → (state S.Store tx.old.conn.now).now.schema ≡ no_schema }
     requires inside { HasCleanDisk (state S.Store tx.old.conn.now) → IsTrue (state S.Store tx.old.conn.now).in_transaction }
     ensures same_reference { tx.new.conn.ghost_name ≡ tx.old.conn.ghost_name }
-    ensures ok { HasCleanDisk (state S.Store tx.new.conn.now) → OnOk result (IsMade store_schema (state S.Store tx.new.conn.now)) }
-    ensures cause { IfErr result (TellsCause (state S.Store tx.old.conn.now) (state S.Store tx.new.conn.now)) }
+    ensures ok { HasCleanDisk (state S.Store tx.new.conn.now) → OnOk result (AreTablesMade store_schema (state S.Store tx.new.conn.now)) }
+    ensures cause { IfErr result (TellsErrorCause (state S.Store tx.old.conn.now) (state S.Store tx.new.conn.now)) }
     ensures kept { HasCleanDisk (state S.Store tx.new.conn.now) → KeepsCommit (state S.Store tx.old.conn.now) (state S.Store tx.new.conn.now) }
     ensures survives { Survives (state S.Store tx.old.conn.now) (state S.Store tx.new.conn.now) (λ _. ⊥) }
 {
@@ -143,10 +143,10 @@ fn make_schema<S: Alter>(tx: &mut Transaction<'_, S>) -> Result<(), Error>
 
 /// The row by which a database is a store's.
 fn add_mark<S: Alter>(tx: &mut Transaction<'_, S>) -> Result<(), Error>
-    requires { HasCleanDisk (state S.Store tx.old.conn.now) → IsMade store_schema (state S.Store tx.old.conn.now) }
+    requires { HasCleanDisk (state S.Store tx.old.conn.now) → AreTablesMade store_schema (state S.Store tx.old.conn.now) }
     ensures same_reference { tx.new.conn.ghost_name ≡ tx.old.conn.ghost_name }
     ensures ok { HasCleanDisk (state S.Store tx.new.conn.now) → OnOk result (((state S.Store tx.new.conn.now).now.schema ≡ store_schema) × IsTrue (state S.Store tx.new.conn.now).in_transaction × Holds (state S.Store tx.new.conn.now).now.trees no_records) }
-    ensures cause { IfErr result (TellsCause (state S.Store tx.old.conn.now) (state S.Store tx.new.conn.now)) }
+    ensures cause { IfErr result (TellsErrorCause (state S.Store tx.old.conn.now) (state S.Store tx.new.conn.now)) }
     ensures kept { HasCleanDisk (state S.Store tx.new.conn.now) → KeepsCommit (state S.Store tx.old.conn.now) (state S.Store tx.new.conn.now) }
     ensures survives { Survives (state S.Store tx.old.conn.now) (state S.Store tx.new.conn.now) (λ _. ⊥) }
 {
@@ -158,8 +158,8 @@ fn create<S: Alter>(conn: &mut Connection<S>) -> Result<(), Error>
     requires empty { HasCleanDisk (state S.Store conn.old) → IsTrue (state S.Store conn.old).is_open → (state S.Store conn.old).now.schema ≡ no_schema }
     requires idle { (state S.Store conn.old).in_transaction ≡ false }
     ensures made { HasCleanDisk (state S.Store conn.new) → OnOk result (((state S.Store conn.new).now.schema ≡ store_schema) × Holds (state S.Store conn.new).now.trees no_records) }
-    ensures cause { IfErr result (TellsCause (state S.Store conn.old) (state S.Store conn.new)) }
-    ensures undone { OnErr result (IsKept (state S.Store conn.old) (state S.Store conn.new)) }
+    ensures cause { IfErr result (TellsErrorCause (state S.Store conn.old) (state S.Store conn.new)) }
+    ensures undone { OnErr result (AreTablesKept (state S.Store conn.old) (state S.Store conn.new)) }
     ensures idle { (state S.Store conn.new).in_transaction ≡ false }
     ensures crash { Survives (state S.Store conn.old) (state S.Store conn.new) (λ trees. Holds trees no_records) }
 {
@@ -188,7 +188,7 @@ fn is_marked<S: Alter>(alloc: Global, conn: &mut Connection<S>) -> Result<bool, 
     ensures held { HasCleanDisk (state S.Store conn.new) → IfOk result (λ b. (r : Records) → Holds (state S.Store conn.old).now.trees r → IsTrue b) }
     ensures foreign { HasCleanDisk (state S.Store conn.new) → IfErr result (λ e. e ≡ ReadError.Foreign → (r : Records) → Holds (state S.Store conn.old).now.trees r → ⊥) }
     ensures cause { IfErr result (TellsReadCause (state S.Store conn.old) (state S.Store conn.new)) }
-    ensures kept { IsKept (state S.Store conn.old) (state S.Store conn.new) }
+    ensures kept { AreTablesKept (state S.Store conn.old) (state S.Store conn.new) }
     ensures idle { (state S.Store conn.new).in_transaction ≡ false }
     ensures crash { Survives (state S.Store conn.old) (state S.Store conn.new) (λ _. ⊥) }
 {
@@ -201,9 +201,9 @@ fn is_marked<S: Alter>(alloc: Global, conn: &mut Connection<S>) -> Result<bool, 
 pub fn open<S: Alter>(alloc: Global, conn: &mut Connection<S>) -> Result<(), ReadError>
     requires { (state S.Store conn.old).in_transaction ≡ false }
     ensures fresh { HasCleanDisk (state S.Store conn.new) → OnOk result ((state S.Store conn.old).now.schema ≡ no_schema → Holds (state S.Store conn.new).now.trees no_records) }
-    ensures taken { HasCleanDisk (state S.Store conn.new) → OnOk result ((state S.Store conn.old).now.schema ≢ no_schema → ((state S.Store conn.old).now.schema ≡ store_schema) × IsMarked (state S.Store conn.old).now.trees × IsKept (state S.Store conn.old) (state S.Store conn.new)) }
+    ensures taken { HasCleanDisk (state S.Store conn.new) → OnOk result ((state S.Store conn.old).now.schema ≢ no_schema → ((state S.Store conn.old).now.schema ≡ store_schema) × IsMarked (state S.Store conn.old).now.trees × AreTablesKept (state S.Store conn.old) (state S.Store conn.new)) }
     ensures store { OnOk result (IsStore (state S.Store conn.new)) }
-    ensures refused { OnErr result (IsKept (state S.Store conn.old) (state S.Store conn.new)) }
+    ensures refused { OnErr result (AreTablesKept (state S.Store conn.old) (state S.Store conn.new)) }
     ensures foreign { HasCleanDisk (state S.Store conn.new) → IfErr result (λ e. e ≡ ReadError.Foreign → ((state S.Store conn.old).now.schema ≢ no_schema) × ((state S.Store conn.old).now.schema ≡ store_schema → (r : Records) → Holds (state S.Store conn.old).now.trees r → ⊥)) }
     ensures cause { IfErr result (TellsReadCause (state S.Store conn.old) (state S.Store conn.new)) }
     ensures idle { (state S.Store conn.new).in_transaction ≡ false }

@@ -8,8 +8,8 @@ ghost use Rattle.sqlite.specs.Held.{state};
 ghost use Rattle.sqlite.specs.State.{HasCleanDisk};
 ghost use Rattle.sqlite.specs.Values.{bound};
 ghost use Rattle.sqlite_keyed.specs.Lists.{sort_by};
-ghost use Rattle.store_tables.specs.Asks.{AreTold, Asks, AsksFirst, AsksInOrder, by_cells};
-ghost use Rattle.store_tables.specs.Looks.{Looks};
+ghost use Rattle.store_tables.specs.Asks.{AreTold, AsksRows, AsksFirst, AsksInOrder, by_cells};
+ghost use Rattle.store_tables.specs.Looks.{OnlyAsks};
 ghost use Rattle.sql_tables.specs.Statements.{IsFirst};
 ghost use Rattle.store_tables.specs.Questions.{AreArrivals, AreFound, AreNoArrivals, IsAmbiguous, IsFound, IsJournal, IsNoJournal, answers, asks_for, asks_second_for, has_id, is_arrival_at, is_at_key, is_at_place, is_awake, is_of_object, is_open_of};
 ghost use Rattle.store_tables.specs.Orders.{AreAlike, AreDue, IsArranged, IsFirstSleep, IsUnarranged};
@@ -34,9 +34,9 @@ fn find_one<R: Stored, S: Alter>(
     sql: &str,
     params: &[ValueRef<'_>],
 ) -> Result<Option<R>, ReadError>
-    ensures found { HasCleanDisk (state S.Store tables.new) → IfOk result (λ o. (records : Records → List R) (test : R → Bool) → Asks R.Stored.cells R.Stored.fits records test sql.now (bound params.now) (state S.Store tables.old) → IsFound records test (state S.Store tables.old).now.trees o) }
-    ensures foreign { HasCleanDisk (state S.Store tables.new) → IfErr result (λ e. e ≡ ReadError.Foreign → (records : Records → List R) (test : R → Bool) → Asks R.Stored.cells R.Stored.fits records test sql.now (bound params.now) (state S.Store tables.old) → IsAmbiguous records test (state S.Store tables.old).now.trees) }
-    ensures looks { Looks S.Store tables.old tables.new }
+    ensures found { HasCleanDisk (state S.Store tables.new) → IfOk result (λ o. (records : Records → List R) (test : R → Bool) → AsksRows R.Stored.cells R.Stored.fits records test sql.now (bound params.now) (state S.Store tables.old) → IsFound records test (state S.Store tables.old).now.trees o) }
+    ensures foreign { HasCleanDisk (state S.Store tables.new) → IfErr result (λ e. e ≡ ReadError.Foreign → (records : Records → List R) (test : R → Bool) → AsksRows R.Stored.cells R.Stored.fits records test sql.now (bound params.now) (state S.Store tables.old) → IsAmbiguous records test (state S.Store tables.old).now.trees) }
+    ensures looks { OnlyAsks S.Store tables.old tables.new }
     ensures cause { IsReadable store_schema sql.now (bound params.now) → IfErr result (TellsReadCause (state S.Store tables.old) (state S.Store tables.new)) }
     ensures open { HasCleanDisk (state S.Store tables.new) → WasAsked result (state S.Store tables.old) }
 {
@@ -49,10 +49,10 @@ fn find_all<R: Stored, S: Alter>(
     sql: &str,
     params: &[ValueRef<'_>],
 ) -> Result<Vec<R>, ReadError>
-    ensures found { HasCleanDisk (state S.Store tables.new) → IfOk result (λ xs. (records : Records → List R) (test : R → Bool) → Asks R.Stored.cells R.Stored.fits records test sql.now (bound params.now) (state S.Store tables.old) → (r : Records) → Holds (state S.Store tables.old).now.trees r → IsPermutation (filter test (records r)) xs.items) }
+    ensures found { HasCleanDisk (state S.Store tables.new) → IfOk result (λ xs. (records : Records → List R) (test : R → Bool) → AsksRows R.Stored.cells R.Stored.fits records test sql.now (bound params.now) (state S.Store tables.old) → (r : Records) → Holds (state S.Store tables.old).now.trees r → IsPermutation (filter test (records r)) xs.items) }
     ensures arranged { HasCleanDisk (state S.Store tables.new) → IfOk result (λ xs. (records : Records → List R) (test : R → Bool) (order : List ℕ) → AsksInOrder R.Stored.cells R.Stored.fits records test order sql.now (bound params.now) (state S.Store tables.old) → (r : Records) → Holds (state S.Store tables.old).now.trees r → (zs : List R) → IsPermutation (filter test (records r)) zs → AreTold R.Stored.cells order zs → xs.items ≡ sort_by (by_cells R.Stored.cells order) zs) }
     ensures foreign { HasCleanDisk (state S.Store tables.new) → IfErr result (λ e. e ≡ ReadError.Foreign → (records : Records → List R) (test : R → Bool) (order : List ℕ) → AsksInOrder R.Stored.cells R.Stored.fits records test order sql.now (bound params.now) (state S.Store tables.old) → (r : Records) → Holds (state S.Store tables.old).now.trees r → (zs : List R) → IsPermutation (filter test (records r)) zs → AreTold R.Stored.cells order zs → ⊥) }
-    ensures looks { Looks S.Store tables.old tables.new }
+    ensures looks { OnlyAsks S.Store tables.old tables.new }
     ensures cause { IsReadable store_schema sql.now (bound params.now) → IfErr result (TellsReadCause (state S.Store tables.old) (state S.Store tables.new)) }
     ensures open { HasCleanDisk (state S.Store tables.new) → WasAsked result (state S.Store tables.old) }
 {
@@ -67,7 +67,7 @@ fn find_first<R: Stored, S: Alter>(
 ) -> Result<Option<R>, ReadError>
     ensures found { HasCleanDisk (state S.Store tables.new) → IfOk result (λ o. (records : Records → List R) (test : R → Bool) (order : List ℕ) → AsksFirst R.Stored.cells R.Stored.fits records test order sql.now (bound params.now) (state S.Store tables.old) → (r : Records) → Holds (state S.Store tables.old).now.trees r → IsFirst (by_cells R.Stored.cells order) (filter test (records r)) o) }
     ensures foreign { HasCleanDisk (state S.Store tables.new) → IfErr result (λ e. e ≡ ReadError.Foreign → (records : Records → List R) (test : R → Bool) (order : List ℕ) → AsksFirst R.Stored.cells R.Stored.fits records test order sql.now (bound params.now) (state S.Store tables.old) → (r : Records) → Holds (state S.Store tables.old).now.trees r → ⊥) }
-    ensures looks { Looks S.Store tables.old tables.new }
+    ensures looks { OnlyAsks S.Store tables.old tables.new }
     ensures cause { IsReadable store_schema sql.now (bound params.now) → IfErr result (TellsReadCause (state S.Store tables.old) (state S.Store tables.new)) }
     ensures open { HasCleanDisk (state S.Store tables.new) → WasAsked result (state S.Store tables.old) }
 {
@@ -81,7 +81,7 @@ pub fn invocation_by_id<S: Alter>(
 ) -> Result<Option<InvocationRow>, ReadError>
     ensures found { HasCleanDisk (state S.Store tables.new) → IfOk result (IsFound (λ r. r.invocations) (has_id id.now) (state S.Store tables.old).now.trees) }
     ensures foreign { HasCleanDisk (state S.Store tables.new) → IfErr result (λ e. e ≡ ReadError.Foreign → IsAmbiguous (λ r. r.invocations) (has_id id.now) (state S.Store tables.old).now.trees) }
-    ensures looks { Looks S.Store tables.old tables.new }
+    ensures looks { OnlyAsks S.Store tables.old tables.new }
     ensures cause { IfErr result (TellsReadCause (state S.Store tables.old) (state S.Store tables.new)) }
     ensures open { HasCleanDisk (state S.Store tables.new) → WasAsked result (state S.Store tables.old) }
 {
@@ -99,7 +99,7 @@ pub fn open_invocation<S: Alter>(
 ) -> Result<Option<InvocationRow>, ReadError>
     ensures found { HasCleanDisk (state S.Store tables.new) → IfOk result (IsFound (λ r. r.invocations) (is_open_of object.now) (state S.Store tables.old).now.trees) }
     ensures foreign { HasCleanDisk (state S.Store tables.new) → IfErr result (λ e. e ≡ ReadError.Foreign → IsAmbiguous (λ r. r.invocations) (is_open_of object.now) (state S.Store tables.old).now.trees) }
-    ensures looks { Looks S.Store tables.old tables.new }
+    ensures looks { OnlyAsks S.Store tables.old tables.new }
     ensures cause { IfErr result (TellsReadCause (state S.Store tables.old) (state S.Store tables.new)) }
     ensures open { HasCleanDisk (state S.Store tables.new) → WasAsked result (state S.Store tables.old) }
 {
@@ -117,7 +117,7 @@ pub fn awake_invocations<S: Alter>(
     ensures found { HasCleanDisk (state S.Store tables.new) → IfOk result (λ is. AreFound (λ r. r.invocations) is_awake (λ i. i.id) (state S.Store tables.old).now.trees is.items) }
     ensures arranged { HasCleanDisk (state S.Store tables.new) → IfOk result (λ is. IsArranged (λ r. r.invocations) is_awake (λ i. i.id) (state S.Store tables.old).now.trees is.items) }
     ensures foreign { HasCleanDisk (state S.Store tables.new) → IfErr result (λ e. e ≡ ReadError.Foreign → IsUnarranged (λ r. r.invocations) is_awake (λ i. i.id) (state S.Store tables.old).now.trees) }
-    ensures looks { Looks S.Store tables.old tables.new }
+    ensures looks { OnlyAsks S.Store tables.old tables.new }
     ensures cause { IfErr result (TellsReadCause (state S.Store tables.old) (state S.Store tables.new)) }
     ensures open { HasCleanDisk (state S.Store tables.new) → WasAsked result (state S.Store tables.old) }
 {
@@ -140,7 +140,7 @@ pub fn entry_at<S: Alter>(
 ) -> Result<Option<EntryRow>, ReadError>
     ensures found { HasCleanDisk (state S.Store tables.new) → IfOk result (IsFound (λ r. r.entries) (is_at_place invocation.now place) (state S.Store tables.old).now.trees) }
     ensures foreign { HasCleanDisk (state S.Store tables.new) → IfErr result (λ e. e ≡ ReadError.Foreign → IsAmbiguous (λ r. r.entries) (is_at_place invocation.now place) (state S.Store tables.old).now.trees) }
-    ensures looks { Looks S.Store tables.old tables.new }
+    ensures looks { OnlyAsks S.Store tables.old tables.new }
     ensures cause { IfErr result (TellsReadCause (state S.Store tables.old) (state S.Store tables.new)) }
     ensures open { HasCleanDisk (state S.Store tables.new) → WasAsked result (state S.Store tables.old) }
 {
@@ -159,7 +159,7 @@ pub fn entry_by_completion<S: Alter>(
 ) -> Result<Option<EntryRow>, ReadError>
     ensures found { HasCleanDisk (state S.Store tables.new) → IfOk result (IsFound (λ r. r.entries) (asks_for invocation.now completion) (state S.Store tables.old).now.trees) }
     ensures foreign { HasCleanDisk (state S.Store tables.new) → IfErr result (λ e. e ≡ ReadError.Foreign → IsAmbiguous (λ r. r.entries) (asks_for invocation.now completion) (state S.Store tables.old).now.trees) }
-    ensures looks { Looks S.Store tables.old tables.new }
+    ensures looks { OnlyAsks S.Store tables.old tables.new }
     ensures cause { IfErr result (TellsReadCause (state S.Store tables.old) (state S.Store tables.new)) }
     ensures open { HasCleanDisk (state S.Store tables.new) → WasAsked result (state S.Store tables.old) }
 {
@@ -178,7 +178,7 @@ pub fn entry_by_second_completion<S: Alter>(
 ) -> Result<Option<EntryRow>, ReadError>
     ensures found { HasCleanDisk (state S.Store tables.new) → IfOk result (IsFound (λ r. r.entries) (asks_second_for invocation.now completion) (state S.Store tables.old).now.trees) }
     ensures foreign { HasCleanDisk (state S.Store tables.new) → IfErr result (λ e. e ≡ ReadError.Foreign → IsAmbiguous (λ r. r.entries) (asks_second_for invocation.now completion) (state S.Store tables.old).now.trees) }
-    ensures looks { Looks S.Store tables.old tables.new }
+    ensures looks { OnlyAsks S.Store tables.old tables.new }
     ensures cause { IfErr result (TellsReadCause (state S.Store tables.old) (state S.Store tables.new)) }
     ensures open { HasCleanDisk (state S.Store tables.new) → WasAsked result (state S.Store tables.old) }
 {
@@ -197,7 +197,7 @@ pub fn entry_by_answered<S: Alter>(
 ) -> Result<Option<EntryRow>, ReadError>
     ensures found { HasCleanDisk (state S.Store tables.new) → IfOk result (IsFound (λ r. r.entries) (answers invocation.now completion) (state S.Store tables.old).now.trees) }
     ensures foreign { HasCleanDisk (state S.Store tables.new) → IfErr result (λ e. e ≡ ReadError.Foreign → IsAmbiguous (λ r. r.entries) (answers invocation.now completion) (state S.Store tables.old).now.trees) }
-    ensures looks { Looks S.Store tables.old tables.new }
+    ensures looks { OnlyAsks S.Store tables.old tables.new }
     ensures cause { IfErr result (TellsReadCause (state S.Store tables.old) (state S.Store tables.new)) }
     ensures open { HasCleanDisk (state S.Store tables.new) → WasAsked result (state S.Store tables.old) }
 {
@@ -216,7 +216,7 @@ pub fn arrival_at<S: Alter>(
 ) -> Result<Option<EntryRow>, ReadError>
     ensures found { HasCleanDisk (state S.Store tables.new) → IfOk result (IsFound (λ r. r.entries) (is_arrival_at invocation.now ordinal) (state S.Store tables.old).now.trees) }
     ensures foreign { HasCleanDisk (state S.Store tables.new) → IfErr result (λ e. e ≡ ReadError.Foreign → IsAmbiguous (λ r. r.entries) (is_arrival_at invocation.now ordinal) (state S.Store tables.old).now.trees) }
-    ensures looks { Looks S.Store tables.old tables.new }
+    ensures looks { OnlyAsks S.Store tables.old tables.new }
     ensures cause { IfErr result (TellsReadCause (state S.Store tables.old) (state S.Store tables.new)) }
     ensures open { HasCleanDisk (state S.Store tables.new) → WasAsked result (state S.Store tables.old) }
 {
@@ -235,7 +235,7 @@ pub fn arrivals_after<S: Alter>(
 ) -> Result<Vec<EntryRow>, ReadError>
     ensures found { HasCleanDisk (state S.Store tables.new) → IfOk result (λ es. AreArrivals invocation.now ordinal (state S.Store tables.old).now.trees es.items) }
     ensures foreign { HasCleanDisk (state S.Store tables.new) → IfErr result (λ e. e ≡ ReadError.Foreign → AreNoArrivals invocation.now ordinal (state S.Store tables.old).now.trees) }
-    ensures looks { Looks S.Store tables.old tables.new }
+    ensures looks { OnlyAsks S.Store tables.old tables.new }
     ensures cause { IfErr result (TellsReadCause (state S.Store tables.old) (state S.Store tables.new)) }
     ensures open { HasCleanDisk (state S.Store tables.new) → WasAsked result (state S.Store tables.old) }
 {
@@ -253,7 +253,7 @@ pub fn journal<S: Alter>(
 ) -> Result<Vec<EntryRow>, ReadError>
     ensures found { HasCleanDisk (state S.Store tables.new) → IfOk result (λ es. IsJournal invocation.now (state S.Store tables.old).now.trees es.items) }
     ensures foreign { HasCleanDisk (state S.Store tables.new) → IfErr result (λ e. e ≡ ReadError.Foreign → IsNoJournal invocation.now (state S.Store tables.old).now.trees) }
-    ensures looks { Looks S.Store tables.old tables.new }
+    ensures looks { OnlyAsks S.Store tables.old tables.new }
     ensures cause { IfErr result (TellsReadCause (state S.Store tables.old) (state S.Store tables.new)) }
     ensures open { HasCleanDisk (state S.Store tables.new) → WasAsked result (state S.Store tables.old) }
 {
@@ -276,7 +276,7 @@ pub fn state_at<S: Alter>(
 ) -> Result<Option<StateRow>, ReadError>
     ensures found { HasCleanDisk (state S.Store tables.new) → IfOk result (IsFound (λ r. r.states) (is_at_key object.now key.now) (state S.Store tables.old).now.trees) }
     ensures foreign { HasCleanDisk (state S.Store tables.new) → IfErr result (λ e. e ≡ ReadError.Foreign → IsAmbiguous (λ r. r.states) (is_at_key object.now key.now) (state S.Store tables.old).now.trees) }
-    ensures looks { Looks S.Store tables.old tables.new }
+    ensures looks { OnlyAsks S.Store tables.old tables.new }
     ensures cause { IfErr result (TellsReadCause (state S.Store tables.old) (state S.Store tables.new)) }
     ensures open { HasCleanDisk (state S.Store tables.new) → WasAsked result (state S.Store tables.old) }
 {
@@ -295,7 +295,7 @@ pub fn states_of<S: Alter>(
     ensures found { HasCleanDisk (state S.Store tables.new) → IfOk result (λ es. AreFound (λ r. r.states) (is_of_object object.now) (λ s. s.key) (state S.Store tables.old).now.trees es.items) }
     ensures arranged { HasCleanDisk (state S.Store tables.new) → IfOk result (λ es. IsArranged (λ r. r.states) (is_of_object object.now) (λ s. s.key) (state S.Store tables.old).now.trees es.items) }
     ensures foreign { HasCleanDisk (state S.Store tables.new) → IfErr result (λ e. e ≡ ReadError.Foreign → IsUnarranged (λ r. r.states) (is_of_object object.now) (λ s. s.key) (state S.Store tables.old).now.trees) }
-    ensures looks { Looks S.Store tables.old tables.new }
+    ensures looks { OnlyAsks S.Store tables.old tables.new }
     ensures cause { IfErr result (TellsReadCause (state S.Store tables.old) (state S.Store tables.new)) }
     ensures open { HasCleanDisk (state S.Store tables.new) → WasAsked result (state S.Store tables.old) }
 {
@@ -317,7 +317,7 @@ pub fn sleeps_until<S: Alter>(
 ) -> Result<Vec<SleepRow>, ReadError>
     ensures found { HasCleanDisk (state S.Store tables.new) → IfOk result (λ ss. AreDue moment (state S.Store tables.old).now.trees ss.items) }
     ensures foreign { HasCleanDisk (state S.Store tables.new) → IfErr result (λ e. e ≡ ReadError.Foreign → AreAlike moment (state S.Store tables.old).now.trees) }
-    ensures looks { Looks S.Store tables.old tables.new }
+    ensures looks { OnlyAsks S.Store tables.old tables.new }
     ensures cause { IfErr result (TellsReadCause (state S.Store tables.old) (state S.Store tables.new)) }
     ensures open { HasCleanDisk (state S.Store tables.new) → WasAsked result (state S.Store tables.old) }
 {
@@ -335,7 +335,7 @@ pub fn first_sleep<S: Alter>(
 ) -> Result<Option<SleepRow>, ReadError>
     ensures found { HasCleanDisk (state S.Store tables.new) → IfOk result (IsFirstSleep moment (state S.Store tables.old).now.trees) }
     ensures foreign { HasCleanDisk (state S.Store tables.new) → IfErr result (λ e. e ≡ ReadError.Foreign → (r : Records) → Holds (state S.Store tables.old).now.trees r → ⊥) }
-    ensures looks { Looks S.Store tables.old tables.new }
+    ensures looks { OnlyAsks S.Store tables.old tables.new }
     ensures cause { IfErr result (TellsReadCause (state S.Store tables.old) (state S.Store tables.new)) }
     ensures open { HasCleanDisk (state S.Store tables.new) → WasAsked result (state S.Store tables.old) }
 {

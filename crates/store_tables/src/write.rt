@@ -8,7 +8,7 @@ ghost use Rattle.sqlite_value.specs.Value.{owned};
 ghost use Rattle.sqlite_value.specs.declared.value.Value.TheVariants.{Text as Words};
 ghost use Rattle.sql_tables.specs.Causes.{TellsWriteCause};
 ghost use Rattle.sql_tables.specs.Cells.{IsLong, IsShort, long_cell, short_cell};
-ghost use Rattle.store_tables.specs.Looks.{Makes};
+ghost use Rattle.store_tables.specs.Looks.{MakesWrites};
 ghost use Rattle.store_tables.specs.Records.{FitsInvocation, FitsProgress, applied, closing_cell, delay_of, invocation_cells, progress_cells, state_cells, with_entry, with_invocation, with_progress, with_sleep, with_state, without_sleeps, without_sleeps_until, without_state, without_states};
 ghost use Rattle.store_tables.specs.Statements.{add_state_text, statement, statements_of, statements_of_all};
 ghost use Rattle.store_tables.specs.Steps.{Alters, IsWriting};
@@ -285,7 +285,7 @@ fn apply<S: Alter>(tx: &mut Transaction<'_, S>, write: &Write) -> Result<(), Err
 /// All of the writes or none of them, also over a crash, in one transaction. Once they are told to be made, a crash leaves them
 /// alone. Where there are none, nothing is done.
 pub fn commit_all<S: Alter>(tables: &mut StoreTables<S>, writes: &[Write]) -> Result<(), Error>
-    ensures { Makes S.Store writes.now (TellsWriteCause (statements_of_all writes.now) (state S.Store tables.old) (state S.Store tables.new)) tables.old tables.new result }
+    ensures { MakesWrites S.Store writes.now (TellsWriteCause (statements_of_all writes.now) (state S.Store tables.old) (state S.Store tables.new)) tables.old tables.new result }
 {
     if writes.is_empty() {
         return Ok(());

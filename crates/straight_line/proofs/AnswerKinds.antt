@@ -7,7 +7,7 @@ use Rattle.journal_model.specs.declared.call.Answer.{Answer}
 use Rattle.journal_model.specs.History.{Step, answers_of}
 use Rattle.journal_model.specs.Refusal.{Refusal, refusal_of}
 use Rattle.journal_model.specs.Await.{AwaitOutcome, WaitsFor, WokenAt, CancelledAt, await_outcome}
-use Rattle.journal_model.specs.Run.{Handler, Invocation, Progress, Ending, GoesOn, Waits, RefusedCall, Ended, kind_of, after_await, carried_out, unless_refused, after_call, continued_by, run}
+use Rattle.journal_model.specs.Run.{Handler, Invocation, Progress, Ending, GoesOn, Waits, RefusedCall, Ended, call_kind, after_await, carried_out, unless_refused, after_call, continued_by, run}
 use Rattle.straight_line.specs.Laws.{AllAreOfKind}
 
 awaited : (steps : List Step) (tree : AwaitTree ℕ) (outcome : AwaitOutcome) → AllAreOfKind steps → AllAreOfKind (after_await steps (Call.Await tree) outcome).steps
@@ -16,7 +16,7 @@ awaited steps tree (WokenAt place) all = (refl, all)
 awaited steps tree (CancelledAt place requests) all = (refl, all)
 
 carried : (invocation : Invocation) (steps : List Step) (arrivals : List Arrival) (call : Call)
-    → AllAreOfKind steps → AllAreOfKind (carried_out invocation steps arrivals call (kind_of call)).steps
+    → AllAreOfKind steps → AllAreOfKind (carried_out invocation steps arrivals call (call_kind call)).steps
 carried invocation steps arrivals (Call.Await tree) all = awaited steps tree (await_outcome invocation.options steps arrivals tree) all
 carried invocation steps arrivals Call.End all = all
 carried invocation steps arrivals _ all = (refl, all)

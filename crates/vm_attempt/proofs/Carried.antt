@@ -8,7 +8,7 @@ use Rattle.vm_request_laws.specs.Calls.{IsTypedCall}
 use Rattle.vm_core.specs.declared.core_vm.CoreVM.{CoreVM}
 use Rattle.vm_core.specs.Outcomes.outcomes
 use Rattle.vm_core.specs.Outcomes.{CarriesOut, CallOutcome}
-use Rattle.vm_attempt.specs.Turning.{TakesOutcome, CarriesCall, ReadsOrAsks}
+use Rattle.vm_attempt.specs.TurnOutcomes.{TakesOutcome, CarriesCall, ReadsOrAsks}
 use Rattle.vm_attempt.specs.declared.attempt.Attempt.{Attempt}
 use Rattle.vm_attempt.specs.declared.run_outcome.RunOutcome.{RunOutcome}
 use Rattle.vm_attempt.specs.declared.turn.Turn.{Turn}

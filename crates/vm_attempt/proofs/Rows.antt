@@ -6,8 +6,8 @@ use Rattle.protocol_errors.specs.declared.error.Error.{Error}
 use Rattle.protocol_errors.specs.declared.error.ErrorBehavior.TheVariants as behaviors
 use Rattle.vm_refusals.specs.declared.retries.RetryPolicy.{RetryPolicy}
 use Rattle.vm_refusals.specs.declared.runs.RunExitResult.{RunExitResult}
-use Rattle.vm_refusals.specs.Ending.{Retry, ending}
-use Rattle.vm_refusals.specs.Retrying.{Tried}
+use Rattle.vm_refusals.specs.BodyExits.{Retry, ending}
+use Rattle.vm_refusals.specs.RetryDecisions.{Tried}
 use Rattle.vm_attempt.specs.Bodies.{exit_by_policy}
 
 -- an error that asks for the end of its invocation, and one for a pause

@@ -6,8 +6,8 @@ use Rattle.vm_request_laws.specs.Calls.{IsTypedValue}
 use Rattle.protocol_errors.specs.declared.error.Error.{Error}
 use Rattle.vm_refusals.specs.declared.retries.RetryPolicy.{RetryPolicy}
 use Rattle.vm_refusals.specs.declared.runs.RunExitResult.{RunExitResult}
-use Rattle.vm_refusals.specs.Ending.{Ending, Outcome, ending, ending_by}
-use Rattle.vm_refusals.specs.Retrying.{Tried, one_more, AfterFailure, TriedAgain, FailsAsTerminal, Pauses, after_failure}
+use Rattle.vm_refusals.specs.BodyExits.{Ending, Outcome, ending, ending_by}
+use Rattle.vm_refusals.specs.RetryDecisions.{Tried, one_more, AfterFailure, TriedAgain, FailsAsTerminal, Pauses, after_failure}
 use Rattle.vm_attempt.specs.Typed.{IsTypedError, IsTypedExit}
 
 abbrev IsTypedEnding : Ending → Type 0

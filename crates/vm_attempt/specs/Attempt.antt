@@ -5,13 +5,13 @@ use Rattle.journal_model.specs.Notification.{Bytes}
 use Rattle.protocol_errors.specs.declared.error.Error.{Error}
 use Rattle.protocol_types.specs.Version.{version_content_type}
 use Rattle.protocol_types.specs.declared.version.Version.{Version}
-use Rattle.vm_feeding.specs.Beginning.{Begins}
+use Rattle.vm_feeding.specs.NewMachine.{BeginsMachine}
 use Rattle.vm_core.specs.Closed.{state_made}
 use Rattle.vm_core.specs.declared.core_vm.CoreVM.{CoreVM}
 use Rattle.vm_start.specs.declared.phase.Phase.{Phase}
 use Rattle.vm_start.specs.declared.phase.Phase.TheVariants as phases
-use Rattle.vm_feeding.specs.Closing as closing
-use Rattle.vm_feeding.specs.Feeding.{IsFed}
+use Rattle.vm_feeding.specs.EndOfInput as closing
+use Rattle.vm_feeding.specs.InputBytes.{IsFed}
 use Rattle.vm_types.specs.declared.options.VMOptions.{VMOptions}
 use Rattle.vm_attempt.specs.declared.attempt.Attempt.{Attempt}
 use Rattle.vm_attempt.specs.declared.turn.Finish.{Finish}
@@ -40,7 +40,7 @@ module _ {H : Type 0} where
 
   -- its machine begins as that of a request in this version does, or none is made
   pub record IsBegun (version : Version) (options : VMOptions) (handler : H) (result : Result (Attempt H) Error) : Type 0 where
-    pub begins : Begins Infallible (λ error. ⊥) (Some (version_content_type version)) options (state_made (machine_made result))
+    pub begins : BeginsMachine Infallible (λ error. ⊥) (Some (version_content_type version)) options (state_made (machine_made result))
     pub unasked : IfOk result (IsUnasked options handler)
 
   -- ---- its input, which its machine takes; an attempt that is over stays as it is

@@ -1,9 +1,9 @@
 pub mod Attempt
 pub mod Bodies
-pub mod Coding
+pub mod AttemptCode
 pub mod Output
 pub mod Typed
-pub mod Turning
+pub mod TurnOutcomes
 pub mod Machine
 pub mod Outcomes
-pub mod Feeding
+pub mod MachineInput

@@ -4,7 +4,7 @@ ghost use Rattle.std.specs.Option.{ForSome};
 ghost use Rattle.vm_start.specs.declared.phase.Phase.TheVariants.{Failed};
 ghost use Rattle.vm_attempt.specs.Attempt.{IsBegun, has_stopped, Feeds, ClosesInput};
 ghost use Rattle.vm_attempt.specs.Output.{output_of, Gathers, HasFront, Shows, LetsGo, TakesOutput};
-ghost use Rattle.vm_attempt.specs.Turning.{FinishesBy, TakesAnswer, RunsBody, TakesOutcome, CarriesCall, ReadsInput, ReadsOrAsks, TurnsOn, Turns};
+ghost use Rattle.vm_attempt.specs.TurnOutcomes.{FinishesBy, TakesAnswer, RunsBody, TakesOutcome, CarriesCall, ReadsInput, ReadsOrAsks, TurnsOn, Turns};
 
 use crate::header::ContentType;
 use crate::output::{advance, first, join};

@@ -1,6 +1,6 @@
 // What turns come to.
 ghost use Rattle.std.specs.Prelude.{◌≡◌};
-ghost use Rattle.vm_attempt.specs.Turning.{again, ran_or_failed};
+ghost use Rattle.vm_attempt.specs.TurnOutcomes.{again, ran_or_failed};
 
 use protocol_errors::Error;
 use vm_start::out_of_memory;

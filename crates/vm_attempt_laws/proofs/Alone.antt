@@ -4,15 +4,15 @@ use Rattle.std.specs.declared.alloc.AllocError.{AllocError}
 use Rattle.std.specs.List.{AllByRecursion}
 use Rattle.protocol_types.specs.Feature.{has_feature}
 use Rattle.protocol_types.specs.declared.feature.Feature.TheVariants as features
-use Rattle.vm_machine.specs.Failing.{MachineFails}
-use Rattle.vm_start.specs.Failing.{IsCopy}
+use Rattle.vm_machine.specs.MachineFailure.{MachineFails}
+use Rattle.vm_start.specs.FailureReport.{IsCopy}
 use Rattle.vm_start.specs.Failure.{asked_behavior, failed_with}
 use Rattle.vm_types.specs.declared.options.JournalMismatchRetryBehavior.{JournalMismatchRetryBehavior}
 use Rattle.vm_attempt_laws.specs.Bodies.{outcomes_in}
-use Rattle.vm_attempt_laws.specs.Keeping.{FailsWith, TellsBy}
+use Rattle.vm_attempt_laws.specs.AttemptInvariants.{FailsWith, TellsBy}
 use Rattle.vm_attempt_laws.specs.Machine.phases
-use Rattle.vm_attempt_laws.specs.Machine.{FailsNow, MachineState, out_of_memory, Tells, TellsCause, told_error, Written}
-use Rattle.vm_attempt_laws.specs.Sending.{AllFit, Fails, frame_meant, Sent, sent_stream}
+use Rattle.vm_attempt_laws.specs.Machine.{FailsNow, MachineState, out_of_memory, TellsError, TellsFailureCause, told_error, Written}
+use Rattle.vm_attempt_laws.specs.OutputOfAttempt.{AllFit, Fails, frame_meant, Sent, sent_stream}
 use Rattle.vm_attempt_laws.specs.Words.{Error, IsNote, journal_mismatch, Version, version_number}
 use Rattle.vm_attempt_laws.proofs.Notes.{cause_tells, fails_now, TellsNotes}
 
@@ -37,7 +37,7 @@ pub failed_same : (version : Version) (asked : JournalMismatchRetryBehavior) (er
 failed_same version asked error other = ap (λ (b : Bool). if b && has_feature (version_number version) features.ErrorBehavior then record error { behavior = asked_behavior asked } else error) other
 
 module _ (error : Error) (old : Written) (told : Error) (new : Written) where
-  tells_with : Tells error old told new → FailsWith error old told ⊎ (told ≡ out_of_memory)
+  tells_with : TellsError error old told new → FailsWith error old told ⊎ (told ≡ out_of_memory)
   tells_with (inl tells) = inl (inl tells.0)
   tells_with (inr (inl tells)) = inl (inr (tells.0, tells.1))
   tells_with (inr (inr tells)) = inr tells.0
@@ -52,7 +52,7 @@ module _ (error : Error) (old : Written) (told : Error) (new : Written) where
       inl (subst (λ (e : Error). FailsWith error old e) (sym same) fails, frame ∙ ap (λ (e : Error). Fails (told_error e) ∷ []) (sym same))
 
 told_by : (version : Version) (asked : JournalMismatchRetryBehavior) (cause : Result Error AllocError) (old : Written) (told : Error) (new : Written) (answer : Error) (coming : List Sent)
-    → TellsCause version asked cause old told new → TellsBy told coming → IsCopy told answer → ToldBy version asked old cause answer coming
+    → TellsFailureCause version asked cause old told new → TellsBy told coming → IsCopy told answer → ToldBy version asked old cause answer coming
 told_by version asked (Ok error) old told new answer coming tells sends copy =
     copied (failed_with (version_number version) asked error) old told new answer coming (tells_with (failed_with (version_number version) asked error) old told new tells) sends copy
 told_by version asked (Err refused) old told new answer coming tells sends copy = elim copy [ inl same ↦ same ∙ tells.0 | inr lacks ↦ lacks ]

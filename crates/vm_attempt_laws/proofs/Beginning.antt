@@ -9,18 +9,19 @@ use Rattle.protocol_types.specs.declared.version.ContentTypeError.{ContentTypeEr
 use Rattle.protocol_types.proofs.Versions.{content_types_read_back}
 use Rattle.journal_model.specs.declared.options.SignalDelivery.{SignalDelivery}
 use Rattle.journal_model.specs.Start.{start_payload_of}
-use Rattle.vm_machine.specs.Starting.{IsFresh}
+use Rattle.vm_machine.specs.StartReceipt.{IsFresh}
 use Rattle.vm_start.specs.Negotiation.{Negotiates}
 use Rattle.vm_start.specs.declared.negotiation.NegotiationError.{NegotiationError}
 use Rattle.vm_input_laws.proofs.Messages.{all_in_front}
-use Rattle.vm_input_laws.proofs.Passed.{front, nothing_at, some_is_none, starts_read_back}
+use Rattle.vm_input_laws.proofs.Inputs.{front, nothing_at, some_is_none}
+use Rattle.vm_input_laws.proofs.StartSpelled.{starts_read_back}
 use Rattle.vm_attempt_laws.specs.Attempts.{IsUnasked, FeedsUnless, output_of, Attempt, Finish}
-use Rattle.vm_attempt_laws.specs.Serving.{kind_where, IsFedBy, Serves}
+use Rattle.vm_attempt_laws.specs.AttemptSimulation.{kind_where, IsFedBy, Serves}
 use Rattle.vm_attempt_laws.specs.Bodies.{AreCached, Executor, executor_over, KeepsBodies, no_runs, reads_message, Runs}
-use Rattle.vm_attempt_laws.specs.Keeping.{attempt_started, HasNoBodies, LacksMemory, BeginsServing}
+use Rattle.vm_attempt_laws.specs.AttemptInvariants.{attempt_started, HasNoBodies, LacksMemory, BeginsServing}
 use Rattle.vm_attempt_laws.specs.Machine.{Written, MachineState, IsFed, IsNew, BeginsAs}
-use Rattle.vm_input_laws.specs.Standing.{IsEntry}
-use Rattle.vm_attempt_laws.specs.Reading.{FailsForMemory, raw_of, MessageFits, bytes_of, start_told, CanBegin, IsRunOf, kind_of, HasStarted, HoldsStart, ReadsOn, StartsAreRead}
+use Rattle.vm_input_laws.specs.InputPhases.{IsEntry}
+use Rattle.vm_attempt_laws.specs.InputOfAttempt.{FailsForMemory, raw_of, MessageFits, bytes_of, start_told, CanBegin, IsRunOf, phase_kind, HasStarted, HoldsStart, ReadsOn, StartsAreRead}
 use Rattle.vm_attempt_laws.specs.Words.{item_at, message, Version, version_content_type, input_bytes, Bytes, Handler, Invocation, InputMessage, CarriesInput, CarriesRequest, CarriesArrival, CarriesOutcome, piece_of, Machine, machine_at_start, AttemptStart, ShowsStart, attempt_begun, VMOptions}
 
 -- ---- the version
@@ -87,7 +88,7 @@ module _ {H : Type 0} (function : H → Handler) (next : Handler) (version : Ver
       subst (λ (delivery : SignalDelivery). IsFresh new.vm.state.version delivery new.vm.state.active) (sym (ap (λ (given : Invocation). given.options.signal_delivery) of_run.given_is))
       (subst (λ (v : Version). IsFresh v options.signal_delivery new.vm.state.active) (sym is_new.version_is) is_new.active)
 
-  is_kind : kind_of new.vm.state ≡ kind_where version options false
+  is_kind : phase_kind new.vm.state ≡ kind_where version options false
   is_kind = λ i. record { version = is_new.version_is i; options = is_new.options_are i; is_input_closed = is_new.opened i; reads = is_new.reads i }
 
   holds : HoldsStart start (kind_where version options false) messages (bytes_of (start.frame ∷ []) ++ input_bytes (map piece_of messages)) new.vm.state

@@ -5,8 +5,8 @@ use Rattle.journal_model.specs.Value.{result_of_value}
 use Rattle.body_laws.proofs.Steps.{bodies-handle}
 use Rattle.vm_attempt_laws.specs.Attempts.{Attempt}
 use Rattle.vm_attempt_laws.specs.Bodies.{ReplaysStay, NonEmptyValue, Executor, bodies_of, Among, BodiesStand, IsReplayed, KeepsBodies, IsNew, Runs}
-use Rattle.vm_attempt_laws.specs.Keeping.{BodiesStay, InputsCome}
-use Rattle.vm_attempt_laws.specs.Reading.{IsArrival}
+use Rattle.vm_attempt_laws.specs.AttemptInvariants.{BodiesStay, InputsCome}
+use Rattle.vm_attempt_laws.specs.InputOfAttempt.{IsArrival}
 use Rattle.vm_attempt_laws.specs.Words.{Arrival, completion, arrivals_carried, CarriesArrival, CarriesInput, CarriesOutcome, CarriesRequest, Handler, InputMessage, IsInRun, LiveAttempt, Machine, next_slot, Progress, run, Step, Version, VMOptions, with_arrival, with_messages}
 
 -- what is kept says nothing of the machine

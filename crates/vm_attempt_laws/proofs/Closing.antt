@@ -2,21 +2,21 @@
 use Rattle.std.proofs.Common.{◌≡◌, ◌⊎◌, inl, inr, ◌∙◌, ℕ, Bool, true, ◌++◌, map, Option, Some, None, Ok, refl, sym, ap, subst}
 use Rattle.std.specs.List.{AllByRecursion}
 use Rattle.vm_start.specs.Phases.{kept_error}
-use Rattle.vm_attempt_laws.specs.Serving.{kind_where, HasNotRead, HasRead, Serves}
-use Rattle.vm_attempt_laws.specs.Keeping.{early_error, StaysClosed, ClosesEarly, ClosesServing, WritesNothing}
+use Rattle.vm_attempt_laws.specs.AttemptSimulation.{kind_where, HasNotRead, HasRead, Serves}
+use Rattle.vm_attempt_laws.specs.AttemptInvariants.{early_error, StaysClosed, ClosesEarly, ClosesServing, WritesNothing}
 use Rattle.vm_attempt_laws.proofs.Bodies.{bodies_stay}
 use Rattle.vm_attempt_laws.proofs.Notes.{TellsNotes, cause_tells, fails_with, waits_more}
 use Rattle.vm_attempt_laws.proofs.Over.{serves_by, waits_same}
 use Rattle.vm_attempt_laws.proofs.Phases.{stage}
 use Rattle.vm_attempt_laws.specs.Attempts.{ClosesUnless, Attempt, Finish}
 use Rattle.vm_attempt_laws.specs.Machine.phases
-use Rattle.vm_attempt_laws.specs.Machine.{Written, FailsNow, FailsAs, MachineState, is_waiting, input_closed, ClosesWhere, ClosesInput as ClosesMachine, HasFailed, IsDriven}
-use Rattle.vm_attempt_laws.specs.Reading.{start_told, Kind, kind_of, HasStarted}
-use Rattle.vm_attempt_laws.specs.Sending.{sent_stream, AllFit, frame_meant}
+use Rattle.vm_attempt_laws.specs.Machine.{Written, FailsNow, FailsAs, MachineState, is_waiting, input_closed, ClosesWhere, ClosesInput, HasFailed, IsDriven}
+use Rattle.vm_attempt_laws.specs.InputOfAttempt.{start_told, Kind, phase_kind, HasStarted}
+use Rattle.vm_attempt_laws.specs.OutputOfAttempt.{sent_stream, AllFit, frame_meant}
 use Rattle.vm_attempt_laws.specs.Words.{Error, Version, Handler, Invocation, Machine, LiveAttempt, HasReadJournal, VMOptions, item_at, IsNote}
 
 closes_new : {H : Type 0} (over : Option Finish) (before after : Attempt H) → before.over ≡ over → before.over ≡ None → ClosesUnless over before after
-    → ClosesMachine before.vm.state after.vm.state × (after ≡ record before { vm = after.vm })
+    → ClosesInput before.vm.state after.vm.state × (after ≡ record before { vm = after.vm })
 closes_new (Some finish) before after is none does = cc
 closes_new None before after is none does = does
 
@@ -32,7 +32,7 @@ closed_driven given m vm d = record {
 }
 
 module _ {H : Type 0} (function : H → Handler) (next : Handler) (version : Version) (options : VMOptions) (live : LiveAttempt) (is_closed : Bool) (before after : Attempt H)
-    (s : Serves function next version options live is_closed before) (does : ClosesMachine before.vm.state after.vm.state × (after ≡ record before { vm = after.vm })) where
+    (s : Serves function next version options live is_closed before) (does : ClosesInput before.vm.state after.vm.state × (after ≡ record before { vm = after.vm })) where
   abbrev Outcome : Type 0
   Outcome = StaysClosed function next version options live before after ⊎ ClosesEarly function next version options live before after
 
@@ -45,8 +45,8 @@ module _ {H : Type 0} (function : H → Handler) (next : Handler) (version : Ver
     nothing : WritesNothing before after
     nothing = waits_same before after does.1 (ap (λ (vm : MachineState). vm.active.output.bytes) same)
 
-    closed_kind : kind_of after.vm.state ≡ kind_where version options true
-    closed_kind = ap kind_of same ∙ ap (λ (k : Kind). record k { is_input_closed = true }) s.kind
+    closed_kind : phase_kind after.vm.state ≡ kind_where version options true
+    closed_kind = ap phase_kind same ∙ ap (λ (k : Kind). record k { is_input_closed = true }) s.kind
 
     stays : HasNotRead function next version options live true after ⊎ HasRead function next version options live after → StaysClosed function next version options live before after
     stays stands = record {
@@ -65,7 +65,7 @@ module _ {H : Type 0} (function : H → Handler) (next : Handler) (version : Ver
       machine = n.machine;
       shows = n.shows;
       started = subst (λ (vm : MachineState). HasStarted live.start (start_told live.start n.shows) (kind_where version options true) live.read vm) (sym same) (record {
-        kind_is = sym (ap kind_of same) ∙ closed_kind;
+        kind_is = sym (ap phase_kind same) ∙ closed_kind;
         phase = n.started.phase;
         start_is = n.started.start_is;
         commands = n.started.commands;

@@ -1,8 +1,8 @@
 -- Calls see the machine whose input was answered, and what is known of it at the beginning.
 use Rattle.std.proofs.Common.{◌≡◌, ◌∙◌, arith, Bool, List, [], ◌∷◌, Result, refl, sym, ap}
 use Rattle.vm_attempt_laws.specs.Machine.{are_any, Written, MachineState, IsDriven}
-use Rattle.vm_attempt_laws.specs.Reading.{IsRunOf, start_told, Kind, HasStarted, AnswersInput}
-use Rattle.vm_attempt_laws.specs.Serving.{HasNumbers, kind_where}
+use Rattle.vm_attempt_laws.specs.InputOfAttempt.{IsRunOf, start_told, Kind, HasStarted, AnswersInput}
+use Rattle.vm_attempt_laws.specs.AttemptSimulation.{HasNumbers, kind_where}
 use Rattle.vm_attempt_laws.specs.Words.{Error, version_number, Version, Input, Entry, Recorded, Arrived, StartState, Invocation, InputMessage, Machine, machine_at_start, with_arrival, with_entry, with_entries, AttemptStart, ShowsStart, entries_carried, with_messages, id_of, VMOptions}
 
 -- ---- what was written

@@ -12,17 +12,17 @@ use Rattle.journal_model.specs.declared.future.UnresolvedFuture.{UnresolvedFutur
 use Rattle.journal_model.specs.declared.notification.NotificationId.TheVariants.{CompletionId}
 use Rattle.attempt_laws.proofs.Coming.{all-back}
 use Rattle.body_laws.specs.Bodies.{ExecutorReply, handing_out, executes_or_awaits, reply_after, executor_reply, body_awaited, bodies_left, proposing}
-use Rattle.body_laws.specs.Standing.{StandsWithBodies, RepliesWithBodies, ExecutesBody, WaitsWithBodies, WaitsForChildWithBodies, WasExecuted}
+use Rattle.body_laws.specs.BodySimulation.{StandsWithBodies, RepliesWithBodies, ExecutesBody, WaitsWithBodies, WaitsForChildWithBodies, WasExecuted}
 use Rattle.body_laws.proofs.Calling.{calls_simulate}
-use Rattle.body_laws.proofs.Standing.{with_steps, with_machine}
+use Rattle.body_laws.proofs.BodySimulation.{with_steps, with_machine}
 use Rattle.body_laws.proofs.Steps.{bodies-below}
 use Rattle.body_laws.proofs.Untaken.{body-stands}
 use Rattle.vm_commands.proofs.Comparing.{compares_reflexively}
 use Rattle.vm_outcomes.specs.Runs.{KeepsBodiesOf}
-use Rattle.vm_progress.specs.Executing.{LooksForRun, run_for, is_executing_for}
-use Rattle.vm_runs.specs.Keeping.{HandsOut}
-use Rattle.vm_runs.specs.Runs.{Table, is_so, bodies_in, body_of, started, handed_out}
-use Rattle.vm_runs.proofs.Keeping.{among-same, any-same}
+use Rattle.vm_progress.specs.AwaitedRuns.{LooksForRun, run_for, is_executing_for}
+use Rattle.vm_runs.specs.KeptBodies.{HandsOut}
+use Rattle.vm_runs.specs.Runs.{Table, is_so, bodies_in, body_of, started, run_handed_out}
+use Rattle.vm_runs.proofs.KeptBodies.{among-same, any-same}
 use Rattle.vm_runs.proofs.Ordered.{at-not}
 use Rattle.vm_runs.proofs.Tables.{running, stands-found}
 use Rattle.vm_waiting.specs.WaitsFor.{waits_as}
@@ -30,7 +30,7 @@ use Rattle.vm_waiting.specs.declared.waits_for.WaitsFor.{WaitsFor}
 use Rattle.vm_waiting.specs.declared.waits_for.WaitsFor.TheVariants.{Future, Child}
 use Rattle.vm_attempt_laws.specs.Bodies.{NonEmptyValue, Body, Executor, has_handle, bodies_of, Among, has_arrived, IsReplayed, outcome_frame, TurnsReplayed, ReplaysTurn, KeepsBodies, IsNew, Runs, run_at, Run}
 use Rattle.vm_attempt_laws.specs.Machine.{checks_off, MachineState}
-use Rattle.vm_attempt_laws.specs.Running.{IsToExecute, WaitsForOthers, ExecutesFirst}
+use Rattle.vm_attempt_laws.specs.BodyExecution.{IsToExecute, WaitsForOthers, ExecutesFirst}
 use Rattle.vm_attempt_laws.specs.Words.{Version, Answer, Call, Request, Handler, Progress, Step, next_completion, run, keys_of, arrivals_carried, requests_carried, are_by_text, Frame, Machine, next_slot, Reply, Answered, LiveAttempt, HasReadJournal, after_turn, VMOptions, Queued, SendsReply}
 use Rattle.vm_attempt_laws.proofs.Bodies.{keeps_with, next_is_new}
 use Rattle.vm_attempt_laws.proofs.Now.{Now, compares, call_of, reply_at}
@@ -279,7 +279,7 @@ module _ (next : Handler) (version : Version) (options : VMOptions) (is_closed :
         pub found : run_at new.table handle ≡ Some (running run)
         pub completion : run.completion ≡ body.completion
 
-      was_kept : (handle : ℕ) → body.handle ≡ handle → new ≡ handed_out (Some handle) vm.runs → KeepsBodies new (handing_out (record e { machine = whole }) body) → WasKept handle
+      was_kept : (handle : ℕ) → body.handle ≡ handle → new ≡ run_handed_out (Some handle) vm.runs → KeepsBodies new (handing_out (record e { machine = whole }) body) → WasKept handle
       was_kept handle same_handle is keeps = of_found (run_at new.table body.handle) refl
         where
           of_found : (found : Option Run) → run_at new.table body.handle ≡ found → WasKept handle

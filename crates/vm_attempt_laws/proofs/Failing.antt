@@ -17,29 +17,28 @@ use Rattle.vm_types.specs.declared.options.JournalReplay.TheVariants.{Enabled, D
 use Rattle.vm_waiting.specs.WaitsFor.{waits_as}
 use Rattle.vm_waiting.specs.declared.waits_for.WaitsFor.{WaitsFor}
 use Rattle.vm_waiting.specs.declared.waits_for.WaitsFor.TheVariants.{Future, Child}
-use Rattle.vm_request_laws.proofs.Fitting.{all_append}
-use Rattle.vm_attempt_laws.proofs.Reading.{turns_send}
+use Rattle.vm_request_laws.proofs.RequestBounds.{all_append}
+use Rattle.vm_attempt_laws.proofs.InputAndOutput.{turns_send}
 use Rattle.vm_attempt_laws.proofs.Quiet.{commands_quiet}
 use Rattle.vm_attempt_laws.proofs.Notes.{TellsNotes, note_turn, cause_tells, fails_with}
 use Rattle.vm_attempt_laws.specs.Bodies.{outcomes_in}
 use Rattle.vm_attempt_laws.specs.Machine.phases
-use Rattle.vm_attempt_laws.specs.Keeping.{FailsWith, TellsBy}
-use Rattle.vm_attempt_laws.specs.Machine.{IsCopy, writes_frames, MachineState, Written, TellsCause, out_of_memory, told_error, Fails, Cause, ByFault, NoNumber, TooLong, TooDeep, NoReplay, NoMemory, HasPut, requests_passed_on, FailsWhen}
-use Rattle.vm_attempt_laws.specs.Reading.{Kind}
-use Rattle.vm_attempt_laws.specs.Sending.{Sent, Asks, Fails as SentFails, sent_stream, AllFit, frame_meant}
-use Rattle.vm_attempt_laws.specs.Sending.{IsOfStore as IsSentOfStore}
+use Rattle.vm_attempt_laws.specs.AttemptInvariants.{FailsWith, TellsBy}
+use Rattle.vm_attempt_laws.specs.Machine.{IsCopy, writes_frames, MachineState, Written, TellsFailureCause, out_of_memory, told_error, Fails, Cause, ByFault, NoNumber, TooLong, TooDeep, NoReplay, NoMemory, HasPut, requests_passed_on, FailsWhen}
+use Rattle.vm_attempt_laws.specs.InputOfAttempt.{Kind}
+use Rattle.vm_attempt_laws.specs.OutputOfAttempt.{Sent, Asks, Fails as SentFails, sent_stream, AllFit, frame_meant, IsOfStore}
 use Rattle.vm_attempt_laws.specs.Words.{internal, unsupported_feature, journal_mismatch, Error, Version, Answer, Call, Frame, answers_of, Request, Handler, arrivals_carried, requests_carried, IsNote, LiveAttempt, Machine, VMOptions, Refusal, Commands, RepliesAsRun}
-use Rattle.vm_attempt_laws.specs.Turning.{IsTurnOf, RunWaitsFor, IsOwnCause, IsToldAs, FailsBy}
+use Rattle.vm_attempt_laws.specs.TurnsInRun.{IsTurnOf, RunWaitsFor, IsOwnCause, IsToldAs, FailsBy}
 use Rattle.vm_attempt_laws.proofs.Now.{Now, compares, call_of, reply_at}
 use Rattle.vm_attempt_laws.proofs.Midway.{PassesOn, passes_on, no_front, none_written}
 use Rattle.vm_attempt_laws.proofs.Stored.{notes_of_store}
-use Rattle.vm_attempt_laws.proofs.Sending.{passed_of_store, of_output, opened, passed_may, passed_fit, passed_recorded}
+use Rattle.vm_attempt_laws.proofs.TurnOutput.{passed_of_store, of_output, opened, passed_may, passed_fit, passed_recorded}
 
 -- what a failing turn has told, and why
 pub record FailsSo (next : Handler) (version : Version) (is_closed : Bool) (live : LiveAttempt) (answers : List Answer) (vm new : MachineState) (error : Error) : Type 0 where
   pub coming : List Sent
   pub fit : AllFit version coming
-  pub of_store : AllByRecursion IsSentOfStore coming
+  pub of_store : AllByRecursion IsOfStore coming
   pub bytes : new.active.output.bytes ≡ vm.active.output.bytes ++ sent_stream version coming
   pub makes : IsTurnOf next is_closed live (map (frame_meant version) coming)
   pub quiet : outcomes_in (map (frame_meant version) coming) ≡ []
@@ -70,7 +69,7 @@ no_mismatch code (inr is) = ap (λ (n : ℕ). n == journal_mismatch) is
 
 -- the machine fails with what tells such a cause, or for want of memory, behind requests of the call that were written by then
 module _ (next : Handler) (version : Version) (asked : JournalMismatchRetryBehavior) (live : LiveAttempt) (call : Call) (old new : MachineState) (left : Commands) (invocation : Bytes) (error kept : Error)
-    (more : List Request) (between : Written) (notes : List Sent) (tells : TellsCause version asked (Ok error) (writes_frames more old.active.output) kept between) (sends : TellsBy kept notes) where
+    (more : List Request) (between : Written) (notes : List Sent) (tells : TellsFailureCause version asked (Ok error) (writes_frames more old.active.output) kept between) (sends : TellsBy kept notes) where
   abbrev Told : Cause → Type 0
   Told cause = IsToldAs version live call old new more cause kept (map Asks more ++ notes) ⊎ (kept ≡ out_of_memory)
 
@@ -169,7 +168,7 @@ module _ (next : Handler) (version : Version) (options : VMOptions) (is_closed :
 
     by_told : (cause : Cause) → FailsWhen live.start.given live.machine (call_of next live n.at) vm far cause → (invocation : Bytes) (told : Result Error AllocError)
         → IfOk told (λ e. CauseTells vm.version invocation far.put.left new.active.journal (slots_of new.active.results) vm.runs (call_of next live n.at) cause e)
-        → (kept : Error) (between : Written) → TellsCause vm.version vm.options.journal_mismatch_retry_behavior told (writes_frames far.more vm.active.output) kept between → TellsBy kept notes → error ≡ kept → By
+        → (kept : Error) (between : Written) → TellsFailureCause vm.version vm.options.journal_mismatch_retry_behavior told (writes_frames far.more vm.active.output) kept between → TellsBy kept notes → error ≡ kept → By
     by_told cause when invocation (Err refused) told kept between tells sends same = for_memory (same ∙ tells.0)
     by_told cause when invocation (Ok e) told kept between tells sends same =
         elim (told_as next vm.version vm.options.journal_mismatch_retry_behavior live (call_of next live n.at) vm new far.put.left invocation e kept far.more between notes tells sends cause (own far cause when) told) [
@@ -207,8 +206,8 @@ module _ (next : Handler) (version : Version) (options : VMOptions) (is_closed :
         by_reply (inr (inr answers)) =
             n.makes.stops far.put far.more notes (stops_midway live.start.given live.machine (call_of next live n.at) vm far Answer.Cancelled answers.0 answers.1) far.written all
 
-    all_of_store : (notes : List Sent) → AllByRecursion IsNote (map (frame_meant version) notes) → AllByRecursion IsSentOfStore (map Asks far.more ++ notes)
-    all_of_store notes all = all_append IsSentOfStore (map Asks far.more) notes (passed_of_store far.more (passed_may next version options is_closed live vm n far)) (notes_of_store version notes all)
+    all_of_store : (notes : List Sent) → AllByRecursion IsNote (map (frame_meant version) notes) → AllByRecursion IsOfStore (map Asks far.more ++ notes)
+    all_of_store notes all = all_append IsOfStore (map Asks far.more) notes (passed_of_store far.more (passed_may next version options is_closed live vm n far)) (notes_of_store version notes all)
 
   pub fails_so : (answers : List Answer) → answers ≡ answers_of n.at.stands.steps → (error : Error) (new : MachineState)
       → Fails live.start.given live.machine (call_of next live n.at) vm error new

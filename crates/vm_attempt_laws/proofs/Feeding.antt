@@ -6,10 +6,10 @@ use Rattle.vm_calls.specs.Active.{has_left}
 use Rattle.journal_model.proofs.Extension.{run-same}
 use Rattle.input_laws.proofs.Telling.{arrivals_carried-append}
 use Rattle.vm_input_laws.proofs.Messages.{arrivals_waited_for, arrivals_gathered, all_in_front}
-use Rattle.vm_input_laws.proofs.Passed.{stays_active}
+use Rattle.vm_input_laws.proofs.Inputs.{stays_active}
 use Rattle.vm_attempt_laws.specs.Bodies.{ReplaysStay, IsReplayed, KeepsBodies, NonEmptyValue, reads_messages, Runs, StaysReplayed}
-use Rattle.vm_attempt_laws.specs.Serving.{IsFedBy, kind_where, HasNotRead, HasRead, HasBodies, Serves}
-use Rattle.vm_attempt_laws.specs.Keeping.{StaysServing, ServesOn, LacksMemory, WritesNothing, FeedsServing}
+use Rattle.vm_attempt_laws.specs.AttemptSimulation.{IsFedBy, kind_where, HasNotRead, HasRead, HasBodies, Serves}
+use Rattle.vm_attempt_laws.specs.AttemptInvariants.{StaysServing, ServesOn, LacksMemory, WritesNothing, FeedsServing}
 use Rattle.vm_attempt_laws.proofs.Beginning.{bytes_append, feeds_new}
 use Rattle.vm_attempt_laws.proofs.Bodies.{none_asked, cached_behind, arrivals_left}
 use Rattle.vm_attempt_laws.proofs.Driven.{messages_written, messages_number}
@@ -17,7 +17,7 @@ use Rattle.vm_attempt_laws.proofs.Messages.{messages_append, unread_arrive, unre
 use Rattle.vm_attempt_laws.proofs.Over.{serves_by, waits_same}
 use Rattle.vm_attempt_laws.specs.Attempts.{Attempt}
 use Rattle.vm_attempt_laws.specs.Machine.{Sees, are_any, Written, Phase, MachineState, has_failed, IsFed, IsDriven}
-use Rattle.vm_attempt_laws.specs.Reading.{bytes_of, IsFedEach, AreWaitedFor, phase_behind, KnowsRuns, TakesFirst, InputsAreKept, FailsForMemory, IsInputOf, start_told, Kind, kind_of, ReadsOn, JournalsAreRead, IsArrival}
+use Rattle.vm_attempt_laws.specs.InputOfAttempt.{bytes_of, IsFedEach, AreWaitedFor, phase_behind, KnowsRuns, TakesFirstMessages, InputsAreKept, FailsForMemory, IsInputOf, start_told, Kind, phase_kind, ReadsOn, JournalsAreRead, IsArrival}
 use Rattle.vm_attempt_laws.specs.Words.{item_at, version_number, Version, AwaitTree, NotificationId, input_bytes, answers_of, Bytes, Arrival, Handler, Invocation, Progress, Ending, GoesOn, Waits, run, InputMessage, piece_of, arrivals_carried, Machine, machine_at_start, with_messages, IsMachineAt, LiveAttempt, handed_bytes, after_reading, id_of, VMOptions}
 
 -- a run that goes on does not wait
@@ -68,7 +68,7 @@ module _ {H : Type 0} (function : H → Handler) (next : Handler) (version : Ver
     fed_by : IsFedBy (after_reading (handed_bytes live bytes) some still after.vm.state.decoder)
     fed_by = subst (IsInputOf live.start) (fed_same live some still parts) s.fed
 
-    reads_on : KeepsBodies after.vm.state.runs (reads_messages b.executor some) → (proposed ≡ []) ⊎ ((with_messages live.machine some).left ≡ []) → kind_of after.vm.state ≡ kind_where version options is_closed
+    reads_on : KeepsBodies after.vm.state.runs (reads_messages b.executor some) → (proposed ≡ []) ⊎ ((with_messages live.machine some).left ≡ []) → phase_kind after.vm.state ≡ kind_where version options is_closed
         → item_at after.vm.state.decoder ≡ None
         → HasNotRead function next version options (after_reading (handed_bytes live bytes) some still after.vm.state.decoder) is_closed after
         ⊎ HasRead function next version options (after_reading (handed_bytes live bytes) some still after.vm.state.decoder) after
@@ -118,9 +118,9 @@ module _ {H : Type 0} (function : H → Handler) (next : Handler) (version : Ver
     arrive : AllByRecursion IsArrival live.unread
     arrive = unread_arrive live r.journal s.fed
 
-    module _ (t : TakesFirst live.start.given live.unread (b.lives.rest) before.vm.state after.vm.state) where
-      kind_is : kind_of after.vm.state ≡ kind_of before.vm.state
-      kind_is = ap kind_of t.kept.others
+    module _ (t : TakesFirstMessages live.start.given live.unread (b.lives.rest) before.vm.state after.vm.state) where
+      kind_is : phase_kind after.vm.state ≡ phase_kind before.vm.state
+      kind_is = ap phase_kind t.kept.others
 
       sees : Sees live.start.given after.vm.state.active (with_messages live.machine t.some)
       sees =
@@ -178,7 +178,7 @@ module _ {H : Type 0} (function : H → Handler) (next : Handler) (version : Ver
           r.driven.sees.replaying ∙ ap has_left (cached_behind next (handed_bytes live bytes) proposed b.executor b.lives b.behind n value cached);
     }
 
-    read_outcome : TakesFirst live.start.given live.unread (b.lives.rest) before.vm.state after.vm.state ⊎ FailsForMemory before.vm.state after.vm.state → Outcome
+    read_outcome : TakesFirstMessages live.start.given live.unread (b.lives.rest) before.vm.state after.vm.state ⊎ FailsForMemory before.vm.state after.vm.state → Outcome
     read_outcome (inr failed) = lacks failed
     read_outcome (inl t) = outcome t
 

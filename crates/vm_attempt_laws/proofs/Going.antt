@@ -2,8 +2,8 @@
 use Rattle.std.proofs.Common.{◌≡◌, inr, ◌∙◌, ℕ, Bool, List, ap}
 use Rattle.vm_attempt_laws.specs.Attempts.{Attempt}
 use Rattle.vm_attempt_laws.specs.Machine.{IsDriven, MachineState}
-use Rattle.vm_attempt_laws.specs.Reading.{kind_of}
-use Rattle.vm_attempt_laws.specs.Serving.{HasNumbers, HasRead, Serves}
+use Rattle.vm_attempt_laws.specs.InputOfAttempt.{phase_kind}
+use Rattle.vm_attempt_laws.specs.AttemptSimulation.{HasNumbers, HasRead, Serves}
 use Rattle.vm_attempt_laws.specs.Words.{after_turn, answers_of, arrivals_carried, Frame, Handler, item_at, LiveAttempt, Machine, run, Version, VMOptions}
 
 -- nothing of the attempt but its machine and its answers, and nothing of the machine but what is kept for calls, and of runs
@@ -20,7 +20,7 @@ module _ {H : Type 0} (function : H → Handler) (next : Handler) (version : Ver
   serves_on frames calls whole driven numbers answers = record {
     handler = ap function t.handler ∙ s.handler;
     going = t.over ∙ s.going;
-    kind = ap kind_of t.machine ∙ s.kind;
+    kind = ap phase_kind t.machine ∙ s.kind;
     of_run = s.of_run;
     fed = s.fed;
     started = s.started;

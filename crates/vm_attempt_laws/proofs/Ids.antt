@@ -6,17 +6,17 @@ use Rattle.journal_model.specs.Delivery.{known_result, known_results, results_fo
 use Rattle.journal_model.specs.Notification.{same_id}
 use Rattle.journal_model.specs.Options.{replaces}
 use Rattle.journal_model.specs.Value.{as_taken, result_of_value}
-use Rattle.journal_model.specs.Waiting.{pruned}
+use Rattle.journal_model.specs.PrunedTrees.{pruned}
 use Rattle.journal_model.specs.declared.notification.NotificationId.TheVariants.{CompletionId}
 use Rattle.journal_model.specs.declared.notification.NotificationResult.{NotificationResult}
 use Rattle.journal_model.specs.declared.options.SignalDelivery.{SignalDelivery}
 use Rattle.journal_model.specs.declared.value.NonEmptyValue.{NonEmptyValue}
 use Rattle.journal_model.specs.declared.value.Value.{Value}
 use Rattle.attempt_model.specs.Children.{Child, child_value, child_with_value, ChildrenState, AreIds, IsUnknown, IsNoId, children_state, ChildrenOutcome, AllKnown, FirstUnknown, outcome_by, children_outcome}
-use Rattle.attempt_model.specs.Results.{Ready, slot_of, waiting_for, handle_state, Resolution, Awake, Asleep, ready_after, resolution_of, first_of}
-use Rattle.attempt_model.specs.Standing.{Stands, passed_deliveries, only_last, kept_results}
-use Rattle.vm_request_laws.proofs.Fitting.{all_append}
-use Rattle.vm_attempt_laws.specs.Reading.{ArrivalFits, MessageFits}
+use Rattle.attempt_model.specs.Results.{Ready, slot_of, waiting_for, handle_state, Resolution, Awake, Asleep, ready_after, resolution_of, first_waiting_result}
+use Rattle.attempt_model.specs.Simulation.{Stands, passed_deliveries, only_last, kept_results}
+use Rattle.vm_request_laws.proofs.RequestBounds.{all_append}
+use Rattle.vm_attempt_laws.specs.InputOfAttempt.{ArrivalFits, MessageFits}
 use Rattle.vm_attempt_laws.specs.Words.{Bytes, NotificationId, Arrival, Request, Step, next_completion, Handler, Invocation, InputMessage, CarriesInput, CarriesRequest, CarriesArrival, CarriesOutcome, arrivals_carried, Machine, Slots, IsTextId}
 
 abbrev pub IsTextResult : NotificationResult → Type 0
@@ -173,17 +173,17 @@ WaitsText (Some result) = IsTextResult result
 pub waiting_text : (slots : Slots) (ready : Ready) (handle : ℕ) → AreReadyText ready → WaitsText (waiting_for slots ready handle)
 waiting_text slots ready handle all = by_slot (slot_of slots handle)
   where
-    by_first : (results : List NotificationResult) → AllByRecursion IsTextResult results → WaitsText (first_of results)
+    by_first : (results : List NotificationResult) → AllByRecursion IsTextResult results → WaitsText (first_waiting_result results)
     by_first [] text = tt
     by_first (result ∷ results) text = text.0
 
-    by_slot : (slot : Option NotificationId) → WaitsText (option_and_then (λ (id : NotificationId). first_of (ready id)) slot)
+    by_slot : (slot : Option NotificationId) → WaitsText (option_and_then (λ (id : NotificationId). first_waiting_result (ready id)) slot)
     by_slot None = tt
     by_slot (Some id) = by_first (ready id) (all id)
 
 -- ---- children
 
-first_text : (results : List NotificationResult) → AllByRecursion IsTextResult results → IsTextId (option_map as_taken (first_of results))
+first_text : (results : List NotificationResult) → AllByRecursion IsTextResult results → IsTextId (option_map as_taken (first_waiting_result results))
 first_text [] all = tt
 first_text (result ∷ results) all = all.0
 
@@ -192,7 +192,7 @@ pub values_text : (ready : Ready) (children : List Child) → AreReadyText ready
 values_text ready [] all taken = tt
 values_text ready (child ∷ children) all taken = (by_taken child.taken taken.0, values_text ready children all taken.1)
   where
-    by_taken : (value : Option Value) → IsTextId value → IsTextId (or_else value (option_map as_taken (first_of (ready (CompletionId child.completion)))))
+    by_taken : (value : Option Value) → IsTextId value → IsTextId (or_else value (option_map as_taken (first_waiting_result (ready (CompletionId child.completion)))))
     by_taken None text = first_text (ready (CompletionId child.completion)) (all (CompletionId child.completion))
     by_taken (Some value) text = text
 

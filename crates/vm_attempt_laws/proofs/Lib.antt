@@ -9,7 +9,7 @@ pub mod Phases
 pub mod Quiet
 pub mod Notes
 pub mod Closing
-pub mod Reading
+pub mod InputAndOutput
 pub mod Recorded
 pub mod Texts
 pub mod Ids
@@ -17,14 +17,14 @@ pub mod Replies
 pub mod Midway
 pub mod Now
 pub mod Executing
-pub mod Sending
+pub mod TurnOutput
 pub mod Stored
 pub mod Failing
 pub mod Going
 pub mod Alone
-pub mod Running
-pub mod Turning
+pub mod BodyExecution
+pub mod TurnsInRun
 pub mod Turns
 pub mod Matching
 pub mod Progress
-pub mod Telling
+pub mod TurnReports

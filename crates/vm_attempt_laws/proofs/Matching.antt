@@ -6,18 +6,18 @@ use Rattle.protocol_types.specs.declared.feature.Feature.TheVariants as features
 use Rattle.attempt_model.specs.Machine.{Mismatch, UncompletedInReplay, EndInReplay, KeysNotText, ChildNotId, Refused}
 use Rattle.vm_refusals.specs.Refusals.{refusal_code}
 use Rattle.vm_refusals.specs.declared.retries.RetryPolicy.{RetryPolicy}
-use Rattle.vm_refusals.specs.Ending.{Ending, ending_by}
-use Rattle.vm_refusals.specs.Retrying.{AfterFailure, after_failure, FailsAsTerminal, one_more, Pauses as PausesThen, Tried, TriedAgain as TriesAgain}
+use Rattle.vm_refusals.specs.BodyExits.{Ending, ending_by}
+use Rattle.vm_refusals.specs.RetryDecisions.{AfterFailure, after_failure, FailsAsTerminal, one_more, Pauses as PausesThen, Tried, TriedAgain as TriesAgain}
 use Rattle.vm_start.specs.Failure.{asked_behavior, failed_with}
 use Rattle.vm_types.specs.declared.options.JournalMismatchRetryBehavior.{JournalMismatchRetryBehavior}
 use Rattle.vm_attempt_laws.specs.Attempts.{Turn}
 use Rattle.vm_attempt_laws.specs.Bodies.{about, ending, NonEmptyValue, Outcome, Pause, pausing, Retry, run_told, RunExitResult, RunOutcome, exit_by_policy, by_policy, with_delay}
-use Rattle.vm_attempt_laws.specs.Keeping.{FailsWith}
+use Rattle.vm_attempt_laws.specs.AttemptInvariants.{FailsWith}
 use Rattle.vm_attempt_laws.specs.Machine.{MachineState, Written, Cause, ByFault, NoNumber, TooLong, TooDeep, NoReplay, NoMemory}
-use Rattle.vm_attempt_laws.specs.Running.{BodyCause, BodyFailsWhen, BodyToldAs, IsLong, Lacks, LacksMemory, Pauses, TriedAgain}
-use Rattle.vm_attempt_laws.specs.Sending.{Sent}
+use Rattle.vm_attempt_laws.specs.BodyExecution.{BodyCause, BodyFailsWhen, BodyToldAs, IsLong, Lacks, LacksMemory, Pauses, TriedAgain}
+use Rattle.vm_attempt_laws.specs.OutputOfAttempt.{Sent}
 use Rattle.vm_attempt_laws.specs.Words.{internal, unsupported_feature, journal_mismatch, Error, Version, version_number, Call, Request, Handler, arrivals_carried, LiveAttempt, VMOptions}
-use Rattle.vm_attempt_laws.specs.Turning.{FailsByBody, tried_by, IsBodyCode, IsOwnCause, IsToldAs, FailsBy, TurnServes, TurnsMatch}
+use Rattle.vm_attempt_laws.specs.TurnsInRun.{FailsByBody, tried_by, IsBodyCode, IsOwnCause, IsToldAs, FailsBy, TurnServes, TurnsMatch}
 use Rattle.vm_attempt_laws.proofs.Failing.{refused_code, either_code}
 
 -- the behaviour that is asked for changes no code

@@ -4,10 +4,10 @@ use Rattle.std.proofs.lemmas.List.{append_cancel_left}
 use Rattle.std.specs.List.{AllByRecursion}
 use Rattle.journal_model.specs.Value.{result_of_value}
 use Rattle.vm_input_laws.proofs.Messages.{all_behind, all_in_front}
-use Rattle.vm_request_laws.proofs.Fitting.{all_append}
-use Rattle.vm_attempt_laws.specs.Serving.{IsFedBy}
-use Rattle.vm_attempt_laws.specs.Keeping.{MayCome}
-use Rattle.vm_attempt_laws.specs.Reading.{MessageFits, IsArrival, IsInputOf}
+use Rattle.vm_request_laws.proofs.RequestBounds.{all_append}
+use Rattle.vm_attempt_laws.specs.AttemptSimulation.{IsFedBy}
+use Rattle.vm_attempt_laws.specs.AttemptInvariants.{MayCome}
+use Rattle.vm_attempt_laws.specs.InputOfAttempt.{MessageFits, IsArrival, IsInputOf}
 use Rattle.vm_attempt_laws.specs.Words.{Recorded, completion, InputMessage, CarriesInput, CarriesRequest, CarriesArrival, CarriesOutcome, Machine, with_arrival, with_entry, with_messages, LiveAttempt, HasReadJournal}
 
 pub messages_append : (m : Machine) (some more : List InputMessage) → with_messages m (some ++ more) ≡ with_messages (with_messages m some) more

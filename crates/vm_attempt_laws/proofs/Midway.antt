@@ -6,7 +6,7 @@ use Rattle.journal_model.specs.Refusal.{Refusal, refusal_of}
 use Rattle.attempt_model.specs.Children.{ChildrenOutcome, AllKnown, FirstUnknown, OneIsNoId, children_outcome, cancel_requests_for}
 use Rattle.attempt_model.specs.Machine.{Mismatch, Work, ToAwait, work_of, is_cancelled, reply_where_cancelled, reply_to_children, reply_where_awake, reply_to_await, reply_unless_refused}
 use Rattle.attempt_model.specs.Results.{Ready, Resolution, Awake, Asleep, resolution_of}
-use Rattle.vm_outcomes.specs.Stopping.{children_requests, awake_requests, await_requests, unless_refused, requests_at}
+use Rattle.vm_outcomes.specs.PartialCalls.{children_requests, awake_requests, await_requests, unless_refused, requests_at}
 use Rattle.vm_attempt_laws.proofs.Ids.{AreText, AreReadyText, ResolvesText, resolved_text, FindsText, found_text}
 use Rattle.vm_attempt_laws.proofs.Now.{compares}
 use Rattle.vm_attempt_laws.proofs.Replies.{the_put}

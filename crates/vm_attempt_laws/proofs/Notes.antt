@@ -8,16 +8,16 @@ use Rattle.protocol_types.specs.declared.feature.Feature.TheVariants as features
 use Rattle.vm_start.specs.Failure.{asked_behavior, failed_with}
 use Rattle.vm_start.specs.Phases.{kept_error}
 use Rattle.vm_types.specs.declared.options.JournalMismatchRetryBehavior.{JournalMismatchRetryBehavior}
-use Rattle.vm_output_laws.specs.Writing.{Sends}
-use Rattle.vm_output_laws.proofs.Writing.{frames_are_written}
+use Rattle.vm_output_laws.specs.WrittenFrames.{Sends}
+use Rattle.vm_output_laws.proofs.WrittenFrames.{frames_are_written}
 use Rattle.vm_attempt_laws.specs.Attempts.{output_of, Attempt, Turn}
 use Rattle.vm_attempt_laws.specs.Bodies.{outcomes_in}
-use Rattle.vm_attempt_laws.specs.Keeping.{FailsWith, TellsBy}
+use Rattle.vm_attempt_laws.specs.AttemptInvariants.{FailsWith, TellsBy}
 use Rattle.vm_attempt_laws.specs.Machine.phases
-use Rattle.vm_attempt_laws.specs.Machine.{Written, FailsNow, FailsAs, TellsCause, Tells, Writes, out_of_memory, told_error, MachineState, HasFailed, IsCopy}
-use Rattle.vm_attempt_laws.specs.Serving.{AnswersKept}
-use Rattle.vm_attempt_laws.specs.Turning.{IsTurnOf}
-use Rattle.vm_attempt_laws.specs.Sending.{Sent, Fails, sent_stream, AllFit, frame_meant}
+use Rattle.vm_attempt_laws.specs.Machine.{Written, FailsNow, FailsAs, TellsFailureCause, TellsError, WritesError, out_of_memory, told_error, MachineState, HasFailed, IsCopy}
+use Rattle.vm_attempt_laws.specs.AttemptSimulation.{AnswersKept}
+use Rattle.vm_attempt_laws.specs.TurnsInRun.{IsTurnOf}
+use Rattle.vm_attempt_laws.specs.OutputOfAttempt.{Sent, Fails, sent_stream, AllFit, frame_meant}
 use Rattle.vm_attempt_laws.specs.Words.{journal_mismatch, Error, version_number, Version, Frame, Handler, IsNote, LiveAttempt, notes}
 
 -- a turn that sends nothing
@@ -63,29 +63,29 @@ tells_none told old new lacks same = record {
   tells = inr (lacks, refl);
 }
 
-tells_one : (error : Error) (old new : Written) → old.is_closed ≡ false → Writes error old new → TellsNotes error old new
+tells_one : (error : Error) (old new : Written) → old.is_closed ≡ false → WritesError error old new → TellsNotes error old new
 tells_one error old new opens writes =
     let one = frames_are_written.errors error old new opens writes in
     record { coming = Fails (told_error error) ∷ []; fit = (one.fits, tt); written = one.sends; notes = (tt, tt); quiet = refl; tells = inl refl }
 
-tells_of : (error : Error) (old : Written) (told : Error) (new : Written) → old.is_closed ≡ false → Tells error old told new → TellsNotes told old new
-tells_of error old told new opens (inl tells) = tells_one told old new opens (subst (λ (e : Error). Writes e old new) (sym tells.0) tells.1)
+tells_of : (error : Error) (old : Written) (told : Error) (new : Written) → old.is_closed ≡ false → TellsError error old told new → TellsNotes told old new
+tells_of error old told new opens (inl tells) = tells_one told old new opens (subst (λ (e : Error). WritesError e old new) (sym tells.0) tells.1)
 tells_of error old told new opens (inr (inl tells)) = tells_one told old new opens tells.2
 tells_of error old told new opens (inr (inr tells)) = tells_none told old new tells.0 tells.1
 
 pub cause_tells : (version : Version) (asked : JournalMismatchRetryBehavior) (cause : Result Error AllocError) (old : Written) (told : Error) (new : Written) → old.is_closed ≡ false
-    → TellsCause version asked cause old told new → TellsNotes told old new
+    → TellsFailureCause version asked cause old told new → TellsNotes told old new
 cause_tells version asked (Ok error) old told new opens tells = tells_of (failed_with (version_number version) asked error) old told new opens tells
 cause_tells version asked (Err refused) old told new opens tells = tells_none told old new tells.0 tells.1
 
 -- an error that tells no mismatch keeps its behaviour, and is what the machine fails with
 pub fails_with : (version : Version) (asked : JournalMismatchRetryBehavior) (error : Error) (old : Written) (told : Error) (new : Written) → (error.code.0 == journal_mismatch) ≡ false
-    → TellsCause version asked (Ok error) old told new → FailsWith error old told ⊎ (told ≡ out_of_memory)
+    → TellsFailureCause version asked (Ok error) old told new → FailsWith error old told ⊎ (told ≡ out_of_memory)
 fails_with version asked error old told new other tells =
-    go (subst (λ (e : Error). Tells e old told new)
+    go (subst (λ (e : Error). TellsError e old told new)
     (ap (λ (b : Bool). if b && has_feature (version_number version) features.ErrorBehavior then record error { behavior = asked_behavior asked } else error) other) tells)
   where
-    go : Tells error old told new → FailsWith error old told ⊎ (told ≡ out_of_memory)
+    go : TellsError error old told new → FailsWith error old told ⊎ (told ≡ out_of_memory)
     go (inl tells) = inl (inl tells.0)
     go (inr (inl tells)) = inl (inr (tells.0, tells.1))
     go (inr (inr tells)) = inr tells.0

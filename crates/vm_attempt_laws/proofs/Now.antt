@@ -4,14 +4,14 @@ use Rattle.attempt_laws.proofs.Simulating.{simulates}
 use Rattle.live_laws.proofs.MachineTurn.{machine_turns}
 use Rattle.vm_commands.specs.HeaderEquality.{same_header}
 use Rattle.vm_commands.proofs.Comparing.{compares_reflexively}
-use Rattle.vm_attempt_laws.specs.Serving.{IsOfStore, IsFedBy, HasNumbers, kind_where, HasRead, Serves}
+use Rattle.vm_attempt_laws.specs.AttemptSimulation.{IsOfStore, IsFedBy, HasNumbers, kind_where, HasRead, Serves}
 use Rattle.vm_attempt_laws.specs.Bodies.{Executor, IsReplayed, NonEmptyValue, ReplaysStand, StandsReplayed}
 use Rattle.vm_attempt_laws.proofs.Recorded.{stored}
 use Rattle.vm_attempt_laws.proofs.Messages.{unread_fit}
-use Rattle.vm_attempt_laws.proofs.Reading.{no_arrival_is_held}
+use Rattle.vm_attempt_laws.proofs.InputAndOutput.{no_arrival_is_held}
 use Rattle.vm_attempt_laws.specs.Attempts.{Attempt}
 use Rattle.vm_attempt_laws.specs.Machine.{checks_off, MachineState, IsDriven}
-use Rattle.vm_attempt_laws.specs.Reading.{kind_of}
+use Rattle.vm_attempt_laws.specs.InputOfAttempt.{phase_kind}
 use Rattle.vm_attempt_laws.specs.Words.{version_number, Version, Answer, Call, item_at, arrivals_within, answers_of, Request, Handler, Invocation, Progress, piece_of, arrivals_carried, requests_carried, Reply, reply_to, IsInRun, LiveAttempt, VMOptions, Queued, AreOfKind, Fits, next_call, RepliesAsRun, AsksByText, MakesTurns, IsTypedCall}
 use Rattle.vm_attempt_laws.proofs.Texts.{HasTextKey, typed_key, asks_on}
 
@@ -30,7 +30,7 @@ pub record Now (next : Handler) (version : Version) (options : VMOptions) (is_cl
   pub at : IsInRun next live.start.given live.read live.unread live.calls live.machine
   pub makes : MakesTurns (compares vm) next live.start.given is_closed live.held live.read live.unread live.calls live.machine at
   pub whole : arrivals_within (map piece_of live.unread) (length live.held) ≡ 0
-  pub kind : kind_of vm ≡ kind_where version options is_closed
+  pub kind : phase_kind vm ≡ kind_where version options is_closed
   pub driven : IsDriven live.start.given live.machine vm
   pub numbers : HasNumbers live.machine
   pub typed : IsTypedCall (call_of next live at)

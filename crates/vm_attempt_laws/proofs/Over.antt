@@ -1,15 +1,15 @@
 -- An attempt that is over stays over.
 use Rattle.std.proofs.Common.{◌≡◌, ◌⊎◌, inl, inr, ◌∙◌, ℕ, Bool, List, ◌++◌, Option, Some, None, Result, Ok, Err, refl, sym, ap, subst}
 use Rattle.std.specs.declared.alloc.AllocError.{AllocError}
-use Rattle.vm_input_laws.proofs.Passed.{failed_fed}
+use Rattle.vm_input_laws.proofs.Staying.{failed_fed}
 use Rattle.vm_attempt.specs.declared.turn.Finish.TheVariants as finishes
 use Rattle.vm_attempt_laws.specs.Attempts.{FeedsUnless, ClosesUnless, output_of, OnlyTaken, OnlyMoves, Shows, LetsGo, TakesOutput, again, TurnsWhere, TurnsUnless, Attempt, Finish, Turn}
 use Rattle.vm_attempt_laws.specs.Bodies.{RunOutcome}
-use Rattle.vm_attempt_laws.specs.Reading.{IsRunOf, kind_of}
-use Rattle.vm_attempt_laws.specs.Serving.{IsOver, finished, machine_failed, kind_where, HasNotRead, HasRead, IsFedBy, Serves}
-use Rattle.vm_attempt_laws.specs.Keeping.{IsLast, WritesNothing, OversStay}
+use Rattle.vm_attempt_laws.specs.InputOfAttempt.{IsRunOf, phase_kind}
+use Rattle.vm_attempt_laws.specs.AttemptSimulation.{IsOver, finished, machine_failed, kind_where, HasNotRead, HasRead, IsFedBy, Serves}
+use Rattle.vm_attempt_laws.specs.AttemptInvariants.{IsLast, WritesNothing, OversStay}
 use Rattle.vm_attempt_laws.specs.Machine.phases
-use Rattle.vm_attempt_laws.specs.Machine.{Phase, MachineState, IsReady, is_waiting, input_closed, ClosesWhere, with_input, CoreVM}
+use Rattle.vm_attempt_laws.specs.Machine.{Phase, MachineState, TellsReady, is_waiting, input_closed, ClosesWhere, with_input, CoreVM}
 use Rattle.vm_attempt_laws.specs.Words.{Error, Bytes, Handler, LiveAttempt, Version, VMOptions, item_at}
 
 again_last : (finish : Finish) → IsLast (again finish)
@@ -26,7 +26,7 @@ module _ {H : Type 0} where
   -- and that machine tells what it serves
   module _ (function : H → Handler) (next : Handler) (version : Version) (options : VMOptions) where
     pub serves_by : (live now : LiveAttempt) (is_closed closed_now : Bool) (before after : Attempt H) → after ≡ record before { vm = after.vm } → Serves function next version options live is_closed before
-        → kind_of after.vm.state ≡ kind_where version options closed_now → IsRunOf now.start version options → IsFedBy now → now.bytes ≡ now.held → after.vm.state.decoder ≡ now.held
+        → phase_kind after.vm.state ≡ kind_where version options closed_now → IsRunOf now.start version options → IsFedBy now → now.bytes ≡ now.held → after.vm.state.decoder ≡ now.held
         → item_at after.vm.state.decoder ≡ None → HasNotRead function next version options now closed_now after ⊎ HasRead function next version options now after
         → Serves function next version options now closed_now after
     serves_by live now is_closed closed_now before after others s kind of_run fed started bytes whole stands =
@@ -59,7 +59,7 @@ module _ {H : Type 0} where
       stays_failed error before after does.1 failed (ap (λ (vm : MachineState). vm.phase) same) (ap (λ (vm : MachineState). vm.active.output.bytes) same)
 
   module _ (function : H → Handler) (ran : RunOutcome) where
-    failed_turn : (ready : Result Bool Error) (error : Error) (before : Attempt H) (turn : Turn) (after : Attempt H) → IsReady (phases.Failed error) ready → TurnsWhere function ran ready before turn after
+    failed_turn : (ready : Result Bool Error) (error : Error) (before : Attempt H) (turn : Turn) (after : Attempt H) → TellsReady (phases.Failed error) ready → TurnsWhere function ran ready before turn after
         → IsLast turn × (after ≡ before)
     failed_turn (Ok ready) error before turn after is turns = absurd is
     failed_turn (Err answer) error before turn after is turns = (subst IsLast (sym turns.0) tt, turns.1)
@@ -68,7 +68,7 @@ module _ {H : Type 0} where
     turned (Some finish) before turn after is o turns = (subst IsLast (sym turns.0) (again_last finish), turns.1)
     turned None before turn after is (finished finish some) turns = never finish before is some
     turned None before turn after is (machine_failed error failed) turns =
-        failed_turn turns.ready error before turn after (subst (λ (p : Phase). IsReady p turns.ready) failed turns.is_ready) turns.turns
+        failed_turn turns.ready error before turn after (subst (λ (p : Phase). TellsReady p turns.ready) failed turns.is_ready) turns.turns
 
   moved : (before after : Attempt H) → IsOver before → OnlyMoves before after → IsOver after
   moved before after (finished finish some) moves = finished finish (ap (λ (a : Attempt H). a.over) moves.others ∙ some)

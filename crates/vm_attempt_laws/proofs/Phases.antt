@@ -6,7 +6,7 @@ use Rattle.vm_input_laws.proofs.Messages.{input_active}
 use Rattle.vm_attempt_laws.proofs.Messages.{read_input}
 use Rattle.vm_attempt_laws.specs.Machine.phases
 use Rattle.vm_attempt_laws.specs.Machine.{Phase}
-use Rattle.vm_attempt_laws.specs.Reading.{phase_then, phase_behind, IsInputOf}
+use Rattle.vm_attempt_laws.specs.InputOfAttempt.{phase_then, phase_behind, IsInputOf}
 use Rattle.vm_attempt_laws.specs.Words.{InputMessage, CarriesInput, LiveAttempt, HasReadJournal}
 
 -- one entry fewer is waited for, and not the last

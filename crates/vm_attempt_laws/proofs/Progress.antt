@@ -1,13 +1,13 @@
 -- Turns one after the other, with the journal read and the input closed.
 use Rattle.std.proofs.Common.{◌≡◌, ◌⊎◌, inl, inr, ◌∙◌, ◌+◌, arith, ℕ, suc, true, false, true≢false, List, [], ◌∷◌, ◌++◌, length, length-append, map, Option, sym, ap, subst}
 use Rattle.vm_attempt_laws.specs.Bodies.{NonEmptyValue}
-use Rattle.vm_attempt_laws.specs.Serving.{HasBodies, Serves, IsOver}
+use Rattle.vm_attempt_laws.specs.AttemptSimulation.{HasBodies, Serves, IsOver}
 use Rattle.vm_attempt_laws.proofs.Over.{overs_stay}
 use Rattle.vm_attempt_laws.specs.Attempts.turns
 use Rattle.vm_attempt_laws.specs.Attempts.{Attempt, Turn}
-use Rattle.vm_attempt_laws.specs.Sending.{Sent, frame_meant}
+use Rattle.vm_attempt_laws.specs.OutputOfAttempt.{Sent, frame_meant}
 use Rattle.vm_attempt_laws.specs.Words.{Version, Input, Handler, LiveAttempt, HasReadJournal, after_turn, VMOptions, Queued}
-use Rattle.vm_attempt_laws.specs.Turning.{turns_answered, GoesOnWith, TurnsBehind, TurnKeeps, TurnServes, TurnsEach, AnswersEach, TurnsAnswer}
+use Rattle.vm_attempt_laws.specs.TurnsInRun.{turns_answered, GoesOnWith, TurnsBehind, TurnKeeps, TurnServes, TurnsEach, AnswersEach, TurnsAnswer}
 
 module _ {H : Type 0} (function : H → Handler) (next : Handler) (version : Version) (options : VMOptions) where
   -- one that is over stays so

@@ -6,8 +6,8 @@ use Rattle.journal_model.specs.Request.{Request}
 use Rattle.journal_model.specs.Run.{name_or_empty}
 use Rattle.journal_model.specs.State.{knows_key, knows_all_keys, known_value, known_keys}
 use Rattle.attempt_model.specs.Requests.{Commands, read_value, read_keys, fresh_value, fresh_keys}
-use Rattle.vm_attempt_laws.specs.Sending.{is_recorded}
-use Rattle.vm_attempt_laws.specs.Serving.{IsOfStore}
+use Rattle.vm_attempt_laws.specs.OutputOfAttempt.{is_recorded}
+use Rattle.vm_attempt_laws.specs.AttemptSimulation.{IsOfStore}
 
 -- a read is recorded as it was asked for, or in replay of the kind that the record has
 value_stored : (left : Commands) (fresh : Request) (n : ℕ) (key : Bytes) (name : Text) → is_recorded fresh ≡ true → is_recorded (read_value left fresh n key name) ≡ true

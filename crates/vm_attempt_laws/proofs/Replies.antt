@@ -8,7 +8,7 @@ use Rattle.attempt_model.specs.Children.{Child, new_child, ChildrenOutcome, AllK
 use Rattle.attempt_model.specs.Results.{Ready, slot_of, waiting_for, Resolution, Awake, Asleep, resolution_of, are_keys_text}
 use Rattle.attempt_model.specs.Machine.{Machine, Reply, Answered, AwaitsTree, AwaitsChild, Work, ToAwait, ToEnd, ToTake, ToLook, ToMake, work_of, is_cancelled, reply_to_take, reply_where_taken, reply_where_unknown, reply_where_asleep, reply_to_end, reply_to_make, reply_where_cancelled, reply_to_children, reply_where_awake, reply_to_await, reply_to_work, reply_unless_refused, reply_to}
 use Rattle.attempt_laws.proofs.CallKinds.{inv-await}
-use Rattle.vm_request_laws.proofs.Fitting.{all_append}
+use Rattle.vm_request_laws.proofs.RequestBounds.{all_append}
 use Rattle.vm_attempt_laws.proofs.Ids.{IsTextResult, AreText, AreReadyText, AreTaken, ResolvesText, resolved_text, FindsText, found_text, WaitsText, waiting_text, taken_text}
 
 -- ---- requests

@@ -3,7 +3,7 @@ use Rattle.std.proofs.Common.{◌≡◌, ◌∙◌, inl, inr, ℕ, Bool, true, f
 use Rattle.std.specs.List.{AllByRecursion, list_all}
 use Rattle.std.specs.Str.{is_utf8}
 use Rattle.attempt_laws.proofs.Coming.{all-back}
-use Rattle.vm_attempt_laws.specs.Sending.{Sent, Asks, Proposes, Awaits, Suspends, Fails, Ends, is_recorded, frame_meant, IsOfStore}
+use Rattle.vm_attempt_laws.specs.OutputOfAttempt.{Sent, Asks, Proposes, Awaits, Suspends, Fails, Ends, is_recorded, frame_meant, IsOfStore}
 use Rattle.vm_attempt_laws.specs.Words.{Version, AwaitTree, Frame, Request, NotificationId, keys_of, are_by_text, IsNote, Machine, Reply, Answered, AwaitsTree, AwaitsChild, Finished, FailedBy, SendsWaiting, SendsReply}
 use Rattle.vm_attempt_laws.proofs.Texts.{HasTexts}
 

@@ -2,15 +2,15 @@
 use Rattle.std.proofs.Common.{◌≡◌, ◌⊎◌, inl, inr, ◌∙◌, ℕ, zero, suc, Bool, List, [], ◌++◌, drop, Result, Ok, Err, sym, ap, subst}
 use Rattle.std.specs.declared.alloc.AllocError.{AllocError}
 use Rattle.protocol_records.specs.declared.start.StartMessage.{StartMessage}
-use Rattle.vm_machine.specs.Gathering.{Gathers as GathersAll}
-use Rattle.vm_attempt_laws.specs.Serving.{kind_where, HasNotRead, HasRead, Serves}
-use Rattle.vm_attempt_laws.specs.Keeping.{BodiesStay, TakesServing}
+use Rattle.vm_machine.specs.StateBeforeInput.{Gathers}
+use Rattle.vm_attempt_laws.specs.AttemptSimulation.{kind_where, HasNotRead, HasRead, Serves}
+use Rattle.vm_attempt_laws.specs.AttemptInvariants.{BodiesStay, TakesServing}
 use Rattle.vm_attempt_laws.proofs.Beginning.{nothing_held, nothing_more}
 use Rattle.vm_attempt_laws.proofs.Bodies.{bodies_stay}
 use Rattle.vm_attempt_laws.proofs.Over.{moves_of, shown_moves, let_go_moves}
 use Rattle.vm_attempt_laws.specs.Attempts.{taken_of, output_of, OnlyMoves, Shows, LetsGo, TakesOutput, Attempt}
 use Rattle.vm_attempt_laws.specs.Machine.{Sees, Active, MachineState, CoreVM, IsDriven}
-use Rattle.vm_attempt_laws.specs.Reading.{start_told, Kind, kind_of, HasStarted, gathered_all}
+use Rattle.vm_attempt_laws.specs.InputOfAttempt.{start_told, Kind, phase_kind, HasStarted, gathered_all}
 use Rattle.vm_attempt_laws.specs.Words.{item_at, Version, Bytes, Handler, Invocation, InputMessage, Machine, machine_at_start, AttemptStart, LiveAttempt, VMOptions}
 
 -- with these bytes written
@@ -33,7 +33,7 @@ driven_written given m bytes vm d =
       reads = d.reads;
     }
 
-gathers_written : (given : Invocation) (m : Machine) (bytes : Bytes) (active : Active) → GathersAll given active m → GathersAll given (record active { output = record active.output { bytes = bytes } }) m
+gathers_written : (given : Invocation) (m : Machine) (bytes : Bytes) (active : Active) → Gathers given active m → Gathers given (record active { output = record active.output { bytes = bytes } }) m
 gathers_written given m bytes active g =
     record { left = g.left; replaying = g.replaying; results = g.results; state = g.state; completions = g.completions; signals = g.signals; opened = g.opened; children = g.children; made = g.made }
 
@@ -84,7 +84,7 @@ module _ {H : Type 0} (function : H → Handler) (next : Handler) (version : Ver
   moved live is_closed before after moves none s = record {
     handler = ap (λ (a : Attempt H). function a.handler) moves.others ∙ s.handler;
     going = ap (λ (a : Attempt H). a.over) moves.others ∙ s.going;
-    kind = ap (λ (vm : CoreVM). kind_of vm.state) moves.machine ∙ s.kind;
+    kind = ap (λ (vm : CoreVM). phase_kind vm.state) moves.machine ∙ s.kind;
     of_run = s.of_run;
     fed = s.fed;
     started = s.started;

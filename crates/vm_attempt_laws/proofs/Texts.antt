@@ -8,7 +8,7 @@ use Rattle.journal_model.specs.declared.value.Value.{Value}
 use Rattle.journal_model.specs.Await.{AwaitOutcome, WaitsFor, WokenAt, CancelledAt, is_cancelled_at, children_place, child_result, tracked_children, cancel_request, cancel_requests, cancellation_outcome, outcome_from, awake_place, awaited_ids, await_outcome}
 use Rattle.journal_model.specs.Headline.{shown_state}
 use Rattle.journal_model.specs.Refusal.{Refusal, refusal_of}
-use Rattle.journal_model.specs.Run.{Kind, Awaits, Ends, Answers, kind_of, name_or_empty, requests_to, after_await, carried_out, unless_refused, continued_by}
+use Rattle.journal_model.specs.Run.{Kind, Awaits, Ends, Answers, call_kind, name_or_empty, requests_to, after_await, carried_out, unless_refused, continued_by}
 use Rattle.attempt_laws.proofs.Coming.{all-both, all-back}
 use Rattle.live_laws.proofs.Texts.{text_after, keys_text}
 use Rattle.vm_attempt_laws.specs.Words.{Bytes, Call, Commands, IsTypedCall, RequestsStand, are_by_text, AsksByText, NotificationId, RunOptions, AwaitTree, keys_of, Step, answers_of, requests_of, Arrival, Request, Handler, Invocation, Progress, Ending, GoesOn, run, next_completion, StateMap, knows_key, knows_all_keys, known_value, known_keys, state_after, HasTextKeys, Reply, Answered, RepliesAsRun}
@@ -131,7 +131,7 @@ module _ (next : Handler) (given : Invocation) (starts : HasTextKeys given.start
 
   refused_text : (steps : List Step) (call : Call) (refusal : Option Refusal) → HasTextKey call → HaveText (requests_of steps) → HaveText (requests_of (unless_refused given steps arrivals call refusal).steps)
   refused_text steps call (Some refusal) h all = all
-  refused_text steps call None h all = carried_text steps call (kind_of call) h all
+  refused_text steps call None h all = carried_text steps call (call_kind call) h all
 
   continued_text : (progress : Progress) (ending : Ending) → HasTextKey (next given.input (answers_of progress.steps)) → HaveText (requests_of progress.steps) → HaveText (requests_of (continued_by next given arrivals progress ending).steps)
   continued_text progress GoesOn h all =

@@ -2,9 +2,9 @@
 use Rattle.std.proofs.Common.{◌≡◌, ◌⊎◌, inl, inr, ◌∙◌, ℕ, suc, Bool, true, false, List, [], ◌++◌, append-nil, Option, Some, None, Result, Ok, refl, sym, ap, subst}
 use Rattle.vm_outcomes.proofs.Failing.{none_put}
 use Rattle.vm_attempt_laws.specs.Bodies.{ReplaysStand, ReplaysTurn, NonEmptyValue, RunOutcome}
-use Rattle.vm_attempt_laws.specs.Serving.{HasNumbers, kind_where, HasNotRead, HasRead, HasBodies, Serves, finished, machine_failed}
+use Rattle.vm_attempt_laws.specs.AttemptSimulation.{HasNumbers, kind_where, HasNotRead, HasRead, HasBodies, Serves, finished, machine_failed}
 use Rattle.vm_attempt_laws.proofs.Executing.{WithBodies, with_bodies}
-use Rattle.vm_attempt_laws.proofs.Running.{ran_body}
+use Rattle.vm_attempt_laws.proofs.BodyExecution.{ran_body}
 use Rattle.vm_attempt_laws.proofs.Bodies.{bodies_stay}
 use Rattle.vm_attempt_laws.proofs.Driven.{begins_driven, messages_written, numbers_begin}
 use Rattle.vm_attempt_laws.proofs.Messages.{read_input}
@@ -15,20 +15,20 @@ use Rattle.vm_attempt_laws.specs.Attempts.finishes
 use Rattle.vm_attempt_laws.specs.Attempts.{output_of, FinishesBy, TakesOutcome, CarriesCall, GivesInput, ReadsInput, ReadsOrAsks, TurnsWhere, TurnsOn, TurnsUnless, Attempt, Finish, Turn}
 use Rattle.vm_attempt_laws.specs.Machine.phases
 use Rattle.vm_attempt_laws.specs.Machine.outcomes
-use Rattle.vm_attempt_laws.specs.Machine.{CoreVM, MachineState, Written, out_of_memory, Phase, Comes, NoMemory, IsDriven, CallOutcome, IsReady}
-use Rattle.vm_attempt_laws.specs.Reading.{AnswersInput, RefusesInput, InputsAreAnswered}
+use Rattle.vm_attempt_laws.specs.Machine.{CoreVM, MachineState, Written, out_of_memory, Phase, Comes, NoMemory, IsDriven, CallOutcome, TellsReady}
+use Rattle.vm_attempt_laws.specs.InputOfAttempt.{AnswersInput, RefusesInput, InputsAreAnswered}
 use Rattle.vm_attempt_laws.specs.Words.{item_at, Error, Version, Call, Input, answers_of, Handler, run, arrivals_carried, Machine, machine_at_start, with_messages, LiveAttempt, HasReadJournal, after_turn, VMOptions, Queued, Invocation}
-use Rattle.vm_attempt_laws.specs.Turning.{turns_answered, GoesOnBehind, GoesOnWith, FailsFor, ProposesAs, TurnsBehind, TurnKeeps, TurnServes}
+use Rattle.vm_attempt_laws.specs.TurnsInRun.{turns_answered, GoesOnBehind, GoesOnWith, FailsFor, ProposesAs, TurnsBehind, TurnKeeps, TurnServes}
 use Rattle.vm_attempt_laws.proofs.Now.{Now, call_of, now, called}
-use Rattle.vm_attempt_laws.proofs.Turning.{answered, waiting, suspended, ended as has_ended, failed}
+use Rattle.vm_attempt_laws.proofs.TurnsInRun.{answered, waiting, suspended, ended, failed}
 
 -- ---- readiness
 
-ready_where : (phase : Phase) (ready : Result Bool Error) → phase ≡ phases.Active → IsReady phase ready → ready ≡ Ok true
-ready_where phase ready active is = subst (λ (p : Phase). IsReady p ready) active is
+ready_where : (phase : Phase) (ready : Result Bool Error) → phase ≡ phases.Active → TellsReady phase ready → ready ≡ Ok true
+ready_where phase ready active is = subst (λ (p : Phase). TellsReady p ready) active is
 
-unready_where : (phase : Phase) (ready : Result Bool Error) (left : ℕ) → phase ≡ phases.WaitingReplayEntries left → IsReady phase ready → ready ≡ Ok false
-unready_where phase ready left waits is = subst (λ (p : Phase). IsReady p ready) waits is
+unready_where : (phase : Phase) (ready : Result Bool Error) (left : ℕ) → phase ≡ phases.WaitingReplayEntries left → TellsReady phase ready → ready ≡ Ok false
+unready_where phase ready left waits is = subst (λ (p : Phase). TellsReady p ready) waits is
 
 turns_new : {H : Type 0} (function : H → Handler) (ran : RunOutcome) (over : Option Finish) (before : Attempt H) (turn : Turn) (after : Attempt H) → before.over ≡ over → before.over ≡ None → TurnsUnless function ran over before turn after
     → TurnsOn function ran before turn after
@@ -176,7 +176,7 @@ module _ {H : Type 0} (function : H → Handler) (next : Handler) (version : Ver
     by_outcome here (outcomes.Executes handle) between comes to =
         ran_body function next version options is_closed live before proposed ran b s r here (with_them here) between turn after handle comes to
     by_outcome here outcomes.Suspended between comes to = suspended function next version options is_closed live before proposed ran b s r here (with_them here) between turn after comes to
-    by_outcome here outcomes.Ended between comes to = has_ended function next version options is_closed live before proposed ran b s r here (with_them here) between turn after comes to
+    by_outcome here outcomes.Ended between comes to = ended function next version options is_closed live before proposed ran b s r here (with_them here) between turn after comes to
     by_outcome here (outcomes.Failed error) between comes to =
         failed function next version options is_closed live before proposed ran b s r here (with_them here) between turn after error comes to.0 to.1
 

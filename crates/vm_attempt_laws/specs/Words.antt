@@ -3,7 +3,7 @@ pub use Rattle.attempt_model.specs.Attempts.{with_entry, with_entries}
 pub use Rattle.attempt_model.specs.Machine.{Machine, machine_at_start, with_arrival, next_slot, Reply, reply_to, Answered, AwaitsTree, Finished, AwaitsChild, FailedBy, Refused}
 pub use Rattle.attempt_model.specs.Requests.{Commands, PutState, put_one, put_all, requests_by}
 pub use Rattle.attempt_model.specs.Results.{Slots, slot_of}
-pub use Rattle.attempt_model.specs.Standing.{RequestsStand, RepliesAsRun, AreOfKind, Fits, next_call, AnswersNext}
+pub use Rattle.attempt_model.specs.Simulation.{RequestsStand, RepliesAsRun, AreOfKind, Fits, next_call, AnswersNext}
 pub use Rattle.vm_request_laws.specs.Trees.{SlotsFit}
 pub use Rattle.input_laws.specs.Message.{InputMessage, CarriesInput, piece_of, arrivals_carried, CarriesRequest, CarriesArrival, CarriesOutcome, requests_carried}
 pub use Rattle.journal_model.specs.Attempt.{input_bytes, arrivals_within}
@@ -25,10 +25,10 @@ pub use Rattle.journal_model.specs.declared.notification.NotificationId.{Notific
 pub use Rattle.journal_model.specs.declared.options.ImplicitCancellationOption.{ImplicitCancellationOption}
 pub use Rattle.journal_model.specs.declared.options.RunOptions.{RunOptions}
 pub use Rattle.journal_model.specs.declared.options.SignalDelivery.TheVariants.{Queued}
-pub use Rattle.live_laws.specs.Asking.{are_by_text, AsksByText}
-pub use Rattle.live_laws.specs.Living.{attempt_begun, LiveAttempt, HasReadJournal, handed_bytes, after_reading, after_turn}
-pub use Rattle.live_laws.specs.Beginning.{AttemptStart, ShowsStart}
-pub use Rattle.live_laws.specs.Reading.{entries_carried, with_messages, IsMachineAt, IsInRun}
+pub use Rattle.live_laws.specs.AskedArrivals.{are_by_text, AsksByText}
+pub use Rattle.live_laws.specs.AttemptWithMachine.{attempt_begun, LiveAttempt, HasReadJournal, handed_bytes, after_reading, after_turn}
+pub use Rattle.live_laws.specs.StartFrame.{AttemptStart, ShowsStart}
+pub use Rattle.live_laws.specs.MachinePosition.{entries_carried, with_messages, IsMachineAt, IsInRun}
 pub use Rattle.live_laws.specs.Replies.{SendsReply, SendsWaiting, goes_on}
 pub use Rattle.live_laws.specs.MachineTurn.{MakesTurns}
 pub use Rattle.protocol_errors.specs.Code.{internal, unsupported_feature, journal_mismatch}
@@ -38,10 +38,10 @@ pub use Rattle.protocol_stream.specs.Item.{item_at, message}
 pub use Rattle.protocol_types.specs.Version.{version_content_type, version_number}
 pub use Rattle.protocol_types.specs.declared.version.Version.{Version}
 pub use Rattle.vm_request_laws.specs.Calls.{IsTypedCall}
-pub use Rattle.vm_request_laws.specs.Making.{IsTextId}
+pub use Rattle.vm_request_laws.specs.MadeRequests.{IsTextId}
 pub use Rattle.run_laws.specs.Keys.{HasTextKeys}
 pub use Rattle.live_laws.specs.Live.{TurnsOfRun}
-pub use Rattle.live_laws.specs.Sending.{requests_sent}
+pub use Rattle.live_laws.specs.RequestsInFlight.{requests_sent}
 pub use Rattle.live_laws.specs.TurnWrites.{IsNote, notes}
 pub use Rattle.vm_feeding.specs.Handles.{id_of}
 pub use Rattle.vm_types.specs.Options.{run_options}

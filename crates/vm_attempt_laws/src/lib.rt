@@ -9,10 +9,10 @@
 //! the turn tells it. A schedule keeps what is said here of messages, and takes what is said of options as a premise of its own.
 #![tactic(auto)]
 
-ghost use Rattle.vm_attempt_laws.specs.Keeping.{BeginsServing, ClosesServing, FeedsServing, InputsCome, OversStay, ProposesOnce, StaysServing, TakesServing};
+ghost use Rattle.vm_attempt_laws.specs.AttemptInvariants.{BeginsServing, ClosesServing, FeedsServing, InputsCome, OversStay, ProposesOnce, StaysServing, TakesServing};
 ghost use Rattle.vm_attempt_laws.specs.Laws.{OfEach};
-ghost use Rattle.vm_attempt_laws.specs.Telling.{TurnsTell};
-ghost use Rattle.vm_attempt_laws.specs.Turning.{TurnServes, TurnsAnswer, TurnsMatch};
+ghost use Rattle.vm_attempt_laws.specs.TurnReports.{TurnsTell};
+ghost use Rattle.vm_attempt_laws.specs.TurnsInRun.{TurnServes, TurnsAnswer, TurnsMatch};
 
 use journal_model::Handler;
 use replay_laws::attempts_replay;

@@ -6,7 +6,7 @@ use Rattle.journal_model.specs.Future.{tree_of}
 use Rattle.journal_model.specs.declared.future.UnresolvedFuture.{UnresolvedFuture}
 use Rattle.journal_model.specs.declared.options.SignalDelivery.{SignalDelivery}
 use Rattle.attempt_model.specs.Results.{Ready, Slots, handle_state, ready_after, Awake, Asleep, resolution_of}
-use Rattle.vm_awaits.specs.Resolving.{OnTheWay, StopsMidway}
+use Rattle.vm_awaits.specs.FutureResolution.{OnTheWay, StopsMidway}
 use Rattle.vm_awaits.proofs.Going.{ready_after_last, awake_now, at_end, one_less}
 
 module _ (delivery : SignalDelivery) (slots : Slots) (handle : ℕ) (queue : List Arrival) (ready : Ready) where

@@ -7,7 +7,7 @@ use Rattle.journal_model.specs.AwaitTree as Trees
 use Rattle.journal_model.specs.AwaitTree.{AwaitTree, AwaitTrees, no_trees, and_trees}
 use Rattle.journal_model.specs.Future.{trees_from, tree_of}
 use Rattle.journal_model.specs.Spelling.{completions_in, signals_in, names_in}
-use Rattle.journal_model.specs.Waiting.{and_leaf, only_leaves, only_children}
+use Rattle.journal_model.specs.PrunedTrees.{and_leaf, only_leaves, only_children}
 use Rattle.journal_model.specs.declared.future.UnresolvedFuture.{UnresolvedFuture}
 use Rattle.protocol_records.specs.declared.future.Future.{Future}
 use Rattle.protocol_stream.specs.Records.{future_record, nested_records}

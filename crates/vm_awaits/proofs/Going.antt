@@ -5,16 +5,16 @@ use Rattle.journal_model.specs.Notification.{Arrival}
 use Rattle.journal_model.specs.AwaitTree.{AwaitState, AwaitTree, is_awake, map_leaves}
 use Rattle.journal_model.specs.Delivery.{state_of_result}
 use Rattle.journal_model.specs.Future.{tree_of}
-use Rattle.journal_model.specs.Waiting.{pruned, earlier_or_later}
+use Rattle.journal_model.specs.PrunedTrees.{pruned, earlier_or_later}
 use Rattle.journal_model.specs.declared.future.UnresolvedFuture.{UnresolvedFuture}
 use Rattle.journal_model.specs.declared.options.SignalDelivery.{SignalDelivery}
 use Rattle.attempt_model.specs.Results.{Ready, Slots, handle_state, ready_after, ready_after_all, Awake, Asleep, resolution_of}
 use Rattle.vm_flat_trees.specs.Awaited.{Awaited, has_woken, leaf_over, awaited_over, delivered, still_waits}
-use Rattle.vm_flat_trees.specs.Delivering.{brought}
-use Rattle.vm_flat_trees.specs.Bringing.{waits_for}
+use Rattle.vm_flat_trees.specs.NotificationDelivery.{brought}
+use Rattle.vm_flat_trees.specs.NotificationRecipients.{waits_for}
 use Rattle.vm_flat_trees.proofs.Awaiting.{over-asleep, over-woken, over-later, over-left}
 use Rattle.vm_flat_trees.proofs.Lines.{Follows, follows-on}
-use Rattle.vm_awaits.specs.Resolving.{OnTheWay, StopsMidway}
+use Rattle.vm_awaits.specs.FutureResolution.{OnTheWay, StopsMidway}
 
 pub ready_after_last : (delivery : SignalDelivery) (ready : Ready) (arrivals : List Arrival) (arrival : Arrival) → ready_after_all delivery ready (arrivals ++ arrival ∷ []) ≡ ready_after delivery (ready_after_all delivery ready arrivals) arrival
 ready_after_last delivery ready [] arrival = refl

@@ -6,12 +6,12 @@ use Rattle.journal_model.specs.declared.notification.NotificationId.{Notificatio
 use Rattle.journal_model.specs.AwaitTree.{AwaitState, Pending, Succeeded, Failed, AwaitTree, is_awake, is_completed, map_leaves}
 use Rattle.journal_model.specs.Future.{tree_of}
 use Rattle.journal_model.specs.declared.future.UnresolvedFuture.{UnresolvedFuture}
-use Rattle.journal_model.specs.Waiting.{pruned, earlier_or_later}
+use Rattle.journal_model.specs.PrunedTrees.{pruned, earlier_or_later}
 use Rattle.attempt_model.specs.Results.{Slots}
 use Rattle.vm_flat_trees.specs.declared.node.FlatNode.{FlatNode}
 use Rattle.vm_flat_trees.specs.Awaited.{AwaitedLeaf, Awaited, leaf_over, awaited_over, delivered, awaited_in, has_woken, still_waits, ways_for}
-use Rattle.vm_flat_trees.specs.Bringing.{waits_for}
-use Rattle.vm_flat_trees.specs.Delivering.{brought, places_of, CanHear, CanHearOf, Delivers, Hears}
+use Rattle.vm_flat_trees.specs.NotificationRecipients.{waits_for}
+use Rattle.vm_flat_trees.specs.NotificationDelivery.{brought, places_of, CanHear, CanHearOf, Delivers, Hears}
 use Rattle.vm_flat_trees.specs.Flat.{flat_of}
 use Rattle.vm_flat_trees.specs.Places.{places_where}
 use Rattle.vm_flat_trees.proofs.Finding.{where-flat}

@@ -10,7 +10,7 @@ use Rattle.attempt_model.specs.Results.{Slots, slot_of}
 use Rattle.vm_flat_trees.specs.declared.node.Kind.{Kind}
 use Rattle.vm_flat_trees.specs.declared.node.Kind.TheVariants as kinds
 use Rattle.vm_flat_trees.specs.declared.node.FlatNode.{FlatNode}
-use Rattle.vm_flat_trees.specs.Bringing.{is_for, waits_for}
+use Rattle.vm_flat_trees.specs.NotificationRecipients.{is_for, waits_for}
 use Rattle.vm_flat_trees.specs.Places.{places_before, places_where}
 use Rattle.vm_flat_trees.proofs.Finding.{where-next}
 use Rattle.vm_awaits.specs.Ids.{Places, with_slot, with_node}

@@ -5,10 +5,10 @@ use Rattle.journal_model.specs.AwaitTree.{AwaitState, is_completed}
 use Rattle.vm_flat_trees.specs.declared.node.Kind.{Kind}
 use Rattle.vm_flat_trees.specs.declared.node.Kind.TheVariants as kinds
 use Rattle.vm_flat_trees.specs.declared.node.FlatNode.{FlatNode}
-use Rattle.vm_flat_trees.specs.Climbing.{Sleeps}
-use Rattle.vm_flat_trees.specs.Delivering.{CanHearOf, Delivers, IsLeafAt, TellsOne}
+use Rattle.vm_flat_trees.specs.LeafDelivery.{Sleeps}
+use Rattle.vm_flat_trees.specs.NotificationDelivery.{CanHearOf, Delivers, IsLeafAt, TellsOne}
 use Rattle.vm_flat_trees.specs.Places.{places_before, places_where}
-use Rattle.vm_flat_trees.specs.Settling.{bare, come_to}
+use Rattle.vm_flat_trees.specs.ChildCounts.{bare, come_to}
 use Rattle.vm_flat_trees.proofs.Finding.{where-append, where-next, take-length}
 use Rattle.vm_flat_trees.proofs.Sending.{Sending, none-sent, sleeps-on, leaf-on, fits-on, sends-on, wakes-then, all-sent}
 use Rattle.vm_awaits.specs.Ids.{passes}

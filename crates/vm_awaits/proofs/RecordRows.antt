@@ -4,7 +4,7 @@ use Rattle.journal_model.specs.declared.notification.NotificationId.TheVariants.
 use Rattle.journal_model.specs.AwaitTree as Trees
 use Rattle.journal_model.specs.AwaitTree.{AwaitTree, Single}
 use Rattle.journal_model.specs.Future.{node}
-use Rattle.journal_model.specs.Waiting.{only_leaves}
+use Rattle.journal_model.specs.PrunedTrees.{only_leaves}
 use Rattle.protocol_records.specs.declared.future.CombinatorType.{CombinatorType}
 use Rattle.protocol_records.specs.declared.future.CombinatorType.TheVariants.{Unknown, FirstCompleted, AllCompleted, FirstSucceededOrAllFailed, AllSucceededOrFirstFailed}
 use Rattle.protocol_records.specs.declared.future.Future.{Future}

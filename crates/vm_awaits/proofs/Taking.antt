@@ -6,23 +6,23 @@ use Rattle.journal_model.specs.declared.notification.NotificationId.{Notificatio
 use Rattle.journal_model.specs.declared.notification.NotificationResult.{NotificationResult}
 use Rattle.journal_model.specs.Notification.{same_id, cancel_id}
 use Rattle.journal_model.proofs.Ids.{same_id-same}
-use Rattle.attempt_model.specs.Results.{Ready, Slots, first_of, slot_in, slot_of, ready_without_first}
+use Rattle.attempt_model.specs.Results.{Ready, Slots, first_waiting_result, slot_in, slot_of, ready_without_first}
 use Rattle.vm_awaits.specs.Taken.{ready_left}
 
-none_first : (results : List NotificationResult) → first_of results ≡ None → drop 1 results ≡ results
+none_first : (results : List NotificationResult) → first_waiting_result results ≡ None → drop 1 results ≡ results
 none_first [] e = refl
 none_first (result ∷ results) e = absurd cc
 
 -- where nothing waits of an id, nothing goes
-nothing_goes : (ready : Ready) (id : NotificationId) → first_of (ready id) ≡ None → ready_without_first ready (Some id) ≡ ready
+nothing_goes : (ready : Ready) (id : NotificationId) → first_waiting_result (ready id) ≡ None → ready_without_first ready (Some id) ≡ ready
 nothing_goes ready id none = fun_ext (λ other. by_test other (same_id id other) refl)
   where
     by_test : (other : NotificationId) (b : Bool) → same_id id other ≡ b → (if b then drop 1 (ready other) else ready other) ≡ ready other
-    by_test other true e = none_first (ready other) (ap (λ (q : NotificationId). first_of (ready q)) (sym (same_id-same id other e)) ∙ none)
+    by_test other true e = none_first (ready other) (ap (λ (q : NotificationId). first_waiting_result (ready q)) (sym (same_id-same id other e)) ∙ none)
     by_test other false e = refl
 
 pub ready_taken : (handle : ℕ) (slots : Slots) (ready : Ready) (id : NotificationId) (taken : Option NotificationResult) (left : Ready)
-    → slot_of slots handle ≡ Some id → taken ≡ first_of (ready id) → left ≡ ready_without_first ready (Some id) → left ≡ ready_left handle taken slots ready
+    → slot_of slots handle ≡ Some id → taken ≡ first_waiting_result (ready id) → left ≡ ready_without_first ready (Some id) → left ≡ ready_left handle taken slots ready
 ready_taken handle slots ready id None left slot first rest = rest ∙ nothing_goes ready id (sym first)
 ready_taken handle slots ready id (Some taken) left slot first rest = rest ∙ ap (ready_without_first ready) (sym slot)
 

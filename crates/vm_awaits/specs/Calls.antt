@@ -7,7 +7,7 @@ use Rattle.journal_model.specs.declared.notification.NotificationResult.{Notific
 use Rattle.journal_model.specs.declared.options.SignalDelivery.{SignalDelivery}
 use Rattle.journal_model.specs.Journal.{completes}
 use Rattle.journal_model.specs.Notification.{Arrival}
-use Rattle.attempt_model.specs.Results.{Ready, first_of, ready_after}
+use Rattle.attempt_model.specs.Results.{Ready, first_waiting_result, ready_after}
 use Rattle.vm_awaits.specs.ReadyViews.{none_ready}
 use Rattle.vm_awaits.specs.Taken.{ready_left, slots_left}
 use Rattle.vm_awaits.specs.Views.{AsyncResults}
@@ -49,13 +49,13 @@ after_look results = looked_at results.queue results
 
 -- whether something has come for a completion, looked at or not
 abbrev pub has_come : ℕ → AsyncResults → Bool
-has_come n results = list_any (completes n) results.queue || is_some (first_of (results.ready (CompletionId n)))
+has_come n results = list_any (completes n) results.queue || is_some (first_waiting_result (results.ready (CompletionId n)))
 
 -- one more handle
 abbrev pub with_handle : NotificationId → AsyncResults → AsyncResults
 with_handle id results = record results { slots = results.slots ++ Some id ∷ [] }
 
 -- what waited for a handle is taken
-abbrev pub after_take : ℕ → Option NotificationResult → AsyncResults → AsyncResults
-after_take handle taken results =
+abbrev pub results_after_take : ℕ → Option NotificationResult → AsyncResults → AsyncResults
+results_after_take handle taken results =
     record results { ready = ready_left handle taken results.slots results.ready; slots = slots_left handle taken results.slots }

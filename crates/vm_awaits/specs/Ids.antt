@@ -7,7 +7,7 @@ use Rattle.journal_model.specs.Notification.{same_id}
 use Rattle.vm_flat_trees.specs.declared.node.Kind.{Kind}
 use Rattle.vm_flat_trees.specs.declared.node.Kind.TheVariants as kinds
 use Rattle.vm_flat_trees.specs.declared.node.FlatNode.{FlatNode}
-use Rattle.vm_flat_trees.specs.Bringing.{waits_for}
+use Rattle.vm_flat_trees.specs.NotificationRecipients.{waits_for}
 use Rattle.vm_flat_trees.specs.Places.{places_in, places_where}
 use Rattle.attempt_model.specs.Results.{Slots, slot_of}
 use Rattle.vm_awaits.specs.declared.ids.IdLeaves.{IdLeaves}

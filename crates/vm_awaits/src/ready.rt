@@ -4,7 +4,7 @@ ghost use Rattle.journal_model.specs.declared.notification.NotificationId.TheVar
 ghost use Rattle.std.specs.Option.{option_copied};
 ghost use Rattle.indexmap.specs.IndexMap.{get};
 ghost use Rattle.journal_model.specs.Options.{replaces};
-ghost use Rattle.attempt_model.specs.Results.{first_of, ready_after, ready_without_first};
+ghost use Rattle.attempt_model.specs.Results.{first_waiting_result, ready_after, ready_without_first};
 ghost use Rattle.vm_awaits.specs.ReadyViews.{items_of, ready_in, none_ready};
 
 use bytes::ByteStr;
@@ -119,7 +119,7 @@ fn take_delivery<K: Eq + Hash + Drop>(
     all: &mut IndexMap<K, Deliveries>,
     key: &K,
 ) -> Option<NotificationResult>
-    ensures value { result ≡ first_of (items_of (get K.eq all.old key.now)) }
+    ensures value { result ≡ first_waiting_result (items_of (get K.eq all.old key.now)) }
     ensures rest { (q : K) → items_of (get K.eq all.new q)
         ≡ (if K.eq key.now q then drop 1 (items_of (get K.eq all.old key.now)) else items_of (get K.eq all.old q)) }
 {
@@ -146,7 +146,7 @@ impl ReadyNotifications {
 
     /// The first that waits of this id.
     pub fn first(&self, id: &NotificationId) -> Option<&NotificationResult>
-        ensures { option_copied result ≡ first_of (ready_in self.now id.now) }
+        ensures { option_copied result ≡ first_waiting_result (ready_in self.now id.now) }
     {
         match id {
             NotificationId::CompletionId(number) => self.completions.get(number),
@@ -196,7 +196,7 @@ impl ReadyNotifications {
 
     /// The first that waits of this id is taken.
     pub fn take(&mut self, id: &NotificationId) -> Option<NotificationResult>
-        ensures value { result ≡ first_of (ready_in self.old id.now) }
+        ensures value { result ≡ first_waiting_result (ready_in self.old id.now) }
         ensures rest { ready_in self.new ≡ ready_without_first (ready_in self.old) (Some id.now) }
     {
         match id {

@@ -1,7 +1,7 @@
 // The record of what a future waits for, over the ids that its handles stand for.
 ghost use Rattle.std.specs.Prelude.{◌≡◌, OnOk, IfOk};
 ghost use Rattle.journal_model.specs.Future.{tree_of};
-ghost use Rattle.journal_model.specs.Waiting.{only_leaves};
+ghost use Rattle.journal_model.specs.PrunedTrees.{only_leaves};
 ghost use Rattle.protocol_stream.specs.Records.{future_node, future_record};
 ghost use Rattle.protocol_trees.specs.Future.{id_meant};
 ghost use Rattle.attempt_model.specs.Results.{slot_of};

@@ -5,7 +5,7 @@ ghost use Rattle.journal_model.specs.Delivery.{state_of_result};
 ghost use Rattle.journal_model.specs.Future.{tree_of};
 ghost use Rattle.attempt_model.specs.Results.{resolution_of};
 ghost use Rattle.vm_flat_trees.specs.Counts.{state_meant};
-ghost use Rattle.vm_awaits.specs.Resolving.{resolution_as, line_left, StopsMidway};
+ghost use Rattle.vm_awaits.specs.FutureResolution.{resolution_as, line_left, StopsMidway};
 ghost use Rattle.vm_awaits.specs.ReadyViews.{ready_in};
 
 use crate::flat::FlatTree;

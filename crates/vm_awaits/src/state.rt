@@ -1,15 +1,15 @@
 // What has come, and what handles stand for.
 ghost use Rattle.std.specs.Prelude.{◌≡◌, ◌+◌, ◌^◌, ◌≤◌, ◌↔◌, true, [], length, is_some, IfOk, OnOk, OnErr, IsErrOf};
 ghost use Rattle.journal_model.specs.Future.{tree_of};
-ghost use Rattle.journal_model.specs.Waiting.{only_leaves};
+ghost use Rattle.journal_model.specs.PrunedTrees.{only_leaves};
 ghost use Rattle.protocol_stream.specs.Records.{future_record};
 ghost use Rattle.journal_model.specs.declared.notification.NotificationId.TheVariants.{CompletionId};
 ghost use Rattle.std.specs.Option.{option_copied};
-ghost use Rattle.attempt_model.specs.Results.{first_of, waiting_for, slot_of, resolution_of};
+ghost use Rattle.attempt_model.specs.Results.{first_waiting_result, waiting_for, slot_of, resolution_of};
 ghost use Rattle.vm_awaits.specs.Children.{completion_in};
 ghost use Rattle.vm_awaits.specs.Views.{results_of, delivery_of, queue_of, ready_of, slots_of};
-ghost use Rattle.vm_awaits.specs.Calls.{no_results, with_queued, with_ready, with_handle, has_come, has_next, after_look, after_take};
-ghost use Rattle.vm_awaits.specs.Resolving.{resolution_as, line_left, StopsMidway};
+ghost use Rattle.vm_awaits.specs.Calls.{no_results, with_queued, with_ready, with_handle, has_come, has_next, after_look, results_after_take};
+ghost use Rattle.vm_awaits.specs.FutureResolution.{resolution_as, line_left, StopsMidway};
 ghost use Rattle.vm_awaits.specs.declared.state.CreateHandleError.TheVariants.{HandlesExhausted, OutOfMemory};
 
 use crate::line::Line;
@@ -133,7 +133,7 @@ impl AsyncResultsState {
     /// stands for them always.
     pub fn take_handle(&mut self, handle: NotificationHandle) -> Option<NotificationResult>
         ensures value { result ≡ waiting_for (slots_of self.old) (ready_of self.old) handle }
-        ensures rest { results_of self.new ≡ after_take handle result (results_of self.old) }
+        ensures rest { results_of self.new ≡ results_after_take handle result (results_of self.old) }
     {
         take_for(&mut self.slots, &mut self.ready, handle)
     }
@@ -153,7 +153,7 @@ impl AsyncResultsState {
 
     /// The first notification that waits of this completion.
     pub fn value_of_child(&self, completion: u32) -> Option<&NotificationResult>
-        ensures { option_copied result ≡ first_of (ready_of self.now (CompletionId completion)) }
+        ensures { option_copied result ≡ first_waiting_result (ready_of self.now (CompletionId completion)) }
     {
         self.ready.first(&NotificationId::CompletionId(completion))
     }

@@ -4,9 +4,9 @@ ghost use Rattle.std.specs.Option.{ForSome};
 ghost use Rattle.protocol_trees.specs.Future.{id_meant};
 ghost use Rattle.journal_model.specs.AwaitTree.{is_completed};
 ghost use Rattle.journal_model.specs.Notification.{same_id};
-ghost use Rattle.vm_flat_trees.specs.Bringing.{waits_for};
+ghost use Rattle.vm_flat_trees.specs.NotificationRecipients.{waits_for};
 ghost use Rattle.vm_flat_trees.specs.Counts.{state_meant};
-ghost use Rattle.vm_flat_trees.specs.Delivering.{CanHearOf, Delivers};
+ghost use Rattle.vm_flat_trees.specs.NotificationDelivery.{CanHearOf, Delivers};
 ghost use Rattle.vm_flat_trees.specs.Places.{places_where};
 ghost use Rattle.vm_awaits.specs.Ids.{FindsLeaves, passes};
 

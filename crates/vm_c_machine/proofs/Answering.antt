@@ -6,8 +6,8 @@ use Rattle.journal_model.specs.declared.future.UnresolvedFuture.{UnresolvedFutur
 use Rattle.journal_model.specs.declared.value.Value.{Value}
 use Rattle.protocol_errors.specs.Code.{suspended}
 use Rattle.protocol_errors.specs.declared.error.Error.{Error}
-use Rattle.vm_progress.specs.Awaiting.{DoesAwait}
-use Rattle.vm_syscalls.specs.Passed.{MachineState}
+use Rattle.vm_progress.specs.AwaitEffects.{DoesAwait}
+use Rattle.vm_machine.specs.declared.machine_state.MachineState.{MachineState}
 use Rattle.vm_types.specs.declared.answers.AwaitResponse.{AwaitResponse}
 use Rattle.vm_c_values.specs.Nodes.{nodes_of}
 use Rattle.vm_c_values.specs.declared.node.Node.{Node}

@@ -4,7 +4,7 @@ use Rattle.journal_model.specs.Notification.{Bytes, Text}
 use Rattle.journal_model.specs.declared.call.Moment.{Moment}
 use Rattle.journal_model.specs.declared.call.PayloadOptions.{PayloadOptions}
 use Rattle.vm_core.specs.Calls.{SysCall, SysSend}
-use Rattle.vm_syscalls.specs.Passed.{MachineState}
+use Rattle.vm_machine.specs.declared.machine_state.MachineState.{MachineState}
 use Rattle.vm_types.specs.declared.handles.CallHandle.{CallHandle}
 use Rattle.vm_types.specs.declared.handles.SendHandle.{SendHandle}
 use Rattle.vm_c_values.specs.declared.records.NamedTarget.{NamedTarget}

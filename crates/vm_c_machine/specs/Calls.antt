@@ -5,10 +5,10 @@ use Rattle.journal_model.specs.Notification.{Bytes, Text}
 use Rattle.journal_model.specs.declared.value.Value.{Value}
 use Rattle.protocol_errors.specs.Code.{suspended}
 use Rattle.protocol_errors.specs.declared.error.Error.{Error}
-use Rattle.vm_syscalls.specs.Passed.{MachineState}
-use Rattle.vm_feeding.specs.Asking.{TakesOutput}
-use Rattle.vm_feeding.specs.Beginning.{Begins}
-use Rattle.vm_feeding.specs.Reading.{IsRead}
+use Rattle.vm_machine.specs.declared.machine_state.MachineState.{MachineState}
+use Rattle.vm_feeding.specs.MachineQueries.{TakesOutput}
+use Rattle.vm_feeding.specs.NewMachine.{BeginsMachine}
+use Rattle.vm_feeding.specs.InputAnswer.{IsRead}
 use Rattle.vm_types.specs.declared.options.VMOptions.{VMOptions}
 use Rattle.vm_c_values.specs.Replies.{kind_of, reply_of}
 use Rattle.vm_c_values.specs.declared.not_done.NotDone.{NotDone}
@@ -42,7 +42,7 @@ Asks Answers old (Err why) new = ⊥
 
 -- a machine is made of the version that the content type names, or none is
 abbrev pub Makes : (content_type : Text) → VMOptions → Result Machine NotDone → Type 0
-Makes content_type options (Ok machine) = Begins Infallible (λ error. ⊥) (Some content_type) options (Ok machine.vm.state) × (machine.failure ≡ None)
+Makes content_type options (Ok machine) = BeginsMachine Infallible (λ error. ⊥) (Some content_type) options (Ok machine.vm.state) × (machine.failure ≡ None)
 Makes content_type options (Err why) = Unit {0}
 
 -- the output is the reply

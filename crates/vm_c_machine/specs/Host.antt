@@ -6,11 +6,11 @@ use Rattle.journal_model.specs.Notification.{Text}
 use Rattle.protocol_errors.specs.Error.{plain_error}
 use Rattle.protocol_errors.specs.declared.error.Error.{Error}
 use Rattle.protocol_errors.specs.declared.error.ErrorBehavior.TheVariants as behaviors
-use Rattle.vm_feeding.specs.Telling.{IsTold}
-use Rattle.vm_proposals.specs.Proposing.{ProposesRun}
+use Rattle.vm_feeding.specs.HostErrors.{IsErrorTold}
+use Rattle.vm_proposals.specs.ProposalEffects.{ProposesRun}
 use Rattle.vm_refusals.specs.declared.retries.RetryPolicy.{RetryPolicy}
 use Rattle.vm_refusals.specs.declared.runs.RunExitResult.TheVariants.{RetryableFailure}
-use Rattle.vm_syscalls.specs.Passed.{MachineState}
+use Rattle.vm_machine.specs.declared.machine_state.MachineState.{MachineState}
 use Rattle.vm_c_values.specs.Options.{is_set}
 use Rattle.vm_c_values.specs.Policies.{IsPolicy}
 use Rattle.vm_c_values.specs.declared.policy.Policy.{Policy}
@@ -29,4 +29,4 @@ IsErrorOfHost code message delay pause error =
 pub record ToldByHost (code : ℕ) (message : Text) (delay pause : ℕ) (old new : MachineState) : Type 0 where
   pub error : Error
   pub error_is : IsErrorOfHost code message delay pause error
-  pub tells : IsTold error None old new
+  pub tells : IsErrorTold error None old new

@@ -6,8 +6,8 @@ use Rattle.journal_model.specs.declared.call.Moment.{Moment}
 use Rattle.protocol_errors.specs.declared.error.Error.{Error}
 use Rattle.protocol_errors.specs.declared.error.ErrorBehavior.{ErrorBehavior}
 use Rattle.protocol_errors.specs.declared.error.ErrorBehavior.TheVariants as behaviors
-use Rattle.vm_progress.specs.Awaiting.{DoesAwait}
-use Rattle.vm_syscalls.specs.Passed.{MachineState}
+use Rattle.vm_progress.specs.AwaitEffects.{DoesAwait}
+use Rattle.vm_machine.specs.declared.machine_state.MachineState.{MachineState}
 use Rattle.vm_types.specs.declared.answers.AwaitResponse.{AwaitResponse}
 use Rattle.vm_types.specs.declared.answers.AwaitResponse.TheVariants.{AnyCompleted, WaitingExternalProgress, ExecuteRun, CancelSignalReceived, EphemeralNotificationReady}
 use Rattle.vm_types.specs.declared.answers.State.{State}

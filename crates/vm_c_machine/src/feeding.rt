@@ -1,8 +1,8 @@
 // What comes in and goes out.
 ghost use Rattle.std.specs.Prelude.{◌≡◌, None};
-ghost use Rattle.vm_feeding.specs.Asking.{IsReady};
-ghost use Rattle.vm_feeding.specs.Closing.{ClosesInput};
-ghost use Rattle.vm_feeding.specs.Feeding.{IsFed};
+ghost use Rattle.vm_feeding.specs.MachineQueries.{TellsReady};
+ghost use Rattle.vm_feeding.specs.EndOfInput.{ClosesInput};
+ghost use Rattle.vm_feeding.specs.InputBytes.{IsFed};
 ghost use Rattle.vm_c_machine.specs.Calls.{Changes, Does, GivesOutput, ReadsInput};
 ghost use Rattle.vm_c_machine.specs.Host.{IsErrorOfHost, ToldByHost};
 ghost use Rattle.vm_c_values.specs.Options.{is_set};
@@ -87,7 +87,7 @@ impl Machine {
 
     /// Whether the start and all entries have come that it announces, so that calls can be made.
     pub fn is_ready_to_execute(&mut self, ready: &mut u32) -> Result<Bytes, NotDone>
-        ensures { Does (λ old made new. IsReady old.phase made × (new ≡ old)) (λ _. is_set ready.new) self.old result self.new }
+        ensures { Does (λ old made new. TellsReady old.phase made × (new ≡ old)) (λ _. is_set ready.new) self.old result self.new }
     {
         match self.vm.is_ready_to_execute() {
             Ok(is_ready) => {

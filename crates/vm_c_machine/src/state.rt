@@ -1,7 +1,7 @@
 // The object's state.
 ghost use Rattle.std.specs.Prelude.{◌≡◌, None};
 ghost use Rattle.vm_core.specs.Calls.{SysStateGet, SysStateGetKeys, SysStateSet, SysStateClear, SysStateClearAll};
-ghost use Rattle.vm_feeding.specs.EphemeralReading.{IsGot, IsTaken};
+ghost use Rattle.vm_feeding.specs.EphemeralStateReads.{IsGot, IsReadTaken};
 ghost use Rattle.vm_c_machine.specs.Calls.{Does, Takes};
 ghost use Rattle.vm_c_values.specs.Options.{payload_options};
 
@@ -100,7 +100,7 @@ impl Machine {
 
     /// Takes the answer of a read of which nothing is recorded, if it has come.
     pub fn take_ephemeral_notification(&mut self, id: u32, kind: &mut u32) -> Result<Bytes, NotDone>
-        ensures { Takes (IsTaken (record { number = id })) kind.new self.old result self.new }
+        ensures { Takes (IsReadTaken (record { number = id })) kind.new self.old result self.new }
     {
         match self
             .vm

@@ -1,8 +1,8 @@
 // What a machine is asked, which changes nothing.
 ghost use Rattle.std.specs.Prelude.{◌≡◌, ◌-ℤ◌, pos};
 ghost use Rattle.protocol_types.specs.Version.{version_content_type};
-ghost use Rattle.vm_feeding.specs.Asking.{state_of};
-ghost use Rattle.vm_feeding.specs.Handles.{Looks};
+ghost use Rattle.vm_feeding.specs.MachineQueries.{state_of_phase};
+ghost use Rattle.vm_feeding.specs.Handles.{LooksAtHandle};
 ghost use Rattle.vm_c_machine.specs.Calls.{Asks};
 ghost use Rattle.vm_c_machine.specs.Telling.{TellsError, TellsPart, behavior_number, state_number};
 ghost use Rattle.vm_c_values.specs.Options.{is_set};
@@ -69,7 +69,7 @@ impl Machine {
 
     /// How far the attempt has come: 0 its start has not come, 1 replaying, 2 processing, 3 closed.
     pub fn state(&self, state: &mut u32) -> Result<Bytes, NotDone>
-        ensures { Asks (λ vm reply. state.new ≡ state_number (state_of vm.phase vm.active.is_replaying)) self.now result self.now }
+        ensures { Asks (λ vm reply. state.new ≡ state_number (state_of_phase vm.phase vm.active.is_replaying)) self.now result self.now }
     {
         *state = state_number(self.vm.state());
         Ok(Bytes::new())
@@ -85,7 +85,7 @@ impl Machine {
 
     /// Whether something that the handle stands for has come and was looked at.
     pub fn is_completed(&self, notification: u32, completed: &mut u32) -> Result<Bytes, NotDone>
-        ensures { Asks (λ vm reply. Looks vm.phase vm.active notification (is_set completed.new)) self.now result self.now }
+        ensures { Asks (λ vm reply. LooksAtHandle vm.phase vm.active notification (is_set completed.new)) self.now result self.now }
     {
         let is_completed = self.vm.is_completed(NotificationHandle::new(notification));
         *completed = as_number(is_completed);

@@ -20,7 +20,7 @@ use Rattle.vm_calls.specs.declared.call_error.NumberError.TheVariants.{IdsExhaus
 use Rattle.vm_awaits.specs.Views.{slots_of}
 use Rattle.vm_calls.specs.Active.{LacksCompletions, HasCompletions}
 use Rattle.vm_calls.specs.Handles.{LacksSignal}
-use Rattle.vm_calls.specs.Making.{CompletesOne, FailsAs, Makes}
+use Rattle.vm_calls.specs.CommandCalls.{CompletesOne, FailsAs, Makes}
 
 -- a call without options is compared as the machine's option says
 pub unchecked : (checks_off : Bool) → checks_off ≡ (checks_off || false)

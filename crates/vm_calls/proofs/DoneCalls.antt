@@ -14,11 +14,11 @@ use Rattle.protocol_calls.specs.declared.send_signal_command.SendSignalCommandRe
 use Rattle.protocol_calls.specs.declared.send_signal_command.SendSignalCommandSignalId.TheVariants as signal_ids
 use Rattle.protocol_calls.specs.declared.complete_awakeable_command.CompleteAwakeableCommandResult.{CompleteAwakeableCommandResult}
 use Rattle.protocol_stream.specs.Records.{result_record}
-use Rattle.vm_commands.specs.Passed.{signal_record, awakeable_record}
+use Rattle.protocol_messages.specs.Carried.{signal_record, awakeable_record}
 use Rattle.protocol_laws.specs.Records.{signal_result, awakeable_result}
 use Rattle.protocol_laws.specs.Requests.{request_of_output, request_of_send_signal, request_of_complete_awakeable}
 use Rattle.protocol_laws.proofs.Told.{requests_told}
-use Rattle.vm_calls.specs.Doing.{DoesOne}
+use Rattle.vm_calls.specs.ImmediateCalls.{DoesOne}
 use Rattle.vm_calls.proofs.Calls.{brings_none}
 
 module _ (given : Invocation) (m : Machine) where

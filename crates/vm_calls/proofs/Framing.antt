@@ -7,7 +7,7 @@ use Rattle.journal_model.specs.Request.{Request}
 use Rattle.journal_model.specs.Spelling.{request_type, request_payload, request_frame}
 use Rattle.protocol_types.specs.declared.message_type.MessageType.{MessageType}
 use Rattle.protocol_types.specs.declared.version.Version.{Version}
-use Rattle.protocol_types.specs.MessageType.{number_of, allows_ack}
+use Rattle.protocol_types.specs.MessageType.{type_number, allows_ack}
 use Rattle.protocol_types.specs.Feature.{has_feature}
 use Rattle.protocol_types.specs.Version.{version_number}
 use Rattle.protocol_types.specs.declared.feature.Feature.TheVariants.{Acknowledgement}
@@ -18,7 +18,8 @@ use Rattle.protocol_stream.specs.declared.encoder.EncodingError.TheVariants.{Pay
 use Rattle.protocol_stream.specs.Header.{header_of}
 use Rattle.protocol_stream.specs.Frame.{spelled, message_of}
 use Rattle.protocol_stream.proofs.Spellings.{spelled-frame_bytes}
-use Rattle.vm_commands.specs.Passed.{type_of_record, payload_message, record_message, type_or_end, plain_message}
+use Rattle.protocol_messages.specs.RecordMessage.{type_of_record}
+use Rattle.protocol_messages.specs.Encoded.{payload_message, record_message, type_or_end, plain_message}
 use Rattle.vm_context.specs.Output.{Written, with_command}
 
 -- no command requests an acknowledgement
@@ -26,7 +27,7 @@ never_acked : (request : Request) → allows_ack (request_type request) ≡ fals
 never_acked (Request.Output value name) = refl
 never_acked _ = refl
 
-numbered : (request : Request) → ltb (number_of (request_type request)) (2 ^ 16) ≡ true
+numbered : (request : Request) → ltb (type_number (request_type request)) (2 ^ 16) ≡ true
 numbered (Request.Output value name) = refl
 numbered _ = refl
 

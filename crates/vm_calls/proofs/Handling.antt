@@ -16,11 +16,11 @@ use Rattle.attempt_model.specs.Machine.{Machine, Answered, Work, next_slot, repl
 use Rattle.vm_awaits.specs.Views.{AsyncResults, results_of, slots_of}
 use Rattle.vm_awaits.specs.Calls.{with_handle}
 use Rattle.vm_context.specs.Eager.{KnownState}
-use Rattle.vm_context.specs.Following.{KnowsState}
+use Rattle.vm_context.specs.StateKnowledge.{KnowsState}
 use Rattle.vm_commands.specs.HeaderEquality.{same_header}
 use Rattle.vm_calls.specs.declared.active.Active.{Active}
 use Rattle.vm_calls.specs.Active.{Sees, HasCompletions, left_of}
-use Rattle.vm_calls.specs.Making.{Replies}
+use Rattle.vm_calls.specs.CommandCalls.{Replies}
 use Rattle.vm_calls.specs.Handles.{HandlesOne}
 use Rattle.vm_calls.proofs.Calls.{brings_none}
 use Rattle.vm_calls.proofs.Tracking.{none_more, none_made}

@@ -1,11 +1,11 @@
 pub mod Framing
 pub mod Settling
-pub mod Making
+pub mod CommandCalls
 pub mod Calls
 pub mod Handling
-pub mod Doing
+pub mod ImmediateCalls
 pub mod DoneCalls
 pub mod PromiseCalls
 pub mod Spending
 pub mod Tracking
-pub mod Finding
+pub mod MismatchedCommands

@@ -11,10 +11,10 @@ use Rattle.attempt_model.specs.Machine.{Machine}
 use Rattle.protocol_commands.specs.declared.complete_promise_command.CompletePromiseCommandCompletion.{CompletePromiseCommandCompletion}
 use Rattle.protocol_laws.specs.Records.{promise_completion}
 use Rattle.protocol_laws.specs.Requests.{request_of_complete_promise}
-use Rattle.vm_commands.specs.Passed.{completion_record}
+use Rattle.protocol_messages.specs.Carried.{completion_record}
 use Rattle.protocol_laws.proofs.Told.{requests_told}
 use Rattle.vm_calls.proofs.Calls.{brings_none}
-use Rattle.vm_calls.specs.Making.{CompletesOne}
+use Rattle.vm_calls.specs.CommandCalls.{CompletesOne}
 
 pub get_completes : (given : Invocation) (m : Machine) (key : Text) (copy : Text) (id : ℕ) → copy ≡ [] → id ≡ m.completions
     → CompletesOne given m (Call.GetPromise key) (Request.GetPromise key id copy)

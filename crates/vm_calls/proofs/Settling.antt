@@ -15,8 +15,8 @@ use Rattle.vm_commands.specs.Recorded.{commands_of}
 use Rattle.vm_calls.specs.declared.active.Active.{Active}
 use Rattle.vm_calls.specs.declared.put_error.PutError.{PutError}
 use Rattle.vm_calls.specs.declared.put_error.PutError.TheVariants.{Replay, Encoding}
-use Rattle.vm_calls.specs.Putting.{Puts, RefusesLong}
-use Rattle.vm_calls.specs.Active.{Fits, has_left, left_of, are_any, writes_frames, still_replays, IsSettled, PutsOne, PutFails}
+use Rattle.vm_calls.specs.RequestPuts.{Puts, RefusesLong}
+use Rattle.vm_calls.specs.Active.{Fits, has_left, left_of, are_any, writes_frames, still_replays, IsActiveSettled, PutsOne, PutFails}
 
 while_left : (messages : List RawMessage) → still_replays true messages ≡ has_left (commands_of messages)
 while_left [] = refl
@@ -33,10 +33,10 @@ none_left (command ∷ left) h = cc
 opened_frame : (frame : List ℕ) (old : Written) → old.is_closed ≡ false → with_command frame old ≡ record old { bytes = old.bytes ++ frame; has_commands = true }
 opened_frame frame old opened = ap (λ (b : Bool). if b then old else record old { bytes = old.bytes ++ frame; has_commands = true }) opened
 
-nothing_recorded : (old : Active) → IsSettled old → old.is_replaying ≡ false → left_of old ≡ []
+nothing_recorded : (old : Active) → IsActiveSettled old → old.is_replaying ≡ false → left_of old ≡ []
 nothing_recorded old settled f = none_left (left_of old) (sym settled.replaying ∙ f)
 
-module _ {M : Type 0} (ignoring : Bool) (request : Request) (written : List Request) (old : Active) (settled : IsSettled old) where
+module _ {M : Type 0} (ignoring : Bool) (request : Request) (written : List Request) (old : Active) (settled : IsActiveSettled old) where
   -- an equal recorded command was matched
   matched : (new : Active) (stands : M) → old.is_replaying ≡ true → new.is_replaying ≡ still_replays old.is_replaying new.commands.items
       → Puts ignoring true request written old.commands.items old.output (Ok stands) new.commands.items new.output

@@ -16,7 +16,7 @@ use Rattle.vm_calls.specs.declared.call_error.CallError.{CallError}
 use Rattle.vm_calls.specs.declared.call_error.CallError.TheVariants.{Number, Put}
 use Rattle.vm_calls.specs.declared.call_error.NumberError.{NumberError}
 use Rattle.vm_calls.specs.declared.call_error.NumberError.TheVariants as numbers
-use Rattle.vm_calls.specs.Putting.{PutsAs, Puts}
+use Rattle.vm_calls.specs.RequestPuts.{PutsAs, Puts}
 use Rattle.vm_calls.specs.Active.{asking, LacksCompletions, HasCompletions, TakesCompletion}
 use Rattle.vm_calls.specs.Spent.{IsSpent, FindsNone, SpentAs, FailsSpent, KeepsRest}
 

@@ -15,11 +15,11 @@ use Rattle.vm_awaits.specs.Views.{results_of, slots_of}
 use Rattle.vm_awaits.specs.Calls.{with_handle}
 use Rattle.vm_awaits.specs.Children.{AreMade}
 use Rattle.vm_context.specs.Journal.{JournalCounts, after_command, after_completions}
-use Rattle.vm_context.specs.Following.{KnowsState}
+use Rattle.vm_context.specs.StateKnowledge.{KnowsState}
 use Rattle.vm_context.specs.Output.{Written}
 use Rattle.vm_commands.specs.declared.replay_error.ReplayError.TheVariants as unmatched
 use Rattle.vm_commands.specs.HeaderEquality.{header_equal}
-use Rattle.vm_commands.specs.Popping.{IsNextUnread}
+use Rattle.vm_commands.specs.NextCommand.{IsNextUnread}
 use Rattle.vm_commands.specs.Recorded.{commands_of}
 use Rattle.vm_calls.specs.declared.active.Active.{Active}
 use Rattle.vm_calls.specs.declared.put_error.PutError.{PutError}
@@ -101,7 +101,7 @@ still_replays replaying [] = false
 still_replays replaying (message ∷ messages) = replaying
 
 -- it replays where something is left, and frames can be written
-pub record IsSettled (active : Active) : Type 0 where
+pub record IsActiveSettled (active : Active) : Type 0 where
   pub replaying : active.is_replaying ≡ has_left (left_of active)
   pub opened : active.output.is_closed ≡ false
 
@@ -110,7 +110,7 @@ pub record PutsOne (ignoring : Bool) (request : Request) (written : List Request
   pub put : PutState
   pub puts : put_one (header_equal ignoring) request (left_of old) written ≡ Some put
   pub left : left_of new ≡ put.left
-  pub settled : IsSettled new
+  pub settled : IsActiveSettled new
   pub more : List Request
   pub requests : put.written ≡ written ++ more
   -- what is written fits a frame

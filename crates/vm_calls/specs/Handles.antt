@@ -19,7 +19,7 @@ use Rattle.vm_context.specs.Journal.{after_signal}
 use Rattle.vm_calls.specs.declared.active.Active.{Active}
 use Rattle.vm_calls.specs.declared.call_error.NumberError.{NumberError}
 use Rattle.vm_calls.specs.declared.call_error.NumberError.TheVariants.{IdsExhausted, OutOfMemory}
-use Rattle.vm_calls.specs.Making.{Replies}
+use Rattle.vm_calls.specs.CommandCalls.{Replies}
 
 -- no handle is left
 abbrev pub LacksHandle : Active → Type 0

@@ -1,9 +1,8 @@
 pub mod Words
-pub mod Putting
+pub mod RequestPuts
 pub mod Active
-pub mod Making
+pub mod CommandCalls
 pub mod Handles
-pub mod Doing
+pub mod ImmediateCalls
 pub mod Spent
-pub mod Finding
-pub mod Passed
+pub mod MismatchedCommands

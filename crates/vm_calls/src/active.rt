@@ -2,11 +2,11 @@
 ghost use Rattle.std.specs.Prelude.{◌≡◌, ◌+◌, ◌≤◌, ◌<◌, ◌^◌, ◌↔◌, ◌||◌, ℕ, Bool, true, List, Some, OnOk, OnErr, IfOk, IfErr, length};
 ghost use Rattle.vm_calls.specs.Words.{Call, Answer, Request, Invocation, Machine};
 ghost use Rattle.vm_commands.specs.HeaderEquality.{is_unstable};
-ghost use Rattle.vm_calls.specs.Active.{left_of, still_replays, asking, TellsSame, IsAtCommand, IsSettled, TakesCompletion, LacksCompletions, HasCompletions, PutsIn};
-ghost use Rattle.vm_calls.specs.Making.{CompletesOne, HasBegun, Makes};
+ghost use Rattle.vm_calls.specs.Active.{left_of, still_replays, asking, TellsSame, IsAtCommand, IsActiveSettled, TakesCompletion, LacksCompletions, HasCompletions, PutsIn};
+ghost use Rattle.vm_calls.specs.CommandCalls.{CompletesOne, HasCallBegun, Makes};
 ghost use Rattle.vm_calls.specs.Spent.{IsSpent, FindsNone, FailsSpent, KeepsRest};
-ghost use Rattle.vm_calls.specs.Finding.{command_place, TellsPut, FindsAs};
-ghost use Rattle.vm_commands.specs.Passed.{type_of_record};
+ghost use Rattle.vm_calls.specs.MismatchedCommands.{command_place, TellsPut, FindsAs};
+ghost use Rattle.protocol_messages.specs.RecordMessage.{type_of_record};
 ghost use Rattle.vm_awaits.specs.Views.{results_of, slots_of};
 ghost use Rattle.vm_awaits.specs.Calls.{with_handle};
 ghost use Rattle.vm_awaits.specs.declared.state.CreateHandleError.TheVariants.{HandlesExhausted};
@@ -136,7 +136,7 @@ impl Active {
         command: M,
         ignore_payload_equality: bool,
     ) -> Result<M, PutError<M>>
-        ensures put { (request : Request) (written : List Request) → M.request_of command ≡ Some request → IsSettled self.old
+        ensures put { (request : Request) (written : List Request) → M.request_of command ≡ Some request → IsActiveSettled self.old
             → PutsIn ignore_payload_equality request written self.old result self.new }
         ensures spent { (request : Request) → M.request_of command ≡ Some request → IsSpent self.old → FindsNone result × (self.new.output ≡ self.old.output) }
         ensures found { (ty : MessageType) → type_of_record M.record_type ≡ Some ty
@@ -170,7 +170,7 @@ impl Active {
         handle: NotificationHandle,
     ) -> Result<NotificationHandle, CallError<M>>
         ensures makes { (checks_off : Bool) (given : Invocation) (m : Machine) (call : Call) (request : Request) (old : Active) → M.request_of command ≡ Some request
-            → CompletesOne given m call request → ignore_payload_equality ≡ (checks_off || is_unstable call) → HasBegun given m handle old self.old
+            → CompletesOne given m call request → ignore_payload_equality ≡ (checks_off || is_unstable call) → HasCallBegun given m handle old self.old
             → Makes checks_off given m call (λ handle. Answer.Handle handle) old result self.new }
         ensures spent { (request : Request) (taken : ℕ) (old : Active) → M.request_of command ≡ Some request → KeepsRest old self.old → HasCompletions taken old
             → IsSpent old → FailsSpent taken old result self.new }

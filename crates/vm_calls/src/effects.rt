@@ -3,11 +3,11 @@ ghost use Rattle.std.specs.Prelude.{◌≡◌, ◌||◌, ℕ, Bool, Some};
 ghost use Rattle.vm_calls.specs.Words.{Call, Answer, Request, Invocation, Machine};
 ghost use Rattle.vm_commands.specs.HeaderEquality.{is_unstable};
 ghost use Rattle.vm_calls.specs.Active.{HasCompletions};
-ghost use Rattle.vm_calls.specs.Making.{Makes};
-ghost use Rattle.vm_calls.specs.Doing.{DoesOne, HasAsked};
+ghost use Rattle.vm_calls.specs.CommandCalls.{Makes};
+ghost use Rattle.vm_calls.specs.ImmediateCalls.{DoesOne, HasAsked};
 ghost use Rattle.vm_calls.specs.Spent.{IsSpent, FailsSpent, KeepsRest};
-ghost use Rattle.vm_calls.specs.Finding.{FindsAs};
-ghost use Rattle.vm_commands.specs.Passed.{type_of_record};
+ghost use Rattle.vm_calls.specs.MismatchedCommands.{FindsAs};
+ghost use Rattle.protocol_messages.specs.RecordMessage.{type_of_record};
 ghost use Rattle.protocol_types.specs.declared.message_type.MessageType.{MessageType};
 
 use crate::{Active, CallError};

@@ -16,7 +16,7 @@ pub enum PutError<M> {
 /// Prints the error that it holds.
 impl<M: CommandMessageHeaderDiff> fmt::Display for PutError<M> {
     ghost use Rattle.std.specs.Prelude.{Some};
-    ghost use Rattle.vm_calls.specs.Putting.{put_error_text};
+    ghost use Rattle.vm_calls.specs.RequestPuts.{put_error_text};
 
     ghost output = { λ error. Some (put_error_text M.difference error) };
 
@@ -32,7 +32,7 @@ impl<M: CommandMessageHeaderDiff + fmt::Debug + Drop> std::error::Error for PutE
 
 /// The code of the error that it holds: a frame that could not be made is internal.
 impl<M> WithInvocationErrorCode for PutError<M> {
-    ghost use Rattle.vm_calls.specs.Putting.{put_code};
+    ghost use Rattle.vm_calls.specs.RequestPuts.{put_code};
 
     ghost code_of = { put_code };
 

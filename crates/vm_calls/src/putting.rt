@@ -4,7 +4,7 @@ ghost use Rattle.journal_model.specs.Request.{Request};
 ghost use Rattle.journal_model.specs.Spelling.{request_frame};
 ghost use Rattle.protocol_stream.specs.declared.encoder.EncodingError.TheVariants.{PayloadTooLong};
 ghost use Rattle.vm_context.specs.Output.{with_command};
-ghost use Rattle.vm_calls.specs.Putting.{PutsAs, Puts, IsTooLong, RefusesLong};
+ghost use Rattle.vm_calls.specs.RequestPuts.{PutsAs, Puts, IsRequestTooLong, RefusesLong};
 
 use crate::PutError;
 use protocol_stream::{EncodingError, RawMessage};
@@ -21,7 +21,7 @@ fn write_command<M: Command>(
 ) -> Result<(), EncodingError>
     ensures ok { (request : Request) → M.request_of command.now ≡ Some request → OnOk result (output.new ≡ with_command (request_frame request) output.old) }
     ensures err { OnErr result (output.new ≡ output.old) }
-    ensures too_long { (request : Request) → M.request_of command.now ≡ Some request → IsErrOf result PayloadTooLong ↔ IsTooLong request output.old }
+    ensures too_long { (request : Request) → M.request_of command.now ≡ Some request → IsErrOf result PayloadTooLong ↔ IsRequestTooLong request output.old }
 {
     output.send_command(alloc, command)
 }

@@ -5,9 +5,9 @@ ghost use Rattle.journal_model.specs.Refusal.{milliseconds, refusal_of};
 ghost use Rattle.journal_model.specs.declared.call.Moment.{Moment};
 ghost use Rattle.protocol_types.specs.declared.message_type.MessageType.TheVariants.{SleepCommand};
 ghost use Rattle.vm_calls.specs.Active.{Sees, IsAtCommand};
-ghost use Rattle.vm_calls.specs.Making.{Makes};
+ghost use Rattle.vm_calls.specs.CommandCalls.{Makes};
 ghost use Rattle.vm_calls.specs.Spent.{IsSpent, FailsSpent};
-ghost use Rattle.vm_calls.specs.Finding.{FindsAs};
+ghost use Rattle.vm_calls.specs.MismatchedCommands.{FindsAs};
 
 use crate::{Active, CallError};
 use bytes::ByteStr;

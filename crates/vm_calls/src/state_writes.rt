@@ -3,11 +3,11 @@ ghost use Rattle.std.specs.Prelude.{◌≡◌, OnOk};
 ghost use Rattle.vm_calls.specs.Words.{Call, Answer, Request, Invocation, Machine};
 ghost use Rattle.journal_model.specs.Run.{name_or_empty};
 ghost use Rattle.protocol_types.specs.declared.message_type.MessageType.TheVariants.{SetStateCommand, ClearStateCommand, ClearAllStateCommand};
-ghost use Rattle.vm_context.specs.Following.{Follows};
+ghost use Rattle.vm_context.specs.StateKnowledge.{Follows};
 ghost use Rattle.vm_calls.specs.Active.{Sees, IsAtCommand};
-ghost use Rattle.vm_calls.specs.Making.{Makes};
+ghost use Rattle.vm_calls.specs.CommandCalls.{Makes};
 ghost use Rattle.vm_calls.specs.Spent.{IsSpent, FailsSpent};
-ghost use Rattle.vm_calls.specs.Finding.{FindsAs};
+ghost use Rattle.vm_calls.specs.MismatchedCommands.{FindsAs};
 
 use crate::{Active, CallError, ignores, or_empty};
 use bytes::{ByteStr, Bytes};

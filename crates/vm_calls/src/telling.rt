@@ -7,9 +7,9 @@ ghost use Rattle.vm_calls.specs.Words.{Call, Answer, Invocation, Machine};
 ghost use Rattle.journal_model.specs.Refusal.{refusal_of};
 ghost use Rattle.protocol_types.specs.declared.message_type.MessageType.TheVariants.{OutputCommand, SendSignalCommand, CompleteAwakeableCommand};
 ghost use Rattle.vm_calls.specs.Active.{Sees, IsAtCommand};
-ghost use Rattle.vm_calls.specs.Making.{Makes};
+ghost use Rattle.vm_calls.specs.CommandCalls.{Makes};
 ghost use Rattle.vm_calls.specs.Spent.{IsSpent, FailsSpent};
-ghost use Rattle.vm_calls.specs.Finding.{FindsAs};
+ghost use Rattle.vm_calls.specs.MismatchedCommands.{FindsAs};
 
 use crate::{Active, CallError, ignores};
 use bytes::ByteStr;

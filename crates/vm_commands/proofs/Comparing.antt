@@ -1,16 +1,18 @@
 -- Header equality of requests is that what is compared of their records is the same.
 use Rattle.std.proofs.Common.{◌≡◌, Bool, true, false, true≢false, ◌||◌, nat_eq, refl, ap, sym, ◌∙◌}
 use Rattle.std.proofs.lemmas.Bool.{eq-eqb}
-use Rattle.protocol_types.specs.MessageType.{number_of}
-use Rattle.protocol_differences.specs.Passed.{Tells, output_command_tells, sleep_command_tells, get_lazy_state_command_tells, get_lazy_state_keys_command_tells, get_eager_state_command_tells, get_eager_state_keys_command_tells, set_state_command_tells, clear_state_command_tells, clear_all_state_command_tells, get_promise_command_tells, peek_promise_command_tells, complete_promise_command_tells, run_command_tells, send_signal_command_tells, attach_invocation_command_tells, get_invocation_output_command_tells, complete_awakeable_command_tells, call_command_tells, one_way_call_command_tells}
+use Rattle.protocol_types.specs.MessageType.{type_number}
+use Rattle.protocol_equality.specs.Tells.{DecidesErased}
+use Rattle.protocol_equality.specs.Commands.{output_command_tells, sleep_command_tells, get_lazy_state_command_tells, get_lazy_state_keys_command_tells, get_eager_state_command_tells, get_eager_state_keys_command_tells, set_state_command_tells, clear_state_command_tells, clear_all_state_command_tells, get_promise_command_tells, peek_promise_command_tells, complete_promise_command_tells, run_command_tells, send_signal_command_tells, attach_invocation_command_tells, get_invocation_output_command_tells, complete_awakeable_command_tells}
+use Rattle.protocol_equality.specs.Calls.{call_command_tells, one_way_call_command_tells}
 use Rattle.protocol_laws.specs.Commands.{CommandRecord, command_record}
 use Rattle.vm_commands.specs.HeaderEquality.{same_record, erased_command, type_of_command, is_unstable, ComparesReflexively, ComparesTypes, ComparesHeaders}
 use Rattle.vm_commands.specs.Meant.{request_typed}
 
 -- records of two types are not the same
-apart : {A : Type 0} {x y : CommandRecord} → x ≡ y → nat_eq (number_of (type_of_command x)) (number_of (type_of_command y)) ≡ false → A
+apart : {A : Type 0} {x y : CommandRecord} → x ≡ y → nat_eq (type_number (type_of_command x)) (type_number (type_of_command y)) ≡ false → A
 apart {x = x} {y = y} h other =
-    absurd (true≢false (sym (eq-eqb (number_of (type_of_command x)) (number_of (type_of_command y)) (ap (λ (z : CommandRecord). number_of (type_of_command z)) h)) ∙ other))
+    absurd (true≢false (sym (eq-eqb (type_number (type_of_command x)) (type_number (type_of_command y)) (ap (λ (z : CommandRecord). type_number (type_of_command z)) h)) ∙ other))
 
 -- two records of one command are compared by that command's own test; two of others are never the same
 alike : (ignoring : Bool) (x y : CommandRecord) → same_record ignoring x y ≡ true → erased_command ignoring x ≡ erased_command ignoring y
@@ -57,7 +59,7 @@ found ignoring (CommandRecord.GetInvocationOutput x) (CommandRecord.GetInvocatio
 found ignoring (CommandRecord.CompleteAwakeable x) (CommandRecord.CompleteAwakeable y) h = (complete_awakeable_command_tells ignoring).found x y (cc)
 found ignoring _ _ h = apart h refl
 
-record_tells : (ignoring : Bool) → Tells (same_record ignoring) (erased_command ignoring)
+record_tells : (ignoring : Bool) → DecidesErased (same_record ignoring) (erased_command ignoring)
 record_tells ignoring = record { alike = alike ignoring; found = found ignoring }
 
 type_erased : (ignoring : Bool) (x : CommandRecord) → type_of_command (erased_command ignoring x) ≡ type_of_command x

@@ -1,4 +1,4 @@
 pub mod Comparing
-pub mod Popping
+pub mod NextCommand
 pub mod Recording
 pub mod Retelling

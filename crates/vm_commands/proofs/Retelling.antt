@@ -8,10 +8,10 @@ use Rattle.attempt_model.specs.Requests.{Commands, put_one}
 use Rattle.protocol_stream.specs.declared.decoder.RawMessage.{RawMessage}
 use Rattle.protocol_stream.specs.declared.decoder.DecodingError.{DecodingError}
 use Rattle.protocol_stream.specs.declared.decoder.DecodingError.TheVariants as unread
-use Rattle.protocol_messages.specs.Decoded.{DecodesTo, HasItsType, IsOther}
+use Rattle.protocol_messages.specs.Decoded.{DecodesTo, HasItsType, IsOtherType}
 use Rattle.protocol_stream.specs.Header.{message_type}
 use Rattle.protocol_types.specs.declared.message_type.MessageType.{MessageType}
-use Rattle.protocol_differences.specs.Passed.{AreHeaderEqual}
+use Rattle.protocol_equality.specs.Laws.{AreHeaderEqual}
 use Rattle.protocol_errors.specs.declared.mismatch.CommandTypeMismatchError.{CommandTypeMismatchError}
 use Rattle.std.proofs.lemmas.Option.{none-some}
 use Rattle.vm_commands.specs.declared.replay_error.ReplayError.{ReplayError}
@@ -23,10 +23,10 @@ use Rattle.vm_commands.specs.declared.state_read.StateReadError.TheVariants as e
 use Rattle.vm_commands.specs.HeaderEquality.{header_equal, is_recorded}
 use Rattle.vm_commands.specs.Recorded.{command_of, commands_of, as_recorded}
 use Rattle.vm_commands.specs.Meant.{MeansRequests}
-use Rattle.vm_commands.specs.Popping.{next_of, unread_as, IsNextUnread}
+use Rattle.vm_commands.specs.NextCommand.{next_of, unread_as, IsNextUnread}
 use Rattle.vm_commands.specs.StateReads.{tells_type, IsNoRead, ReadsAs, MatchesRead, IsRetold}
 use Rattle.vm_commands.proofs.Recording.{keeps_types}
-use Rattle.vm_commands.proofs.Popping.{not_true, put_matches, put_differs, read_as, never_read, no_request, matches_first}
+use Rattle.vm_commands.proofs.NextCommand.{not_true, put_matches, put_differs, read_as, never_read, no_request, matches_first}
 
 -- ---- what is taken
 
@@ -162,7 +162,7 @@ eager_told t of index m unread.OutOfMemory found left none decodes kept = absurd
 eager_told t of index m _ found left none decodes kept = absurd decodes
 
 -- what is neither is another message than the call's read
-no_read : {eager lazy : RecordType} {index : ℤ} (m : RawMessage) (error : CommandTypeMismatchError) → IsNoRead eager lazy index m error → IsOther lazy m index error.expected error.actual error.command_index
+no_read : {eager lazy : RecordType} {index : ℤ} (m : RawMessage) (error : CommandTypeMismatchError) → IsNoRead eager lazy index m error → IsOtherType lazy m index error.expected error.actual error.command_index
 no_read m error none = record {
   is_expected = none.is_expected;
   is_there = none.is_there;

@@ -5,9 +5,11 @@ use Rattle.journal_model.specs.Request.{Request}
 use Rattle.journal_model.specs.Spelling.{request_type}
 use Rattle.protocol_types.specs.declared.message_type.MessageType.{MessageType}
 use Rattle.protocol_types.specs.declared.message_type.MessageType.TheVariants as types
-use Rattle.protocol_differences.specs.Passed.{AreHeaderEqual, same_output_command, erased_output_command, same_sleep_command, erased_sleep_command, same_get_lazy_state_command, erased_get_lazy_state_command, same_get_lazy_state_keys_command, erased_get_lazy_state_keys_command, same_get_eager_state_command, erased_get_eager_state_command, same_get_eager_state_keys_command, erased_get_eager_state_keys_command, same_set_state_command, erased_set_state_command, same_clear_state_command, erased_clear_state_command, same_clear_all_state_command, erased_clear_all_state_command, same_get_promise_command, erased_get_promise_command, same_peek_promise_command, erased_peek_promise_command, same_complete_promise_command, erased_complete_promise_command, same_run_command, erased_run_command, same_send_signal_command, erased_send_signal_command, same_attach_invocation_command, erased_attach_invocation_command, same_get_invocation_output_command, erased_get_invocation_output_command, same_complete_awakeable_command, erased_complete_awakeable_command, same_call_command, erased_call_command, same_one_way_call_command, erased_one_way_call_command}
+use Rattle.protocol_equality.specs.Laws.{AreHeaderEqual}
+use Rattle.protocol_equality.specs.Commands.{same_output_command, erased_output_command, same_sleep_command, erased_sleep_command, same_get_lazy_state_command, erased_get_lazy_state_command, same_get_lazy_state_keys_command, erased_get_lazy_state_keys_command, same_get_eager_state_command, erased_get_eager_state_command, same_get_eager_state_keys_command, erased_get_eager_state_keys_command, same_set_state_command, erased_set_state_command, same_clear_state_command, erased_clear_state_command, same_clear_all_state_command, erased_clear_all_state_command, same_get_promise_command, erased_get_promise_command, same_peek_promise_command, erased_peek_promise_command, same_complete_promise_command, erased_complete_promise_command, same_run_command, erased_run_command, same_send_signal_command, erased_send_signal_command, same_attach_invocation_command, erased_attach_invocation_command, same_get_invocation_output_command, erased_get_invocation_output_command, same_complete_awakeable_command, erased_complete_awakeable_command}
+use Rattle.protocol_equality.specs.Calls.{same_call_command, erased_call_command, same_one_way_call_command, erased_one_way_call_command}
 use Rattle.protocol_laws.specs.Commands.{CommandRecord, command_record}
-use Rattle.attempt_model.specs.Standing.{AreReflexive}
+use Rattle.attempt_model.specs.Simulation.{AreReflexive}
 
 -- Whether two records are of one command and have the same header: every field, but never the moment of a sleep or of a send,
 -- and where payloads are ignored not what they pass on.

@@ -1,8 +1,7 @@
 pub mod HeaderEquality
 pub mod Meanings
 pub mod Meant
-pub mod Popping
+pub mod NextCommand
 pub mod Recorded
 pub mod Retold
 pub mod StateReads
-pub mod Passed

@@ -12,7 +12,8 @@ use Rattle.protocol_stream.specs.declared.decoder.RawMessage.{RawMessage}
 use Rattle.protocol_stream.specs.Header.{message_type}
 use Rattle.protocol_messages.specs.RecordMessage.{type_of_record}
 use Rattle.protocol_messages.specs.Decoded.{HasItsType}
-use Rattle.protocol_differences.specs.Passed.{AreHeaderEqual, Tells}
+use Rattle.protocol_equality.specs.Laws.{AreHeaderEqual}
+use Rattle.protocol_equality.specs.Tells.{DecidesErased}
 use Rattle.protocol_laws.specs.Commands.{CommandRecord, command_record, command_parts}
 use Rattle.protocol_laws.specs.Requests.{request_told}
 use Rattle.protocol_laws.proofs.Back.{records_told}
@@ -43,7 +44,7 @@ meant_by ty m h =
     let same : ty ≡ message_type m.header = cc in
     ap (λ (x : MessageType). command_by x m.payload) (sym same)
 
-compared_by : {M : Type 0} (ignoring : Bool) (wrap : M → CommandRecord) (request_of : M → Option Request) (test : M → M → Bool) (erased : M → M) → Tells test erased
+compared_by : {M : Type 0} (ignoring : Bool) (wrap : M → CommandRecord) (request_of : M → Option Request) (test : M → M → Bool) (erased : M → M) → DecidesErased test erased
     → ((x y : M) → same_record ignoring (wrap x) (wrap y) ≡ test x y) → ((x : M) → request_told (wrap x) ≡ request_of x)
     → ((x y : M) → erased x ≡ erased y → is_some (request_of x) ≡ is_some (request_of y))
     → (x y : M) (made : Request) → request_of y ≡ Some made → (found : Option Request) → request_of x ≡ found → (erased x ≡ erased y) ↔ (is_recorded ignoring found made ≡ true)
@@ -57,7 +58,7 @@ compared_by ignoring wrap request_of test erased tells same told present x y mad
 
 -- by the constructor of the record, the type of its messages and the test of its header
 pub means : {M : Type 0} {t : RecordType} {of : ℕ → List Field → M} {parts : M → List Part} {erased : Bool → M → M} {request_of : M → Option Request}
-    (wrap : M → CommandRecord) (ty : MessageType) (test : Bool → M → M → Bool) → ((ignoring : Bool) → Tells (test ignoring) (erased ignoring))
+    (wrap : M → CommandRecord) (ty : MessageType) (test : Bool → M → M → Bool) → ((ignoring : Bool) → DecidesErased (test ignoring) (erased ignoring))
     → type_of_record t ≡ Some ty → ((payload : List ℕ) → command_by ty payload ≡ request_read t of request_of payload)
     → ((x : M) → request_told (wrap x) ≡ request_of x) → ((x : M) → type_of_command (wrap x) ≡ ty) → ((x : M) → command_parts (wrap x) ≡ parts x)
     → ((ignoring : Bool) (x y : M) → same_record ignoring (wrap x) (wrap y) ≡ test ignoring x y)

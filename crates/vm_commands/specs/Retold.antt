@@ -13,7 +13,9 @@ use Rattle.protocol_commands.specs.declared.get_eager_state_keys_command.GetEage
 use Rattle.protocol_commands.specs.declared.get_lazy_state_command.GetLazyStateCommandMessage.{GetLazyStateCommandMessage}
 use Rattle.protocol_commands.specs.declared.get_lazy_state_keys_command.GetLazyStateKeysCommandMessage.{GetLazyStateKeysCommandMessage}
 use Rattle.protocol_messages.specs.RecordMessage.{type_of_record}
-use Rattle.protocol_differences.specs.Passed.{AreHeaderEqual, erased_state_result, erased_get_eager_state_command, erased_get_eager_state_keys_command}
+use Rattle.protocol_equality.specs.Laws.{AreHeaderEqual}
+use Rattle.protocol_equality.specs.Payloads.{erased_state_result}
+use Rattle.protocol_equality.specs.Commands.{erased_get_eager_state_command, erased_get_eager_state_keys_command}
 use Rattle.protocol_laws.specs.Requests.{state_told, request_of_get_lazy_state, request_of_get_eager_state, request_of_get_lazy_state_keys, request_of_get_eager_state_keys}
 use Rattle.vm_commands.specs.Recorded.{as_recorded}
 use Rattle.vm_commands.specs.StateReads.{IsRetold}

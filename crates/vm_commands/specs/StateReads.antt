@@ -12,7 +12,7 @@ use Rattle.protocol_stream.specs.Header.{message_type}
 use Rattle.protocol_messages.specs.RecordMessage.{type_of_record}
 use Rattle.protocol_messages.specs.Decoded.{DecodesTo, HasItsType}
 use Rattle.protocol_errors.specs.declared.mismatch.CommandTypeMismatchError.{CommandTypeMismatchError}
-use Rattle.protocol_differences.specs.Passed.{AreHeaderEqual}
+use Rattle.protocol_equality.specs.Laws.{AreHeaderEqual}
 use Rattle.vm_commands.specs.declared.replay_error.ReplayError.{ReplayError}
 use Rattle.vm_commands.specs.declared.replay_error.ReplayError.TheVariants.{Unavailable, Decoding, Mismatch, OutOfMemory}
 use Rattle.vm_commands.specs.declared.state_read.StateRead.{StateRead}
@@ -21,7 +21,7 @@ use Rattle.vm_commands.specs.declared.state_read.StateReadError.{StateReadError}
 use Rattle.vm_commands.specs.declared.state_read.StateReadError.TheVariants as errors
 use Rattle.vm_commands.specs.HeaderEquality.{header_equal}
 use Rattle.vm_commands.specs.Recorded.{commands_of, as_recorded}
-use Rattle.vm_commands.specs.Popping.{both_told, TakesAs, IsNoRequest, IsNextUnread}
+use Rattle.vm_commands.specs.NextCommand.{both_told, TakesAs, IsNoRequest, IsNextUnread}
 
 -- ---- the answer, exactly
 

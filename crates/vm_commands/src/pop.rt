@@ -1,7 +1,7 @@
 // Taking the next recorded command as the one that a call makes.
 ghost use Rattle.std.specs.Prelude.{◌≡◌, List, Some, drop};
 ghost use Rattle.journal_model.specs.Request.{Request};
-ghost use Rattle.vm_commands.specs.Popping.{next_of, unread_as, Compares, TakesAs, Matches};
+ghost use Rattle.vm_commands.specs.NextCommand.{next_of, unread_as, Compares, TakesAs, Matches};
 
 use crate::{Command, ReplayError};
 use protocol_differences::CommandMismatchError;

@@ -1,6 +1,6 @@
 // Why the next recorded command is not the one that a call makes.
 ghost use Rattle.std.specs.Prelude.{Some};
-ghost use Rattle.vm_commands.specs.Popping.{replay_code, replay_text};
+ghost use Rattle.vm_commands.specs.NextCommand.{replay_code, replay_text};
 
 use protocol_differences::{CommandMessageHeaderDiff, CommandMismatchError};
 use protocol_errors::{InvocationErrorCode, UnavailableEntryError, WithInvocationErrorCode, codes};

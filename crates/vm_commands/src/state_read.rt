@@ -3,7 +3,7 @@ ghost use Rattle.std.specs.Prelude.{◌≡◌, List, Some, Ok, drop};
 ghost use Rattle.journal_model.specs.Request.{Request};
 ghost use Rattle.protocol_messages.specs.Decoded.{DecodesTo, HasItsType};
 ghost use Rattle.protocol_stream.specs.declared.decoder.RawMessage.{RawMessage as RawMessages};
-ghost use Rattle.vm_commands.specs.Popping.{next_of};
+ghost use Rattle.vm_commands.specs.NextCommand.{next_of};
 ghost use Rattle.vm_commands.specs.StateReads.{tells_type, ReadsAs, MatchesRead};
 
 use crate::pop::{compare, take_first, take_next, unread};

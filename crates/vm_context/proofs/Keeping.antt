@@ -9,9 +9,9 @@ use Rattle.std.specs.FinMap.Entries.{find-put, find-where_key, is_sorted-put, is
 use Rattle.std.proofs.lemmas.List.Folds.{list_any-append}
 use Rattle.journal_model.specs.Notification.{Bytes, Text}
 use Rattle.journal_model.specs.Request.{Request}
-use Rattle.journal_model.specs.State.{StateMap, StartState, bytes_cmp, state_change, state_after, with_value, without_key, decides_key, clears_all, knows_key, knows_all_keys, value_at}
+use Rattle.journal_model.specs.State.{StateMap, StartState, bytes_cmp, state_change, state_after, with_value, without_key, decides_key, clears_all, knows_key, knows_all_keys, value_of_key}
 use Rattle.vm_context.specs.Eager.{KnownState, KnownEntries, valued, with_known, all_cleared, is_known, entries_with, known_from, map_with}
-use Rattle.vm_context.specs.Following.{KnowsState, changes_state, OthersKeep, start_of}
+use Rattle.vm_context.specs.StateKnowledge.{KnowsState, changes_state, OthersKeep, start_state_of}
 use Rattle.vm_context.proofs.Entries.{valued_put, valued_sorted, find_valued, joined, same_bytes}
 
 pub state_after-one : (done : List Request) (request : Request) (entries : StateMap) → state_after (done ++ request ∷ []) entries ≡ state_change request (state_after done entries)
@@ -33,8 +33,8 @@ or-last-of-three false b c d = or-last b c d
 
 pub key-one : (start : StartState) (done : List Request) (request : Request) (key : Bytes) → knows_key start (done ++ request ∷ []) key ≡ (knows_key start done key || decides_key key request)
 key-one start done request key =
-    ap (λ (b : Bool). (start.is_whole || is_some (value_at start.entries key)) || b) (list_any-append (decides_key key) done (request ∷ []))
-    ∙ or-last-of-three start.is_whole (is_some (value_at start.entries key)) (list_any (decides_key key) done) (decides_key key request)
+    ap (λ (b : Bool). (start.is_whole || is_some (value_of_key start.entries key)) || b) (list_any-append (decides_key key) done (request ∷ []))
+    ∙ or-last-of-three start.is_whole (is_some (value_of_key start.entries key)) (list_any (decides_key key) done) (decides_key key request)
 
 or-none : (b : Bool) → b ≡ (b || false)
 or-none true = refl
@@ -172,7 +172,7 @@ valued_with (pair ∷ pairs) entries sorted =
 none_valued : AllValued []
 none_valued q = refl
 
-pub start_known : (is_partial : Bool) (pairs : List (Bytes × Bytes)) → KnowsState (known_from is_partial pairs) (start_of is_partial pairs) []
+pub start_known : (is_partial : Bool) (pairs : List (Bytes × Bytes)) → KnowsState (known_from is_partial pairs) (start_state_of is_partial pairs) []
 start_known is_partial pairs =
     let sorted = all_sorted pairs [] tt in
     record {
@@ -183,5 +183,5 @@ start_known is_partial pairs =
           ap (λ (b : Bool). not is_partial || b)
           (sym (all_valued pairs [] none_valued key)
           ∙ ap (λ (o : Option Bytes). is_some o) (sym (find_valued key (entries_with [] pairs) sorted) ∙ ap (λ (m : StateMap). find bytes_cmp key m) (valued_with pairs [] tt)))
-          ∙ or-none (not is_partial || is_some (value_at (map_with [] pairs) key));
+          ∙ or-none (not is_partial || is_some (value_of_key (map_with [] pairs) key));
     }

@@ -3,7 +3,7 @@ use Rattle.std.proofs.Common.{◌≡◌, refl, sym, ap, ◌∙◌, ℕ, ◌+◌,
 use Rattle.std.proofs.lemmas.Result.{on_ok_weaker, on_err_weaker}
 use Rattle.protocol_types.specs.declared.version.Version.{Version}
 use Rattle.protocol_stream.specs.declared.encoder.EncodingError.{EncodingError}
-use Rattle.vm_context.specs.Output.{Written, joined, with_frame_of, all_taken}
+use Rattle.vm_context.specs.Output.{Written, concatenated_frames, with_frame_of, all_taken}
 
 abbrev pub written_of : Version → List ℕ → Bool → Bool → Written
 written_of version bytes is_closed has_commands = record { version = version; bytes = bytes; is_closed = is_closed; has_commands = has_commands }
@@ -57,12 +57,12 @@ frame_sends r u is_closed n answer frame was told long =
 
 -- ---- what was taken, where at most one frame waited
 
-pub one_frame : (old new : List (List ℕ)) (frame : List ℕ) → old ≡ new ++ frame ∷ [] → length old ≤ 1 → (frame ≡ joined old) × (joined new ≡ [])
-one_frame old [] frame taken few = (sym (ap joined taken ∙ append-nil frame), refl)
+pub one_frame : (old new : List (List ℕ)) (frame : List ℕ) → old ≡ new ++ frame ∷ [] → length old ≤ 1 → (frame ≡ concatenated_frames old) × (concatenated_frames new ≡ [])
+one_frame old [] frame taken few = (sym (ap concatenated_frames taken ∙ append-nil frame), refl)
 one_frame old (first ∷ new) frame taken few =
     let count : length old ≡ length ((first ∷ new) ++ frame ∷ []) = ap (λ (frames : List (List ℕ)). length frames) taken in
     absurd (omega (arith, count, few, length-append new (frame ∷ [])))
 
-pub no_frame : (old new : List (List ℕ)) → old ≡ new ++ [] → length old ≡ 0 → ([] ≡ joined old) × (joined new ≡ [])
-no_frame [] new taken none = (refl, ap joined (sym (append-nil new) ∙ sym taken))
+pub no_frame : (old new : List (List ℕ)) → old ≡ new ++ [] → length old ≡ 0 → ([] ≡ concatenated_frames old) × (concatenated_frames new ≡ [])
+no_frame [] new taken none = (refl, ap concatenated_frames (sym (append-nil new) ∙ sym taken))
 no_frame (first ∷ old) new taken none = absurd (omega (arith, none))

@@ -6,11 +6,11 @@ use Rattle.std.specs.BTreeMap.{is_at}
 use Rattle.std.proofs.lemmas.Result.{IfOk-weaker, on_ok_weaker, on_err_weaker}
 use Rattle.journal_model.specs.Notification.{Bytes, Text}
 use Rattle.journal_model.specs.Request.{Request}
-use Rattle.journal_model.specs.State.{StateMap, bytes_cmp, state_keys, value_at}
+use Rattle.journal_model.specs.State.{StateMap, bytes_cmp, state_keys, value_of_key}
 use Rattle.vm_context.specs.declared.eager_state.EagerGetState.{EagerGetState}
 use Rattle.vm_context.specs.declared.eager_state.EagerGetStateKeys.{EagerGetStateKeys}
 use Rattle.vm_context.specs.Eager.{KnownState, KnownEntries, valued, with_known, entries_with, told_of, told_value, told_keys, tells_value, tells_keys}
-use Rattle.vm_context.specs.Following.{KnowsState, start_of, Follows, TellsValue, TellsKeys, request_told, keys_request_told}
+use Rattle.vm_context.specs.StateKnowledge.{KnowsState, start_state_of, Follows, TellsValue, TellsKeys, request_told, keys_request_told}
 use Rattle.vm_context.proofs.Entries.{find_is, joined, find_valued}
 use Rattle.vm_context.proofs.Keeping.{holds, set_keeps, clear_keeps, cleared_keeps, start_known}
 
@@ -66,7 +66,7 @@ value_tells state key told is start done n name knows =
     ∙ same_request state.is_partial (find bytes_cmp key state.entries) n key name
     ∙ ap₂ (λ (b : Bool) (value : Option Bytes). if b then Request.GetEagerState key value name else Request.GetLazyState key n name)
     (knows.keys key)
-    (sym (find_valued key state.entries (holds _ knows.ordered)) ∙ ap (λ (m : StateMap). value_at m key) knows.values)
+    (sym (find_valued key state.entries (holds _ knows.ordered)) ∙ ap (λ (m : StateMap). value_of_key m key) knows.values)
 
 abbrev KeptAt : KnownEntries → Bytes → Option (Option Bytes) → Type 0
 KeptAt entries key kept = kept ≡ lookup (is_at (bytes_cmp key)) entries
@@ -140,6 +140,6 @@ pub cleared_follows : (old : KnownState) (entries : KnownEntries) → entries �
 cleared_follows old entries none start done name knows =
     subst (λ (es : KnownEntries). KnowsState (state_of false es) start (done ++ Request.ClearAllState name ∷ [])) (sym none) (cleared_keeps old start done name knows)
 
-pub start_follows : (is_partial : Bool) (entries : KnownEntries) (pairs : List (Bytes × Bytes)) → entries ≡ entries_with [] pairs → KnowsState (state_of is_partial entries) (start_of is_partial pairs) []
+pub start_follows : (is_partial : Bool) (entries : KnownEntries) (pairs : List (Bytes × Bytes)) → entries ≡ entries_with [] pairs → KnowsState (state_of is_partial entries) (start_state_of is_partial pairs) []
 start_follows is_partial entries pairs made =
-    subst (λ (es : KnownEntries). KnowsState (state_of is_partial es) (start_of is_partial pairs) []) (sym made) (start_known is_partial pairs)
+    subst (λ (es : KnownEntries). KnowsState (state_of is_partial es) (start_state_of is_partial pairs) []) (sym made) (start_known is_partial pairs)

@@ -5,7 +5,7 @@ use Rattle.protocol_types.specs.declared.message_type.MessageType.{MessageType}
 use Rattle.protocol_types.specs.declared.message_type.MessageType.TheVariants.{Start}
 use Rattle.protocol_types.specs.MessageType.{is_command}
 use Rattle.protocol_stream.specs.CommandType.{message_type_of}
-use Rattle.protocol_differences.specs.Passed.{CommandMetadata}
+use Rattle.protocol_errors.specs.declared.metadata.CommandMetadata.{CommandMetadata}
 use Rattle.protocol_differences.specs.declared.relationship.CommandRelationship.{CommandRelationship}
 
 pub record JournalCounts : Type 0 where

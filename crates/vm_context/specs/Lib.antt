@@ -1,5 +1,4 @@
 pub mod Eager
-pub mod Following
+pub mod StateKnowledge
 pub mod Journal
 pub mod Output
-pub mod Passed

@@ -3,8 +3,8 @@ use Rattle.std.specs.Prelude.{ℕ, Bool, true, false, ◌||◌, if◌then◌else
 use Rattle.protocol_types.specs.declared.version.Version.{Version}
 
 -- frames, one behind the other
-abbrev pub joined : List (List ℕ) → List ℕ
-joined frames = flat_map (λ frame. frame) frames
+abbrev pub concatenated_frames : List (List ℕ) → List ℕ
+concatenated_frames frames = flat_map (λ frame. frame) frames
 
 pub record Written : Type 0 where
   pub version : Version

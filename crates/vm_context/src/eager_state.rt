@@ -5,7 +5,7 @@ ghost use Rattle.std.specs.Option.{option_copied};
 ghost use Rattle.journal_model.specs.Request.{Request};
 ghost use Rattle.journal_model.specs.State.{bytes_cmp, state_keys};
 ghost use Rattle.vm_context.specs.Eager.{valued, with_known, all_cleared, entries_with, known_from, told_of, told_value, told_keys, tells_value, tells_keys};
-ghost use Rattle.vm_context.specs.Following.{KnowsState, start_of, Follows, TellsValue, TellsKeys};
+ghost use Rattle.vm_context.specs.StateKnowledge.{KnowsState, start_state_of, Follows, TellsValue, TellsKeys};
 
 use bytes::{ByteStr, Bytes};
 use sequence::Sequence;
@@ -120,7 +120,7 @@ impl EagerState {
         pairs: Vec<(ByteStr, Bytes)>,
     ) -> Result<EagerState, AllocError>
         ensures made { IfOk result (λ state. state ≡ known_from is_partial pairs.items) }
-        ensures knows { IfOk result (λ state. KnowsState state (start_of is_partial pairs.items) []) }
+        ensures knows { IfOk result (λ state. KnowsState state (start_state_of is_partial pairs.items) []) }
     {
         let values = entries_of(alloc, pairs)?;
         Ok(EagerState { is_partial, values })

@@ -20,7 +20,7 @@ impl fmt::Display for IdsExhausted {
 impl std::error::Error for IdsExhausted {}
 
 impl WithInvocationErrorCode for IdsExhausted {
-    ghost use Rattle.protocol_differences.specs.Passed.{internal};
+    ghost use Rattle.protocol_errors.specs.Code.{internal};
 
     ghost code_of = { λ _. internal };
 

@@ -2,7 +2,7 @@
 ghost use Rattle.std.specs.Prelude.{◌≡◌, ◌≤◌, ◌^◌, ◌↔◌, ◌++◌, ◌||◌, [], true, false, length, IsOk, IfOk, OnOk, OnErr, IsErrOf};
 ghost use Rattle.protocol_stream.specs.declared.encoder.EncodingError.TheVariants.{PayloadTooLong};
 ghost use Rattle.protocol_stream.specs.Frame.{spelled};
-ghost use Rattle.vm_context.specs.Output.{joined, with_frame_of, with_command, with_frame, all_taken};
+ghost use Rattle.vm_context.specs.Output.{concatenated_frames, with_frame_of, with_command, with_frame, all_taken};
 
 use bytes::{Bytes, BytesMut};
 use protocol_messages::{Encoder, RestateEncodableMessage};
@@ -21,11 +21,11 @@ pub struct Output {
 }
 
 impl Model for Output {
-    ghost use Rattle.vm_context.specs.Output.{Written, joined};
+    ghost use Rattle.vm_context.specs.Output.{Written, concatenated_frames};
 
     ghost Value = { Written };
 
-    ghost view = { λ output. record { version = output.version; bytes = joined output.frames.items; is_closed = output.is_closed; has_commands = output.has_commands } };
+    ghost view = { λ output. record { version = output.version; bytes = concatenated_frames output.frames.items; is_closed = output.is_closed; has_commands = output.has_commands } };
 }
 
 // How many bytes the frames have, or the greatest number.
@@ -39,7 +39,7 @@ fn count_bytes(frames: &[Bytes]) -> usize {
 
 // The frames one behind the other, each copied once.
 fn join(alloc: Global, frames: &[Bytes]) -> Result<Bytes, AllocError>
-    ensures { IfOk result (λ bytes. bytes ≡ joined frames.now) }
+    ensures { IfOk result (λ bytes. bytes ≡ concatenated_frames frames.now) }
 {
     let mut bytes = BytesMut::with_capacity(alloc, count_bytes(frames))?;
     for frame in frames {
@@ -56,8 +56,8 @@ fn join(alloc: Global, frames: &[Bytes]) -> Result<Bytes, AllocError>
 
 // One more frame waits.
 fn push_frame(frames: &mut Vec<Bytes>, frame: Bytes) -> Result<(), AllocError>
-    ensures ok { OnOk result (joined frames.new.items ≡ joined frames.old.items ++ frame) }
-    ensures err { OnErr result (joined frames.new.items ≡ joined frames.old.items) }
+    ensures ok { OnOk result (concatenated_frames frames.new.items ≡ concatenated_frames frames.old.items ++ frame) }
+    ensures err { OnErr result (concatenated_frames frames.new.items ≡ concatenated_frames frames.old.items) }
 {
     frames.push(frame)?;
     Ok(())
@@ -65,9 +65,9 @@ fn push_frame(frames: &mut Vec<Bytes>, frame: Bytes) -> Result<(), AllocError>
 
 // All that waits, as one piece: one frame alone as it is, more copied once.
 fn take_all(alloc: Global, frames: &mut Vec<Bytes>) -> Result<Bytes, AllocError>
-    ensures bytes { IfOk result (λ bytes. bytes ≡ joined frames.old.items) }
-    ensures rest { OnOk result (joined frames.new.items ≡ []) }
-    ensures err { OnErr result (joined frames.new.items ≡ joined frames.old.items) }
+    ensures bytes { IfOk result (λ bytes. bytes ≡ concatenated_frames frames.old.items) }
+    ensures rest { OnOk result (concatenated_frames frames.new.items ≡ []) }
+    ensures err { OnErr result (concatenated_frames frames.new.items ≡ concatenated_frames frames.old.items) }
 {
     if frames.len() > 1 {
         let bytes = join(alloc, frames.as_slice())?;

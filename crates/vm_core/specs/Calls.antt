@@ -19,10 +19,12 @@ use Rattle.protocol_errors.specs.declared.error.Error.{Error}
 use Rattle.protocol_types.specs.declared.message_type.MessageType.TheVariants as messages
 use Rattle.vm_machine.specs.Causes.{NumberCauses}
 use Rattle.vm_context.specs.Eager.{is_known}
-use Rattle.vm_feeding.specs.Calling.{IsCalled}
-use Rattle.vm_feeding.specs.Handles.{IsAwakeable, IsNoAwakeable, MakesSignal, IsNoSignal, TakesFirst, TakeCauses}
-use Rattle.vm_progress.specs.Reading.{value_read, keys_read, StepsOfRead}
-use Rattle.vm_syscalls.specs.Passed.{Calls, IsUnexpected, Steps, MachineState}
+use Rattle.vm_feeding.specs.CommandlessCalls.{IsCalled}
+use Rattle.vm_feeding.specs.Handles.{IsAwakeable, IsNoAwakeable, MakesSignal, IsNoSignal, TakesFirstResult, TakeCauses}
+use Rattle.vm_progress.specs.StateReadEffects.{value_read, keys_read, StepsOfRead}
+use Rattle.vm_machine.specs.Calls.{Calls}
+use Rattle.vm_machine.specs.Steps.{IsUnexpected, Steps}
+use Rattle.vm_machine.specs.declared.machine_state.MachineState.{MachineState}
 use Rattle.vm_types.specs.declared.handles.AwakeableHandle.{AwakeableHandle}
 use Rattle.vm_types.specs.declared.handles.CallHandle.{CallHandle}
 use Rattle.vm_types.specs.declared.handles.SendHandle.{SendHandle}
@@ -106,7 +108,7 @@ SysGetInvocationOutput target old result new =
 -- ---- what is taken and put out
 
 abbrev pub TakeNotification : (handle : ℕ) → (old : MachineState) → Result (Option Value) Error → (new : MachineState) → Type 0
-TakeNotification handle old result new = Steps (IsCalled (TakesFirst handle) TakeCauses) (IsUnexpected (codes "TakeNotification")) None old result new
+TakeNotification handle old result new = Steps (IsCalled (TakesFirstResult handle) TakeCauses) (IsUnexpected (codes "TakeNotification")) None old result new
 
 abbrev pub SysWriteOutput : NonEmptyValue → PayloadOptions → (old : MachineState) → Result (Unit {0}) Error → (new : MachineState) → Type 0
 SysWriteOutput value options old result new = Calls output_command_difference (Call.Output value options) (λ done. Answer.Done) [] messages.OutputCommand [] old result new

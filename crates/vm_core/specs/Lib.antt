@@ -1,4 +1,3 @@
 pub mod Closed
 pub mod Calls
-pub mod Passed
 pub mod Outcomes

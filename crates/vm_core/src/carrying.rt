@@ -1,6 +1,6 @@
 // A handler's call is carried out.
 ghost use Rattle.vm_start.specs.Phases.{kept_error};
-ghost use Rattle.vm_outcomes.specs.Carrying.{CarriesOut, StaysFailed, StaysClosed};
+ghost use Rattle.vm_outcomes.specs.CallOutcomes.{CarriesOut, StaysFailed, StaysClosed};
 
 use crate::{CoreVM, VM, awaits, handles, invocations, outside, promises, runs, state};
 use journal_model::Call;

@@ -2,20 +2,20 @@
 ghost use Rattle.std.specs.Prelude.{◌≡◌, ◌-ℤ◌, pos, IfOk, IfErr, option_copied};
 ghost use Rattle.journal_model.specs.Future.{tree_of};
 ghost use Rattle.journal_model.specs.declared.call.Call.{Call};
-ghost use Rattle.vm_feeding.specs.Beginning.{Begins, head_of};
-ghost use Rattle.vm_feeding.specs.Reading.{IsRead};
-ghost use Rattle.vm_feeding.specs.EphemeralReading.{IsGot, IsTaken};
-ghost use Rattle.vm_start.specs.Failing.{out_of_memory};
+ghost use Rattle.vm_feeding.specs.NewMachine.{BeginsMachine, head_of};
+ghost use Rattle.vm_feeding.specs.InputAnswer.{IsRead};
+ghost use Rattle.vm_feeding.specs.EphemeralStateReads.{IsGot, IsReadTaken};
+ghost use Rattle.vm_start.specs.FailureReport.{out_of_memory};
 ghost use Rattle.vm_start.specs.Phases.{kept_error};
-ghost use Rattle.vm_feeding.specs.Asking.{state_of, IsReady, TakesOutput};
-ghost use Rattle.vm_feeding.specs.Closing.{ClosesInput};
-ghost use Rattle.vm_feeding.specs.Feeding.{IsFed};
-ghost use Rattle.vm_feeding.specs.Telling.{IsTold};
-ghost use Rattle.vm_feeding.specs.Handles.{id_of, IsNamed, Looks};
-ghost use Rattle.vm_progress.specs.Awaiting.{DoesAwait};
-ghost use Rattle.vm_progress.specs.Ending.{EndsAs};
-ghost use Rattle.vm_proposals.specs.Calling.{CallsRun};
-ghost use Rattle.vm_proposals.specs.Proposing.{ProposesRun};
+ghost use Rattle.vm_feeding.specs.MachineQueries.{state_of_phase, TellsReady, TakesOutput};
+ghost use Rattle.vm_feeding.specs.EndOfInput.{ClosesInput};
+ghost use Rattle.vm_feeding.specs.InputBytes.{IsFed};
+ghost use Rattle.vm_feeding.specs.HostErrors.{IsErrorTold};
+ghost use Rattle.vm_feeding.specs.Handles.{id_of, IsNamed, LooksAtHandle};
+ghost use Rattle.vm_progress.specs.AwaitEffects.{DoesAwait};
+ghost use Rattle.vm_progress.specs.EndEffects.{EndsAs};
+ghost use Rattle.vm_proposals.specs.RunCallEffects.{CallsRun};
+ghost use Rattle.vm_proposals.specs.ProposalEffects.{ProposesRun};
 ghost use Rattle.vm_outcomes.specs.Runs.{BodiesAreKept};
 ghost use Rattle.vm_core.specs.Closed.{state_made};
 ghost use Rattle.vm_start.specs.Negotiation.{content_type};
@@ -94,7 +94,7 @@ impl VM for CoreVM {
     fn new<H: HeaderMap>(alloc: Global, request_headers: &H, options: VMOptions) -> VMResult<Self>
     where
         H::Error: Drop,
-        ensures { Begins H.Error (H.fails request_headers.now content_type) (H.text_of request_headers.now content_type) options (state_made result) }
+        ensures { BeginsMachine H.Error (H.fails request_headers.now content_type) (H.text_of request_headers.now content_type) options (state_made result) }
     {
         match begin(alloc, request_headers, options) {
             Ok(state) => Ok(CoreVM { state }),
@@ -122,7 +122,7 @@ impl VM for CoreVM {
     }
 
     fn notify_error(&mut self, error: Error, relationship: Option<CommandRelationship>)
-        ensures { IsTold error relationship self.old.state self.new.state }
+        ensures { IsErrorTold error relationship self.old.state self.new.state }
     {
         vm_feeding::notify_error(&mut self.state, error, relationship);
     }
@@ -134,13 +134,13 @@ impl VM for CoreVM {
     }
 
     fn is_ready_to_execute(&self) -> VMResult<bool>
-        ensures { IsReady self.now.state.phase result }
+        ensures { TellsReady self.now.state.phase result }
     {
         vm_feeding::is_ready_to_execute(&self.state)
     }
 
     fn is_completed(&self, handle: NotificationHandle) -> bool
-        ensures { Looks self.now.state.phase self.now.state.active handle result }
+        ensures { LooksAtHandle self.now.state.phase self.now.state.active handle result }
     {
         vm_feeding::is_completed(&self.state, handle)
     }
@@ -187,7 +187,7 @@ impl VM for CoreVM {
     }
 
     fn take_ephemeral_notification(&mut self, id: EphemeralCompletionId) -> VMResult<Option<Value>>
-        ensures { IsTaken id self.old.state result self.new.state }
+        ensures { IsReadTaken id self.old.state result self.new.state }
     {
         vm_feeding::take_ephemeral_notification(&mut self.state, id)
     }
@@ -372,7 +372,7 @@ impl VM for CoreVM {
     }
 
     fn state(&self) -> State
-        ensures { result ≡ state_of self.now.state.phase self.now.state.active.is_replaying }
+        ensures { result ≡ state_of_phase self.now.state.phase self.now.state.active.is_replaying }
     {
         vm_feeding::state(&self.state)
     }

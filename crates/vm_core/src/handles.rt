@@ -1,6 +1,6 @@
 // Calls that make handles, take what they stand for, and look at it.
 ghost use Rattle.journal_model.specs.declared.call.Call.{Call};
-ghost use Rattle.vm_outcomes.specs.Carrying.{CarriesOut};
+ghost use Rattle.vm_outcomes.specs.CallOutcomes.{CarriesOut};
 
 use crate::{CoreVM, VM};
 use bytes::ByteStr;

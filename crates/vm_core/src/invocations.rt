@@ -1,6 +1,6 @@
 // Calls that begin other invocations, and ask them for their answers.
 ghost use Rattle.journal_model.specs.declared.call.Call.{Call};
-ghost use Rattle.vm_outcomes.specs.Carrying.{CarriesOut};
+ghost use Rattle.vm_outcomes.specs.CallOutcomes.{CarriesOut};
 
 use crate::{CoreVM, VM};
 use bytes::{ByteStr, Bytes};

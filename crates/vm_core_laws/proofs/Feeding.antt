@@ -13,25 +13,25 @@ use Rattle.protocol_stream.specs.declared.decoder.DecodingError.{DecodingError}
 use Rattle.protocol_stream.specs.declared.decoder.RawMessage.{RawMessage}
 use Rattle.protocol_types.specs.declared.message_type.MessageType.TheVariants.{InputCommand}
 use Rattle.vm_awaits.specs.Views.{AsyncResults, delivery_of, results_of}
-use Rattle.vm_feeding.specs.Reading.{Gives, ReadsAs, AnswersReading, ReadsInputs, IsRead}
+use Rattle.vm_feeding.specs.InputAnswer.{Gives, ReadsAs, AnswersReading, ReadsInputs, IsRead}
 use Rattle.vm_feeding.specs.declared.reading.Reading.{Reading}
 use Rattle.vm_feeding.specs.declared.reading.Reading.TheVariants as readings
 use Rattle.vm_calls.specs.Active.{has_left, still_replays}
-use Rattle.vm_calls.specs.Passed.{commands_of}
+use Rattle.vm_commands.specs.Recorded.{commands_of}
 use Rattle.vm_calls.specs.declared.active.Active.{Active}
 use Rattle.vm_context.specs.Eager.{KnownState}
-use Rattle.vm_context.specs.Following.{KnowsState, start_of}
+use Rattle.vm_context.specs.StateKnowledge.{KnowsState, start_state_of}
 use Rattle.vm_context.specs.Output.{all_taken}
-use Rattle.vm_machine.specs.Acknowledging.{ComesAcknowledgement, ComesOutcome, TakesTold}
+use Rattle.vm_machine.specs.AcknowledgementReceipt.{ComesAcknowledgement, ComesOutcome, TakesTold}
 use Rattle.vm_machine.specs.Answers.{active_stage, stage_of}
 use Rattle.vm_machine.specs.Entries.{ComesCommand, ComesNotification}
-use Rattle.vm_machine.specs.Incoming.{incoming_of}
-use Rattle.vm_machine.specs.Input.{Leaves, counted, skipped, at_input}
+use Rattle.vm_machine.specs.MessageKinds.{incoming_of}
+use Rattle.vm_machine.specs.Input.{LeavesInput, input_counted, skipped, at_input}
 use Rattle.vm_context.specs.Journal.{JournalCounts}
 use Rattle.vm_types.specs.declared.options.JournalReplay.{JournalReplay}
 use Rattle.attempt_model.specs.Children.{Child}
 use Rattle.vm_awaits.specs.Children.{AreMade}
-use Rattle.vm_machine.specs.Starting.{ComesStart}
+use Rattle.vm_machine.specs.StartReceipt.{ComesStart}
 use Rattle.vm_machine.specs.declared.entry_error.EntryError.{EntryError}
 use Rattle.vm_machine.specs.declared.incoming.Incoming.{Incoming}
 use Rattle.vm_machine.specs.declared.incoming.Incoming.TheVariants as incoming
@@ -39,12 +39,14 @@ use Rattle.vm_machine.specs.declared.input.InputError.{InputError}
 use Rattle.vm_start.specs.Phases.{phase_after_entry}
 use Rattle.vm_start.specs.declared.phase.Phase.{Phase}
 use Rattle.vm_start.specs.declared.phase.Phase.TheVariants as phases
-use Rattle.vm_feeding.specs.Asking.{TakesOutput}
-use Rattle.vm_feeding.specs.Closing.{is_waiting, ClosesWhere, ClosesInput, input_closed}
-use Rattle.vm_feeding.specs.Failing.{HasFailed}
-use Rattle.vm_feeding.specs.Feeding.{has_failed, with_bytes, with_input, TakesEach, StopsAt, RestsWhere, IsFed}
-use Rattle.vm_feeding.specs.Passed.{is_active, IsElsewhere, Takes, TakesAs, Receives, MachineState}
-use Rattle.vm_feeding.specs.Telling.{IsTold}
+use Rattle.vm_feeding.specs.MachineQueries.{TakesOutput}
+use Rattle.vm_feeding.specs.EndOfInput.{is_waiting, ClosesWhere, ClosesInput, input_closed}
+use Rattle.vm_feeding.specs.UnansweredFailure.{HasFailed}
+use Rattle.vm_feeding.specs.InputBytes.{has_failed, with_bytes, with_input, TakesEach, StopsAt, RestsWhere, IsFed}
+use Rattle.vm_machine.specs.CallAdmission.{is_active, IsElsewhere}
+use Rattle.vm_machine.specs.MessageReceipt.{TakesMessage, TakesAs, Receives}
+use Rattle.vm_machine.specs.declared.machine_state.MachineState.{MachineState}
+use Rattle.vm_feeding.specs.HostErrors.{IsErrorTold}
 use Rattle.vm_start.specs.Starts.{pairs_of}
 use Rattle.vm_runs.specs.Runs.{Runs, outcome_at}
 use Rattle.vm_types.specs.declared.options.VMOptions.{VMOptions}
@@ -135,9 +137,9 @@ start_stands message start phases.WaitingStart delivery old phase' new comes sta
     let begins = comes.reads.begins in
     at_phase (phases.WaitingReplayEntries start.known_entries) phase' delivery new comes.waits (
       record {
-        start = start_of comes.reads.whole.partial_state (pairs_of comes.reads.whole.state_map);
+        start = start_state_of comes.reads.whole.partial_state (pairs_of comes.reads.whole.state_map);
         done = [];
-        state = subst (λ (state : KnownState). KnowsState state (start_of comes.reads.whole.partial_state (pairs_of comes.reads.whole.state_map)) []) (sym (ap (λ (a : Active). a.state) is)) begins.knows;
+        state = subst (λ (state : KnownState). KnowsState state (start_state_of comes.reads.whole.partial_state (pairs_of comes.reads.whole.state_map)) []) (sym (ap (λ (a : Active). a.state) is)) begins.knows;
         opened = ap (λ (a : Active). a.output.is_closed) is ∙ stands.0.opened;
         delivers = ap (λ (a : Active). delivery_of a.results) is ∙ stands.0.delivers;
         made = made_like old new (ap (λ (a : Active). a.journal.completions) is) (ap (λ (a : Active). a.children) is) stands.0.made;
@@ -177,7 +179,7 @@ taken_as : (message : RawMessage) (kind : Incoming) (old : MachineState) (made :
 taken_as message kind old (Ok done) between new receives takes stands = moved between new takes (received message kind done old between receives stands)
 taken_as message kind old (Err error) between new receives takes stands = failed takes.cause between takes.answer new takes.fails
 
-taken_stands : (message : RawMessage) (old new : MachineState) → Takes message old new → Stands old → Stands new
+taken_stands : (message : RawMessage) (old new : MachineState) → TakesMessage message old new → Stands old → Stands new
 taken_stands message old new takes stands = taken_as message (incoming_of (message_type message.header)) old takes.received takes.between new takes.receives takes.takes stands
 
 each_stands : (messages : List RawMessage) (old new : MachineState) → TakesEach messages old new → Stands old → Stands new
@@ -210,7 +212,7 @@ closes_stands false closed new is stands = moved closed new is stands
 pub closed_stands : (old new : MachineState) → ClosesInput old new → Stands old → Stands new
 closed_stands old new is stands = closes_stands (is_waiting old.phase) (input_closed old) new is stands
 
-pub told_stands : (error : Error) (relationship : Option CommandRelationship) (old new : MachineState) → IsTold error relationship old new → Stands new
+pub told_stands : (error : Error) (relationship : Option CommandRelationship) (old new : MachineState) → IsErrorTold error relationship old new → Stands new
 told_stands error relationship old new told = has_failed_stands told.cause old new told.fails
 
 pub output_stands : (old : MachineState) (result : Result (List ℕ) AllocError) (new : MachineState) → TakesOutput old result new → Stands old → Stands new
@@ -225,7 +227,7 @@ still_has [] = refl
 still_has (message ∷ messages) = refl
 
 -- no fewer completions are counted behind the input, and so many at most
-counts_behind : (replay : JournalReplay) (messages : List RawMessage) (old new : Active) → new.journal ≡ counted replay messages (at_input old) → old.journal.completions ≤ 2 ^ 32
+counts_behind : (replay : JournalReplay) (messages : List RawMessage) (old new : Active) → new.journal ≡ input_counted replay messages (at_input old) → old.journal.completions ≤ 2 ^ 32
     → (old.journal.completions ≤ new.journal.completions) × (new.journal.completions ≤ 2 ^ 32)
 counts_behind JournalReplay.Enabled messages old new is most =
     let same : new.journal.completions ≡ old.journal.completions = ap (λ (j : JournalCounts). j.completions) is in (omega (arith, same), omega (arith, same, most))
@@ -240,7 +242,7 @@ still_made (child ∷ children) count more less made = let first = made.0 in (om
 module _ (old between : MachineState) (others : between ≡ record old { active = between.active }) (calls : is_active old.phase ≡ true) (stands : Stands old) where
   -- what is left is what is replayed
   leaves_stands : (replaying : old.active.is_replaying ≡ true) (start : StartMessage) (read : Result InputCommandMessage InputError) (reading : Reading) (result : Result Input Error) (new : MachineState)
-      → Leaves old.options.journal_replay old.active read between.active → Gives old.version old.options start between.active read reading → AnswersReading reading between result new → Stands new
+      → LeavesInput old.options.journal_replay old.active read between.active → Gives old.version old.options start between.active read reading → AnswersReading reading between result new → Stands new
   leaves_stands replaying start (Ok message) (readings.Given input) result new leaves gives answers =
       let kept = when_active old.phase old.options.signal_delivery old.active calls stands in
       let counts = counts_behind old.options.journal_replay (drop 1 old.active.commands.items) old.active between.active leaves.journal kept.0.counted in

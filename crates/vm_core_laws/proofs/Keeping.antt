@@ -21,22 +21,28 @@ use Rattle.vm_awaits.specs.Views.{AsyncResults, delivery_of, queue_of, ready_of,
 use Rattle.vm_awaits.specs.Children.{AreMade}
 use Rattle.vm_commands.specs.HeaderEquality.{same_header}
 use Rattle.vm_calls.specs.Active.{Sees, left_of, has_left, HasCompletions}
-use Rattle.vm_calls.specs.Making.{Replies}
-use Rattle.vm_calls.specs.Passed.{commands_of}
+use Rattle.vm_calls.specs.CommandCalls.{Replies}
+use Rattle.vm_commands.specs.Recorded.{commands_of}
 use Rattle.vm_calls.specs.Spent.{IsSpent}
 use Rattle.vm_calls.specs.declared.active.Active.{Active}
 use Rattle.vm_context.specs.Eager.{KnownState}
-use Rattle.vm_context.specs.Following.{KnowsState}
+use Rattle.vm_context.specs.StateKnowledge.{KnowsState}
 use Rattle.vm_context.specs.Output.{Written}
-use Rattle.vm_start.specs.Failing.{Fails}
+use Rattle.vm_start.specs.FailureReport.{FailsMachine}
 use Rattle.vm_start.specs.Phases.{kept_error}
 use Rattle.vm_start.specs.declared.phase.Phase.{Phase}
 use Rattle.vm_start.specs.declared.phase.Phase.TheVariants as phases
-use Rattle.vm_feeding.specs.Passed.{MachineFails, is_active, AdmitsWhere, GoesOn, Steps, Admission, Admitted, Elsewhere, Stopped, IsOf, MachineState}
+use Rattle.vm_machine.specs.MachineFailure.{MachineFails}
+use Rattle.vm_machine.specs.CallAdmission.{is_active, AdmitsWhere}
+use Rattle.vm_machine.specs.Steps.{GoesOn, Steps}
+use Rattle.vm_machine.specs.declared.admitting.Admission.{Admission}
+use Rattle.vm_machine.specs.declared.admitting.Admission.TheVariants.{Admitted, Elsewhere, Stopped}
+use Rattle.vm_machine.specs.Calls.{IsOf}
+use Rattle.vm_machine.specs.declared.machine_state.MachineState.{MachineState}
 use Rattle.vm_feeding.specs.Handles.{id_of}
 use Rattle.vm_refusals.specs.declared.refusal_error.RefusalError.{RefusalError}
 use Rattle.vm_types.specs.declared.options.JournalMismatchRetryBehavior.{JournalMismatchRetryBehavior}
-use Rattle.vm_core_laws.specs.Standing.{IsSpokenOf}
+use Rattle.vm_core_laws.specs.CallPreconditions.{IsSpokenOf}
 
 -- ---- what is kept
 
@@ -175,7 +181,7 @@ output_like old new is closed = record {
 -- ---- machines that fail
 
 fails_in : (version : Version) (asked : JournalMismatchRetryBehavior) (cause : Result Error AllocError) (old : Phase) (before : Written) (answer : Error) (new : Phase) (after : Written)
-    (delivery : SignalDelivery) (active : Active) → Fails version asked cause old before answer new after → StandsIn new delivery active
+    (delivery : SignalDelivery) (active : Active) → FailsMachine version asked cause old before answer new after → StandsIn new delivery active
 fails_in version asked cause phases.WaitingStart before answer new after delivery active fails = subst (λ (p : Phase). StandsIn p delivery active) (sym fails.phase_is) tt
 fails_in version asked cause (phases.WaitingReplayEntries left) before answer new after delivery active fails = subst (λ (p : Phase). StandsIn p delivery active) (sym fails.phase_is) tt
 fails_in version asked cause phases.Active before answer new after delivery active fails = subst (λ (p : Phase). StandsIn p delivery active) (sym fails.phase_is) tt

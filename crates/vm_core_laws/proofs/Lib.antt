@@ -3,4 +3,4 @@ mod Making
 mod Feeding
 mod Waiting
 mod Runs
-mod Hosting
+mod HostCalls

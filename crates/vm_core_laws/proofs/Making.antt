@@ -12,22 +12,26 @@ use Rattle.attempt_model.specs.Children.{Child}
 use Rattle.attempt_model.specs.Machine.{Machine, ToMake, work_of}
 use Rattle.attempt_model.specs.Results.{slot_of}
 use Rattle.vm_awaits.specs.Children.{AreMade}
-use Rattle.vm_waiting.specs.Tracking.{child_of_id, with_taken}
+use Rattle.vm_waiting.specs.TrackedChildren.{child_of_id, with_taken}
 use Rattle.protocol_errors.specs.declared.error.Error.{Error}
 use Rattle.protocol_types.specs.declared.message_type.MessageType.{MessageType}
 use Rattle.vm_awaits.specs.Views.{AsyncResults, slots_of}
 use Rattle.vm_calls.specs.Active.{Sees}
 use Rattle.vm_calls.specs.Handles.{LacksHandle, LacksSignal}
-use Rattle.vm_calls.specs.Making.{Makes}
+use Rattle.vm_calls.specs.CommandCalls.{Makes}
 use Rattle.vm_calls.specs.Spent.{IsSpent, FailsSpent}
 use Rattle.vm_calls.specs.declared.active.Active.{Active}
 use Rattle.vm_calls.specs.declared.call_error.CallError.{CallError}
-use Rattle.vm_feeding.specs.Passed.{checks_off, is_active, IsElsewhere, IsMade, IsOf, Calls, IsUnexpected, MachineState, NumberCauses, Settles, Steps}
-use Rattle.vm_feeding.specs.Calling.{AnswersBy, IsCalled}
-use Rattle.vm_feeding.specs.Handles.{id_of, MakesSignal, IsNoSignal, MakesAwakeable, IsAwakeableWhere, IsAwakeable, IsNoAwakeableWhere, IsNoAwakeable, TakesFirst, TakeCauses}
-use Rattle.vm_machine.specs.Steps.{IsMissed}
-use Rattle.vm_progress.specs.Reading.{ReadKind, IsRead, MissesNext, SettlesRead, StepsOfRead}
-use Rattle.vm_state_reads.specs.Reading.{Reads}
+use Rattle.vm_machine.specs.Calls.{checks_off, IsMade, IsOf, Calls}
+use Rattle.vm_machine.specs.CallAdmission.{is_active, IsElsewhere}
+use Rattle.vm_machine.specs.Steps.{IsUnexpected, Steps, IsMissed}
+use Rattle.vm_machine.specs.declared.machine_state.MachineState.{MachineState}
+use Rattle.vm_machine.specs.Causes.{NumberCauses}
+use Rattle.vm_machine.specs.CallAnswers.{Settles}
+use Rattle.vm_feeding.specs.CommandlessCalls.{AnswersBy, IsCalled}
+use Rattle.vm_feeding.specs.Handles.{id_of, MakesSignal, IsNoSignal, MakesAwakeable, IsAwakeableWhere, IsAwakeable, IsNoAwakeableWhere, IsNoAwakeable, TakesFirstResult, TakeCauses}
+use Rattle.vm_progress.specs.StateReadEffects.{ReadKind, IsRead, MissesNext, SettlesRead, StepsOfRead}
+use Rattle.vm_state_reads.specs.ReadAnswers.{Reads}
 use Rattle.vm_state_reads.specs.Spent.{ReadFailsSpent}
 use Rattle.vm_state_reads.specs.declared.read_error.ReadError.{ReadError}
 use Rattle.vm_types.specs.declared.handles.AwakeableHandle.{AwakeableHandle}
@@ -160,7 +164,7 @@ remembered_of count (Some n) (Some (Value.Success bytes)) children made = made
 remembered_of count (Some n) (Some (Value.Failure failure)) children made = made
 remembered_of count (Some n) (Some (Value.StateKeys keys)) children made = made
 
-take_like : (handle : ℕ) (old : Active) (taken : Option Value) (new : Active) → TakesFirst handle old (Ok taken) new → IsLike old new
+take_like : (handle : ℕ) (old : Active) (taken : Option Value) (new : Active) → TakesFirstResult handle old (Ok taken) new → IsLike old new
 take_like handle old taken new takes = record {
   replaying = ap (λ (a : Active). a.is_replaying) takes.others;
   commands = ap (λ (a : Active). a.commands.items) takes.others;
@@ -175,8 +179,8 @@ take_like handle old taken new takes = record {
 }
 
 pub takes_stand : (handle : ℕ) (old : MachineState) (result : Result (Option Value) Error) (new : MachineState)
-    → Steps (IsCalled (TakesFirst handle) TakeCauses) (IsUnexpected (codes "TakeNotification")) None old result new → Stands old → Stands new
+    → Steps (IsCalled (TakesFirstResult handle) TakeCauses) (IsUnexpected (codes "TakeNotification")) None old result new → Stands old → Stands new
 takes_stand handle old result new steps stands =
-    steps_stand (IsCalled (TakesFirst handle) TakeCauses) (IsUnexpected (codes "TakeNotification")) old new stands
-    (λ result calls is. called_stand (TakesFirst handle) TakeCauses old (λ taken active does. take_like handle old.active taken active does) is.made is.active result new is.does is.answers stands)
+    steps_stand (IsCalled (TakesFirstResult handle) TakeCauses) (IsUnexpected (codes "TakeNotification")) old new stands
+    (λ result calls is. called_stand (TakesFirstResult handle) TakeCauses old (λ taken active does. take_like handle old.active taken active does) is.made is.active result new is.does is.answers stands)
     (λ told is. failed is.cause old told new is.fails) None result steps

@@ -3,7 +3,7 @@ use Rattle.std.proofs.Common.{◌≡◌, ℕ, Bool, true, false, Option, Some, N
 use Rattle.journal_model.specs.Notification.{Text}
 use Rattle.journal_model.specs.declared.value.NonEmptyValue.{NonEmptyValue}
 use Rattle.protocol_controls.specs.declared.propose_run_completion.ProposeRunCompletionMessage.{ProposeRunCompletionMessage}
-use Rattle.protocol_differences.specs.Passed.{CommandMetadata}
+use Rattle.protocol_errors.specs.declared.metadata.CommandMetadata.{CommandMetadata}
 use Rattle.protocol_errors.specs.declared.error.Error.{Error}
 use Rattle.protocol_stream.specs.Frame.{spelled}
 use Rattle.protocol_stream.specs.declared.encoder.EncodingError.{EncodingError}
@@ -11,17 +11,17 @@ use Rattle.protocol_types.specs.Version.{version_number}
 use Rattle.protocol_types.specs.declared.feature.Feature.{Feature}
 use Rattle.vm_awaits.specs.Views.{slots_of}
 use Rattle.vm_context.specs.Output.{Written}
-use Rattle.vm_feeding.specs.Passed.{MachineState}
+use Rattle.vm_machine.specs.declared.machine_state.MachineState.{MachineState}
 use Rattle.vm_refusals.specs.declared.retries.RetryPolicy.{RetryPolicy}
 use Rattle.vm_refusals.specs.declared.runs.RunExitResult.{RunExitResult}
 use Rattle.vm_refusals.specs.declared.runs.RunHandle.{RunHandle}
-use Rattle.vm_refusals.specs.Ending.{feature_lacked}
+use Rattle.vm_refusals.specs.BodyExits.{feature_lacked}
 use Rattle.vm_refusals.specs.declared.ending.BodyEnd.{BodyEnd}
 use Rattle.vm_runs.specs.declared.run.Run.{Run}
 use Rattle.vm_start.specs.Phases.{kept_error}
-use Rattle.vm_proposals.specs.Calling.{CallsRun}
-use Rattle.vm_proposals.specs.Failing.{run_told}
-use Rattle.vm_proposals.specs.Proposing.{is_processing, let_go, proposal, proposal_message, WritesProposal, SettlesProposal, LetsGo, ProposesValue, GoesOnAs, EndsKnown, open_run, EndsRun, ProposesIf, ProposesWhere, ProposesRun}
+use Rattle.vm_proposals.specs.RunCallEffects.{CallsRun}
+use Rattle.vm_proposals.specs.RunFailureCauses.{run_told}
+use Rattle.vm_proposals.specs.ProposalEffects.{is_processing, let_go, proposal, proposal_message, WritesProposal, SettlesProposal, LetsGo, ProposesValue, GoesOnAs, EndsKnown, open_run, EndsRun, ProposesIf, ProposesWhere, ProposesRun}
 use Rattle.vm_core_laws.proofs.Keeping.{Stands, moved, like_again, output_like, failed}
 use Rattle.vm_core_laws.proofs.Making.{commands_stand}
 use Rattle.vm_core_laws.proofs.Waiting.{frame_keeps}

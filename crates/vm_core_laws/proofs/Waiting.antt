@@ -19,20 +19,23 @@ use Rattle.vm_awaits.specs.declared.state.AsyncResultsState.{AsyncResultsState}
 use Rattle.vm_calls.specs.Active.{has_left, left_of}
 use Rattle.vm_calls.specs.declared.active.Active.{Active}
 use Rattle.vm_context.specs.Eager.{KnownState, told_value}
-use Rattle.vm_context.specs.Following.{KnowsState}
+use Rattle.vm_context.specs.StateKnowledge.{KnowsState}
 use Rattle.vm_context.specs.Output.{Written, with_frame}
 use Rattle.vm_context.specs.declared.eager_state.EagerGetState.{EagerGetState}
 use Rattle.vm_context.specs.declared.eager_state.EagerGetState.TheVariants as told
-use Rattle.vm_types.specs.Reads.{asked, known as known_read, after_take}
-use Rattle.vm_feeding.specs.EphemeralReading.{read_message, Registers, Sends, AsksNext, Asks, AsksWhere, Gets, GetsBehind, GetsIn, MissesIn, IsGot, TakesWhere, IsTaken}
+use Rattle.vm_types.specs.Reads.{asked, known as known_read, reads_after_take}
+use Rattle.vm_feeding.specs.EphemeralStateReads.{read_message, Registers, Sends, AsksNext, AsksRead, AsksWhere, Gets, GetsBehind, GetsIn, MissesIn, IsGot, TakesWhere, IsReadTaken}
 use Rattle.vm_feeding.specs.Refusals.{lacks_reads}
 use Rattle.vm_start.specs.Phases.{kept_error}
 use Rattle.vm_start.specs.declared.phase.Phase.TheVariants as phases
-use Rattle.vm_feeding.specs.Passed.{checks_off, is_active, IsUnexpected, MachineState}
+use Rattle.vm_machine.specs.Calls.{checks_off}
+use Rattle.vm_machine.specs.CallAdmission.{is_active}
+use Rattle.vm_machine.specs.Steps.{IsUnexpected}
+use Rattle.vm_machine.specs.declared.machine_state.MachineState.{MachineState}
 use Rattle.vm_progress.specs.Asleep.{too_deep_error, FailsUntold, SettlesStay, ClosesAs, SleepsAs, SleepsWhere}
-use Rattle.vm_progress.specs.Executing.{executes_any, is_executing_for, run_for}
-use Rattle.vm_progress.specs.Awaiting.{ready_read, GoesOnAs, IsAwaited, DoesAwaitWhere, DoesAwait}
-use Rattle.vm_progress.specs.Ending.{end_place, closed_active, ClosesEnd, EndsAt, EndsAs}
+use Rattle.vm_progress.specs.AwaitedRuns.{executes_any, is_executing_for, run_for}
+use Rattle.vm_progress.specs.AwaitEffects.{ready_read, GoesOnAs, IsAwaited, DoesAwaitWhere, DoesAwait}
+use Rattle.vm_progress.specs.EndEffects.{end_place, closed_active, ClosesEnd, EndsAt, EndsAs}
 use Rattle.vm_progress.specs.declared.asleep.Sleep.{Sleep}
 use Rattle.vm_progress.specs.declared.asleep.Sleep.TheVariants as sleeps
 use Rattle.vm_progress.specs.declared.ending.EndPlace.{EndPlace}
@@ -40,8 +43,8 @@ use Rattle.vm_progress.specs.declared.ending.EndPlace.TheVariants as places
 use Rattle.vm_types.specs.declared.answers.AwaitResponse.{AwaitResponse}
 use Rattle.vm_types.specs.declared.handles.EphemeralCompletionId.{EphemeralCompletionId}
 use Rattle.journal_model.specs.declared.options.ImplicitCancellationOption.{ImplicitCancellationOption}
-use Rattle.vm_waiting.specs.Suspending.{TellsIf, tells_awaiting}
-use Rattle.vm_waiting.specs.Awaiting.{is_cancelled_in, after_cancellation, LooksAlone, CancelsAll, Cancels, PassesOnBy, PassesOn, WakesBy, GoesOnBy, ComesTo}
+use Rattle.vm_waiting.specs.SuspensionFrames.{TellsIf, tells_awaiting}
+use Rattle.vm_waiting.specs.AwaitSteps.{is_cancelled_in, after_cancellation, LooksAlone, CancelsAll, Cancels, PassesOnBy, PassesOn, WakesBy, GoesOnBy, AwaitComesTo}
 use Rattle.vm_waiting.specs.WaitsFor.{awaited_ids, waits_for_any}
 use Rattle.vm_waiting.specs.declared.awaiting.Awaited.{Awaited}
 use Rattle.vm_waiting.specs.declared.awaiting.Awaited.TheVariants as awaits
@@ -176,7 +179,7 @@ module _ (delivery : SignalDelivery) (ignoring : Bool) (awaited : Awaited) where
   answered_by resolved.AnyCompleted cancellation old new goes keeps = wakes_by (is_cancelled_in cancellation (results_of old.results)) old new goes keeps
   answered_by (resolved.WaitExternalInput left) cancellation old new goes keeps = on_same delivery old new goes.1 keeps
 
-  comes_on : (cancellation : ImplicitCancellationOption) (tree : AwaitTree ℕ) (old new : Active) → ComesTo cancellation ignoring tree old (Ok awaited) new → KeepsOn delivery old → KeepsOn delivery new
+  comes_on : (cancellation : ImplicitCancellationOption) (tree : AwaitTree ℕ) (old new : Active) → AwaitComesTo cancellation ignoring tree old (Ok awaited) new → KeepsOn delivery old → KeepsOn delivery new
   comes_on cancellation tree old new (inl comes) keeps =
       answered_by comes.answer cancellation comes.looked new comes.goes_on (on_looked delivery old comes.looked comes.others comes.resolves.delivery keeps)
   comes_on cancellation tree old new (inr out) keeps = absurd (let wrong : Ok awaited ≡ Err unawaited.OutOfMemory = out.0 in cc)
@@ -200,7 +203,7 @@ unawaited_as unawaited.OutOfMemory between (Err told) new goes_on = failed goes_
 
 come_to : (tree : AwaitTree ℕ) (old : MachineState) → is_active old.phase ≡ true → (made : Result Awaited AwaitError) (between : MachineState) (result : Result AwaitResponse Error) (new : MachineState)
     → between ≡ record old { active = between.active }
-    → ComesTo old.options.implicit_cancellation (checks_off old.options.non_determinism_checks) tree old.active made between.active → GoesOnAs made between result new
+    → AwaitComesTo old.options.implicit_cancellation (checks_off old.options.non_determinism_checks) tree old.active made between.active → GoesOnAs made between result new
     → Stands old → Stands new
 come_to tree old calls (Err error) between result new others comes goes_on stands = unawaited_as error between result new goes_on
 come_to tree old calls (Ok awaited) between result new others comes goes_on stands =
@@ -258,7 +261,7 @@ sends_stand id key old (Err told) new is stands = failed is.cause old told new i
 asks_next : (key : Text) (old : MachineState) (result : Result EphemeralCompletionId Error) (new : MachineState) → AsksNext key old result new → Stands old → Stands new
 asks_next key old result new is stands = sends_stand is.id key (record old { reads = asked old.reads }) result new is.sends stands
 
-asks_stand : (key : Text) (old : MachineState) (result : Result EphemeralCompletionId Error) (new : MachineState) → Asks key old result new → Stands old → Stands new
+asks_stand : (key : Text) (old : MachineState) (result : Result EphemeralCompletionId Error) (new : MachineState) → AsksRead key old result new → Stands old → Stands new
 asks_stand key old (Ok id) new is stands = asks_next key old (Ok id) new is stands
 asks_stand key old (Err told) new (inl is) stands = asks_next key old (Err told) new is stands
 asks_stand key old (Err told) new (inr is) stands = failed is.cause old told new is.fails
@@ -296,11 +299,11 @@ gets_ephemeral key old result new steps stands =
 
 takes_where : (replaying : Bool) (id : EphemeralCompletionId) (old : MachineState) (result : Result (Option Value) Error) (new : MachineState) → TakesWhere replaying id old result new → Stands old
     → Stands new
-takes_where false id old result new is stands = moved (record old { reads = after_take id.number old.reads }) new is.1 stands
+takes_where false id old result new is stands = moved (record old { reads = reads_after_take id.number old.reads }) new is.1 stands
 takes_where true id old (Ok taken) new is stands = absurd is
 takes_where true id old (Err told) new is stands = failed is.cause old told new is.fails
 
-pub takes_ephemeral : (id : EphemeralCompletionId) (old : MachineState) (result : Result (Option Value) Error) (new : MachineState) → IsTaken id old result new → Stands old → Stands new
+pub takes_ephemeral : (id : EphemeralCompletionId) (old : MachineState) (result : Result (Option Value) Error) (new : MachineState) → IsReadTaken id old result new → Stands old → Stands new
 takes_ephemeral id old result new steps stands =
     steps_stand (λ (vm : MachineState). TakesWhere vm.active.is_replaying id vm) (IsUnexpected (codes "TakeEphemeralNotification")) old new stands
     (λ result calls is. takes_where old.active.is_replaying id old result new is stands) (λ told is. failed is.cause old told new is.fails) None result steps

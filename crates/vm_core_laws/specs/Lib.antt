@@ -1,2 +1,2 @@
-pub mod Hosting
-pub mod Standing
+pub mod HostCalls
+pub mod CallPreconditions

@@ -4,7 +4,7 @@
 //! left, of which the clauses `spent` speak. In its other phases the clauses about an abstract machine ask nothing.
 #![tactic(auto)]
 
-ghost use Rattle.vm_core_laws.specs.Standing.{CallsSpeak};
+ghost use Rattle.vm_core_laws.specs.CallPreconditions.{CallsSpeak};
 
 /// Whichever calls a machine was asked since it was made, replayed or not, the contract of each further one speaks of it.
 pub fn calls_speak()

@@ -9,8 +9,8 @@ use Rattle.protocol_stream.specs.declared.decoder.RawMessage.{RawMessage}
 use Rattle.protocol_wire.proofs.Extends.{Extends}
 use Rattle.vm_feeding.proofs.Keeping.{fails_keeps, takes_keeps, takes_over, has_failed_over, has_failed_then}
 use Rattle.vm_feeding.specs.Cuts.{TakesInTwo, CutsAreOne, OneIsCuts}
-use Rattle.vm_feeding.specs.Feeding.{has_failed, with_bytes, with_input, IsUnread, TakesNext, TakesEach, StopsAt, Stops, Rests, RestsWhere, TakesAll}
-use Rattle.vm_machine.specs.Receiving.{Takes}
+use Rattle.vm_feeding.specs.InputBytes.{has_failed, with_bytes, with_input, IsUnread, TakesNext, TakesEach, StopsAt, Stops, Rests, RestsWhere, TakesAll}
+use Rattle.vm_machine.specs.MessageReceipt.{TakesMessage}
 use Rattle.vm_machine.specs.declared.machine_state.MachineState.{MachineState}
 
 -- ---- more bytes behind
@@ -27,7 +27,7 @@ module _ (more : List ℕ) where
     well = h.well;
     rest = h.rest ++ more;
     consumes = extended more old.decoder h.rest (message one) h.consumes;
-    takes = subst (λ (bytes : List ℕ). Takes one (with_bytes (h.rest ++ more) old) (with_bytes (bytes ++ more) new)) (sym (takes_keeps one (with_bytes h.rest old) new h.takes))
+    takes = subst (λ (bytes : List ℕ). TakesMessage one (with_bytes (h.rest ++ more) old) (with_bytes (bytes ++ more) new)) (sym (takes_keeps one (with_bytes h.rest old) new h.takes))
         (takes_over (h.rest ++ more) one (with_bytes h.rest old) new h.takes);
   }
 

@@ -4,7 +4,7 @@ use Rattle.journal_model.specs.declared.handler.Input.{Input}
 use Rattle.protocol_errors.specs.declared.error.Error.{Error}
 use Rattle.vm_calls.specs.declared.active.Active.{Active}
 use Rattle.vm_machine.specs.declared.machine_state.MachineState.{MachineState}
-use Rattle.vm_feeding.specs.Reading.{ReadsAs, AnswersReading, ReadsInputs}
+use Rattle.vm_feeding.specs.InputAnswer.{ReadsAs, AnswersReading, ReadsInputs}
 use Rattle.vm_feeding.specs.declared.reading.Reading.{Reading}
 
 pub made : (old : MachineState) (active : Active) (reading : Reading) (result : Result Input Error) (new : MachineState)

@@ -4,18 +4,18 @@ use Rattle.std.specs.declared.alloc.AllocError.{AllocError}
 use Rattle.protocol_errors.specs.declared.error.Error.{Error}
 use Rattle.protocol_stream.specs.declared.decoder.RawMessage.{RawMessage}
 use Rattle.protocol_stream.specs.Header.{message_type}
-use Rattle.vm_start.specs.Failing.{FailsAs}
+use Rattle.vm_start.specs.FailureReport.{FailsAs}
 use Rattle.vm_start.specs.Phases.{kept_error}
 use Rattle.vm_start.specs.declared.phase.Phase.{Phase}
 use Rattle.vm_start.specs.declared.phase.Phase.TheVariants as phases
-use Rattle.vm_feeding.specs.Failing.{HasFailed}
-use Rattle.vm_feeding.specs.Feeding.{has_failed, with_bytes}
-use Rattle.vm_machine.specs.Failing.{MachineFails}
-use Rattle.vm_machine.specs.Incoming.{incoming_of}
+use Rattle.vm_feeding.specs.UnansweredFailure.{HasFailed}
+use Rattle.vm_feeding.specs.InputBytes.{has_failed, with_bytes}
+use Rattle.vm_machine.specs.MachineFailure.{MachineFails}
+use Rattle.vm_machine.specs.MessageKinds.{incoming_of}
 use Rattle.vm_machine.specs.declared.entry_error.EntryError.{EntryError}
 use Rattle.vm_machine.specs.declared.incoming.Incoming.TheVariants as incoming
 use Rattle.vm_machine.specs.declared.incoming.Incoming.{Incoming}
-use Rattle.vm_machine.specs.Receiving.{Receives, Takes, TakesAs}
+use Rattle.vm_machine.specs.MessageReceipt.{Receives, TakesMessage, TakesAs}
 use Rattle.vm_machine.specs.declared.machine_state.MachineState.{MachineState}
 
 -- ---- the bytes that were not read stay
@@ -37,7 +37,7 @@ taken_keeps : (between : MachineState) (result : Result (Unit {0}) EntryError) (
 taken_keeps between (Ok done) new h = ap (λ (vm : MachineState). vm.decoder) h
 taken_keeps between (Err error) new h = fails_keeps h.cause between h.answer new h.fails
 
-pub takes_keeps : (message : RawMessage) (old new : MachineState) → Takes message old new → new.decoder ≡ old.decoder
+pub takes_keeps : (message : RawMessage) (old new : MachineState) → TakesMessage message old new → new.decoder ≡ old.decoder
 takes_keeps message old new h =
     taken_keeps h.between h.received new h.takes ∙ receives_keeps message (incoming_of (message_type message.header)) old h.received h.between h.receives
 
@@ -63,7 +63,7 @@ module _ (bytes : List ℕ) where
   taken_over between (Ok done) new h = ap (with_bytes bytes) h
   taken_over between (Err error) new h = record { cause = h.cause; causes = h.causes; answer = h.answer; fails = fails_over h.cause between h.answer new h.fails }
 
-  pub takes_over : (message : RawMessage) (old new : MachineState) → Takes message old new → Takes message (with_bytes bytes old) (with_bytes bytes new)
+  pub takes_over : (message : RawMessage) (old new : MachineState) → TakesMessage message old new → TakesMessage message (with_bytes bytes old) (with_bytes bytes new)
   takes_over message old new h = record {
     received = h.received;
     between = with_bytes bytes h.between;

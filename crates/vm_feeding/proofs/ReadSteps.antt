@@ -15,10 +15,10 @@ use Rattle.vm_context.specs.declared.eager_state.EagerGetState.TheVariants as to
 use Rattle.vm_types.specs.Reads.{EphemeralReads, known, asked}
 use Rattle.vm_types.specs.declared.commands.RegisterError.{RegisterError}
 use Rattle.vm_types.specs.declared.commands.RegisterError.TheVariants as unregistered
-use Rattle.vm_machine.specs.Failing.{MachineFails}
+use Rattle.vm_machine.specs.MachineFailure.{MachineFails}
 use Rattle.vm_machine.specs.declared.machine_state.MachineState.{MachineState}
 use Rattle.vm_types.specs.declared.handles.EphemeralCompletionId.{EphemeralCompletionId}
-use Rattle.vm_feeding.specs.EphemeralReading.{read_message, IsTooLong, RegisterCauses, SendCauses, LacksNumber, Registers, Sends, AsksNext, Asks, Gets}
+use Rattle.vm_feeding.specs.EphemeralStateReads.{read_message, IsReadTooLong, RegisterCauses, SendCauses, LacksNumber, Registers, Sends, AsksNext, AsksRead, Gets}
 
 -- ---- numbers
 
@@ -49,12 +49,12 @@ abbrev TellsLong : Result (Unit {0}) EncodingError → (long : Type 0) → Type 
 TellsLong written long = (written ≡ Err unsent.PayloadTooLong) ↔ long
 
 module _ (id : EphemeralCompletionId) (key : Text) (old : MachineState) where
-  pub sent : (output : Written) → TellsLong (Ok tt) (IsTooLong id.number key old.active.output) → output ≡ with_frame (spelled (read_message old.active.output.version id.number key)) old.active.output
+  pub sent : (output : Written) → TellsLong (Ok tt) (IsReadTooLong id.number key old.active.output) → output ≡ with_frame (spelled (read_message old.active.output.version id.number key)) old.active.output
       → Sends id key old (Ok id) (record old { active = record old.active { output = output } })
   sent output long is = ((λ wrong. cc (long.1 wrong)), refl, ap (λ (output : Written). record old { active = record old.active { output = output } }) is)
 
   pub unsent_for : (error : EncodingError) (cause : Result Error AllocError) (between : MachineState) (answer : Error) (new : MachineState) → between ≡ old
-      → TellsLong (Err error) (IsTooLong id.number key old.active.output) → SendCauses error cause → MachineFails cause between answer new → Sends id key old (Err answer) new
+      → TellsLong (Err error) (IsReadTooLong id.number key old.active.output) → SendCauses error cause → MachineFails cause between answer new → Sends id key old (Err answer) new
   unsent_for unsent.PayloadTooLong (Ok told) between answer new same long causes fails = record { cause = Ok told; causes = (long.0 refl, causes); fails = subst (λ (vm : MachineState). MachineFails (Ok told) vm answer new) same fails }
   unsent_for unsent.PayloadTooLong (Err refused) between answer new same long causes fails = record { cause = Err refused; causes = tt; fails = subst (λ (vm : MachineState). MachineFails (Err refused) vm answer new) same fails }
   unsent_for unsent.OutOfMemory (Ok told) between answer new same long causes fails = absurd causes
@@ -64,14 +64,14 @@ module _ (id : EphemeralCompletionId) (key : Text) (old : MachineState) where
 
 pub asks : (key : Text) (old : MachineState) (id : EphemeralCompletionId) (reads : EphemeralReads) (result : Result EphemeralCompletionId Error) (new : MachineState)
     → IsExhausted (Ok id) old.reads.next → id.number ≡ old.reads.next → reads ≡ asked old.reads
-    → Sends id key (record old { reads = reads }) result new → Asks key old result new
+    → Sends id key (record old { reads = reads }) result new → AsksRead key old result new
 asks key old id reads result new exhausted next is sends = as_asked result (record {
   left = left_over old.reads.next id exhausted;
   id = id;
   next = next;
   sends = subst (λ (reads : EphemeralReads). Sends id key (record old { reads = reads }) result new) is sends;
 }) where
-  as_asked : (result : Result EphemeralCompletionId Error) → AsksNext key old result new → Asks key old result new
+  as_asked : (result : Result EphemeralCompletionId Error) → AsksNext key old result new → AsksRead key old result new
   as_asked (Ok id) h = h
   as_asked (Err answer) h = inl h
 

@@ -7,9 +7,9 @@ use Rattle.vm_types.specs.declared.options.JournalReplay.{JournalReplay}
 use Rattle.vm_types.specs.declared.options.JournalReplay.TheVariants.{Enabled, Disabled}
 use Rattle.vm_calls.specs.declared.active.Active.{Active}
 use Rattle.vm_calls.specs.declared.call_error.NumberError.{NumberError}
-use Rattle.vm_machine.specs.PassedMachine.{NumberCauses}
+use Rattle.vm_machine.specs.Causes.{NumberCauses}
 use Rattle.vm_machine.specs.declared.machine_state.MachineState.{MachineState}
-use Rattle.vm_feeding.specs.Calling.{AnswersBy}
+use Rattle.vm_feeding.specs.CommandlessCalls.{AnswersBy}
 use Rattle.vm_feeding.specs.Handles.{id_of, MakesAwakeable, IsAwakeableWhere, IsNamed}
 
 answered_text : (id : Bytes) (old : MachineState) (made : Result AwakeableHandle NumberError) (active : Active) (result : Result AwakeableHandle Error) (new : MachineState)

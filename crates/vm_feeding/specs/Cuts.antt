@@ -1,6 +1,6 @@
 -- Bytes in two cuts lead to what they lead to as a whole.
 use Rattle.std.specs.Prelude.{ℕ, List, ◌++◌}
-use Rattle.vm_feeding.specs.Feeding.{with_input, TakesAll}
+use Rattle.vm_feeding.specs.InputBytes.{with_input, TakesAll}
 use Rattle.vm_machine.specs.declared.machine_state.MachineState.{MachineState}
 
 -- the first of two cuts leads to a machine, and the second from there

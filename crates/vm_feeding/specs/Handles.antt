@@ -16,7 +16,7 @@ use Rattle.vm_types.specs.declared.handles.AwakeableHandle.{AwakeableHandle}
 use Rattle.vm_types.specs.declared.options.JournalReplay.{JournalReplay}
 use Rattle.vm_types.specs.declared.options.JournalReplay.TheVariants.{Enabled, Disabled}
 use Rattle.vm_awaits.specs.Views.{results_of, slots_of, ready_of}
-use Rattle.vm_awaits.specs.Calls.{after_take}
+use Rattle.vm_awaits.specs.Calls.{results_after_take}
 use Rattle.vm_commands.specs.HeaderEquality.{same_header}
 use Rattle.vm_calls.specs.Active.{Sees, TellsSame}
 use Rattle.vm_calls.specs.Handles.{LacksHandle, LacksSignal, GivesSignal, GivesAwakeable, MakesHandle}
@@ -24,15 +24,15 @@ use Rattle.vm_calls.specs.declared.active.Active.{Active}
 use Rattle.vm_calls.specs.declared.call_error.NumberError.{NumberError}
 use Rattle.vm_start.specs.declared.phase.Phase.{Phase}
 use Rattle.vm_start.specs.declared.phase.Phase.TheVariants as phases
-use Rattle.vm_waiting.specs.Tracking.{child_of_id}
-use Rattle.vm_waiting.specs.Waiting.{IsTaken, KeepsTaken, Takes}
+use Rattle.vm_waiting.specs.TrackedChildren.{child_of_id}
+use Rattle.vm_waiting.specs.TakeEffects.{IsResultTaken, KeepsTaken, TakesResult}
 use Rattle.vm_waiting.specs.declared.taking.TakeError.{TakeError}
 use Rattle.vm_waiting.specs.declared.taking.TakeError.TheVariants.{KeyNotText, ChildNotId, OutOfMemory}
-use Rattle.vm_machine.specs.Failing.{MachineFails}
-use Rattle.vm_machine.specs.PassedMachine.{NumberCauses, child_not_id_error}
+use Rattle.vm_machine.specs.MachineFailure.{MachineFails}
+use Rattle.vm_machine.specs.Causes.{NumberCauses, child_not_id_error}
 use Rattle.vm_machine.specs.Steps.{IsMissed}
 use Rattle.vm_machine.specs.declared.machine_state.MachineState.{MachineState}
-use Rattle.vm_feeding.specs.Calling.{IsCalled}
+use Rattle.vm_feeding.specs.CommandlessCalls.{IsCalled}
 pub use Rattle.vm_start.specs.Starts.{started_id as id_of}
 
 -- ---- signals
@@ -85,10 +85,10 @@ IsNoAwakeable old answer new = IsNoAwakeableWhere old.options.journal_replay old
 
 -- As the abstract machine takes it, which was seen before; and in each attempt what has come first is taken, and is gone then, also
 -- where it is not handed out.
-pub record TakesFirst (handle : ℕ) (old : Active) (made : Result (Option Value) TakeError) (new : Active) : Type 0 where
-  pub taken : (given : Invocation) (m : Machine) (checks_off : Bool) → Sees given old m → Takes checks_off given m handle made new
-  pub value : IsTaken (is_some (child_of_id (slot_of (slots_of old.results) handle) old.children)) (waiting_for (slots_of old.results) (ready_of old.results) handle) made
-  pub rest : results_of new.results ≡ after_take handle (waiting_for (slots_of old.results) (ready_of old.results) handle) (results_of old.results)
+pub record TakesFirstResult (handle : ℕ) (old : Active) (made : Result (Option Value) TakeError) (new : Active) : Type 0 where
+  pub taken : (given : Invocation) (m : Machine) (checks_off : Bool) → Sees given old m → TakesResult checks_off given m handle made new
+  pub value : IsResultTaken (is_some (child_of_id (slot_of (slots_of old.results) handle) old.children)) (waiting_for (slots_of old.results) (ready_of old.results) handle) made
+  pub rest : results_of new.results ≡ results_after_take handle (waiting_for (slots_of old.results) (ready_of old.results) handle) (results_of old.results)
   -- the invocation id of a child is remembered
   pub children : KeepsTaken (child_of_id (slot_of (slots_of old.results) handle) old.children) old.children made new.children
   pub others : new ≡ record old { results = new.results; children = new.children }
@@ -108,6 +108,6 @@ pub record LooksAt (active : Active) (handle : ℕ) (completed : Bool) : Type 0 
       → reply_to (same_header checks_off) given m (Call.IsCompleted handle) ≡ Answered (Answer.Completed completed) m
 
 -- elsewhere nothing is completed
-abbrev pub Looks : Phase → Active → (handle : ℕ) → Bool → Type 0
-Looks phases.Active active handle completed = LooksAt active handle completed
-Looks _ active handle completed = completed ≡ false
+abbrev pub LooksAtHandle : Phase → Active → (handle : ℕ) → Bool → Type 0
+LooksAtHandle phases.Active active handle completed = LooksAt active handle completed
+LooksAtHandle _ active handle completed = completed ≡ false

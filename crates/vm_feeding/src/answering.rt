@@ -1,6 +1,6 @@
 // What a machine answers of a call that makes a handle and puts no command.
-ghost use Rattle.vm_machine.specs.PassedMachine.{NumberCauses};
-ghost use Rattle.vm_feeding.specs.Calling.{AnswersBy};
+ghost use Rattle.vm_machine.specs.Causes.{NumberCauses};
+ghost use Rattle.vm_feeding.specs.CommandlessCalls.{AnswersBy};
 
 use protocol_errors::Error;
 use vm_calls::NumberError;

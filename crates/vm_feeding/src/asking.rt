@@ -1,6 +1,6 @@
 // What is asked of a machine.
 ghost use Rattle.std.specs.Prelude.{◌≡◌, ◌-ℤ◌, pos};
-ghost use Rattle.vm_feeding.specs.Asking.{active_state, state_of, IsReady, TakesOutput};
+ghost use Rattle.vm_feeding.specs.MachineQueries.{active_state, state_of_phase, TellsReady, TakesOutput};
 
 use bytes::{ByteStr, Bytes};
 use protocol_errors::Error;
@@ -22,7 +22,7 @@ fn active_state(is_replaying: bool) -> State
 
 // How far one has come in this phase.
 fn state_of(phase: &Phase, is_replaying: bool) -> State
-    ensures { result ≡ state_of phase.now is_replaying }
+    ensures { result ≡ state_of_phase phase.now is_replaying }
 {
     match phase {
         Phase::WaitingStart | Phase::WaitingReplayEntries { .. } => State::WaitingPreFlight,
@@ -33,7 +33,7 @@ fn state_of(phase: &Phase, is_replaying: bool) -> State
 
 /// How far the machine has come; one that has failed is closed.
 pub fn state(vm: &MachineState) -> State
-    ensures { result ≡ state_of vm.now.phase vm.now.active.is_replaying }
+    ensures { result ≡ state_of_phase vm.now.phase vm.now.active.is_replaying }
 {
     state_of(&vm.phase, vm.active.is_replaying)
 }
@@ -47,7 +47,7 @@ pub fn last_command_index(vm: &MachineState) -> i64
 
 // Whether calls are made in this phase, or why none are any more.
 fn is_ready(alloc: Global, phase: &Phase) -> Result<bool, Error>
-    ensures { IsReady phase.now result }
+    ensures { TellsReady phase.now result }
 {
     match phase {
         Phase::WaitingStart | Phase::WaitingReplayEntries { .. } => Ok(false),
@@ -63,7 +63,7 @@ fn is_ready(alloc: Global, phase: &Phase) -> Result<bool, Error>
 /// Whether calls are made of the machine: its start and the entries that it announced have come. Behind the end, and where it has
 /// failed, the answer is why none are any more; the machine stays in any case.
 pub fn is_ready_to_execute(vm: &MachineState) -> Result<bool, Error>
-    ensures { IsReady vm.now.phase result }
+    ensures { TellsReady vm.now.phase result }
 {
     is_ready(vm.alloc, &vm.phase)
 }

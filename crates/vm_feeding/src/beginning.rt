@@ -1,7 +1,7 @@
 // A machine is made of a request.
 ghost use Rattle.std.specs.Prelude.{◌≡◌, IfOk, IfErr};
-ghost use Rattle.vm_feeding.specs.Beginning.{RefusalCauses, Refuses, IsMade, Begins, head_of};
-ghost use Rattle.vm_start.specs.Failing.{out_of_memory};
+ghost use Rattle.vm_feeding.specs.NewMachine.{RefusalCauses, Refuses, IsMachineMade, BeginsMachine, head_of};
+ghost use Rattle.vm_start.specs.FailureReport.{out_of_memory};
 ghost use Rattle.vm_start.specs.Negotiation.{content_type};
 
 use protocol_errors::{Error, MISSING_CONTENT_TYPE};
@@ -42,7 +42,7 @@ fn refuse<E: fmt::Debug + Drop>(alloc: Global, refused: NegotiationError<E>) -> 
 
 // The machine, before anything has come.
 fn make(alloc: Global, version: Version, options: VMOptions) -> Result<MachineState, Error>
-    ensures { IsMade version options result }
+    ensures { IsMachineMade version options result }
 {
     match fresh_active(alloc, version, options.signal_delivery) {
         Err(_) => Err(out_of_memory()),
@@ -69,7 +69,7 @@ pub fn begin<H: HeaderMap>(
 ) -> Result<MachineState, Error>
 where
     H::Error: Drop,
-    ensures { Begins H.Error (H.fails request_headers.now content_type) (H.text_of request_headers.now content_type) options result }
+    ensures { BeginsMachine H.Error (H.fails request_headers.now content_type) (H.text_of request_headers.now content_type) options result }
 {
     match negotiate(alloc, request_headers) {
         Ok(version) => make(alloc, version, options),

@@ -1,6 +1,6 @@
 // No more input comes.
 ghost use Rattle.std.specs.Prelude.{◌≡◌};
-ghost use Rattle.vm_feeding.specs.Closing.{is_waiting, ClosesInput};
+ghost use Rattle.vm_feeding.specs.EndOfInput.{is_waiting, ClosesInput};
 
 use crate::failing::let_fail;
 use protocol_errors::INPUT_CLOSED_WHILE_WAITING_ENTRIES;

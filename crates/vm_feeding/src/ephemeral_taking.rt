@@ -1,6 +1,6 @@
 // The answer of an ephemeral read is taken.
 ghost use Rattle.std.specs.Prelude.{◌≡◌};
-ghost use Rattle.vm_feeding.specs.EphemeralReading.{TakesWhere, IsTaken};
+ghost use Rattle.vm_feeding.specs.EphemeralStateReads.{TakesWhere, IsReadTaken};
 
 use journal_model::Value;
 use protocol_errors::Error;
@@ -25,7 +25,7 @@ pub fn take_ephemeral_notification(
     vm: &mut MachineState,
     id: EphemeralCompletionId,
 ) -> Result<Option<Value>, Error>
-    ensures { IsTaken id vm.old result vm.new }
+    ensures { IsReadTaken id vm.old result vm.new }
 {
     match vm.admit(None) {
         Admission::Admitted => take(vm, id),

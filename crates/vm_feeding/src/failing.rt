@@ -1,5 +1,5 @@
 // A machine fails, and nobody is answered.
-ghost use Rattle.vm_feeding.specs.Failing.{HasFailed};
+ghost use Rattle.vm_feeding.specs.UnansweredFailure.{HasFailed};
 
 use protocol_errors::Error;
 use std::alloc::AllocError;

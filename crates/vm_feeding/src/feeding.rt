@@ -1,6 +1,6 @@
 // Bytes come, in any cut.
 ghost use Rattle.std.specs.Prelude.{◌≡◌};
-ghost use Rattle.vm_feeding.specs.Feeding.{has_failed, lacks_memory, DecodingCauses, IsUnread, LooksForNext, TakesAll, IsFed};
+ghost use Rattle.vm_feeding.specs.InputBytes.{has_failed, lacks_memory, DecodingCauses, IsUnread, LooksForNext, TakesAll, IsFed};
 
 use crate::failing::let_fail;
 use bytes::Bytes;

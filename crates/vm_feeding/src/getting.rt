@@ -3,7 +3,7 @@ ghost use Rattle.std.specs.Prelude.{◌≡◌, ◌≤◌, ◌^◌, codes, Err};
 ghost use Rattle.vm_context.specs.Eager.{told_value};
 ghost use Rattle.vm_machine.specs.Steps.{IsMissed};
 ghost use Rattle.vm_feeding.specs.Refusals.{lacks_reads};
-ghost use Rattle.vm_feeding.specs.EphemeralReading.{Refuses, AsksWhere, Gets, IsReplayed, GetsIn, MissesIn, IsGot};
+ghost use Rattle.vm_feeding.specs.EphemeralStateReads.{Refuses, AsksWhere, Gets, IsReplayed, GetsIn, MissesIn, IsGot};
 
 use crate::refusal::{ReadRefusal, lacks_reads};
 use crate::registering::{ask, register};

@@ -1,6 +1,6 @@
 // The input is read.
 ghost use Rattle.std.specs.Prelude.{◌≡◌, None};
-ghost use Rattle.vm_feeding.specs.Reading.{IsRead, Gives, ReadsAs, ReadsInputs};
+ghost use Rattle.vm_feeding.specs.InputAnswer.{IsRead, Gives, ReadsAs, ReadsInputs};
 
 use crate::input_of;
 use bytes::ByteStr;

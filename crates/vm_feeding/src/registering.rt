@@ -4,7 +4,7 @@ ghost use Rattle.journal_model.specs.declared.value.Value.{Value as Values};
 ghost use Rattle.protocol_stream.specs.Frame.{spelled};
 ghost use Rattle.protocol_stream.specs.declared.encoder.EncodingError.TheVariants.{PayloadTooLong};
 ghost use Rattle.vm_context.specs.Output.{with_frame};
-ghost use Rattle.vm_feeding.specs.EphemeralReading.{IsTooLong, read_message, RegisterCauses, SendCauses, Registers, Sends, Asks};
+ghost use Rattle.vm_feeding.specs.EphemeralStateReads.{IsReadTooLong, read_message, RegisterCauses, SendCauses, Registers, Sends, AsksRead};
 
 use bytes::ByteStr;
 use journal_model::Value;
@@ -58,7 +58,7 @@ fn write_read(
 ) -> Result<(), EncodingError>
     ensures ok { OnOk result (output.new ≡ with_frame (spelled (read_message output.old.version number key)) output.old) }
     ensures err { OnErr result (output.new ≡ output.old) }
-    ensures too_long { IsErrOf result PayloadTooLong ↔ IsTooLong number key output.old }
+    ensures too_long { IsErrOf result PayloadTooLong ↔ IsReadTooLong number key output.old }
 {
     let message = GetStateEphemeralCommandMessage {
         ephemeral_completion_id: number,
@@ -88,7 +88,7 @@ fn send(
 
 /// A read that the runtime is asked for.
 pub(crate) fn ask(vm: &mut MachineState, key: ByteStr) -> Result<EphemeralCompletionId, Error>
-    ensures { Asks key vm.old result vm.new }
+    ensures { AsksRead key vm.old result vm.new }
 {
     match vm.reads.register_in_flight() {
         Ok(id) => send(vm, id, key),

@@ -1,8 +1,8 @@
 // The handle of a signal, of a machine in any phase.
 ghost use Rattle.std.specs.Prelude.{None};
-ghost use Rattle.vm_machine.specs.PassedMachine.{NumberCauses};
+ghost use Rattle.vm_machine.specs.Causes.{NumberCauses};
 ghost use Rattle.vm_machine.specs.Steps.{Steps};
-ghost use Rattle.vm_feeding.specs.Calling.{IsCalled};
+ghost use Rattle.vm_feeding.specs.CommandlessCalls.{IsCalled};
 ghost use Rattle.vm_feeding.specs.Handles.{MakesSignal, IsNoSignal};
 
 use crate::answering::answer;

@@ -1,8 +1,8 @@
 // A take, of a machine in any phase.
 ghost use Rattle.std.specs.Prelude.{codes, None};
 ghost use Rattle.vm_machine.specs.Steps.{IsUnexpected, Steps};
-ghost use Rattle.vm_feeding.specs.Calling.{IsCalled};
-ghost use Rattle.vm_feeding.specs.Handles.{TakesFirst, TakeCauses};
+ghost use Rattle.vm_feeding.specs.CommandlessCalls.{IsCalled};
+ghost use Rattle.vm_feeding.specs.Handles.{TakesFirstResult, TakeCauses};
 
 use bytes::ByteStr;
 use journal_model::{NotificationHandle, Value};
@@ -27,7 +27,7 @@ fn take_cause(error: TakeError) -> Result<Error, AllocError>
 
 // Makes the call, where calls are made.
 fn make_take(vm: &mut MachineState, handle: NotificationHandle) -> Result<Option<Value>, Error>
-    ensures { IsCalled (TakesFirst handle) TakeCauses vm.old result vm.new }
+    ensures { IsCalled (TakesFirstResult handle) TakeCauses vm.old result vm.new }
 {
     match take(&mut vm.active, vm.alloc, handle) {
         Ok(taken) => Ok(taken),
@@ -42,7 +42,7 @@ pub fn take_notification(
     vm: &mut MachineState,
     handle: NotificationHandle,
 ) -> Result<Option<Value>, Error>
-    ensures { Steps (IsCalled (TakesFirst handle) TakeCauses) (IsUnexpected (codes "TakeNotification")) None vm.old result vm.new }
+    ensures { Steps (IsCalled (TakesFirstResult handle) TakeCauses) (IsUnexpected (codes "TakeNotification")) None vm.old result vm.new }
 {
     match vm.admit(None) {
         Admission::Admitted => make_take(vm, handle),

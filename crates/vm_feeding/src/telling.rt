@@ -1,6 +1,6 @@
 // An error of the host.
 ghost use Rattle.std.specs.Prelude.{◌≡◌};
-ghost use Rattle.vm_feeding.specs.Telling.{lacks_behavior, HostCauses, RelatedCauses, IsTold};
+ghost use Rattle.vm_feeding.specs.HostErrors.{lacks_behavior, HostCauses, RelatedCauses, IsErrorTold};
 
 use crate::failing::let_fail;
 use protocol_differences::CommandRelationship;
@@ -65,7 +65,7 @@ fn host_cause(
 /// The host has come upon an error, about the command that is named, if one is: the machine fails with it. Where the error has a
 /// behaviour that the version cannot tell, the machine fails with that in place of it.
 pub fn notify_error(vm: &mut MachineState, error: Error, relationship: Option<CommandRelationship>)
-    ensures { IsTold error relationship vm.old vm.new }
+    ensures { IsErrorTold error relationship vm.old vm.new }
 {
     let cause = host_cause(
         vm.alloc,

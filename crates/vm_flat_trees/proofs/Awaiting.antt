@@ -3,13 +3,13 @@ use Rattle.std.proofs.Common.{◌≡◌, refl, sym, ap, ap₂, ◌∙◌, ℕ, �
 use Rattle.std.proofs.Math.Path.{fun_ext}
 use Rattle.journal_model.specs.declared.notification.NotificationId.{NotificationId}
 use Rattle.journal_model.specs.AwaitTree.{AwaitState, Pending, Succeeded, Failed, AwaitTree, Single, Combined, AwaitTrees, no_trees, and_trees, is_awake, is_completed, map_leaves, map_leaves_of_trees}
-use Rattle.journal_model.specs.Waiting.{pruned, earlier_or_later}
+use Rattle.journal_model.specs.PrunedTrees.{pruned, earlier_or_later}
 use Rattle.attempt_model.specs.Results.{Slots}
 use Rattle.attempt_laws.proofs.Waking.{awake-map, pruned-map}
 use Rattle.vm_flat_trees.specs.declared.node.FlatNode.{FlatNode}
 use Rattle.vm_flat_trees.specs.Awaited.{handle_in, state_in, awaited, has_woken, leaf_over, awaited_over, heard, delivered, ways_for, still_waits, leaf_read, first_read, awaited_in}
-use Rattle.vm_flat_trees.specs.Bringing.{is_for, waits_for}
-use Rattle.vm_flat_trees.specs.Delivering.{brought, sites, all_sites, total, depth_at, ways_of}
+use Rattle.vm_flat_trees.specs.NotificationRecipients.{is_for, waits_for}
+use Rattle.vm_flat_trees.specs.NotificationDelivery.{brought, sites, all_sites, total, depth_at, ways_of}
 use Rattle.vm_flat_trees.specs.Flat.{size_of, sizes_of, flat_of, read_back}
 use Rattle.vm_flat_trees.proofs.Keeping.{awake-later}
 use Rattle.vm_flat_trees.proofs.Reading.{read-flat, same-leaves}

@@ -6,9 +6,9 @@ use Rattle.journal_model.specs.AwaitTree.{AwaitState, AwaitTree, AwaitTrees, Sin
 use Rattle.vm_flat_trees.specs.declared.node.Kind.{Kind}
 use Rattle.vm_flat_trees.specs.declared.node.Kind.TheVariants as kinds
 use Rattle.vm_flat_trees.specs.declared.node.FlatNode.{FlatNode}
-use Rattle.vm_flat_trees.specs.Counts.{kind_of}
+use Rattle.vm_flat_trees.specs.Counts.{node_kind}
 use Rattle.vm_flat_trees.specs.Flat.{size_of, flat_at, flats_at, flat_of}
-use Rattle.vm_flat_trees.specs.Delivering.{sites, all_sites, place_at, places_of}
+use Rattle.vm_flat_trees.specs.NotificationDelivery.{sites, all_sites, place_at, places_of}
 use Rattle.vm_flat_trees.specs.Places.{places_before, places_where}
 use Rattle.vm_flat_trees.proofs.Standing.{flat-length}
 
@@ -31,7 +31,7 @@ where-append test place (x ∷ xs) ys at is =
     ap (places_before test place x.kind) (where-append test (place + 1) xs ys at (omega (arith, is)))
     ∙ before-append test place x.kind (places_where test (place + 1) xs) (places_where test at ys)
 
-inner-before : (test : ℕ → Bool) (place : ℕ) (combinator : Combinator) (places : List ℕ) → places_before test place (kind_of combinator) places ≡ places
+inner-before : (test : ℕ → Bool) (place : ℕ) (combinator : Combinator) (places : List ℕ) → places_before test place (node_kind combinator) places ≡ places
 inner-before test place Trees.Unknown places = refl
 inner-before test place Trees.FirstCompleted places = refl
 inner-before test place Trees.AllCompleted places = refl

@@ -3,7 +3,7 @@ use Rattle.std.proofs.Common.{◌≡◌, refl, sym, ap, ap₂, ◌∙◌, ℕ, z
 use Rattle.std.proofs.lemmas.List.{drop_more, drop_all}
 use Rattle.journal_model.specs.AwaitTree.{AwaitTree, AwaitState, is_completed, is_awake}
 use Rattle.journal_model.specs.Future.{tree_of, trees_from}
-use Rattle.journal_model.specs.Waiting.{pruned}
+use Rattle.journal_model.specs.PrunedTrees.{pruned}
 use Rattle.journal_model.specs.declared.future.UnresolvedFuture.{UnresolvedFuture}
 use Rattle.vm_flat_trees.specs.declared.node.FlatNode.{FlatNode}
 use Rattle.vm_flat_trees.specs.Counts.{lowered_kind}

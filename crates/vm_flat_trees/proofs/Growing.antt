@@ -8,12 +8,12 @@ use Rattle.journal_model.specs.declared.future.UnresolvedFuture.{UnresolvedFutur
 use Rattle.vm_flat_trees.specs.declared.node.Kind.{Kind}
 use Rattle.vm_flat_trees.specs.declared.node.Counts.{Counts}
 use Rattle.vm_flat_trees.specs.declared.node.FlatNode.{FlatNode}
-use Rattle.vm_flat_trees.specs.Counts.{no_counts, counted, counts_of, state_by, kind_of}
+use Rattle.vm_flat_trees.specs.Counts.{no_counts, child_counted, counts_of, state_by, node_kind}
 use Rattle.vm_flat_trees.specs.Flat.{size_of, sizes_of, reckoned, all_reckoned, flat_at, flats_at, all_counted}
 use Rattle.vm_flat_trees.proofs.Reading.{many-counted}
 use Rattle.vm_flat_trees.proofs.Standing.{flats-length}
 
-counted-comm : (a b : AwaitState) (counts : Counts) → counted a (counted b counts) ≡ counted b (counted a counts)
+counted-comm : (a b : AwaitState) (counts : Counts) → child_counted a (child_counted b counts) ≡ child_counted b (child_counted a counts)
 counted-comm Pending Pending counts = refl
 counted-comm Pending Succeeded counts = refl
 counted-comm Pending Failed counts = refl
@@ -24,9 +24,9 @@ counted-comm Failed Pending counts = refl
 counted-comm Failed Succeeded counts = refl
 counted-comm Failed Failed counts = refl
 
-counted-last : (states : List AwaitState) (state : AwaitState) → counts_of (states ++ state ∷ []) ≡ counted state (counts_of states)
+counted-last : (states : List AwaitState) (state : AwaitState) → counts_of (states ++ state ∷ []) ≡ child_counted state (counts_of states)
 counted-last [] state = refl
-counted-last (s ∷ states) state = ap (counted s) (counted-last states state) ∙ counted-comm s state (counts_of states)
+counted-last (s ∷ states) state = ap (child_counted s) (counted-last states state) ∙ counted-comm s state (counts_of states)
 
 abbrev same : ℕ → ℕ
 same handle = handle
@@ -68,7 +68,7 @@ module _ (leaves : ℕ → AwaitState) where
   }
 
   pub grown-more : (old : List FlatNode) (kind : Kind) (parent : Option ℕ) (trees : List (AwaitTree ℕ)) (nodes : List FlatNode) (counts : Counts) (tree : AwaitTree ℕ) (after : List FlatNode) (state : AwaitState) (more : Counts)
-      → Grown old kind parent trees nodes counts → after ≡ nodes ++ flat_at (λ handle. handle) leaves (length nodes) (Some (length old)) tree → state ≡ reckoned tree leaves → more ≡ counted state counts
+      → Grown old kind parent trees nodes counts → after ≡ nodes ++ flat_at (λ handle. handle) leaves (length nodes) (Some (length old)) tree → state ≡ reckoned tree leaves → more ≡ child_counted state counts
       → Grown old kind parent (trees ++ tree ∷ []) after more
   grown-more old kind parent trees nodes counts tree after state more grown is_after is_state is_more =
       let others = flats_at (λ handle. handle) leaves (length old + 1) (length old) (trees_from trees) in
@@ -78,7 +78,7 @@ module _ (leaves : ℕ → AwaitState) where
         nodes_are = is_after ∙ ap (λ (ns : List FlatNode). ns ++ flat_at (λ handle. handle) leaves (length nodes) (Some (length old)) tree) grown.nodes_are
             ∙ append_assoc old (root_of kind parent no_counts ∷ others) (flat_at (λ handle. handle) leaves (length nodes) (Some (length old)) tree)
             ∙ ap (λ (ns : List FlatNode). old ++ root_of kind parent no_counts ∷ ns) (sym (flats-last (length old + 1) (length old) trees tree (length nodes) long));
-        counts_are = is_more ∙ ap₂ counted is_state grown.counts_are ∙ sym (ap counts_of (reckoned-last trees tree) ∙ counted-last (all_reckoned (trees_from trees) leaves) (reckoned tree leaves));
+        counts_are = is_more ∙ ap₂ child_counted is_state grown.counts_are ∙ sym (ap counts_of (reckoned-last trees tree) ∙ counted-last (all_reckoned (trees_from trees) leaves) (reckoned tree leaves));
       }
 
   pub grown-few : (old : List FlatNode) (kind : Kind) (parent : Option ℕ) (trees : List (AwaitTree ℕ)) (nodes : List FlatNode) (counts : Counts) → Grown old kind parent trees nodes counts
@@ -92,7 +92,7 @@ module _ (leaves : ℕ → AwaitState) where
 
   -- the root is written, and the tree stands there
   pub grown-all : (old : List FlatNode) (kind : Kind) (parent : Option ℕ) (trees : List (AwaitTree ℕ)) (nodes after : List FlatNode) (counts : Counts) (combinator : Trees.Combinator) (tree : AwaitTree ℕ) → Grown old kind parent trees nodes counts
-      → kind_of combinator ≡ kind → tree ≡ node combinator trees → after ≡ slice_set nodes (length old) (root_of kind parent counts)
+      → node_kind combinator ≡ kind → tree ≡ node combinator trees → after ≡ slice_set nodes (length old) (root_of kind parent counts)
       → after ≡ old ++ flat_at (λ handle. handle) leaves (length old) parent tree
   grown-all old kind parent trees nodes after counts combinator tree grown is_kind is_tree is_after =
       is_after ∙ ap (λ (ns : List FlatNode). slice_set ns (length old) (root_of kind parent counts)) grown.nodes_are
@@ -101,7 +101,7 @@ module _ (leaves : ℕ → AwaitState) where
       ∙ ap (λ (t : AwaitTree ℕ). old ++ flat_at (λ handle. handle) leaves (length old) parent t) (sym is_tree)
 
   pub grown-state : (old : List FlatNode) (kind : Kind) (parent : Option ℕ) (trees : List (AwaitTree ℕ)) (nodes : List FlatNode) (counts : Counts) (combinator : Trees.Combinator) (tree : AwaitTree ℕ) → Grown old kind parent trees nodes counts
-      → kind_of combinator ≡ kind → tree ≡ node combinator trees → state_by kind counts ≡ reckoned tree leaves
+      → node_kind combinator ≡ kind → tree ≡ node combinator trees → state_by kind counts ≡ reckoned tree leaves
   grown-state old kind parent trees nodes counts combinator tree grown is_kind is_tree =
       ap₂ state_by (sym is_kind) grown.counts_are ∙ ap (λ (t : AwaitTree ℕ). reckoned t leaves) (sym is_tree)
 

@@ -1,7 +1,7 @@
 -- A tree that is awake stays so.
 use Rattle.std.proofs.Common.{◌≡◌, refl, ℕ, Bool, true, false, if◌then◌else◌, ◌⊎◌, inl, inr}
 use Rattle.journal_model.specs.AwaitTree.{AwaitState, Pending, Succeeded, Failed, AwaitTree, is_awake, is_completed}
-use Rattle.journal_model.specs.Waiting.{earlier_or_later}
+use Rattle.journal_model.specs.PrunedTrees.{earlier_or_later}
 use Rattle.journal_laws.proofs.Leaving.{awake-more}
 
 pub awake-later : (tree : AwaitTree ℕ) (leaves later : ℕ → AwaitState) → is_awake tree leaves ≡ true → is_awake tree (earlier_or_later leaves later) ≡ true

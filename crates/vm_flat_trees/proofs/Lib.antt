@@ -1,6 +1,6 @@
 pub mod Reckoning
 pub mod Reading
-pub mod Settling
+pub mod ChildCounts
 pub mod Visiting
 pub mod Upward
 pub mod Standing

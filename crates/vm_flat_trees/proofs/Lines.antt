@@ -10,13 +10,13 @@ use Rattle.journal_model.specs.Notification.{same_id, Arrival}
 use Rattle.journal_model.specs.Options.{replaces}
 use Rattle.journal_model.specs.Delivery.{state_of_result}
 use Rattle.journal_model.specs.AwaitTree.{AwaitTree, AwaitState, Pending, Succeeded, Failed, await_state, is_completed, has_ended_node, is_awake}
-use Rattle.journal_model.specs.Waiting.{pruned, earlier_or_later}
+use Rattle.journal_model.specs.PrunedTrees.{pruned, earlier_or_later}
 use Rattle.journal_laws.proofs.Leaving.{or-false}
 use Rattle.journal_laws.proofs.Pruning.{pruned-awake, pruned-again}
-use Rattle.attempt_model.specs.Results.{Ready, Slots, first_of, slot_of, handle_state, ready_after}
-use Rattle.vm_flat_trees.specs.Bringing.{is_for, brought_by}
+use Rattle.attempt_model.specs.Results.{Ready, Slots, first_waiting_result, slot_of, handle_state, ready_after}
+use Rattle.vm_flat_trees.specs.NotificationRecipients.{is_for, brought_by}
 
-none_waits : (waiting : List NotificationResult) → state_of_result (first_of waiting) ≡ Pending → waiting ≡ []
+none_waits : (waiting : List NotificationResult) → state_of_result (first_waiting_result waiting) ≡ Pending → waiting ≡ []
 none_waits [] e = refl
 none_waits (results.Void ∷ waiting) e = absurd cc
 none_waits (results.Value bytes ∷ waiting) e = absurd cc
@@ -25,16 +25,16 @@ none_waits (results.InvocationId id ∷ waiting) e = absurd cc
 none_waits (results.StateKeys keys ∷ waiting) e = absurd cc
 
 module _ (delivery : SignalDelivery) (slots : Slots) where
-  by_tests : (arrival : Arrival) (same replaced : Bool) → state_of_result (first_of (if same then (if replaced then arrival.result ∷ [] else [] ++ arrival.result ∷ []) else [])) ≡ (if same then state_of_result (Some arrival.result) else Pending)
+  by_tests : (arrival : Arrival) (same replaced : Bool) → state_of_result (first_waiting_result (if same then (if replaced then arrival.result ∷ [] else [] ++ arrival.result ∷ []) else [])) ≡ (if same then state_of_result (Some arrival.result) else Pending)
   by_tests arrival true true = refl
   by_tests arrival true false = refl
   by_tests arrival false replaced = refl
 
-  by_slot : (ready : Ready) (arrival : Arrival) (slot : Option NotificationId) → state_of_result (option_and_then (λ id. first_of (ready id)) slot) ≡ Pending
-      → state_of_result (option_and_then (λ id. first_of (ready_after delivery ready arrival id)) slot) ≡ (if is_for arrival.id slot then state_of_result (Some arrival.result) else Pending)
+  by_slot : (ready : Ready) (arrival : Arrival) (slot : Option NotificationId) → state_of_result (option_and_then (λ id. first_waiting_result (ready id)) slot) ≡ Pending
+      → state_of_result (option_and_then (λ id. first_waiting_result (ready_after delivery ready arrival id)) slot) ≡ (if is_for arrival.id slot then state_of_result (Some arrival.result) else Pending)
   by_slot ready arrival None e = refl
   by_slot ready arrival (Some id) e =
-      ap (λ (waiting : List NotificationResult). state_of_result (first_of (if same_id arrival.id id then (if replaces delivery id then arrival.result ∷ [] else waiting ++ arrival.result ∷ []) else waiting))) (none_waits (ready id) e)
+      ap (λ (waiting : List NotificationResult). state_of_result (first_waiting_result (if same_id arrival.id id then (if replaces delivery id then arrival.result ∷ [] else waiting ++ arrival.result ∷ []) else waiting))) (none_waits (ready id) e)
       ∙ by_tests arrival (same_id arrival.id id) (replaces delivery id)
 
   -- of a handle for which nothing waits

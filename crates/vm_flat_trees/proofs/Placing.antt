@@ -6,10 +6,10 @@ use Rattle.journal_model.specs.AwaitTree.{AwaitState, Pending, Succeeded, Failed
 use Rattle.vm_flat_trees.specs.declared.node.Kind.TheVariants as kinds
 use Rattle.vm_flat_trees.specs.declared.node.Counts.{Counts}
 use Rattle.vm_flat_trees.specs.declared.node.FlatNode.{FlatNode}
-use Rattle.vm_flat_trees.specs.Counts.{no_counts, counts_of, state_by, kind_of}
+use Rattle.vm_flat_trees.specs.Counts.{no_counts, counts_of, state_by, node_kind}
 use Rattle.vm_flat_trees.specs.Flat.{size_of, sizes_of, reckoned, all_reckoned, flat_at, flats_at}
-use Rattle.vm_flat_trees.specs.Settling.{bare, leaf_counts, come_to, is_leaf}
-use Rattle.vm_flat_trees.specs.Delivering.{sites, all_sites}
+use Rattle.vm_flat_trees.specs.ChildCounts.{bare, leaf_counts, come_to, is_leaf}
+use Rattle.vm_flat_trees.specs.NotificationDelivery.{sites, all_sites}
 use Rattle.vm_flat_trees.proofs.Standing.{flat-length}
 
 abbrev pub Placed : Type 0
@@ -82,7 +82,7 @@ module _ (leaves : ℕ → AwaitState) where
     reckoned-placed : (place : ℕ) (tree : AwaitTree ℕ) → reckoned (placed place tree) (λ leaf. leaves leaf.0) ≡ reckoned tree leaves
     reckoned-placed place (Single handle) = refl
     reckoned-placed place (Combined combinator trees) =
-        ap (λ (states : List AwaitState). state_by (kind_of combinator) (counts_of states)) (all_reckoned-placed (place + 1) trees)
+        ap (λ (states : List AwaitState). state_by (node_kind combinator) (counts_of states)) (all_reckoned-placed (place + 1) trees)
 
     all_reckoned-placed : (place : ℕ) (trees : AwaitTrees ℕ) → all_reckoned (all_placed place trees) (λ leaf. leaves leaf.0) ≡ all_reckoned trees leaves
     all_reckoned-placed place no_trees = refl
@@ -95,7 +95,7 @@ module _ (leaves : ℕ → AwaitState) where
         → flat_at handle_in (λ leaf. leaves leaf.0) place parent (placed place tree) ≡ flat_at (λ handle. handle) leaves place parent tree
     flat-placed place parent (Single handle) = refl
     flat-placed place parent (Combined combinator trees) =
-        ap₂ (λ (states : List AwaitState) (nodes : List FlatNode). let root : FlatNode = record { kind = kind_of combinator; parent = parent; counts = counts_of states } in root ∷ nodes)
+        ap₂ (λ (states : List AwaitState) (nodes : List FlatNode). let root : FlatNode = record { kind = node_kind combinator; parent = parent; counts = counts_of states } in root ∷ nodes)
         (all_reckoned-placed (place + 1) trees) (flats-placed (place + 1) place trees)
 
     flats-placed : (place parent : ℕ) (trees : AwaitTrees ℕ)
@@ -124,7 +124,7 @@ module _ (states others : Placed → AwaitState) where
   mutual
     reckoned-same : (tree : AwaitTree Placed) → EachLeaf (λ leaf. states leaf ≡ others leaf) tree → reckoned tree states ≡ reckoned tree others
     reckoned-same (Single leaf) same = same
-    reckoned-same (Combined combinator trees) same = ap (λ (xs : List AwaitState). state_by (kind_of combinator) (counts_of xs)) (all_reckoned-same trees same)
+    reckoned-same (Combined combinator trees) same = ap (λ (xs : List AwaitState). state_by (node_kind combinator) (counts_of xs)) (all_reckoned-same trees same)
 
     all_reckoned-same : (trees : AwaitTrees Placed) → EachLeaves (λ leaf. states leaf ≡ others leaf) trees → all_reckoned trees states ≡ all_reckoned trees others
     all_reckoned-same no_trees same = refl
@@ -137,7 +137,7 @@ module _ (states others : Placed → AwaitState) where
     flat-same place parent (Single leaf) same =
         ap (λ (state : AwaitState). let one : FlatNode = record { kind = kinds.Leaf leaf.0; parent = parent; counts = counts_of (state ∷ []) } in one ∷ []) same
     flat-same place parent (Combined combinator trees) same =
-        ap₂ (λ (xs : List AwaitState) (nodes : List FlatNode). let root : FlatNode = record { kind = kind_of combinator; parent = parent; counts = counts_of xs } in root ∷ nodes)
+        ap₂ (λ (xs : List AwaitState) (nodes : List FlatNode). let root : FlatNode = record { kind = node_kind combinator; parent = parent; counts = counts_of xs } in root ∷ nodes)
         (all_reckoned-same trees same) (flats-same (place + 1) place trees same)
 
     pub flats-same : (place parent : ℕ) (trees : AwaitTrees Placed) → EachLeaves (λ leaf. states leaf ≡ others leaf) trees
@@ -195,7 +195,7 @@ get-either (x ∷ xs) ys (suc i) node there = one_more (get-either xs ys i node 
     one_more (inl (e, below)) = inl (e, omega (arith, below))
     one_more (inr (k, at, e)) = inr (k, omega (arith, at), e)
 
-no-leaf : (combinator : Combinator) → is_leaf (kind_of combinator) ≡ false
+no-leaf : (combinator : Combinator) → is_leaf (node_kind combinator) ≡ false
 no-leaf Trees.Unknown = refl
 no-leaf Trees.FirstCompleted = refl
 no-leaf Trees.AllCompleted = refl
@@ -203,7 +203,7 @@ no-leaf Trees.FirstSucceededOrAllFailed = refl
 no-leaf Trees.AllSucceededOrFirstFailed = refl
 no-leaf (Trees.AtLeast required) = refl
 
-bare-root : (combinator : Combinator) (counts : Counts) → leaf_counts (kind_of combinator) counts ≡ no_counts
+bare-root : (combinator : Combinator) (counts : Counts) → leaf_counts (node_kind combinator) counts ≡ no_counts
 bare-root Trees.Unknown counts = refl
 bare-root Trees.FirstCompleted counts = refl
 bare-root Trees.AllCompleted counts = refl
@@ -239,12 +239,12 @@ module _ (states others : Placed → AwaitState) (state : AwaitState) (i : ℕ) 
         ∙ ap (λ (s : AwaitState). let one : FlatNode = record { kind = kinds.Leaf handle; parent = parent; counts = counts_of (s ∷ []) } in one ∷ []) (sym now)
     tree-told place parent (Single one) (suc k) is at there = cc
     tree-told place parent (Combined combinator trees) zero is at there =
-        let root : FlatNode = record { kind = kind_of combinator; parent = parent; counts = counts_of (all_reckoned trees states) } in
+        let root : FlatNode = record { kind = node_kind combinator; parent = parent; counts = counts_of (all_reckoned trees states) } in
         let same : root ≡ node = cc in
-        let wrong : is_leaf (kind_of combinator) ≡ true = ap (λ (n : FlatNode). is_leaf n.kind) same ∙ leaf in
+        let wrong : is_leaf (node_kind combinator) ≡ true = ap (λ (n : FlatNode). is_leaf n.kind) same ∙ leaf in
         let right = no-leaf combinator in cc
     tree-told place parent (Combined combinator trees) (suc k) is at there =
-        ap₂ (λ (counts : Counts) (ns : List FlatNode). let root : FlatNode = record { kind = kind_of combinator; parent = parent; counts = counts } in root ∷ ns)
+        ap₂ (λ (counts : Counts) (ns : List FlatNode). let root : FlatNode = record { kind = node_kind combinator; parent = parent; counts = counts } in root ∷ ns)
         (bare-root combinator (counts_of (all_reckoned trees states)) ∙ sym (bare-root combinator (counts_of (all_reckoned trees others))))
         (trees-told (place + 1) place trees k is (omega (arith, at)) there)
 

@@ -6,13 +6,13 @@ use Rattle.std.specs.Prelude.{take, drop}
 use Rattle.journal_model.specs.AwaitTree as Trees
 use Rattle.journal_model.specs.AwaitTree.{AwaitState, Pending, Succeeded, Failed, is_completed, Combinator, AwaitTree, AwaitTrees, Single, Combined, no_trees, and_trees, combined_state, await_state, child_states, has_ended, has_ended_node, some_has_ended_node, is_awake, map_leaves, map_leaves_of_trees}
 use Rattle.journal_model.specs.Future.{trees_from}
-use Rattle.journal_model.specs.Waiting.{lowered, pruned, pruned_children}
+use Rattle.journal_model.specs.PrunedTrees.{lowered, pruned, pruned_children}
 use Rattle.journal_laws.proofs.Leaving.{or-false, and-true}
 use Rattle.journal_laws.proofs.Pruning.{completed-all}
 use Rattle.vm_flat_trees.specs.declared.node.Counts.{Counts}
 use Rattle.vm_flat_trees.specs.declared.node.FlatNode.{FlatNode}
 use Rattle.vm_flat_trees.specs.declared.node.Kind.{Kind}
-use Rattle.vm_flat_trees.specs.Counts.{counts_of, kind_of, lowered_kind}
+use Rattle.vm_flat_trees.specs.Counts.{counts_of, node_kind, lowered_kind}
 use Rattle.vm_flat_trees.specs.Flat.{size_of, all_reckoned, flat_at, flats_at, flat_of, all_counted, trees_in, node_over, node_before, read_node, read_back, read_pending}
 use Rattle.vm_flat_trees.proofs.Reckoning.{lowered-counts, leaf-state, tree-reckoned, trees-reckoned}
 
@@ -31,7 +31,7 @@ many-counted (Succeeded ∷ states) = omega (arith, many-counted states)
 many-counted (Failed ∷ states) = omega (arith, many-counted states)
 
 node-read : (combinator : Combinator) (many : ℕ) (trees : AwaitTrees ℕ) (rest : List (AwaitTree ℕ)) → many ≡ length (list_of trees)
-    → read_node (kind_of combinator) many (list_of trees ++ rest) ≡ Combined combinator trees ∷ rest
+    → read_node (node_kind combinator) many (list_of trees ++ rest) ≡ Combined combinator trees ∷ rest
 node-read combinator many trees rest e = at combinator
   where
     taken : trees_from (take many (list_of trees ++ rest)) ≡ trees
@@ -40,7 +40,7 @@ node-read combinator many trees rest e = at combinator
     left : drop many (list_of trees ++ rest) ≡ rest
     left = drop_at (list_of trees) rest many (sym e)
 
-    at : (c : Combinator) → read_node (kind_of c) many (list_of trees ++ rest) ≡ Combined c trees ∷ rest
+    at : (c : Combinator) → read_node (node_kind c) many (list_of trees ++ rest) ≡ Combined c trees ∷ rest
     at Trees.Unknown = ap₂ (λ (ts : AwaitTrees ℕ) (xs : List (AwaitTree ℕ)). Combined Trees.Unknown ts ∷ xs) taken left
     at Trees.FirstCompleted = ap₂ (λ (ts : AwaitTrees ℕ) (xs : List (AwaitTree ℕ)). Combined Trees.FirstCompleted ts ∷ xs) taken left
     at Trees.AllCompleted = ap₂ (λ (ts : AwaitTrees ℕ) (xs : List (AwaitTree ℕ)). Combined Trees.AllCompleted ts ∷ xs) taken left
@@ -62,7 +62,7 @@ trees_in-list_of no_trees = refl
 trees_in-list_of (and_trees tree trees) = ap (and_trees tree) (trees_in-list_of trees)
 
 node-back : {Leaf : Type 0} → (leaf : ℕ → AwaitState → Leaf) (combinator : Combinator) (counts : Counts) (trees : AwaitTrees Leaf) (rest : List (AwaitTree Leaf)) → all_counted counts ≡ length (list_of trees)
-    → node_before leaf (kind_of combinator) counts (list_of trees ++ rest) ≡ Combined combinator trees ∷ rest
+    → node_before leaf (node_kind combinator) counts (list_of trees ++ rest) ≡ Combined combinator trees ∷ rest
 node-back {Leaf} leaf combinator counts trees rest e = at combinator
   where
     over : (c : Combinator) → node_over c (all_counted counts) (list_of trees ++ rest) ≡ Combined c trees ∷ rest
@@ -70,7 +70,7 @@ node-back {Leaf} leaf combinator counts trees rest e = at combinator
         ap₂ (λ (ts : AwaitTrees Leaf) (xs : List (AwaitTree Leaf)). Combined c ts ∷ xs)
         (ap trees_in (take_at (list_of trees) rest (all_counted counts) (sym e)) ∙ trees_in-list_of trees) (drop_at (list_of trees) rest (all_counted counts) (sym e))
 
-    at : (c : Combinator) → node_before leaf (kind_of c) counts (list_of trees ++ rest) ≡ Combined c trees ∷ rest
+    at : (c : Combinator) → node_before leaf (node_kind c) counts (list_of trees ++ rest) ≡ Combined c trees ∷ rest
     at Trees.Unknown = over Trees.Unknown
     at Trees.FirstCompleted = over Trees.FirstCompleted
     at Trees.AllCompleted = over Trees.AllCompleted
@@ -89,7 +89,7 @@ module _ {Leaf Made : Type 0} (made : ℕ → AwaitState → Made) (handle : Lea
     tree-read place parent (Single leaf) rest =
         ap (λ (state : AwaitState). Single (made (handle leaf) state) ∷ read_back made rest) (leaf-state (leaves leaf) (handle leaf))
     tree-read place parent (Combined combinator trees) rest =
-        ap (node_before made (kind_of combinator) (counts_of (all_reckoned trees leaves))) (trees-read (place + 1) place trees rest)
+        ap (node_before made (node_kind combinator) (counts_of (all_reckoned trees leaves))) (trees-read (place + 1) place trees rest)
         ∙ node-back made combinator (counts_of (all_reckoned trees leaves)) (map_leaves_of_trees (λ leaf. made (handle leaf) (leaves leaf)) trees) (read_back made rest)
         (many-counted (all_reckoned trees leaves) ∙ many-made trees)
 
@@ -130,17 +130,17 @@ module _ {Leaf : Type 0} (handle : Leaf → ℕ) (leaves : Leaf → AwaitState) 
         ap (λ (state : AwaitState). if is_completed state then read_pending rest else Single (handle leaf) ∷ read_pending rest) (leaf-state (leaves leaf) (handle leaf))
     tree-pending place parent (Combined combinator trees) rest own =
         let (ends, quiet) = or-false (has_ended combinator (child_states trees leaves)) (some_has_ended_node trees leaves) own in
-        ap₂ (λ (state : AwaitState) (xs : List (AwaitTree ℕ)). if is_completed state then xs else read_node (lowered_kind (kind_of combinator) (counts_of (all_reckoned trees leaves))) (counts_of (all_reckoned trees leaves)).pending xs)
+        ap₂ (λ (state : AwaitState) (xs : List (AwaitTree ℕ)). if is_completed state then xs else read_node (lowered_kind (node_kind combinator) (counts_of (all_reckoned trees leaves))) (counts_of (all_reckoned trees leaves)).pending xs)
         (tree-reckoned handle leaves (Combined combinator trees) own) (trees-pending (place + 1) place trees rest quiet)
         ∙ by_cases (is_completed (await_state (Combined combinator trees) leaves)) refl ends
-        (ap (λ (xs : List AwaitState). lowered_kind (kind_of combinator) (counts_of xs)) (trees-reckoned handle leaves trees quiet) ∙ lowered-counts combinator (child_states trees leaves))
+        (ap (λ (xs : List AwaitState). lowered_kind (node_kind combinator) (counts_of xs)) (trees-reckoned handle leaves trees quiet) ∙ lowered-counts combinator (child_states trees leaves))
         (ap (λ (xs : List AwaitState). (counts_of xs).pending) (trees-reckoned handle leaves trees quiet) ∙ pending-many trees)
       where
         by_cases : (b : Bool) → is_completed (combined_state combinator (child_states trees leaves)) ≡ b → has_ended combinator (child_states trees leaves) ≡ false
-            → lowered_kind (kind_of combinator) (counts_of (all_reckoned trees leaves)) ≡ kind_of (lowered combinator (child_states trees leaves))
+            → lowered_kind (node_kind combinator) (counts_of (all_reckoned trees leaves)) ≡ node_kind (lowered combinator (child_states trees leaves))
             → (counts_of (all_reckoned trees leaves)).pending ≡ length (list_of (map_leaves_of_trees handle (pruned_children trees leaves)))
             → (if b then list_of (map_leaves_of_trees handle (pruned_children trees leaves)) ++ read_pending rest
-            else read_node (lowered_kind (kind_of combinator) (counts_of (all_reckoned trees leaves))) (counts_of (all_reckoned trees leaves)).pending (list_of (map_leaves_of_trees handle (pruned_children trees leaves)) ++ read_pending rest))
+            else read_node (lowered_kind (node_kind combinator) (counts_of (all_reckoned trees leaves))) (counts_of (all_reckoned trees leaves)).pending (list_of (map_leaves_of_trees handle (pruned_children trees leaves)) ++ read_pending rest))
             ≡ (if b then read_pending rest else map_leaves handle (pruned (Combined combinator trees) leaves) ∷ read_pending rest)
         by_cases true done ends kind many =
             ap (λ (ts : AwaitTrees Leaf). list_of (map_leaves_of_trees handle ts) ++ read_pending rest) (none-left trees (completed-all combinator (child_states trees leaves) done ends))

@@ -6,8 +6,8 @@ use Rattle.journal_model.specs.AwaitTree.{AwaitState, Pending, Succeeded, Failed
 use Rattle.journal_laws.proofs.Leaving.{or-false}
 use Rattle.vm_flat_trees.specs.declared.node.FlatNode.{FlatNode}
 use Rattle.vm_flat_trees.specs.declared.node.Kind.TheVariants as kinds
-use Rattle.journal_model.specs.Waiting.{lowered}
-use Rattle.vm_flat_trees.specs.Counts.{counts_of, first_by, at_least_by, state_by, is_ended, kind_of, lowered_kind}
+use Rattle.journal_model.specs.PrunedTrees.{lowered}
+use Rattle.vm_flat_trees.specs.Counts.{counts_of, first_by, at_least_by, state_by, is_ended, node_kind, lowered_kind}
 use Rattle.vm_flat_trees.specs.Flat.{size_of, reckoned, all_reckoned, flat_at, flats_at, has_ended as node_ended, root_state, is_awake_flat}
 
 one_more : (n : ℕ) → (n + 1 == 0) ≡ false
@@ -85,7 +85,7 @@ by-counts : (required : ℕ) (states : List AwaitState) → at_least_by required
 by-counts required states = ap₂ (at_least required) (many-succeeded states) (many-hopeful states)
 
 -- how a node combines what is left is told by its counts
-pub lowered-counts : (combinator : Combinator) (xs : List AwaitState) → lowered_kind (kind_of combinator) (counts_of xs) ≡ kind_of (lowered combinator xs)
+pub lowered-counts : (combinator : Combinator) (xs : List AwaitState) → lowered_kind (node_kind combinator) (counts_of xs) ≡ node_kind (lowered combinator xs)
 lowered-counts Trees.Unknown xs = refl
 lowered-counts Trees.FirstCompleted xs = refl
 lowered-counts Trees.AllCompleted xs = refl
@@ -102,7 +102,7 @@ either_ended xs =
     ∙ some-completed xs
 
 -- whether a node has ended is told by its counts
-pub ended-counts : (combinator : Combinator) (xs : List AwaitState) → is_ended (kind_of combinator) (counts_of xs) ≡ has_ended combinator xs
+pub ended-counts : (combinator : Combinator) (xs : List AwaitState) → is_ended (node_kind combinator) (counts_of xs) ≡ has_ended combinator xs
 ended-counts Trees.Unknown xs = either_ended xs
 ended-counts Trees.FirstCompleted xs = either_ended xs
 ended-counts Trees.AllCompleted xs = sym (never-ends xs)
@@ -117,7 +117,7 @@ first-state xs quiet =
 
 -- and so is its state, where none has
 pub state-counts : (combinator : Combinator) (xs : List AwaitState) → has_ended combinator xs ≡ false
-    → state_by (kind_of combinator) (counts_of xs) ≡ combined_state combinator xs
+    → state_by (node_kind combinator) (counts_of xs) ≡ combined_state combinator xs
 state-counts Trees.Unknown xs quiet = first-state xs quiet
 state-counts Trees.FirstCompleted xs quiet = first-state xs quiet
 state-counts Trees.AllCompleted xs quiet = ap (λ (b : Bool). if b then Succeeded else Pending) (none-pending xs)
@@ -146,8 +146,8 @@ leaf-state Failed handle = refl
 module _ {Leaf : Type 0} (handle : Leaf → ℕ) (leaves : Leaf → AwaitState) where
   node-ended : (combinator : Combinator) (own flats states : List AwaitState) (rest some : Bool)
       → rest ≡ some → (some ≡ false → own ≡ states)
-      → (is_ended (kind_of combinator) (counts_of own) || rest) ≡ (has_ended combinator states || some)
-  node-ended combinator own flats states rest true e same = rw e (or_true (is_ended (kind_of combinator) (counts_of own)) ∙ sym (or_true (has_ended combinator states)))
+      → (is_ended (node_kind combinator) (counts_of own) || rest) ≡ (has_ended combinator states || some)
+  node-ended combinator own flats states rest true e same = rw e (or_true (is_ended (node_kind combinator) (counts_of own)) ∙ sym (or_true (has_ended combinator states)))
   node-ended combinator own flats states rest false e same =
       ap₂ (λ (a b : Bool). a || b) (ended-counts combinator own ∙ ap (has_ended combinator) (same refl)) e
 
@@ -169,7 +169,7 @@ module _ {Leaf : Type 0} (handle : Leaf → ℕ) (leaves : Leaf → AwaitState) 
     tree-reckoned (Single leaf) quiet = refl
     tree-reckoned (Combined combinator trees) own =
         let (ends, quiet) = or-false (has_ended combinator (child_states trees leaves)) (some_has_ended_node trees leaves) own in
-        ap (λ (xs : List AwaitState). state_by (kind_of combinator) (counts_of xs)) (trees-reckoned trees quiet) ∙ state-counts combinator (child_states trees leaves) ends
+        ap (λ (xs : List AwaitState). state_by (node_kind combinator) (counts_of xs)) (trees-reckoned trees quiet) ∙ state-counts combinator (child_states trees leaves) ends
 
     pub trees-reckoned : (trees : AwaitTrees Leaf) → some_has_ended_node trees leaves ≡ false → all_reckoned trees leaves ≡ child_states trees leaves
     trees-reckoned no_trees quiet = refl

@@ -4,9 +4,9 @@ use Rattle.std.proofs.lemmas.List.{take_all}
 use Rattle.journal_model.specs.AwaitTree.{AwaitState, AwaitTree, is_completed}
 use Rattle.vm_flat_trees.specs.declared.node.FlatNode.{FlatNode}
 use Rattle.vm_flat_trees.specs.Flat.{node_state, is_awake_flat}
-use Rattle.vm_flat_trees.specs.Settling.{is_leaf, IsWay}
-use Rattle.vm_flat_trees.specs.Climbing.{Sleeps}
-use Rattle.vm_flat_trees.specs.Delivering.{sites, place_at, depth_at, total, places_of, CanHear, CanHearOf, Delivers, IsLeafAt, TellsOne}
+use Rattle.vm_flat_trees.specs.ChildCounts.{is_leaf, IsWay}
+use Rattle.vm_flat_trees.specs.LeafDelivery.{Sleeps}
+use Rattle.vm_flat_trees.specs.NotificationDelivery.{sites, place_at, depth_at, total, places_of, CanHear, CanHearOf, Delivers, IsLeafAt, TellsOne}
 use Rattle.vm_flat_trees.proofs.Telling.{Telling, Site, so_far, flat_now, begins, sleeps-now, site-now, passes-over, then-flat, tells-on, wakes-all, all-told}
 
 get-map : (f : ℕ × ℕ → ℕ) (xs : List (ℕ × ℕ)) (k : ℕ) (y : ℕ) → slice_get (map f xs) k ≡ Some y → (site : ℕ × ℕ) × (slice_get xs k ≡ Some site) × (f site ≡ y)

@@ -7,14 +7,14 @@ use Rattle.vm_flat_trees.specs.declared.node.Kind.{Kind}
 use Rattle.vm_flat_trees.specs.declared.node.Kind.TheVariants as kinds
 use Rattle.vm_flat_trees.specs.declared.node.Counts.{Counts}
 use Rattle.vm_flat_trees.specs.declared.node.FlatNode.{FlatNode}
-use Rattle.vm_flat_trees.specs.Counts.{no_counts, counted, counted_all, counts_of, kind_of}
+use Rattle.vm_flat_trees.specs.Counts.{no_counts, child_counted, counted_all, counts_of, node_kind}
 use Rattle.vm_flat_trees.specs.Flat.{size_of, sizes_of, reckoned, all_reckoned, flat_at, flats_at, node_state}
-use Rattle.vm_flat_trees.specs.Settling.{is_at, tally, inner_counts, leaf_counts, bare, Settling, StandsBefore, IsOrdered}
+use Rattle.vm_flat_trees.specs.ChildCounts.{is_at, tally, inner_counts, leaf_counts, bare, Settling, StandsBefore, IsOrdered}
 use Rattle.vm_flat_trees.proofs.Reckoning.{leaf-state}
 
 pub tally-append : (p : ℕ) (xs ys : List FlatNode) (counts : Counts) → tally p (xs ++ ys) counts ≡ tally p xs (tally p ys counts)
 tally-append p [] ys counts = refl
-tally-append p (x ∷ xs) ys counts = ap (λ (c : Counts). if is_at p x.parent then counted (node_state x) c else c) (tally-append p xs ys counts)
+tally-append p (x ∷ xs) ys counts = ap (λ (c : Counts). if is_at p x.parent then child_counted (node_state x) c else c) (tally-append p xs ys counts)
 
 outside-apart : (p place many : ℕ) → (p < place) ⊎ (place + (1 + many) ≤ p) → p ≡ place → ⊥
 outside-apart p place many (inl below) e = absurd (omega (arith, below, e))
@@ -33,11 +33,11 @@ outside-rest p place one more (inl below) = inl (omega (arith, below))
 outside-rest p place one more (inr above) = inr (omega (arith, above))
 
 both_if : (b : Bool) (state : AwaitState) (states : List AwaitState) (counts : Counts)
-    → (if b then counted state (if b then counted_all states counts else counts) else (if b then counted_all states counts else counts)) ≡ (if b then counted_all (state ∷ states) counts else counts)
+    → (if b then child_counted state (if b then counted_all states counts else counts) else (if b then counted_all states counts else counts)) ≡ (if b then counted_all (state ∷ states) counts else counts)
 both_if true state states counts = refl
 both_if false state states counts = refl
 
-inner-node : (combinator : Combinator) (counts : Counts) → inner_counts (kind_of combinator) counts ≡ counts
+inner-node : (combinator : Combinator) (counts : Counts) → inner_counts (node_kind combinator) counts ≡ counts
 inner-node Trees.Unknown counts = refl
 inner-node Trees.FirstCompleted counts = refl
 inner-node Trees.AllCompleted counts = refl
@@ -84,11 +84,11 @@ module _ {Leaf : Type 0} (handle : Leaf → ℕ) (leaves : Leaf → AwaitState) 
 
   mutual
     tree-tally : (p place : ℕ) (parent : Option ℕ) (tree : AwaitTree Leaf) (counts : Counts) → (p < place) ⊎ (place + size_of tree ≤ p)
-        → tally p (flat_at handle leaves place parent tree) counts ≡ (if is_at p parent then counted (reckoned tree leaves) counts else counts)
+        → tally p (flat_at handle leaves place parent tree) counts ≡ (if is_at p parent then child_counted (reckoned tree leaves) counts else counts)
     tree-tally p place parent (Single leaf) counts outside =
-        ap (λ (state : AwaitState). if is_at p parent then counted state counts else counts) (leaf-state (leaves leaf) (handle leaf))
+        ap (λ (state : AwaitState). if is_at p parent then child_counted state counts else counts) (leaf-state (leaves leaf) (handle leaf))
     tree-tally p place parent (Combined combinator trees) counts outside =
-        ap (λ (c : Counts). if is_at p parent then counted (reckoned (Combined combinator trees) leaves) c else c)
+        ap (λ (c : Counts). if is_at p parent then child_counted (reckoned (Combined combinator trees) leaves) c else c)
         (trees-tally p (place + 1) place trees counts (outside-inner p place (sizes_of trees) outside)
         ∙ ap (λ (b : Bool). if b then counted_all (all_reckoned trees leaves) counts else counts)
         (ne_eqb place p (λ e. outside-apart p place (sizes_of trees) outside (sym e))))
@@ -103,7 +103,7 @@ module _ {Leaf : Type 0} (handle : Leaf → ℕ) (leaves : Leaf → AwaitState) 
     trees-tally p place parent (and_trees tree trees) counts outside =
         tally-append p (flat_at handle leaves place (Some parent) tree) (flats_at handle leaves (place + size_of tree) parent trees) counts
         ∙ tree-tally p place (Some parent) tree (tally p (flats_at handle leaves (place + size_of tree) parent trees) counts) (outside-first p place (size_of tree) (sizes_of trees) outside)
-        ∙ ap (λ (c : Counts). if parent == p then counted (reckoned tree leaves) c else c)
+        ∙ ap (λ (c : Counts). if parent == p then child_counted (reckoned tree leaves) c else c)
         (trees-tally p (place + size_of tree) parent trees counts (outside-rest p place (size_of tree) (sizes_of trees) outside))
         ∙ both_if (parent == p) (reckoned tree leaves) (all_reckoned trees leaves) counts
 

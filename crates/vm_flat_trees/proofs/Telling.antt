@@ -2,15 +2,15 @@
 use Rattle.std.proofs.Common.{◌≡◌, refl, sym, ap, ap₂, ◌∙◌, subst, ℕ, zero, suc, ◌+◌, ◌==◌, eq-eqb, ne_eqb, add-one, arith, Bool, true, false, ◌||◌, if◌then◌else◌, List, [], ◌∷◌, ◌++◌, length, map, Option, Some, None, ◌⊎◌, inl, inr, slice_get, slice_set}
 use Rattle.std.proofs.lemmas.List.{map-append}
 use Rattle.journal_model.specs.AwaitTree.{AwaitState, Pending, Succeeded, Failed, AwaitTree, AwaitTrees, Single, Combined, no_trees, and_trees, is_completed, is_awake}
-use Rattle.journal_model.specs.Waiting.{earlier_or_later}
+use Rattle.journal_model.specs.PrunedTrees.{earlier_or_later}
 use Rattle.journal_laws.proofs.Leaving.{or-true_left, or-true_right, awake-more}
 use Rattle.vm_flat_trees.specs.declared.node.Kind.TheVariants as kinds
 use Rattle.vm_flat_trees.specs.declared.node.FlatNode.{FlatNode}
-use Rattle.vm_flat_trees.specs.Counts.{counts_of, state_by, kind_of}
+use Rattle.vm_flat_trees.specs.Counts.{counts_of, state_by, node_kind}
 use Rattle.vm_flat_trees.specs.Flat.{size_of, flat_at, flats_at, flat_of, node_state, is_awake_flat, all_reckoned}
-use Rattle.vm_flat_trees.specs.Settling.{bare, come_to, is_leaf, IsWay}
-use Rattle.vm_flat_trees.specs.Climbing.{IsPendingLeaf, Sleeps, Climbs}
-use Rattle.vm_flat_trees.specs.Delivering.{sites, all_sites, place_at, places_of, brought, CanHear}
+use Rattle.vm_flat_trees.specs.ChildCounts.{bare, come_to, is_leaf, IsWay}
+use Rattle.vm_flat_trees.specs.LeafDelivery.{IsPendingLeaf, Sleeps, Climbs}
+use Rattle.vm_flat_trees.specs.NotificationDelivery.{sites, all_sites, place_at, places_of, brought, CanHear}
 use Rattle.vm_flat_trees.proofs.Reckoning.{leaf-state, tree-awake}
 use Rattle.vm_flat_trees.proofs.Standing.{flat-length, tree-settled, flat-ordered, same-settled}
 use Rattle.vm_flat_trees.proofs.Placing.{Placed, handle_in, placed, IsPlaced, AllPlaced, EachLeaf, EachLeaves, each-leaf, each-leaves, is-placed, flat-placed, sites-placed, flat-same, get-left, get-right, tree-told}
@@ -78,7 +78,7 @@ module _ (whole : List FlatNode) (states : Placed → AwaitState) (test : ℕ �
         by_test true site = (site refl, tt)
         by_test false site = tt
     tree-sites place depth parent (Combined combinator trees) is holds way =
-        let root : FlatNode = record { kind = kind_of combinator; parent = parent; counts = counts_of (all_reckoned trees states) } in
+        let root : FlatNode = record { kind = node_kind combinator; parent = parent; counts = counts_of (all_reckoned trees states) } in
         let there : slice_get whole place ≡ Some root = subst (λ (p : ℕ). slice_get whole p ≡ Some root) (omega arith) (holds 0 root refl) in
         trees-sites (place + 1) (depth + 1) place trees is (holds-rest whole place root (flats_at handle_in states (place + 1) place trees) holds)
         (subst (IsWay whole (Some place)) (sym (add-one depth)) (root, there, way))

@@ -9,10 +9,10 @@ use Rattle.vm_flat_trees.specs.declared.node.Kind.TheVariants as kinds
 use Rattle.vm_flat_trees.specs.declared.node.FlatNode.{FlatNode}
 use Rattle.vm_flat_trees.specs.Counts.{counts_of}
 use Rattle.vm_flat_trees.specs.Flat.{node_state, has_ended, root_state}
-use Rattle.vm_flat_trees.specs.Settling.{bare, inner_counts, Moves, unheard, Settling, StandsBefore, IsWay, visited, come_to, is_leaf}
-use Rattle.vm_flat_trees.specs.Climbing.{IsPendingLeaf, Sleeps, Climbs, Changes, HasRoom}
+use Rattle.vm_flat_trees.specs.ChildCounts.{bare, inner_counts, Moves, unheard, Settling, StandsBefore, IsWay, visited, come_to, is_leaf}
+use Rattle.vm_flat_trees.specs.LeafDelivery.{IsPendingLeaf, Sleeps, Climbs, ChangesNode, HasRoom}
 use Rattle.vm_flat_trees.proofs.Reckoning.{leaf-state}
-use Rattle.vm_flat_trees.proofs.Settling.{same-unheard, visit-settles, heard-at}
+use Rattle.vm_flat_trees.proofs.ChildCounts.{same-unheard, visit-settles, heard-at}
 use Rattle.vm_flat_trees.proofs.Visiting.{none-of, any-set, Waits, waits-at, heard-then, bare-visited, bare-set}
 
 -- how far it is to the root at most
@@ -107,7 +107,7 @@ unheard-other place p came other = ap (λ (b : Bool). if b then came else Pendin
 
 -- the leaf has come to its state
 pub starts : (before : List FlatNode) (leaf : ℕ) (state : AwaitState) (after : List FlatNode) (new : FlatNode) → Sleeps before → IsPendingLeaf before leaf
-    → Changes (come_to state) before leaf after new → Climbing before leaf state after new.parent state 1 false
+    → ChangesNode (come_to state) before leaf after new → Climbing before leaf state after new.parent state 1 false
 starts before leaf state after new sleeps waits (node, there, is_new, is_after) =
     let same : node ≡ waits.node = one node waits.node (sym there ∙ waits.there) in
     let ordered : StandsBefore node.parent leaf = sleeps.ordered leaf node there in
@@ -186,7 +186,7 @@ module _ (before : List FlatNode) (leaf : ℕ) (state : AwaitState) (sleeps : Sl
 
   -- one visit more
   pub climbs-on : (nodes : List FlatNode) (place : ℕ) (came : AwaitState) (visits : ℕ) (is_awake : Bool) (after : List FlatNode) (new : FlatNode)
-      → Climbing before leaf state nodes (Some place) came visits is_awake → is_completed came ≡ true → Changes (visited came) nodes place after new
+      → Climbing before leaf state nodes (Some place) came visits is_awake → is_completed came ≡ true → ChangesNode (visited came) nodes place after new
       → Climbing before leaf state after new.parent (node_state new) (visits + 1) (is_awake || has_ended new)
   climbs-on nodes place came visits is_awake after new climbing done (node, there, is_new, is_after) =
       let waits = hears nodes place came visits is_awake node climbing done there in
@@ -262,7 +262,7 @@ module _ (before : List FlatNode) (leaf : ℕ) (state : AwaitState) (sleeps : Sl
 
   -- the next visit stands before this one
   pub goes-up : (nodes : List FlatNode) (place : ℕ) (came : AwaitState) (visits : ℕ) (is_awake : Bool) (after : List FlatNode) (new : FlatNode)
-      → Climbing before leaf state nodes (Some place) came visits is_awake → Changes (visited came) nodes place after new → reach new.parent < reach (Some place)
+      → Climbing before leaf state nodes (Some place) came visits is_awake → ChangesNode (visited came) nodes place after new → reach new.parent < reach (Some place)
   goes-up nodes place came visits is_awake after new climbing (node, there, is_new, is_after) =
       let there_before : slice_get before place ≡ Some node = sym (climbing.untouched place (omega arith)) ∙ there in
       let few : reach node.parent ≤ place = reach-by node.parent place (sleeps.ordered place node there_before) in
@@ -270,7 +270,7 @@ module _ (before : List FlatNode) (leaf : ℕ) (state : AwaitState) (sleeps : Sl
       omega (arith, few, same)
 
   pub climbs-on_as : (nodes : List FlatNode) (next : Option ℕ) (place : ℕ) (came : AwaitState) (visits : ℕ) (is_awake : Bool) (after : List FlatNode) (new : FlatNode) (then_state : AwaitState) (ends awake : Bool)
-      → Climbing before leaf state nodes next came visits is_awake → is_completed came ≡ true → next ≡ Some place → Changes (visited came) nodes place after new
+      → Climbing before leaf state nodes next came visits is_awake → is_completed came ≡ true → next ≡ Some place → ChangesNode (visited came) nodes place after new
       → then_state ≡ node_state new → ends ≡ has_ended new → awake ≡ (is_awake || ends)
       → Climbing before leaf state after new.parent then_state (visits + 1) awake
   climbs-on_as nodes next place came visits is_awake after new then_state ends awake climbing done at changes is_then is_ends is_awake_then =
@@ -278,7 +278,7 @@ module _ (before : List FlatNode) (leaf : ℕ) (state : AwaitState) (sleeps : Sl
       (subst (λ (n : Option ℕ). Climbing before leaf state nodes n came visits is_awake) at climbing) done changes)
 
   pub goes-up_as : (nodes : List FlatNode) (next : Option ℕ) (place : ℕ) (came : AwaitState) (visits : ℕ) (is_awake : Bool) (after : List FlatNode) (new : FlatNode)
-      → Climbing before leaf state nodes next came visits is_awake → next ≡ Some place → Changes (visited came) nodes place after new → reach new.parent < reach next
+      → Climbing before leaf state nodes next came visits is_awake → next ≡ Some place → ChangesNode (visited came) nodes place after new → reach new.parent < reach next
   goes-up_as nodes next place came visits is_awake after new climbing at changes =
       subst (λ (n : Option ℕ). reach new.parent < reach n) (sym at) (goes-up nodes place came visits is_awake after new
       (subst (λ (n : Option ℕ). Climbing before leaf state nodes n came visits is_awake) at climbing) changes)

@@ -9,7 +9,7 @@ use Rattle.vm_flat_trees.specs.declared.node.Counts.{Counts}
 use Rattle.vm_flat_trees.specs.declared.node.FlatNode.{FlatNode}
 use Rattle.vm_flat_trees.specs.Counts.{no_counts, first_by, at_least_by, state_by, is_ended}
 use Rattle.vm_flat_trees.specs.Flat.{node_state, has_ended}
-use Rattle.vm_flat_trees.specs.Settling.{inner_counts, leaf_counts, bare, Moves, moved, visited, is_leaf}
+use Rattle.vm_flat_trees.specs.ChildCounts.{inner_counts, leaf_counts, bare, Moves, moved, visited, is_leaf}
 
 -- none of a test's list
 pub none-of : (xs : List FlatNode) (k : ℕ) (node : FlatNode) → slice_get xs k ≡ Some node → list_any has_ended xs ≡ false → has_ended node ≡ false

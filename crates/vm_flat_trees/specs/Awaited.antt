@@ -2,11 +2,11 @@
 use Rattle.std.specs.Prelude.{ℕ, Bool, true, false, if◌then◌else◌, List, [], ◌∷◌, Option, Some, None}
 use Rattle.journal_model.specs.declared.notification.NotificationId.{NotificationId}
 use Rattle.journal_model.specs.AwaitTree.{AwaitState, Pending, AwaitTree, is_awake, is_completed, map_leaves}
-use Rattle.journal_model.specs.Waiting.{pruned}
+use Rattle.journal_model.specs.PrunedTrees.{pruned}
 use Rattle.attempt_model.specs.Results.{Slots, slot_of}
 use Rattle.vm_flat_trees.specs.declared.node.FlatNode.{FlatNode}
-use Rattle.vm_flat_trees.specs.Bringing.{is_for}
-use Rattle.vm_flat_trees.specs.Delivering.{ways_of}
+use Rattle.vm_flat_trees.specs.NotificationRecipients.{is_for}
+use Rattle.vm_flat_trees.specs.NotificationDelivery.{ways_of}
 use Rattle.vm_flat_trees.specs.Flat.{read_back}
 
 -- a leaf: its handle, what this stands for, and what has come of it

@@ -2,7 +2,7 @@
 use Rattle.std.proofs.Common.{◌≡◌, refl, ap, ◌∙◌, ℕ, zero, suc, List, [], ◌∷◌, Option, ◌⊎◌, inl, inr}
 use Rattle.std.specs.Coded.{Coded, code_by, coded×, coded⊎, coded_ℕ, coded_list, coded_option}
 use Rattle.journal_model.specs.AwaitTree.{AwaitState, Pending, Succeeded, Failed, AwaitTree, Single, Combined, AwaitTrees, no_trees, and_trees, Unknown}
-use Rattle.journal_model.specs.TreeCode.{number_of, of_number, of_number-number_of}
+use Rattle.journal_model.specs.TreeCode.{number_of_combinator, of_number, of_number-number_of}
 use Rattle.journal_model.specs.declared.notification.NotificationId.{NotificationId}
 use Rattle.journal_model.specs.contracts.notification.NotificationId as ids
 use Rattle.vm_flat_trees.specs.Awaited.{AwaitedLeaf}
@@ -15,7 +15,7 @@ Mark = AwaitedLeaf ⊎ ℕ
 abbrev mutual
   pub listed : AwaitTree AwaitedLeaf → List Mark → List Mark
   listed (Single leaf) rest = inl leaf ∷ rest
-  listed (Combined combinator children) rest = all_listed children (inr (suc (suc (number_of combinator))) ∷ rest)
+  listed (Combined combinator children) rest = all_listed children (inr (suc (suc (number_of_combinator combinator))) ∷ rest)
 
   pub all_listed : AwaitTrees AwaitedLeaf → List Mark → List Mark
   all_listed no_trees rest = inr 0 ∷ rest
@@ -25,9 +25,9 @@ abbrev mutual
 abbrev pub Read : Type 0
 Read = List (AwaitTree AwaitedLeaf) × List (AwaitTrees AwaitedLeaf)
 
-abbrev pub joined : List (AwaitTree AwaitedLeaf) → List (AwaitTrees AwaitedLeaf) → Read
-joined (tree ∷ more) (trees ∷ others) = (more, and_trees tree trees ∷ others)
-joined more others = (more, others)
+abbrev pub awaited_joined : List (AwaitTree AwaitedLeaf) → List (AwaitTrees AwaitedLeaf) → Read
+awaited_joined (tree ∷ more) (trees ∷ others) = (more, and_trees tree trees ∷ others)
+awaited_joined more others = (more, others)
 
 abbrev pub combined : ℕ → List (AwaitTree AwaitedLeaf) → List (AwaitTrees AwaitedLeaf) → Read
 combined number more [] = (more, [])
@@ -35,7 +35,7 @@ combined number more (children ∷ others) = (Combined (of_number number) childr
 
 abbrev pub read_number : ℕ → Read → Read
 read_number zero read = (read.0, no_trees ∷ read.1)
-read_number (suc zero) read = joined read.0 read.1
+read_number (suc zero) read = awaited_joined read.0 read.1
 read_number (suc (suc number)) read = combined number read.0 read.1
 
 abbrev pub read_one : Mark → Read → Read
@@ -50,7 +50,7 @@ mutual
   pub listed-read : (tree : AwaitTree AwaitedLeaf) (rest : List Mark) (read : Read) → read_all (listed tree rest) read ≡ read_all rest (tree ∷ read.0, read.1)
   listed-read (Single leaf) rest read = refl
   listed-read (Combined combinator children) rest read =
-      all_listed-read children (inr (suc (suc (number_of combinator))) ∷ rest) read
+      all_listed-read children (inr (suc (suc (number_of_combinator combinator))) ∷ rest) read
       ∙ ap (λ c. read_all rest (Combined c children ∷ read.0, read.1)) (of_number-number_of combinator)
 
   pub all_listed-read : (trees : AwaitTrees AwaitedLeaf) (rest : List Mark) (read : Read) → read_all (all_listed trees rest) read ≡ read_all rest (read.0, trees ∷ read.1)

@@ -11,15 +11,15 @@ abbrev pub no_counts : Counts
 no_counts = record { pending = 0; succeeded = 0; failed = 0 }
 
 -- one child more, of this state
-abbrev pub counted : AwaitState → Counts → Counts
-counted Pending counts = record { pending = counts.pending + 1; succeeded = counts.succeeded; failed = counts.failed }
-counted Succeeded counts = record { pending = counts.pending; succeeded = counts.succeeded + 1; failed = counts.failed }
-counted Failed counts = record { pending = counts.pending; succeeded = counts.succeeded; failed = counts.failed + 1 }
+abbrev pub child_counted : AwaitState → Counts → Counts
+child_counted Pending counts = record { pending = counts.pending + 1; succeeded = counts.succeeded; failed = counts.failed }
+child_counted Succeeded counts = record { pending = counts.pending; succeeded = counts.succeeded + 1; failed = counts.failed }
+child_counted Failed counts = record { pending = counts.pending; succeeded = counts.succeeded; failed = counts.failed + 1 }
 
 -- children of these states, beside others
 abbrev pub counted_all : List AwaitState → Counts → Counts
 counted_all [] counts = counts
-counted_all (state ∷ states) counts = counted state (counted_all states counts)
+counted_all (state ∷ states) counts = child_counted state (counted_all states counts)
 
 abbrev pub counts_of : List AwaitState → Counts
 counts_of states = counted_all states no_counts
@@ -53,13 +53,13 @@ is_ended kinds.FirstSucceededOrAllFailed counts = not (counts.succeeded == 0)
 is_ended kinds.AllSucceededOrFirstFailed counts = not (counts.failed == 0)
 is_ended (kinds.AtLeast required) counts = is_completed (at_least_by required counts)
 
-abbrev pub kind_of : Trees.Combinator → Kind
-kind_of Trees.Unknown = kinds.Unknown
-kind_of Trees.FirstCompleted = kinds.FirstCompleted
-kind_of Trees.AllCompleted = kinds.AllCompleted
-kind_of Trees.FirstSucceededOrAllFailed = kinds.FirstSucceededOrAllFailed
-kind_of Trees.AllSucceededOrFirstFailed = kinds.AllSucceededOrFirstFailed
-kind_of (Trees.AtLeast required) = kinds.AtLeast required
+abbrev pub node_kind : Trees.Combinator → Kind
+node_kind Trees.Unknown = kinds.Unknown
+node_kind Trees.FirstCompleted = kinds.FirstCompleted
+node_kind Trees.AllCompleted = kinds.AllCompleted
+node_kind Trees.FirstSucceededOrAllFailed = kinds.FirstSucceededOrAllFailed
+node_kind Trees.AllSucceededOrFirstFailed = kinds.AllSucceededOrFirstFailed
+node_kind (Trees.AtLeast required) = kinds.AtLeast required
 
 -- how it combines what is left of its children: a number of successes is lowered by those that have succeeded
 abbrev pub lowered_kind : Kind → Counts → Kind

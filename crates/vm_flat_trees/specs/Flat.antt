@@ -8,7 +8,7 @@ use Rattle.vm_flat_trees.specs.declared.node.Kind.{Kind}
 use Rattle.vm_flat_trees.specs.declared.node.Kind.TheVariants as kinds
 use Rattle.vm_flat_trees.specs.declared.node.Counts.{Counts}
 use Rattle.vm_flat_trees.specs.declared.node.FlatNode.{FlatNode}
-use Rattle.vm_flat_trees.specs.Counts.{counts_of, state_by, is_ended, kind_of, lowered_kind}
+use Rattle.vm_flat_trees.specs.Counts.{counts_of, state_by, is_ended, node_kind, lowered_kind}
 
 -- how many nodes a tree has
 abbrev mutual
@@ -24,7 +24,7 @@ abbrev mutual
 abbrev mutual
   pub reckoned : {Leaf : Type 0} → AwaitTree Leaf → (Leaf → AwaitState) → AwaitState
   reckoned (Single leaf) leaves = leaves leaf
-  reckoned (Combined combinator trees) leaves = state_by (kind_of combinator) (counts_of (all_reckoned trees leaves))
+  reckoned (Combined combinator trees) leaves = state_by (node_kind combinator) (counts_of (all_reckoned trees leaves))
 
   pub all_reckoned : {Leaf : Type 0} → AwaitTrees Leaf → (Leaf → AwaitState) → List AwaitState
   all_reckoned no_trees leaves = []
@@ -35,7 +35,7 @@ abbrev mutual
   pub flat_at : {Leaf : Type 0} → (handle : Leaf → ℕ) → (leaves : Leaf → AwaitState) → (place : ℕ) → (parent : Option ℕ) → AwaitTree Leaf → List FlatNode
   flat_at handle leaves place parent (Single leaf) = record { kind = kinds.Leaf (handle leaf); parent = parent; counts = counts_of (leaves leaf ∷ []) } ∷ []
   flat_at handle leaves place parent (Combined combinator trees) =
-      record { kind = kind_of combinator; parent = parent; counts = counts_of (all_reckoned trees leaves) } ∷ flats_at handle leaves (place + 1) place trees
+      record { kind = node_kind combinator; parent = parent; counts = counts_of (all_reckoned trees leaves) } ∷ flats_at handle leaves (place + 1) place trees
 
   -- of trees under one parent, the first of which stands at this place
   pub flats_at : {Leaf : Type 0} → (handle : Leaf → ℕ) → (leaves : Leaf → AwaitState) → (place parent : ℕ) → AwaitTrees Leaf → List FlatNode

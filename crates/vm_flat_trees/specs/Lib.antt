@@ -1,10 +1,10 @@
 pub mod Awaited
 pub mod AwaitedCode
-pub mod Bringing
-pub mod Climbing
+pub mod NotificationRecipients
+pub mod LeafDelivery
 pub mod Counts
-pub mod Delivering
+pub mod NotificationDelivery
 pub mod Flat
-pub mod Opening
+pub mod FutureRoots
 pub mod Places
-pub mod Settling
+pub mod ChildCounts

@@ -2,8 +2,8 @@
 ghost use Rattle.std.specs.Prelude.{◌≡◌, ◌<◌, ◌≤◌, ◌||◌, ◌^◌, ◌+◌, true, not, ℕ, length, [], ◌∷◌, Some};
 ghost use Rattle.journal_model.specs.AwaitTree.{is_completed};
 ghost use Rattle.vm_flat_trees.specs.Counts.{state_meant, counts_of};
-ghost use Rattle.vm_flat_trees.specs.Settling.{moved, visited, come_to, IsWay};
-ghost use Rattle.vm_flat_trees.specs.Climbing.{IsPendingLeaf, Sleeps, Climbs, Changes, HasRoom};
+ghost use Rattle.vm_flat_trees.specs.ChildCounts.{moved, visited, come_to, IsWay};
+ghost use Rattle.vm_flat_trees.specs.LeafDelivery.{IsPendingLeaf, Sleeps, Climbs, ChangesNode, HasRoom};
 
 use crate::node::{Counts, FlatNode, is_ended, state_by};
 use protocol_trees::AwaitState;
@@ -61,7 +61,7 @@ pub fn leaf_counts(state: AwaitState) -> Counts
 // The leaf at this place has come to this.
 fn complete(nodes: &mut [FlatNode], place: usize, state: AwaitState) -> FlatNode
     requires { place < length nodes.old }
-    ensures { Changes (come_to (state_meant state)) nodes.old place nodes.new result }
+    ensures { ChangesNode (come_to (state_meant state)) nodes.old place nodes.new result }
 {
     let before = nodes[place];
     let node = FlatNode {
@@ -77,7 +77,7 @@ fn complete(nodes: &mut [FlatNode], place: usize, state: AwaitState) -> FlatNode
 fn visit(nodes: &mut [FlatNode], place: usize, came: AwaitState) -> FlatNode
     requires within { place < length nodes.old }
     requires room { HasRoom nodes.old place }
-    ensures { Changes (visited (state_meant came)) nodes.old place nodes.new result }
+    ensures { ChangesNode (visited (state_meant came)) nodes.old place nodes.new result }
 {
     let before = nodes[place];
     let node = FlatNode {

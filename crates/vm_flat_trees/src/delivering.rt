@@ -2,8 +2,8 @@
 ghost use Rattle.std.specs.Prelude.{◌≡◌, true};
 ghost use Rattle.journal_model.specs.AwaitTree.{is_completed};
 ghost use Rattle.vm_flat_trees.specs.Counts.{state_meant};
-ghost use Rattle.vm_flat_trees.specs.Climbing.{Sleeps};
-ghost use Rattle.vm_flat_trees.specs.Delivering.{CanHearOf, Delivers, IsLeafAt, TellsOne};
+ghost use Rattle.vm_flat_trees.specs.LeafDelivery.{Sleeps};
+ghost use Rattle.vm_flat_trees.specs.NotificationDelivery.{CanHearOf, Delivers, IsLeafAt, TellsOne};
 
 use crate::climbing::{Climbed, climb, is_completed};
 use crate::node::{FlatNode, state_by};

@@ -2,7 +2,7 @@
 ghost use Rattle.std.specs.Prelude.{◌≡◌, ℕ, false, take, drop, map, IfOk, OnOk};
 ghost use Rattle.journal_model.specs.AwaitTree.{AwaitTree, AwaitState, is_awake};
 ghost use Rattle.journal_model.specs.Future.{tree_of, trees_from};
-ghost use Rattle.journal_model.specs.Waiting.{pruned};
+ghost use Rattle.journal_model.specs.PrunedTrees.{pruned};
 ghost use Rattle.vm_flat_trees.specs.Flat.{combined, pending_before, read_pending, children_in, flat_of};
 
 use crate::climbing::is_completed;

@@ -1,7 +1,7 @@
 // A node of a flat tree.
 ghost use Rattle.std.specs.Prelude.{◌≡◌, ◌<◌, ◌-◌, ◌^◌};
 ghost use Rattle.journal_model.specs.AwaitTree.{is_completed};
-ghost use Rattle.vm_flat_trees.specs.Counts.{state_meant, no_counts, counted, at_least_by, state_by, is_ended, lowered_kind};
+ghost use Rattle.vm_flat_trees.specs.Counts.{state_meant, no_counts, child_counted, at_least_by, state_by, is_ended, lowered_kind};
 
 use protocol_trees::AwaitState;
 
@@ -50,7 +50,7 @@ pub fn counted(state: AwaitState, counts: Counts) -> Counts
     requires pending { counts.pending < 2 ^ 63 }
     requires succeeded { counts.succeeded < 2 ^ 63 }
     requires failed { counts.failed < 2 ^ 63 }
-    ensures { result ≡ counted (state_meant state) counts }
+    ensures { result ≡ child_counted (state_meant state) counts }
 {
     match state {
         AwaitState::Pending => Counts {

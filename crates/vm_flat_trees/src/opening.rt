@@ -1,7 +1,7 @@
 // A future by its root.
 ghost use Rattle.std.specs.Prelude.{◌≡◌};
 ghost use Rattle.journal_model.specs.Future.{tree_of};
-ghost use Rattle.vm_flat_trees.specs.Opening.{opened_tree, IsInner};
+ghost use Rattle.vm_flat_trees.specs.FutureRoots.{opened_tree, IsInner};
 
 use crate::node::Kind;
 use journal_model::{NotificationHandle, UnresolvedFuture};

@@ -22,7 +22,7 @@ use Rattle.protocol_messages.specs.Told.{id_told, result_told, notification_told
 use Rattle.protocol_messages.specs.Decoded.{DecodesNotification}
 use Rattle.protocol_laws.specs.Records.{id_record, notification_record, result_record}
 use Rattle.protocol_laws.proofs.Notifications.{notifications_spelled}
-use Rattle.vm_input_laws.specs.Arrivals.{ArrivalFits, IsAsked, IsNotificationType, ArrivalsReadBack}
+use Rattle.vm_input_laws.specs.Arrivals.{ArrivalFits, IsCompletionAsked, IsNotificationType, ArrivalsReadBack}
 
 -- ---- the record tells the arrival
 
@@ -89,7 +89,7 @@ of_found n (request ∷ requests) any = go (asks_for n request) refl any (λ mor
     go true asks h further = of_request n request asks
     go false asks h further = further h
 
-pub of_asked : (entries : List Entry) (id : NotificationId) → IsAsked entries id → IsNotificationType (notification_type entries id)
+pub of_asked : (entries : List Entry) (id : NotificationId) → IsCompletionAsked entries id → IsNotificationType (notification_type entries id)
 of_asked entries (model_ids.CompletionId n) asked = of_found n (requests_in entries) asked
 of_asked entries (model_ids.SignalId n) asked = record { named = refl; kind = refl }
 of_asked entries (model_ids.SignalName name) asked = record { named = refl; kind = refl }

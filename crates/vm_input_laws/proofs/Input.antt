@@ -15,14 +15,14 @@ use Rattle.journal_model.specs.State.{StateMap}
 use Rattle.journal_model.specs.Headline.{run_of}
 use Rattle.input_laws.specs.Message.{InputMessage, CarriesInput}
 use Rattle.attempt_model.specs.Machine.{Machine, machine_at_start}
-use Rattle.live_laws.specs.Beginning.{AttemptStart, ShowsStart}
-use Rattle.live_laws.specs.Reading.{with_messages}
-use Rattle.vm_input_laws.specs.InputsAnswered.{HasInput, IsReady, IsGiven, LacksMemory, InputsAreRead}
-use Rattle.vm_feeding.specs.Reading.{IsRead}
+use Rattle.live_laws.specs.StartFrame.{AttemptStart, ShowsStart}
+use Rattle.live_laws.specs.MachinePosition.{with_messages}
+use Rattle.vm_input_laws.specs.InputsAnswered.{HasInput, IsInputReady, IsGiven, LacksMemoryForInput, InputsAreRead}
+use Rattle.vm_feeding.specs.InputAnswer.{IsRead}
 use Rattle.vm_calls.specs.Active.{Sees}
-use Rattle.vm_commands.specs.Popping.{next_of}
-use Rattle.vm_machine.specs.Gathering.{without_input}
-use Rattle.vm_start.specs.Failing.{ended}
+use Rattle.vm_commands.specs.NextCommand.{next_of}
+use Rattle.vm_machine.specs.StateBeforeInput.{without_input}
+use Rattle.vm_start.specs.FailureReport.{ended}
 use Rattle.vm_feeding.specs.Input.{input_given, where_scoped}
 use Rattle.vm_machine.specs.declared.machine_state.MachineState.{MachineState}
 use Rattle.vm_start.specs.Starts.{without_state}
@@ -31,8 +31,8 @@ use Rattle.vm_input_laws.specs.Messages.{raw_of, MessageFits}
 use Rattle.vm_input_laws.specs.InputsKept.{gathered_all, commands_in}
 use Rattle.vm_input_laws.proofs.StartSpelled.{inputs_read_back}
 use Rattle.vm_input_laws.proofs.Memory.{fails_for_memory, answers_memory}
-use Rattle.vm_input_laws.specs.Feeding.{HasFailed, has_failed}
-use Rattle.vm_input_laws.specs.Standing.{IsInputOf, IsRunOf, start_told, Kind, kind_of, HasStarted}
+use Rattle.vm_input_laws.specs.MachineFeed.{HasFailed, has_failed}
+use Rattle.vm_input_laws.specs.InputPhases.{IsInputOf, IsRunOf, start_told, Kind, phase_kind, HasStarted}
 use Rattle.vm_input_laws.specs.Laws.{AnswersInput, RefusesInput, InputsAreAnswered}
 use Rattle.vm_input_laws.proofs.Messages.{with_left, entries_gathered, input_active, input_entries}
 
@@ -82,7 +82,7 @@ module _ (given_input : InputsAreRead) (start : AttemptStart) (shows : ShowsStar
     decoded = (inputs_read_back start.new.headers start.new.input [] input_fits).decoded;
   }
 
-  ready : IsReady start.given (gathered_all read begun) (with_messages begun (start.journal ++ is.later)).left (without_state (start_told start shows)) (input_record start.new.headers start.new.input) old
+  ready : IsInputReady start.given (gathered_all read begun) (with_messages begun (start.journal ++ is.later)).left (without_state (start_told start shows)) (input_record start.new.headers start.new.input) old
   ready = record {
     phase = h.phase ∙ input_active start read is;
     replays = ap (λ (k : Kind). k.options.journal_replay) h.kind_is ∙ of_run.replays;
@@ -109,7 +109,7 @@ module _ (given_input : InputsAreRead) (start : AttemptStart) (shows : ShowsStar
   given_so g = record {
     answer = g.answer ∙ ap (λ (input : Input). Ok input) answer_is;
     asked = record {
-      kind_is = ap kind_of g.others ∙ h.kind_is;
+      kind_is = ap phase_kind g.others ∙ h.kind_is;
       phase = ap (λ (vm : MachineState). vm.phase) g.others ∙ h.phase ∙ input_active start read is;
       sees = subst (λ (m : Machine). Sees start.given new.active m) behind_input g.sees;
     };
@@ -118,7 +118,7 @@ module _ (given_input : InputsAreRead) (start : AttemptStart) (shows : ShowsStar
   }
 
   -- the answer of one that fails for want of memory is that
-  refused_so : LacksMemory old result new → RefusesInput kind.version result new
+  refused_so : LacksMemoryForInput old result new → RefusesInput kind.version result new
   refused_so lacks =
       let well : has_failed lacks.between.phase ≡ false = ap has_failed (lacks.phase ∙ h.phase ∙ input_active start read is) in
       let fails : HasFailed (Err lacks.refused) lacks.between new = record { answer = lacks.answer; fails = lacks.fails } in
@@ -131,7 +131,7 @@ module _ (given_input : InputsAreRead) (start : AttemptStart) (shows : ShowsStar
   answered : IsRead old result new → AnswersInput start kind (with_messages begun read) old result new ⊎ RefusesInput kind.version result new
   answered asks = go (given_input start.given (gathered_all read begun) (with_messages begun (start.journal ++ is.later)).left (without_state (start_told start shows)) (input_record start.new.headers start.new.input) old result new ready asks)
     where
-      go : IsGiven start.given (gathered_all read begun) (with_messages begun (start.journal ++ is.later)).left (without_state (start_told start shows)) (input_record start.new.headers start.new.input) old result new ⊎ LacksMemory old result new
+      go : IsGiven start.given (gathered_all read begun) (with_messages begun (start.journal ++ is.later)).left (without_state (start_told start shows)) (input_record start.new.headers start.new.input) old result new ⊎ LacksMemoryForInput old result new
           → AnswersInput start kind (with_messages begun read) old result new ⊎ RefusesInput kind.version result new
       go (inl g) = inl (given_so g)
       go (inr lacks) = inr (refused_so lacks)

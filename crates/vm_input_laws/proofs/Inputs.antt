@@ -19,22 +19,22 @@ use Rattle.journal_model.specs.Attempt.{input_bytes}
 use Rattle.input_laws.specs.Message.{InputMessage, CarriesInput, CarriesRequest, CarriesArrival, CarriesOutcome, piece_of}
 use Rattle.attempt_model.specs.Machine.{Machine}
 use Rattle.body_laws.specs.Bodies.{Executor}
-use Rattle.replay_laws.specs.Living.{reads_message, reads_messages, AreCached}
+use Rattle.replay_laws.specs.AttemptWithBodies.{reads_message, reads_messages, AreCached}
 use Rattle.vm_runs.specs.Runs.{Runs}
-use Rattle.vm_runs.specs.Keeping.{KeepsBodies}
+use Rattle.vm_runs.specs.KeptBodies.{KeepsBodies}
 use Rattle.vm_calls.specs.declared.active.Active.{Active}
 use Rattle.vm_calls.specs.Active.{Sees}
-use Rattle.vm_machine.specs.Causes.{Tells}
-use Rattle.vm_machine.specs.Gathering.{Gathers}
+use Rattle.vm_machine.specs.Causes.{TellsPlainError}
+use Rattle.vm_machine.specs.StateBeforeInput.{Gathers}
 use Rattle.vm_start.specs.declared.phase.Phase.{Phase}
 use Rattle.vm_start.specs.declared.phase.Phase.TheVariants as phases
-use Rattle.vm_feeding.specs.Feeding.{has_failed, with_bytes, with_input, TakesNext, TakesEach, StopsAt, Stops, Rests, RestsWhere, IsFed}
-use Rattle.vm_feeding.specs.Passed.{MachineState}
+use Rattle.vm_feeding.specs.InputBytes.{has_failed, with_bytes, with_input, TakesNext, TakesEach, StopsAt, Stops, Rests, RestsWhere, IsFed}
+use Rattle.vm_machine.specs.declared.machine_state.MachineState.{MachineState}
 use Rattle.protocol_stream.proofs.Fronts.{item_at_extends}
 use Rattle.protocol_wire.proofs.Extends.{Extends}
 use Rattle.vm_input_laws.specs.Memory.{FailsForMemory}
 use Rattle.vm_input_laws.specs.Messages.{raw_of, MessageFits, IsWaitedFor, IsExpected, KeepsMessage, command_in, gathered, runs_then, phase_then, Kept, Unkept, MessagesAreKept}
-use Rattle.vm_input_laws.specs.InputsKept.{bytes_of, IsFedEach, gathered_all, commands_in, phase_behind, runs_behind, AreWaitedFor, KnowsRuns, AreKept, TakesFirst, InputsAreKept}
+use Rattle.vm_input_laws.specs.InputsKept.{bytes_of, IsFedEach, gathered_all, commands_in, phase_behind, runs_behind, AreWaitedFor, KnowsRuns, AreKept, TakesFirstMessages, InputsAreKept}
 use Rattle.vm_input_laws.proofs.Acknowledging.{acknowledgement_front}
 use Rattle.vm_input_laws.proofs.StartSpelled.{inputs_read_back}
 use Rattle.vm_request_laws.proofs.Requests.{requests_read_back}
@@ -305,7 +305,7 @@ module _ (keeps : MessagesAreKept) (given : Invocation) (messages : List InputMe
           absurd (unknown_is_none ty (raw_of found.0) found.3)
       at_end (Err OutOfMemory) rest consumes unread =
           inr (memory_over old (with_bytes rest between) new k.kept.output
-          (fails_for_memory unread.cause (with_bytes rest between) new (unless_refused (Tells (decoding_code OutOfMemory) (Some (decoding_text OutOfMemory))) unread.cause unread.causes) k.well unread.fails))
+          (fails_for_memory unread.cause (with_bytes rest between) new (unless_refused (TellsPlainError (decoding_code OutOfMemory) (Some (decoding_text OutOfMemory))) unread.cause unread.causes) k.well unread.fails))
       at_end (Err _) rest consumes unread = absurd consumes
 
       stopped : Stops between new → (Took given messages coming old new × (item_at new.decoder ≡ None)) ⊎ FailsForMemory old new
@@ -345,7 +345,7 @@ took_cuts keeps given messages (cut ∷ before) coming old start new k h =
     go (inr failed) = inr (memory_stays cut old h.0 new failed h.2)
 
 pub first_taken : (given : Invocation) (messages : List InputMessage) (coming : List ℕ) (old new : MachineState) → (Took given messages coming old new × (item_at new.decoder ≡ None)) ⊎ FailsForMemory old new
-    → TakesFirst given messages coming old new ⊎ FailsForMemory old new
+    → TakesFirstMessages given messages coming old new ⊎ FailsForMemory old new
 first_taken given messages coming old new (inl (k, whole)) = inl (record { some = k.some; still = k.still; parts = k.parts; bytes = k.bytes; whole = whole; kept = k.kept })
 first_taken given messages coming old new (inr failed) = inr failed
 

@@ -11,8 +11,7 @@ pub mod Inputs
 pub mod Holding
 pub mod Given
 pub mod Messages
-pub mod Reading
-pub mod Starting
+pub mod JournalReads
+pub mod MachineStart
 pub mod Input
-pub mod Beginning
-pub mod Passed
+pub mod NewMachineInput

@@ -6,13 +6,13 @@ use Rattle.protocol_types.specs.declared.version.Version.{Version}
 use Rattle.vm_types.specs.declared.options.JournalMismatchRetryBehavior.{JournalMismatchRetryBehavior}
 use Rattle.vm_machine.specs.Causes.{Unless}
 use Rattle.vm_context.specs.Output.{Written}
-use Rattle.vm_start.specs.Failing.{out_of_memory, ended, TellsCause, FailsNow, FailsAs}
+use Rattle.vm_start.specs.FailureReport.{out_of_memory, ended, TellsFailureCause, FailsNow, FailsAs}
 use Rattle.vm_start.specs.Phases.{kept_error}
 use Rattle.vm_start.specs.declared.phase.Phase.{Phase}
 use Rattle.vm_start.specs.declared.phase.Phase.TheVariants as phases
-use Rattle.vm_feeding.specs.Failing.{HasFailed}
-use Rattle.vm_feeding.specs.Feeding.{has_failed}
-use Rattle.vm_feeding.specs.Passed.{MachineState}
+use Rattle.vm_feeding.specs.UnansweredFailure.{HasFailed}
+use Rattle.vm_feeding.specs.InputBytes.{has_failed}
+use Rattle.vm_machine.specs.declared.machine_state.MachineState.{MachineState}
 use Rattle.vm_input_laws.specs.Memory.{FailsForMemory}
 use Rattle.vm_input_laws.specs.Messages.{Unkept}
 
@@ -35,7 +35,7 @@ module _ (cause : Result Error AllocError) (old new : MachineState) (refused : (
   now = fails_now old.version old.options.journal_mismatch_retry_behavior cause old.phase old.active.output h.answer new.phase new.active.output well h.fails.fails
 
   told : (now.told ≡ out_of_memory) × (now.before ≡ old.active.output)
-  told = subst (λ (c : Result Error AllocError). TellsCause old.version old.options.journal_mismatch_retry_behavior c old.active.output now.told now.before) refused.1 now.tells
+  told = subst (λ (c : Result Error AllocError). TellsFailureCause old.version old.options.journal_mismatch_retry_behavior c old.active.output now.told now.before) refused.1 now.tells
 
   pub fails_for_memory : FailsForMemory old new
   fails_for_memory = record { phase = now.phase_is ∙ ap (λ (error : Error). phases.Failed error) told.0; output = now.output ∙ ap ended told.1 }

@@ -9,14 +9,14 @@ use Rattle.journal_model.specs.Journal.{Recorded, completion}
 use Rattle.input_laws.specs.Message.{InputMessage, CarriesInput, CarriesRequest, CarriesArrival, CarriesOutcome}
 use Rattle.attempt_model.specs.Machine.{Machine, with_arrival}
 use Rattle.attempt_model.specs.Attempts.{with_entry}
-use Rattle.live_laws.specs.Reading.{with_messages}
+use Rattle.live_laws.specs.MachinePosition.{with_messages}
 use Rattle.vm_start.specs.declared.phase.Phase.{Phase}
 use Rattle.vm_start.specs.declared.phase.Phase.TheVariants as phases
 use Rattle.vm_input_laws.specs.Messages.{IsWaitedFor, phase_then}
 use Rattle.vm_input_laws.specs.InputsKept.{gathered_all, phase_behind, AreWaitedFor}
 use Rattle.vm_input_laws.proofs.Inputs.{stays_active}
-use Rattle.vm_input_laws.specs.Standing.{IsEntry, IsArrival, IsInputOf}
-use Rattle.live_laws.specs.Beginning.{AttemptStart}
+use Rattle.vm_input_laws.specs.InputPhases.{IsEntry, IsArrival, IsInputOf}
+use Rattle.live_laws.specs.StartFrame.{AttemptStart}
 
 pub all_behind : (P : InputMessage → Type 0) (some more : List InputMessage) → AllByRecursion P (some ++ more) → AllByRecursion P more
 all_behind P [] more all = all

@@ -24,29 +24,30 @@ use Rattle.journal_model.specs.Spelling.{request_type}
 use Rattle.input_laws.specs.Message.{InputMessage, CarriesInput, CarriesRequest, CarriesArrival, CarriesOutcome}
 use Rattle.attempt_model.specs.Machine.{Machine}
 use Rattle.body_laws.specs.Bodies.{Executor}
-use Rattle.replay_laws.specs.Living.{reads_message}
+use Rattle.replay_laws.specs.AttemptWithBodies.{reads_message}
 use Rattle.vm_runs.specs.Runs.{Runs, outcome_at}
-use Rattle.vm_runs.specs.Keeping.{KeepsBodies}
+use Rattle.vm_runs.specs.KeptBodies.{KeepsBodies}
 use Rattle.vm_commands.specs.Recorded.{command_of}
 use Rattle.vm_calls.specs.declared.active.Active.{Active}
 use Rattle.vm_awaits.specs.Views.{results_of}
 use Rattle.vm_awaits.specs.Calls.{with_queued}
-use Rattle.vm_machine.specs.Causes.{Tells}
+use Rattle.vm_machine.specs.Causes.{TellsPlainError}
 use Rattle.vm_start.specs.Phases.{phase_after_entry}
 use Rattle.vm_start.specs.declared.phase.Phase.{Phase}
 use Rattle.vm_start.specs.declared.phase.Phase.TheVariants as phases
 use Rattle.vm_machine.specs.Entries.{ComesCommand, ComesNotification, Pushes, QueuesIn}
-use Rattle.vm_machine.specs.Acknowledging.{TellsOutcome, ComesOutcome, ReadsOutcome, TakesTold, TakesAcknowledgement, ComesAcknowledgement}
+use Rattle.vm_machine.specs.AcknowledgementReceipt.{TellsOutcome, ComesOutcome, ReadsOutcome, TakesTold, TakesAcknowledgement, ComesAcknowledgement}
 use Rattle.vm_machine.specs.Answers.{stage_of}
-use Rattle.vm_machine.specs.Incoming.{incoming_of}
+use Rattle.vm_machine.specs.MessageKinds.{incoming_of}
 use Rattle.vm_machine.specs.declared.incoming.Incoming.{Incoming}
 use Rattle.vm_machine.specs.declared.incoming.Incoming.TheVariants as incoming
 use Rattle.vm_machine.specs.declared.entry_error.EntryError.{EntryError}
 use Rattle.vm_machine.specs.declared.entry_error.EntryError.TheVariants as entries
-use Rattle.vm_machine.specs.Gathering.{Gathers, with_command, GathersCommands, GathersNotifications}
-use Rattle.vm_machine.specs.Receiving.{ReceivesAcknowledgement}
-use Rattle.vm_feeding.specs.Feeding.{with_bytes, TakesNext}
-use Rattle.vm_feeding.specs.Passed.{MachineFails, Takes, TakesAs, TakesNot, Receives, ReceivesCommand, ReceivesNotification, MachineState}
+use Rattle.vm_machine.specs.StateBeforeInput.{Gathers, with_command, GathersCommands, GathersNotifications}
+use Rattle.vm_machine.specs.MessageReceipt.{ReceivesAcknowledgement, TakesMessage, TakesAs, TakesNot, Receives, ReceivesCommand, ReceivesNotification}
+use Rattle.vm_feeding.specs.InputBytes.{with_bytes, TakesNext}
+use Rattle.vm_machine.specs.MachineFailure.{MachineFails}
+use Rattle.vm_machine.specs.declared.machine_state.MachineState.{MachineState}
 use Rattle.vm_input_laws.specs.Messages.{raw_of, command_in, runs_then, KeepsMessage, phase_then, Kept, Unkept, IsWaitedFor, MessagesAreKept}
 use Rattle.vm_input_laws.proofs.Acknowledging.{acknowledgement_decoded}
 use Rattle.vm_input_laws.proofs.Arrivals.{decodes}
@@ -58,7 +59,7 @@ use Rattle.vm_input_laws.proofs.Memory.{unless_refused}
 
 unkept : (old between new : MachineState) → between.phase ≡ old.phase → between.active.output ≡ old.active.output → TakesNot between entries.OutOfMemory new → Unkept old new
 unkept old between new phase output not =
-    let refused = unless_refused (Tells internal None) not.cause not.causes in record {
+    let refused = unless_refused (TellsPlainError internal None) not.cause not.causes in record {
       between = between;
       phase = phase;
       output = output;
@@ -137,7 +138,7 @@ module _ (gathers_commands : GathersCommands) (given : Invocation) (message : In
   command_step (Err entries.OutOfMemory) between new comes others not = inr (unkept old between new (comes.0 ∙ sym at) (ap (λ (a : Active). a.output) comes.1.1) not)
   command_step (Err _) between new comes others not = absurd comes.1
 
-  command_taken : (new : MachineState) → incoming_of raw.header.ty ≡ incoming.Command → Takes raw old new → KeptBy given message old new ⊎ Unkept old new
+  command_taken : (new : MachineState) → incoming_of raw.header.ty ≡ incoming.Command → TakesMessage raw old new → KeptBy given message old new ⊎ Unkept old new
   command_taken new kind takes =
       let receives : ReceivesCommand raw old takes.received takes.between = subst (λ (k : Incoming). Receives raw k old takes.received takes.between) kind takes.receives in
       command_step takes.received takes.between new (subst (λ (p : Phase). ComesCommand raw p old.active takes.received takes.between.phase takes.between.active) at receives.comes) receives.others takes.takes
@@ -191,7 +192,7 @@ module _ (gathers_notifications : GathersNotifications) (given : Invocation) (ty
   comes_so phases.Active (Err error) between waited comes = comes
   comes_so _ result between waited comes = absurd waited
 
-  arrival_taken : (new : MachineState) → IsWaitedFor (CarriesArrival ty arrival) old.phase → incoming_of raw.header.ty ≡ incoming.Notification → Takes raw old new
+  arrival_taken : (new : MachineState) → IsWaitedFor (CarriesArrival ty arrival) old.phase → incoming_of raw.header.ty ≡ incoming.Notification → TakesMessage raw old new
       → KeptBy given (CarriesArrival ty arrival) old new ⊎ Unkept old new
   arrival_taken new waited kind takes =
       let receives : ReceivesNotification raw old takes.received takes.between = subst (λ (k : Incoming). Receives raw k old takes.received takes.between) kind takes.receives in
@@ -241,7 +242,7 @@ module _ (gathers_notifications : GathersNotifications) (given : Invocation) (nu
       (subst (λ (r : Result (Unit {0}) EntryError). TakesAs between r new) takes.0 is))
   told_so (Err _) result between new same others active tells takes is = absurd tells
 
-  outcome_taken : (new : MachineState) → old.phase ≡ phases.Active → old.active.is_replaying ≡ false → Takes raw old new → After new
+  outcome_taken : (new : MachineState) → old.phase ≡ phases.Active → old.active.is_replaying ≡ false → TakesMessage raw old new → After new
   outcome_taken new at behind takes =
       let receives : ReceivesAcknowledgement raw old takes.received takes.between = takes.receives in
       let comes : TakesAcknowledgement raw old.runs old.active takes.received takes.between.runs takes.between.active =

@@ -4,7 +4,7 @@ use Rattle.std.specs.Prelude.{pos}
 use Rattle.protocol_table.specs.declared.table.RecordType.TheVariants as records
 use Rattle.protocol_errors.specs.Code.{internal}
 use Rattle.protocol_errors.specs.declared.typed.BadEagerStateKeyError.{BadEagerStateKeyError}
-use Rattle.protocol_records.specs.Start.{start_of}
+use Rattle.protocol_records.specs.Start.{start_message_of}
 use Rattle.protocol_records.specs.declared.start.StartMessage.{StartMessage}
 use Rattle.protocol_records.specs.declared.start.StateEntry.{StateEntry}
 use Rattle.protocol_messages.specs.Decoded.{DecodesTo}
@@ -19,22 +19,23 @@ use Rattle.journal_model.specs.Start.{start_payload_of}
 use Rattle.journal_model.specs.State.{StartState}
 use Rattle.journal_model.specs.Headline.{shown_state}
 use Rattle.vm_calls.specs.declared.active.Active.{Active}
-use Rattle.vm_machine.specs.Causes.{Tells, Unless}
+use Rattle.vm_machine.specs.Causes.{TellsPlainError, Unless}
 use Rattle.vm_context.specs.Eager.{KnownState}
-use Rattle.vm_context.specs.Following.{KnowsState, start_of as state_of}
+use Rattle.vm_context.specs.StateKnowledge.{KnowsState, start_state_of}
 use Rattle.vm_start.specs.declared.phase.Phase.{Phase}
 use Rattle.vm_start.specs.declared.phase.Phase.TheVariants as phases
-use Rattle.vm_machine.specs.Gathering.{Gathers, BeginsGathering}
-use Rattle.vm_machine.specs.Starting.{BeginsWith, Reads, ComesStart}
+use Rattle.vm_machine.specs.StateBeforeInput.{Gathers, BeginsGathering}
+use Rattle.vm_machine.specs.StartReceipt.{BeginsWith, ReadsStartMessage, ComesStart}
 use Rattle.vm_machine.specs.declared.entry_error.EntryError.{EntryError}
 use Rattle.vm_machine.specs.declared.entry_error.EntryError.TheVariants as entries
-use Rattle.vm_feeding.specs.Feeding.{has_failed, with_bytes}
-use Rattle.vm_feeding.specs.Passed.{TakesAs, TakesNot, ReceivesStart, MachineState}
+use Rattle.vm_feeding.specs.InputBytes.{has_failed, with_bytes}
+use Rattle.vm_machine.specs.MessageReceipt.{TakesAs, TakesNot, ReceivesStart}
+use Rattle.vm_machine.specs.declared.machine_state.MachineState.{MachineState}
 use Rattle.vm_start.specs.Starts.{pairs_of, AreText, FirstNotText, StartFails, without_state}
 use Rattle.vm_start.specs.declared.error.StartError.{StartError}
 use Rattle.vm_start.specs.declared.error.StartError.TheVariants as starts
 use Rattle.vm_input_laws.specs.Memory.{FailsForMemory}
-use Rattle.vm_input_laws.specs.Starting.{WaitsForStart, HasBegun, StartsAreKept}
+use Rattle.vm_input_laws.specs.MachineStart.{WaitsForStart, HasAttemptBegun, StartsAreKept}
 use Rattle.vm_input_laws.proofs.StartSpelled.{starts_read_back}
 use Rattle.vm_input_laws.proofs.Memory.{unless_refused, fails_for_memory, memory_over}
 use Rattle.vm_input_laws.proofs.MessagesRead.{same_read, not_unread}
@@ -60,16 +61,16 @@ record BegunBy (given : Invocation) (shown : StartState) (told : StartMessage) (
   pub gathers : Gathers given new.active (machine_at_start shown [] [])
   pub others : new ≡ record old { phase = new.phase; active = new.active; start = new.start }
 
-module _ (begins : BeginsGathering) (given : Invocation) (shown : StartState) (told : StartMessage) (raw : RawMessage) (decoded : DecodesTo records.Start start_of (pos 0) raw (Ok told)) (text : AreText told.state_map)
-    (announced : 0 < told.known_entries) (shows : state_of told.partial_state (pairs_of told.state_map) ≡ shown) (old : MachineState) (waits : WaitsForStart given old) where
+module _ (begins : BeginsGathering) (given : Invocation) (shown : StartState) (told : StartMessage) (raw : RawMessage) (decoded : DecodesTo records.Start start_message_of (pos 0) raw (Ok told)) (text : AreText told.state_map)
+    (announced : 0 < told.known_entries) (shows : start_state_of told.partial_state (pairs_of told.state_map) ≡ shown) (old : MachineState) (waits : WaitsForStart given old) where
   kept : (between : MachineState) (start : StartMessage) → BeginsWith raw old.active start between.phase between.active
       → between ≡ record old { phase = between.phase; active = between.active; start = Some start } → BegunBy given shown told old between
   kept between start h others =
-      let whole : h.reads.whole ≡ told = same_read records.Start start_of (pos 0) raw told decoded h.reads.whole h.reads.decoded in
+      let whole : h.reads.whole ≡ told = same_read records.Start start_message_of (pos 0) raw told decoded h.reads.whole h.reads.decoded in
       let start_is : start ≡ without_state told = h.rest ∙ h.reads.begins.rest ∙ ap without_state whole in
       let state : between.active.state ≡ h.started.state = ap (λ (a : Active). a.state) h.others in
-      let state_shown : state_of h.reads.whole.partial_state (pairs_of h.reads.whole.state_map) ≡ shown =
-      ap (λ (w : StartMessage). state_of w.partial_state (pairs_of w.state_map)) whole ∙ shows in
+      let state_shown : start_state_of h.reads.whole.partial_state (pairs_of h.reads.whole.state_map) ≡ shown =
+      ap (λ (w : StartMessage). start_state_of w.partial_state (pairs_of w.state_map)) whole ∙ shows in
       let knows : KnowsState h.started.state shown [] = subst (λ (s : StartState). KnowsState h.started.state s []) state_shown h.reads.begins.knows in
       record {
         phase = h.waits ∙ ap (λ (s : StartMessage). phases.WaitingReplayEntries s.known_entries) start_is;
@@ -90,18 +91,18 @@ module _ (begins : BeginsGathering) (given : Invocation) (shown : StartState) (t
       absurd (let never : ⊥ = omega (arith, announced, none) in never)
   begins_so whole starts.OutOfMemory same fails differs = differs refl
 
-  refused : (between new : MachineState) (error : EntryError) (not : TakesNot between error new) → Unless true (Tells internal None) not.cause → between.phase ≡ phases.WaitingStart → between.active ≡ old.active
+  refused : (between new : MachineState) (error : EntryError) (not : TakesNot between error new) → Unless true (TellsPlainError internal None) not.cause → between.phase ≡ phases.WaitingStart → between.active ≡ old.active
       → FailsForMemory old new
   refused between new error not causes phase active =
       memory_over old between new (ap (λ (a : Active). a.output) active)
-      (fails_for_memory not.cause between new (unless_refused (Tells internal None) not.cause causes) (ap has_failed phase) (record { answer = not.answer; fails = not.fails }))
+      (fails_for_memory not.cause between new (unless_refused (TellsPlainError internal None) not.cause causes) (ap has_failed phase) (record { answer = not.answer; fails = not.fails }))
 
-  fails : (between new : MachineState) (error : EntryError) → Reads raw (Err error) → between.phase ≡ phases.WaitingStart → between.active ≡ old.active → TakesNot between error new → FailsForMemory old new
-  fails between new (entries.Decoding error) reads phase active not = absurd (not_unread records.Start start_of (pos 0) raw told decoded error reads.0 reads.1)
+  fails : (between new : MachineState) (error : EntryError) → ReadsStartMessage raw (Err error) → between.phase ≡ phases.WaitingStart → between.active ≡ old.active → TakesNot between error new → FailsForMemory old new
+  fails between new (entries.Decoding error) reads phase active not = absurd (not_unread records.Start start_message_of (pos 0) raw told decoded error reads.0 reads.1)
   fails between new (entries.Start (starts.BadStateKey error)) reads phase active not =
-      absurd (begins_so reads.whole (starts.BadStateKey error) (same_read records.Start start_of (pos 0) raw told decoded reads.whole reads.decoded) reads.fails (λ e. cc))
+      absurd (begins_so reads.whole (starts.BadStateKey error) (same_read records.Start start_message_of (pos 0) raw told decoded reads.whole reads.decoded) reads.fails (λ e. cc))
   fails between new (entries.Start starts.KnownEntriesIsZero) reads phase active not =
-      absurd (begins_so reads.whole starts.KnownEntriesIsZero (same_read records.Start start_of (pos 0) raw told decoded reads.whole reads.decoded) reads.fails (λ e. cc))
+      absurd (begins_so reads.whole starts.KnownEntriesIsZero (same_read records.Start start_message_of (pos 0) raw told decoded reads.whole reads.decoded) reads.fails (λ e. cc))
   fails between new (entries.Start starts.OutOfMemory) reads phase active not = refused between new (entries.Start starts.OutOfMemory) not not.causes phase active
   fails between new entries.OutOfMemory reads phase active not = refused between new entries.OutOfMemory not not.causes phase active
   fails between new _ reads phase active not = absurd reads
@@ -127,7 +128,7 @@ starts_are_kept begins given begun state known_entries retry_count duration old 
     (record { phase = waits.phase; active = waits.active }) next.takes.received next.takes.between new next.takes.receives next.takes.takes)
   where
     over : BegunBy given (shown_state begun.state state) (start_record begun state known_entries retry_count duration) (with_bytes next.rest old) new ⊎ FailsForMemory (with_bytes next.rest old) new
-        → HasBegun given (shown_state begun.state state) (start_record begun state known_entries retry_count duration) (start_payload_of begun state known_entries retry_count duration) old new ⊎ FailsForMemory old new
+        → HasAttemptBegun given (shown_state begun.state state) (start_record begun state known_entries retry_count duration) (start_payload_of begun state known_entries retry_count duration) old new ⊎ FailsForMemory old new
     over (inl h) = inl (record {
       bytes = subst (λ (bytes : List ℕ). ConsumesNext old.decoder (Ok (Some (message_of types.Start (start_payload_of begun state known_entries retry_count duration)))) bytes)
           (sym (ap (λ (vm : MachineState). vm.decoder) h.others)) next.consumes;

@@ -15,9 +15,9 @@ use Rattle.protocol_stream.specs.Records.{input_record, start_record, state_show
 use Rattle.protocol_stream.proofs.Frames.{item_at-frame_bytes}
 use Rattle.protocol_stream.proofs.RecordSpellings.{inputs_spelled, starts_spelled}
 use Rattle.vm_context.specs.Eager.{map_with}
-use Rattle.vm_context.specs.Following as following
+use Rattle.vm_context.specs.StateKnowledge as following
 use Rattle.vm_start.specs.Starts.{pairs_of}
-use Rattle.vm_input_laws.specs.Beginning.{InputsReadBack, StartsReadBack}
+use Rattle.vm_input_laws.specs.FirstFrames.{InputsReadBack, StartsReadBack}
 use Rattle.vm_input_laws.proofs.Sorted.{sorted_is_made}
 
 pub inputs_read_back : InputsReadBack
@@ -38,7 +38,7 @@ pairs_back (entry ∷ state) = λ i. entry ∷ pairs_back state i
 abbrev whole : StateMap → StartState
 whole entries = record { is_whole = true; entries = entries }
 
-shows : (mode : StateMode) (state : StateMap) → IsOrdered state → following.start_of (is_partial mode) (pairs_of (state_shown mode state)) ≡ shown_state mode state
+shows : (mode : StateMode) (state : StateMap) → IsOrdered state → following.start_state_of (is_partial mode) (pairs_of (state_shown mode state)) ≡ shown_state mode state
 shows StateMode.Whole state ordered =
     ap whole (ap (map_with []) (pairs_back state) ∙ sorted_is_made state ordered)
 shows StateMode.None state ordered = refl

@@ -3,12 +3,12 @@ use Rattle.std.proofs.Common.{◌≡◌, ◌⊎◌, inl, inr, ◌∙◌, ℕ, Bo
 use Rattle.std.specs.declared.alloc.AllocError.{AllocError}
 use Rattle.protocol_errors.specs.declared.error.Error.{Error}
 use Rattle.protocol_stream.specs.declared.decoder.RawMessage.{RawMessage}
-use Rattle.vm_start.specs.Failing.{FailsAs}
+use Rattle.vm_start.specs.FailureReport.{FailsAs}
 use Rattle.vm_start.specs.Phases.{kept_error}
 use Rattle.vm_start.specs.declared.phase.Phase.TheVariants as phases
-use Rattle.vm_feeding.specs.Feeding.{has_failed, with_input, TakesEach, RestsWhere, TakesAll, IsFed}
-use Rattle.vm_feeding.specs.Failing.{HasFailed}
-use Rattle.vm_feeding.specs.Passed.{MachineState}
+use Rattle.vm_feeding.specs.InputBytes.{has_failed, with_input, TakesEach, RestsWhere, TakesAll, IsFed}
+use Rattle.vm_feeding.specs.UnansweredFailure.{HasFailed}
+use Rattle.vm_machine.specs.declared.machine_state.MachineState.{MachineState}
 use Rattle.vm_input_laws.specs.InputsKept.{StaysFailed, FailedMachinesStay}
 
 -- it fails again with nothing

@@ -15,7 +15,7 @@ use Rattle.protocol_stream.specs.Frame.{message_of}
 use Rattle.protocol_stream.specs.Item.{message, item_at}
 use Rattle.protocol_messages.specs.Decoded.{DecodesNotification}
 use Rattle.protocol_laws.specs.Records.{notification_record}
-use Rattle.vm_machine.specs.Incoming.{incoming_of}
+use Rattle.vm_machine.specs.MessageKinds.{incoming_of}
 use Rattle.vm_machine.specs.declared.incoming.Incoming.TheVariants as incoming
 
 -- each number of its record is within its type, each text is UTF-8, and the length of its payload is one that a header tells
@@ -24,9 +24,9 @@ pub record ArrivalFits (arrival : Arrival) : Type 0 where
   pub short : length (notification_payload arrival) < 2 ^ 32
 
 -- a completion is one that a recorded request asks for; signals are asked for by none
-abbrev pub IsAsked : List Entry → NotificationId → Type 0
-IsAsked entries (CompletionId n) = list_any (asks_for n) (requests_in entries) ≡ true
-IsAsked entries _ = Unit {0}
+abbrev pub IsCompletionAsked : List Entry → NotificationId → Type 0
+IsCompletionAsked entries (CompletionId n) = list_any (asks_for n) (requests_in entries) ≡ true
+IsCompletionAsked entries _ = Unit {0}
 
 -- what a machine takes for a notification
 pub record IsNotificationType (ty : MessageType) : Type 0 where
@@ -41,4 +41,4 @@ pub record IsNotified (ty : MessageType) (arrival : Arrival) (rest : List ℕ) :
   pub decoded : DecodesNotification (message_of ty (notification_payload arrival)) (Ok arrival)
 
 abbrev pub ArrivalsReadBack : Type 0
-ArrivalsReadBack = (entries : List Entry) (arrival : Arrival) (rest : List ℕ) → IsAsked entries arrival.id → ArrivalFits arrival → IsNotified (notification_type entries arrival.id) arrival rest
+ArrivalsReadBack = (entries : List Entry) (arrival : Arrival) (rest : List ℕ) → IsCompletionAsked entries arrival.id → ArrivalFits arrival → IsNotified (notification_type entries arrival.id) arrival rest

@@ -15,14 +15,14 @@ use Rattle.protocol_table.specs.declared.table.RecordType.TheVariants as records
 use Rattle.protocol_types.specs.Version.{version_number}
 use Rattle.vm_calls.specs.declared.active.Active.{Active}
 use Rattle.vm_calls.specs.Active.{Sees}
-use Rattle.vm_commands.specs.Popping.{next_of}
-use Rattle.vm_machine.specs.Gathering.{Gathers, without_input}
+use Rattle.vm_commands.specs.NextCommand.{next_of}
+use Rattle.vm_machine.specs.StateBeforeInput.{Gathers, without_input}
 use Rattle.vm_start.specs.declared.phase.Phase.TheVariants as phases
 use Rattle.vm_feeding.specs.Input.{input_given}
-use Rattle.vm_machine.specs.Failing.{MachineFails}
+use Rattle.vm_machine.specs.MachineFailure.{MachineFails}
 use Rattle.vm_machine.specs.declared.machine_state.MachineState.{MachineState}
 use Rattle.vm_types.specs.declared.options.JournalReplay.TheVariants.{Enabled}
-use Rattle.vm_feeding.specs.Reading.{IsRead}
+use Rattle.vm_feeding.specs.InputAnswer.{IsRead}
 
 -- the first command that was recorded is this input's
 pub record HasInput (input : InputCommandMessage) (active : Active) : Type 0 where
@@ -32,7 +32,7 @@ pub record HasInput (input : InputCommandMessage) (active : Active) : Type 0 whe
 
 -- The machine replays its journal and was asked nothing. It has this start, and in front of all commands this input; what else has come is
 -- kept as the abstract machine keeps it.
-pub record IsReady (given : Invocation) (m : Machine) (left : List (Option Request)) (told : StartMessage) (input : InputCommandMessage) (vm : MachineState) : Type 0 where
+pub record IsInputReady (given : Invocation) (m : Machine) (left : List (Option Request)) (told : StartMessage) (input : InputCommandMessage) (vm : MachineState) : Type 0 where
   pub phase : vm.phase ≡ phases.Active
   pub replays : vm.options.journal_replay ≡ Enabled
   pub start : vm.start ≡ Some told
@@ -48,7 +48,7 @@ pub record IsGiven (given : Invocation) (m : Machine) (left : List (Option Reque
   pub others : new ≡ record old { active = new.active }
 
 -- or memory was refused, and the machine has failed for that
-pub record LacksMemory (old : MachineState) (result : Result Input Error) (new : MachineState) : Type 0 where
+pub record LacksMemoryForInput (old : MachineState) (result : Result Input Error) (new : MachineState) : Type 0 where
   pub between : MachineState
   pub phase : between.phase ≡ old.phase
   pub output : between.active.output ≡ old.active.output
@@ -59,4 +59,4 @@ pub record LacksMemory (old : MachineState) (result : Result Input Error) (new :
 
 abbrev pub InputsAreRead : Type 0
 InputsAreRead = (given : Invocation) (m : Machine) (left : List (Option Request)) (told : StartMessage) (input : InputCommandMessage) (old : MachineState) (result : Result Input Error) (new : MachineState)
-    → IsReady given m left told input old → IsRead old result new → IsGiven given m left told input old result new ⊎ LacksMemory old result new
+    → IsInputReady given m left told input old → IsRead old result new → IsGiven given m left told input old result new ⊎ LacksMemoryForInput old result new

@@ -11,15 +11,15 @@ use Rattle.journal_model.specs.Attempt.{input_bytes, arrivals_within}
 use Rattle.input_laws.specs.Message.{InputMessage, piece_of}
 use Rattle.attempt_model.specs.Machine.{Machine}
 use Rattle.body_laws.specs.Bodies.{Executor}
-use Rattle.replay_laws.specs.Living.{reads_messages, AreCached}
+use Rattle.replay_laws.specs.AttemptWithBodies.{reads_messages, AreCached}
 use Rattle.vm_runs.specs.Runs.{Runs}
-use Rattle.vm_runs.specs.Keeping.{KeepsBodies}
+use Rattle.vm_runs.specs.KeptBodies.{KeepsBodies}
 use Rattle.vm_calls.specs.Active.{Sees}
 use Rattle.vm_start.specs.declared.phase.Phase.{Phase}
 use Rattle.vm_start.specs.declared.phase.Phase.TheVariants as phases
-use Rattle.vm_machine.specs.Gathering.{Gathers}
-use Rattle.vm_feeding.specs.Feeding.{has_failed, IsFed}
-use Rattle.vm_feeding.specs.Passed.{MachineState}
+use Rattle.vm_machine.specs.StateBeforeInput.{Gathers}
+use Rattle.vm_feeding.specs.InputBytes.{has_failed, IsFed}
+use Rattle.vm_machine.specs.declared.machine_state.MachineState.{MachineState}
 use Rattle.vm_input_laws.specs.Memory.{FailsForMemory}
 use Rattle.vm_input_laws.specs.Messages.{MessageFits, IsWaitedFor, command_in, gathered, runs_then, phase_then}
 
@@ -79,7 +79,7 @@ pub record AreKept (given : Invocation) (messages : List InputMessage) (old new 
   pub others : new ≡ record old { decoder = new.decoder; phase = new.phase; active = new.active; runs = new.runs }
 
 -- the first of these messages have come whole and were taken; of the others some bytes are held, and these are still to come
-pub record TakesFirst (given : Invocation) (messages : List InputMessage) (coming : Bytes) (old new : MachineState) : Type 0 where
+pub record TakesFirstMessages (given : Invocation) (messages : List InputMessage) (coming : Bytes) (old new : MachineState) : Type 0 where
   pub some : List InputMessage
   pub still : List InputMessage
   pub parts : messages ≡ some ++ still
@@ -92,7 +92,7 @@ pub record TakesFirst (given : Invocation) (messages : List InputMessage) (comin
 abbrev pub InputsAreKept : Type 0
 InputsAreKept = (given : Invocation) (messages : List InputMessage) (cuts : List Bytes) (coming : Bytes) (old new : MachineState) (e : Executor) → has_failed old.phase ≡ false → item_at old.decoder ≡ None
     → AllByRecursion MessageFits messages → AreWaitedFor messages old.phase → KnowsRuns e messages old → old.decoder ++ (bytes_of cuts ++ coming) ≡ input_bytes (map piece_of messages)
-    → IsFedEach cuts old new → TakesFirst given messages coming old new ⊎ FailsForMemory old new
+    → IsFedEach cuts old new → TakesFirstMessages given messages coming old new ⊎ FailsForMemory old new
 
 -- it has failed with the same error, and nothing else has changed but that it may keep what has come
 pub record StaysFailed (error : Error) (old new : MachineState) : Type 0 where

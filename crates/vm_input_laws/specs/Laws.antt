@@ -11,21 +11,21 @@ use Rattle.journal_model.specs.Attempt.{input_bytes}
 use Rattle.input_laws.specs.Message.{InputMessage, piece_of, arrivals_carried, requests_carried}
 use Rattle.attempt_model.specs.Machine.{Machine, machine_at_start}
 use Rattle.body_laws.specs.Bodies.{Executor}
-use Rattle.replay_laws.specs.Living.{reads_messages, AreCached}
+use Rattle.replay_laws.specs.AttemptWithBodies.{reads_messages, AreCached}
 use Rattle.vm_runs.specs.Runs.{no_runs}
-use Rattle.vm_runs.specs.Keeping.{KeepsBodies}
-use Rattle.live_laws.specs.Beginning.{AttemptStart, ShowsStart}
-use Rattle.live_laws.specs.Reading.{with_messages}
-use Rattle.vm_feeding.specs.Beginning.{IsNew}
-use Rattle.vm_feeding.specs.Reading.{IsRead}
-use Rattle.vm_start.specs.Failing.{out_of_memory, ended}
+use Rattle.vm_runs.specs.KeptBodies.{KeepsBodies}
+use Rattle.live_laws.specs.StartFrame.{AttemptStart, ShowsStart}
+use Rattle.live_laws.specs.MachinePosition.{with_messages}
+use Rattle.vm_feeding.specs.NewMachine.{IsNew}
+use Rattle.vm_feeding.specs.InputAnswer.{IsRead}
+use Rattle.vm_start.specs.FailureReport.{out_of_memory, ended}
 use Rattle.vm_start.specs.declared.phase.Phase.TheVariants as phases
 use Rattle.vm_machine.specs.declared.machine_state.MachineState.{MachineState}
 use Rattle.vm_types.specs.declared.options.VMOptions.{VMOptions}
 use Rattle.vm_input_laws.specs.Memory.{FailsForMemory}
 use Rattle.vm_input_laws.specs.Messages.{MessageFits}
 use Rattle.vm_input_laws.specs.InputsKept.{bytes_of, IsFedEach, KnowsRuns}
-use Rattle.vm_input_laws.specs.Standing.{IsArrival, IsInputOf, start_told, CanBegin, IsRunOf, Kind, new_kind, AwaitsStart, HasStarted, IsAsked}
+use Rattle.vm_input_laws.specs.InputPhases.{IsArrival, IsInputOf, start_told, CanBegin, IsRunOf, Kind, new_kind, AwaitsStart, HasStarted, IsInputAsked}
 
 -- ---- the bodies of runs
 
@@ -75,13 +75,13 @@ pub record ReadsArrivals (start : AttemptStart) (kind : Kind) (m : Machine) (unr
   pub parts : unread ≡ some ++ still
   pub bytes : new.decoder ++ coming ≡ input_bytes (map piece_of still)
   pub whole : item_at new.decoder ≡ None
-  pub asked : IsAsked start kind (with_messages m some) new
+  pub asked : IsInputAsked start kind (with_messages m some) new
   pub bodies : (e : Executor) → KeepsBodies old.runs e → KeepsBodies new.runs (reads_messages e some)
   pub output : new.active.output ≡ old.active.output
 
 abbrev pub ArrivalsAreRead : Type 0
 ArrivalsAreRead = (start : AttemptStart) (kind : Kind) (m : Machine) (unread : List InputMessage) (cuts : List Bytes) (coming : Bytes) (old new : MachineState) (e : Executor)
-    → AllByRecursion IsArrival unread → AllByRecursion MessageFits unread → IsAsked start kind m old → KnowsRuns e unread old → item_at old.decoder ≡ None
+    → AllByRecursion IsArrival unread → AllByRecursion MessageFits unread → IsInputAsked start kind m old → KnowsRuns e unread old → item_at old.decoder ≡ None
     → old.decoder ++ (bytes_of cuts ++ coming) ≡ input_bytes (map piece_of unread) → IsFedEach cuts old new
     → ReadsArrivals start kind m unread coming old new ⊎ FailsForMemory old new
 
@@ -90,7 +90,7 @@ ArrivalsAreRead = (start : AttemptStart) (kind : Kind) (m : Machine) (unread : L
 -- the run's input is answered, and calls see this machine; nothing was written, and the bytes that are held stay
 pub record AnswersInput (start : AttemptStart) (kind : Kind) (m : Machine) (old : MachineState) (result : Result Input Error) (new : MachineState) : Type 0 where
   pub answer : result ≡ Ok start.given.input
-  pub asked : IsAsked start kind m new
+  pub asked : IsInputAsked start kind m new
   pub written : new.active.output ≡ record { version = kind.version; bytes = []; is_closed = false; has_commands = false }
   pub others : new ≡ record old { active = new.active }
 

@@ -1,11 +1,11 @@
 pub mod Arrivals
-pub mod Beginning
+pub mod FirstFrames
 pub mod Memory
 pub mod Messages
-pub mod Starting
+pub mod MachineStart
 pub mod InputsKept
-pub mod Feeding
+pub mod MachineFeed
 pub mod InputsAnswered
-pub mod Standing
+pub mod InputPhases
 pub mod Laws
-pub mod Reading
+pub mod MessagesBehindJournal

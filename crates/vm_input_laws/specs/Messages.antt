@@ -12,20 +12,20 @@ use Rattle.journal_model.specs.Spelling.{request_type, request_payload, input_pa
 use Rattle.input_laws.specs.Message.{InputMessage, CarriesInput, CarriesRequest, CarriesArrival, CarriesOutcome}
 use Rattle.attempt_model.specs.Machine.{Machine, with_arrival}
 use Rattle.body_laws.specs.Bodies.{Executor}
-use Rattle.replay_laws.specs.Living.{reads_message}
+use Rattle.replay_laws.specs.AttemptWithBodies.{reads_message}
 use Rattle.vm_runs.specs.Runs.{Runs, outcome_at, acknowledged}
-use Rattle.vm_runs.specs.Keeping.{KeepsBodies}
+use Rattle.vm_runs.specs.KeptBodies.{KeepsBodies}
 use Rattle.vm_calls.specs.declared.active.Active.{Active}
 use Rattle.vm_calls.specs.Active.{Sees}
 use Rattle.vm_start.specs.Phases.{phase_after_entry}
 use Rattle.vm_start.specs.declared.phase.Phase.{Phase}
 use Rattle.vm_start.specs.declared.phase.Phase.TheVariants as phases
-use Rattle.vm_machine.specs.Gathering.{Gathers, with_command}
-use Rattle.vm_feeding.specs.Feeding.{LacksMemory, TakesNext}
-use Rattle.vm_feeding.specs.Passed.{MachineState}
-use Rattle.vm_request_laws.specs.Fitting.{RequestFits}
+use Rattle.vm_machine.specs.StateBeforeInput.{Gathers, with_command}
+use Rattle.vm_feeding.specs.InputBytes.{LacksMemoryToKeep, TakesNext}
+use Rattle.vm_machine.specs.declared.machine_state.MachineState.{MachineState}
+use Rattle.vm_request_laws.specs.RequestBounds.{RequestFits}
 use Rattle.vm_input_laws.specs.Arrivals.{ArrivalFits, IsNotificationType}
-use Rattle.vm_input_laws.specs.Beginning.{InputFits}
+use Rattle.vm_input_laws.specs.FirstFrames.{InputFits}
 
 -- the message as its bytes bring it
 abbrev pub raw_of : InputMessage → RawMessage
@@ -95,7 +95,7 @@ pub record Unkept (old new : MachineState) : Type 0 where
   pub between : MachineState
   pub phase : between.phase ≡ old.phase
   pub output : between.active.output ≡ old.active.output
-  pub lacks : LacksMemory between new
+  pub lacks : LacksMemoryToKeep between new
 
 -- while entries are waited for any message is taken but an acknowledgement; from then on arrivals and acknowledgements are
 abbrev pub IsWaitedFor : InputMessage → Phase → Type 0

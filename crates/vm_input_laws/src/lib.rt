@@ -5,8 +5,8 @@
 
 ghost use Rattle.vm_input_laws.specs.Arrivals.{ArrivalsReadBack};
 ghost use Rattle.vm_input_laws.specs.Messages.{MessagesAreKept};
-ghost use Rattle.vm_input_laws.specs.Beginning.{InputsReadBack, StartsReadBack};
-ghost use Rattle.vm_input_laws.specs.Starting.{StartsAreKept};
+ghost use Rattle.vm_input_laws.specs.FirstFrames.{InputsReadBack, StartsReadBack};
+ghost use Rattle.vm_input_laws.specs.MachineStart.{StartsAreKept};
 ghost use Rattle.vm_input_laws.specs.InputsKept.{FailedMachinesStay, InputsAreKept, NoArrivalIsHeld};
 ghost use Rattle.vm_input_laws.specs.InputsAnswered.{InputsAreRead};
 ghost use Rattle.vm_input_laws.specs.Laws.{ArrivalsAreRead, AttemptsBegin, InputsAreAnswered, JournalsAreRead, StartsAreRead};

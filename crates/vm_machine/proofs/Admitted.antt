@@ -11,14 +11,20 @@ use Rattle.protocol_errors.specs.declared.error.Error.{Error}
 use Rattle.protocol_types.specs.Version.{version_number}
 use Rattle.protocol_types.specs.declared.version.Version.{Version}
 use Rattle.protocol_types.specs.declared.message_type.MessageType.{MessageType}
-use Rattle.vm_machine.specs.PassedCauses.{Sees, IsAtCommand, Makes, IsSpent, FailsSpent, FindsAs, Active, CallError, kept_error}
+use Rattle.vm_calls.specs.Active.{Sees, IsAtCommand}
+use Rattle.vm_calls.specs.CommandCalls.{Makes}
+use Rattle.vm_calls.specs.Spent.{IsSpent, FailsSpent}
+use Rattle.vm_calls.specs.MismatchedCommands.{FindsAs}
+use Rattle.vm_calls.specs.declared.active.Active.{Active}
+use Rattle.vm_calls.specs.declared.call_error.CallError.{CallError}
+use Rattle.vm_start.specs.Phases.{kept_error}
 use Rattle.vm_refusals.specs.Refusals.{refusal_meant}
 use Rattle.vm_refusals.specs.declared.refusal.CallRefusal.{CallRefusal}
 use Rattle.vm_refusals.specs.declared.refusal_error.RefusalError.{RefusalError}
-use Rattle.vm_machine.specs.Admitting.{AdmitsWhere, IsElsewhere, Admits, Carries}
+use Rattle.vm_machine.specs.CallAdmission.{AdmitsWhere, IsElsewhere, Admits, Carries}
 use Rattle.vm_machine.specs.declared.admitting.Admission.TheVariants.{Admitted, Elsewhere, Stopped}
 use Rattle.vm_machine.specs.Calls.{checks_off, IsOf, IsRefusalOf, IsMade, Calls}
-use Rattle.vm_machine.specs.Settling.{Settles}
+use Rattle.vm_machine.specs.CallAnswers.{Settles}
 use Rattle.vm_machine.specs.Steps.{Steps}
 use Rattle.vm_machine.specs.declared.machine_state.MachineState.{MachineState}
 

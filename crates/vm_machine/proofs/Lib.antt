@@ -1,4 +1,4 @@
-mod Gathering
+mod StateBeforeInput
 pub mod Admitted
 mod Moments
-mod Acknowledging
+mod AcknowledgementReceipt

@@ -27,7 +27,7 @@ value_told (brought.Void empty) = Value.Void
 value_told (brought.Value value) = Value.Success value.content
 
 -- the message answers this read by this
-pub record Tells (message : RawMessage) (id : EphemeralCompletionId) (value : Value) : Type 0 where
+pub record TellsAnswer (message : RawMessage) (id : EphemeralCompletionId) (value : Value) : Type 0 where
   pub whole : GetStateEphemeralNotificationMessage
   pub decoded : DecodesTo records.GetStateEphemeralNotification get_state_ephemeral_notification_of (pos 0) message (Ok whole)
   pub id_is : id.number ≡ whole.ephemeral_completion_id
@@ -42,23 +42,23 @@ pub record IsEmpty (message : RawMessage) (error : FixedError) : Type 0 where
   pub result : whole.result ≡ None
   pub error_is : error ≡ fixed.EmptyGetStateEphemeralNotification
 
-abbrev pub Answers : RawMessage → Result (EphemeralCompletionId × Value) EntryError → Type 0
-Answers message (Ok (id, value)) = Tells message id value
-Answers message (Err (Fixed error)) = IsEmpty message error
-Answers message (Err (Decoding error)) = DecodesTo {R = GetStateEphemeralNotificationMessage} records.GetStateEphemeralNotification get_state_ephemeral_notification_of (pos 0) message (Err error) × (error ≢ unread.OutOfMemory)
-Answers message (Err OutOfMemory) = Unit {0}
-Answers message (Err _) = ⊥
+abbrev pub AnswersRead : RawMessage → Result (EphemeralCompletionId × Value) EntryError → Type 0
+AnswersRead message (Ok (id, value)) = TellsAnswer message id value
+AnswersRead message (Err (Fixed error)) = IsEmpty message error
+AnswersRead message (Err (Decoding error)) = DecodesTo {R = GetStateEphemeralNotificationMessage} records.GetStateEphemeralNotification get_state_ephemeral_notification_of (pos 0) message (Err error) × (error ≢ unread.OutOfMemory)
+AnswersRead message (Err OutOfMemory) = Unit {0}
+AnswersRead message (Err _) = ⊥
 
 -- the answer of a read has come
 pub record Completed (message : RawMessage) (old new : EphemeralReads) : Type 0 where
   pub id : EphemeralCompletionId
   pub value : Value
-  pub tells : Tells message id value
+  pub tells : TellsAnswer message id value
   pub completed : new ≡ after_answer id.number value old
 
-abbrev pub Completes : RawMessage → (old : EphemeralReads) → Result (Unit {0}) EntryError → (new : EphemeralReads) → Type 0
-Completes message old (Ok done) new = Completed message old new
-Completes message old (Err error) new = Answers message (Err error) × (new ≡ old)
+abbrev pub CompletesRead : RawMessage → (old : EphemeralReads) → Result (Unit {0}) EntryError → (new : EphemeralReads) → Type 0
+CompletesRead message old (Ok done) new = Completed message old new
+CompletesRead message old (Err error) new = AnswersRead message (Err error) × (new ≡ old)
 
 -- ---- where a machine stands
 
@@ -75,6 +75,6 @@ stage_of (phases.Failed error) is_replaying = stages.Before
 
 -- The answer of an ephemeral read, which comes while commands are made alone; behind the end it is ignored.
 abbrev pub ComesAnswer : RawMessage → Stage → (old : EphemeralReads) → Result (Unit {0}) EntryError → (new : EphemeralReads) → Type 0
-ComesAnswer message stages.Processing old result new = Completes message old result new
+ComesAnswer message stages.Processing old result new = CompletesRead message old result new
 ComesAnswer message stages.Before old result new = (result ≡ Err (Unexpected incoming.EphemeralAnswer)) × (new ≡ old)
 ComesAnswer message stages.Behind old result new = (result ≡ Ok tt) × (new ≡ old)

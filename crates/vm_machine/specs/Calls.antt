@@ -12,13 +12,17 @@ use Rattle.protocol_errors.specs.declared.error.Error.{Error}
 use Rattle.protocol_types.specs.Version.{version_number}
 use Rattle.protocol_types.specs.declared.version.Version.{Version}
 use Rattle.protocol_types.specs.declared.message_type.MessageType.{MessageType}
-use Rattle.vm_machine.specs.PassedCauses.{Sees, IsAtCommand, Makes, IsSpent, FailsSpent, FindsAs, CallError}
+use Rattle.vm_calls.specs.Active.{Sees, IsAtCommand}
+use Rattle.vm_calls.specs.CommandCalls.{Makes}
+use Rattle.vm_calls.specs.Spent.{IsSpent, FailsSpent}
+use Rattle.vm_calls.specs.MismatchedCommands.{FindsAs}
+use Rattle.vm_calls.specs.declared.call_error.CallError.{CallError}
 use Rattle.vm_refusals.specs.Refusals.{refusal_meant}
 use Rattle.vm_refusals.specs.declared.refusal_error.RefusalError.{RefusalError}
 use Rattle.vm_types.specs.declared.options.NonDeterministicChecksOption.{NonDeterministicChecksOption}
 use Rattle.vm_types.specs.declared.options.NonDeterministicChecksOption.TheVariants.{PayloadChecksDisabled, Enabled}
-use Rattle.vm_machine.specs.Admitting.{IsElsewhere}
-use Rattle.vm_machine.specs.Settling.{Settles}
+use Rattle.vm_machine.specs.CallAdmission.{IsElsewhere}
+use Rattle.vm_machine.specs.CallAnswers.{Settles}
 use Rattle.vm_machine.specs.Steps.{Steps}
 use Rattle.vm_machine.specs.declared.machine_state.MachineState.{MachineState}
 

@@ -9,11 +9,19 @@ use Rattle.protocol_errors.specs.Texts.{bad_ack_text, unavailable_text}
 use Rattle.protocol_errors.specs.declared.error.Error.{Error}
 use Rattle.protocol_stream.specs.ErrorText.{decoding_text}
 use Rattle.protocol_stream.specs.declared.encoder.EncodingError.TheVariants as unsent
-use Rattle.vm_machine.specs.Passed.calls
-use Rattle.vm_machine.specs.Passed.numbers
-use Rattle.vm_machine.specs.Passed.starts
-use Rattle.vm_machine.specs.Passed.unmatched
-use Rattle.vm_machine.specs.Passed.{CallError, NumberError, PutError, Replay, Encoding, put_code, put_error_text, Phase, unexpected_error, start_code, start_text, JournalCounts, no_id_text, command_told}
+use Rattle.vm_calls.specs.declared.call_error.CallError.TheVariants as calls
+use Rattle.vm_calls.specs.declared.call_error.NumberError.TheVariants as numbers
+use Rattle.vm_start.specs.declared.error.StartError.TheVariants as starts
+use Rattle.vm_commands.specs.declared.replay_error.ReplayError.TheVariants as unmatched
+use Rattle.vm_calls.specs.declared.call_error.CallError.{CallError}
+use Rattle.vm_calls.specs.declared.call_error.NumberError.{NumberError}
+use Rattle.vm_calls.specs.declared.put_error.PutError.{PutError}
+use Rattle.vm_calls.specs.declared.put_error.PutError.TheVariants.{Replay, Encoding}
+use Rattle.vm_calls.specs.RequestPuts.{put_code, put_error_text}
+use Rattle.vm_start.specs.declared.phase.Phase.{Phase}
+use Rattle.vm_start.specs.Phases.{unexpected_error}
+use Rattle.vm_start.specs.Starts.{start_code, start_text}
+use Rattle.vm_context.specs.Journal.{JournalCounts, no_id_text, command_told}
 use Rattle.vm_machine.specs.declared.entry_error.EntryError.{EntryError}
 use Rattle.vm_machine.specs.declared.entry_error.EntryError.TheVariants as entries
 use Rattle.vm_machine.specs.declared.incoming.Incoming.{Incoming}
@@ -22,7 +30,7 @@ use Rattle.vm_machine.specs.declared.input.InputError.{InputError}
 use Rattle.vm_machine.specs.declared.input.InputError.TheVariants as inputs
 
 -- an error of this code, and of this text where one is known, about no command
-pub record Tells (code : ℕ) (text : Option (List ℕ)) (told : Error) : Type 0 where
+pub record TellsPlainError (code : ℕ) (text : Option (List ℕ)) (told : Error) : Type 0 where
   pub plain : told ≡ plain_error code told.message
   pub message : IfSome text (λ text. told.message ≡ text)
 
@@ -53,23 +61,23 @@ PutCauses difference journal error result = Unless (put_lacks_memory error) (Tel
 -- where a number is lacking, and where the command is neither matched nor written, the command is told
 abbrev pub CallCauses : {M : Type 0} → (M → M → List ℕ) → JournalCounts → CallError M → Result Error AllocError → Type 0
 CallCauses difference journal (calls.Number numbers.IdsExhausted) result = Unless false (TellsLast journal internal (Some no_id_text)) result
-CallCauses difference journal (calls.Number numbers.OutOfMemory) result = Unless true (Tells internal None) result
+CallCauses difference journal (calls.Number numbers.OutOfMemory) result = Unless true (TellsPlainError internal None) result
 CallCauses difference journal (calls.Put error) result = PutCauses difference journal error result
-CallCauses difference journal calls.OutOfMemory result = Unless true (Tells internal None) result
+CallCauses difference journal calls.OutOfMemory result = Unless true (TellsPlainError internal None) result
 
 -- what came for the invocation id of a child is none
 abbrev pub child_not_id_error : Error
 child_not_id_error = plain_error internal (codes "What came for the invocation id of a child is none")
 
 abbrev pub NumberCauses : NumberError → Result Error AllocError → Type 0
-NumberCauses numbers.IdsExhausted result = Unless false (Tells internal (Some no_id_text)) result
-NumberCauses numbers.OutOfMemory result = Unless true (Tells internal None) result
+NumberCauses numbers.IdsExhausted result = Unless false (TellsPlainError internal (Some no_id_text)) result
+NumberCauses numbers.OutOfMemory result = Unless true (TellsPlainError internal None) result
 
 -- the input's command is the one that was asked for last
 abbrev pub InputCauses : JournalCounts → InputError → Result Error AllocError → Type 0
 InputCauses journal (inputs.Unavailable error) result = Unless false (TellsLast journal journal_mismatch (Some (unavailable_text error.expected))) result
 InputCauses journal (inputs.Decoding error) result = Unless false (TellsLast journal (decoding_code error) (Some (decoding_text error))) result
-InputCauses journal inputs.OutOfMemory result = Unless true (Tells internal None) result
+InputCauses journal inputs.OutOfMemory result = Unless true (TellsPlainError internal None) result
 
 -- ---- messages that come
 
@@ -85,8 +93,8 @@ event_of incoming.Other = codes "NewMessage"
 abbrev pub EntryCauses : Phase → (is_replaying : Bool) → EntryError → Result Error AllocError → Type 0
 EntryCauses phase is_replaying (entries.Fixed error) result = result ≡ Ok (plain_error (fixed_code error) (fixed_text error))
 EntryCauses phase is_replaying (entries.Unexpected kind) result = Unless false (λ told. told ≡ unexpected_error phase is_replaying (event_of kind)) result
-EntryCauses phase is_replaying (entries.Decoding error) result = Unless false (Tells (decoding_code error) (Some (decoding_text error))) result
-EntryCauses phase is_replaying (entries.Start starts.OutOfMemory) result = Unless true (Tells internal None) result
-EntryCauses phase is_replaying (entries.Start error) result = Unless false (Tells (start_code error) (Some (start_text error))) result
-EntryCauses phase is_replaying (entries.UnknownRun error) result = Unless false (Tells protocol_violation (Some (bad_ack_text error.completion_id))) result
-EntryCauses phase is_replaying entries.OutOfMemory result = Unless true (Tells internal None) result
+EntryCauses phase is_replaying (entries.Decoding error) result = Unless false (TellsPlainError (decoding_code error) (Some (decoding_text error))) result
+EntryCauses phase is_replaying (entries.Start starts.OutOfMemory) result = Unless true (TellsPlainError internal None) result
+EntryCauses phase is_replaying (entries.Start error) result = Unless false (TellsPlainError (start_code error) (Some (start_text error))) result
+EntryCauses phase is_replaying (entries.UnknownRun error) result = Unless false (TellsPlainError protocol_violation (Some (bad_ack_text error.completion_id))) result
+EntryCauses phase is_replaying entries.OutOfMemory result = Unless true (TellsPlainError internal None) result

@@ -49,18 +49,18 @@ after_entry left (Ok done) = phase_after_entry left
 after_entry left (Err error) = phases.WaitingReplayEntries left
 
 -- nothing is changed
-abbrev pub Stays : (old : Phase) → Active → (new : Phase) → Active → Type 0
-Stays phase active phase' active' = (phase' ≡ phase) × (active' ≡ active)
+abbrev pub StaysUnchanged : (old : Phase) → Active → (new : Phase) → Active → Type 0
+StaysUnchanged phase active phase' active' = (phase' ≡ phase) × (active' ≡ active)
 
 -- the machine is not in a state for such a message, and stays as it is
 abbrev pub IsUnexpected : Incoming → (phase : Phase) → Active → Result (Unit {0}) EntryError → (phase' : Phase) → Active → Type 0
-IsUnexpected kind phase old result phase' new = (result ≡ Err (Unexpected kind)) × Stays phase old phase' new
+IsUnexpected kind phase old result phase' new = (result ≡ Err (Unexpected kind)) × StaysUnchanged phase old phase' new
 
 -- A notification: in line until an await looks at it; behind the end it is ignored, and before the start no machine is told one.
 abbrev pub ComesNotification : RawMessage → (phase : Phase) → Active → Result (Unit {0}) EntryError → (phase' : Phase) → Active → Type 0
 ComesNotification message (phases.WaitingReplayEntries left) old result phase' new = (phase' ≡ after_entry left result) × QueuesIn message old result new
 ComesNotification message phases.Active old result phase' new = (phase' ≡ phases.Active) × QueuesIn message old result new
-ComesNotification message phases.Closed old result phase' new = (result ≡ Ok tt) × Stays phases.Closed old phase' new
+ComesNotification message phases.Closed old result phase' new = (result ≡ Ok tt) × StaysUnchanged phases.Closed old phase' new
 ComesNotification message phase old result phase' new = IsUnexpected incoming.Notification phase old result phase' new
 
 -- ---- commands
@@ -73,7 +73,7 @@ Pushes message old (Err _) new = ⊥
 
 -- it is refused by this fixed error, and nothing is changed
 abbrev pub IsRefused : FixedError → (phase : Phase) → Active → Result (Unit {0}) EntryError → (phase' : Phase) → Active → Type 0
-IsRefused error phase old result phase' new = (result ≡ Err (Fixed error)) × Stays phase old phase' new
+IsRefused error phase old result phase' new = (result ≡ Err (Fixed error)) × StaysUnchanged phase old phase' new
 
 -- A command, which comes among the entries that were recorded before alone.
 abbrev pub ComesCommand : RawMessage → (phase : Phase) → Active → Result (Unit {0}) EntryError → (phase' : Phase) → Active → Type 0

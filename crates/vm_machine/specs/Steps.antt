@@ -3,11 +3,12 @@ use Rattle.std.specs.Prelude.{◌≡◌, ◌⊎◌, List, ℕ, Option, Some, Res
 use Rattle.std.specs.declared.alloc.AllocError.{AllocError}
 use Rattle.protocol_errors.specs.Code.{internal}
 use Rattle.protocol_errors.specs.declared.error.Error.{Error}
-use Rattle.vm_machine.specs.Causes.{Tells}
-use Rattle.vm_machine.specs.PassedCauses.{unexpected_error, no_id_text}
+use Rattle.vm_machine.specs.Causes.{TellsPlainError}
+use Rattle.vm_start.specs.Phases.{unexpected_error}
+use Rattle.vm_context.specs.Journal.{no_id_text}
 use Rattle.vm_refusals.specs.declared.refusal_error.RefusalError.{RefusalError}
-use Rattle.vm_machine.specs.Admitting.{Admits}
-use Rattle.vm_machine.specs.Failing.{MachineFails}
+use Rattle.vm_machine.specs.CallAdmission.{Admits}
+use Rattle.vm_machine.specs.MachineFailure.{MachineFails}
 use Rattle.vm_machine.specs.declared.admitting.Admission.{Admission}
 use Rattle.vm_machine.specs.declared.admitting.Admission.TheVariants.{Admitted, Elsewhere, Stopped}
 use Rattle.vm_machine.specs.declared.machine_state.MachineState.{MachineState}
@@ -24,7 +25,7 @@ IsUnexpected event old answer new = FailsBy (λ told. told ≡ unexpected_error 
 
 -- no number is left; the error is about no command
 abbrev pub IsExhausted : (old : MachineState) → Error → (new : MachineState) → Type 0
-IsExhausted old answer new = FailsBy (Tells internal (Some no_id_text)) old answer new
+IsExhausted old answer new = FailsBy (TellsPlainError internal (Some no_id_text)) old answer new
 
 -- the call that this names puts no command: that a number is lacking is told before that it is none for the machine in its phase
 abbrev pub IsMissed : (Lacks : Type 0) → (event : List ℕ) → (old : MachineState) → Error → (new : MachineState) → Type 0

@@ -1,6 +1,6 @@
 // Errors about a command, and about none.
 ghost use Rattle.std.specs.Prelude.{◌≡◌, IfOk};
-ghost use Rattle.vm_machine.specs.Causes.{Tells, TellsLast};
+ghost use Rattle.vm_machine.specs.Causes.{TellsPlainError, TellsLast};
 
 use crate::Journal;
 use protocol_errors::{Error, WithInvocationErrorCode, to_error};
@@ -12,7 +12,7 @@ pub fn about_nothing<E: WithInvocationErrorCode + fmt::Display>(
     alloc: Global,
     error: &E,
 ) -> Result<Error, AllocError>
-    ensures { IfOk result (Tells (E.code_of error.now) (E.output error.now)) }
+    ensures { IfOk result (TellsPlainError (E.code_of error.now) (E.output error.now)) }
 {
     to_error(alloc, error)
 }

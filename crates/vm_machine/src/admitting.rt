@@ -1,6 +1,6 @@
 // What stands before each call: whether it is refused, and whether calls are made of the machine.
 ghost use Rattle.std.specs.Prelude.{◌≡◌, Option, IfOk};
-ghost use Rattle.vm_machine.specs.Admitting.{is_active, MissedCauses, ElsewhereCauses, IsElsewhere, Admits, Carries};
+ghost use Rattle.vm_machine.specs.CallAdmission.{is_active, MissedCauses, ElsewhereCauses, IsElsewhere, Admits, Carries};
 ghost use Rattle.vm_machine.specs.Steps.{IsUnexpected, IsExhausted};
 
 use crate::{Active, IdsExhausted, MachineState, Phase, about_nothing, again, unexpected};

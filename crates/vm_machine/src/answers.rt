@@ -2,8 +2,8 @@
 ghost use Rattle.std.specs.Prelude.{◌≡◌};
 ghost use Rattle.journal_model.specs.Value.{result_of_value};
 ghost use Rattle.vm_awaits.specs.Views.{results_of};
-ghost use Rattle.vm_machine.specs.Answers.{value_told, Answers, stage_of, Completes, ComesAnswer};
-ghost use Rattle.vm_machine.specs.Acknowledging.{TellsOutcome, ComesOutcome, TakesTold, ComesAcknowledgement};
+ghost use Rattle.vm_machine.specs.Answers.{value_told, AnswersRead, stage_of, CompletesRead, ComesAnswer};
+ghost use Rattle.vm_machine.specs.AcknowledgementReceipt.{TellsOutcome, ComesOutcome, TakesTold, ComesAcknowledgement};
 
 use crate::Incoming;
 use crate::entry_error::{EntryError, unread};
@@ -36,7 +36,7 @@ fn to_value(brought: GetStateEphemeralNotificationResult) -> Value
 
 // The answered read, and its answer.
 fn read(alloc: Global, message: RawMessage) -> Result<(EphemeralCompletionId, Value), EntryError>
-    ensures { Answers message result }
+    ensures { AnswersRead message result }
 {
     let decoded = message.decode_to::<GetStateEphemeralNotificationMessage>(alloc, 0);
     drop(message);
@@ -94,7 +94,7 @@ fn complete(
     alloc: Global,
     message: RawMessage,
 ) -> Result<(), EntryError>
-    ensures { Completes message reads.old result reads.new }
+    ensures { CompletesRead message reads.old result reads.new }
 {
     let (id, value) = read(alloc, message)?;
     reads.complete(id, value)?;

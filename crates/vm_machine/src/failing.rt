@@ -1,5 +1,5 @@
 // The machine fails.
-ghost use Rattle.vm_machine.specs.Failing.{MachineFails};
+ghost use Rattle.vm_machine.specs.MachineFailure.{MachineFails};
 
 use crate::{MachineState, fail};
 use protocol_errors::Error;

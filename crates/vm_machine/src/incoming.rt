@@ -1,7 +1,7 @@
 // What a message that comes is to a machine.
 ghost use Rattle.std.specs.Prelude.{◌≡◌, ◌==◌};
-ghost use Rattle.protocol_types.specs.MessageType.{number_of};
-ghost use Rattle.vm_machine.specs.Incoming.{control_of, incoming_of};
+ghost use Rattle.protocol_types.specs.MessageType.{type_number};
+ghost use Rattle.vm_machine.specs.MessageKinds.{control_of, incoming_of};
 
 use protocol_types::MessageType;
 
@@ -22,7 +22,7 @@ pub enum Incoming {
 
 // Whether both types have one number.
 fn is_numbered_as(one: MessageType, other: MessageType) -> bool
-    ensures { result ≡ (number_of one == number_of other) }
+    ensures { result ≡ (type_number one == type_number other) }
 {
     u16::from(one) == u16::from(other)
 }

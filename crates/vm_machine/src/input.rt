@@ -2,8 +2,8 @@
 ghost use Rattle.std.specs.Prelude.{◌≡◌, ◌-◌, ◌^◌, [], min, List, drop, length, OnErr};
 ghost use Rattle.protocol_types.specs.declared.message_type.MessageType.TheVariants.{InputCommand};
 ghost use Rattle.vm_calls.specs.Active.{IsAtCommand, still_replays};
-ghost use Rattle.vm_calls.specs.Passed.{next_of};
-ghost use Rattle.vm_start.specs.Passed.{after_command, after_skip};
+ghost use Rattle.vm_commands.specs.NextCommand.{next_of};
+ghost use Rattle.vm_context.specs.Journal.{after_command, after_skip};
 ghost use Rattle.vm_machine.specs.Input.{TakesInput, skipped, ReadsInput};
 
 use bytes::ByteStr;

@@ -1,5 +1,5 @@
 //! What comes before the calls is what the abstract machine begins with. Each function does nothing: its contract is the law.
-ghost use Rattle.vm_machine.specs.Gathering.{BeginsGathering, GathersCommands, GathersNotifications, SeesBehindInput};
+ghost use Rattle.vm_machine.specs.StateBeforeInput.{BeginsGathering, GathersCommands, GathersNotifications, SeesBehindInput};
 
 /// An attempt begins as the abstract machine does, with what its start shows.
 pub fn starts_begin_attempts()

@@ -1,8 +1,8 @@
 // Messages come.
 ghost use Rattle.std.specs.Prelude.{◌≡◌, Some};
 ghost use Rattle.protocol_stream.specs.Header.{message_type};
-ghost use Rattle.vm_machine.specs.PassedCauses.{incoming_of};
-ghost use Rattle.vm_machine.specs.Receiving.{ReceivesStart, ReceivesAnswer, ReceivesAcknowledgement, Receives, TakesNot, Takes};
+ghost use Rattle.vm_machine.specs.MessageKinds.{incoming_of};
+ghost use Rattle.vm_machine.specs.MessageReceipt.{ReceivesStart, ReceivesAnswer, ReceivesAcknowledgement, Receives, TakesNot, TakesMessage};
 
 use crate::{
     EntryError, Incoming, MachineState, entry_cause, kind_of, receive_command,
@@ -77,7 +77,7 @@ impl MachineState {
 
     /// A whole message has come: what it tells is kept, or the machine fails.
     pub fn take_message(&mut self, message: RawMessage)
-        ensures { Takes message self.old self.new }
+        ensures { TakesMessage message self.old self.new }
     {
         match self.receive(message) {
             Ok(()) => {}

@@ -1,5 +1,5 @@
 // A call of one command has been made, or the machine fails with why not.
-ghost use Rattle.vm_machine.specs.Settling.{Settles};
+ghost use Rattle.vm_machine.specs.CallAnswers.{Settles};
 
 use crate::{CallError, Command, MachineState, call_cause};
 use protocol_errors::Error;

@@ -1,7 +1,7 @@
 // The start of an attempt comes.
 ghost use Rattle.std.specs.Prelude.{◌≡◌, [], true, IfOk, OnErr};
 ghost use Rattle.vm_awaits.specs.Views.{results_of};
-ghost use Rattle.vm_machine.specs.Starting.{IsFresh, Reads, ComesStart};
+ghost use Rattle.vm_machine.specs.StartReceipt.{IsFresh, ReadsStartMessage, ComesStart};
 
 use crate::entry_error::{EntryError, unread};
 use journal_model::SignalDelivery;
@@ -38,7 +38,7 @@ pub fn fresh_active(
 
 // What the message tells of an attempt.
 fn read(alloc: Global, message: RawMessage) -> Result<Started, EntryError>
-    ensures { Reads message result }
+    ensures { ReadsStartMessage message result }
 {
     let decoded = message.decode_to::<StartMessage>(alloc, 0);
     drop(message);

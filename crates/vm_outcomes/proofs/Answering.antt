@@ -10,15 +10,16 @@ use Rattle.attempt_model.specs.Machine.{Machine, Answered, next_slot}
 use Rattle.body_laws.specs.Bodies.{Body, Executor, has_come, bodies_of_call}
 use Rattle.protocol_errors.specs.declared.error.Error.{Error}
 use Rattle.vm_calls.specs.Active.{Sees, HasCompletions, are_any, writes_frames}
-use Rattle.vm_calls.specs.Making.{Replies}
+use Rattle.vm_calls.specs.CommandCalls.{Replies}
 use Rattle.vm_calls.specs.declared.active.Active.{Active}
 use Rattle.vm_context.specs.Journal.{JournalCounts}
 use Rattle.vm_context.specs.Output.{Written}
-use Rattle.vm_runs.specs.Keeping.{KeepsBodies}
+use Rattle.vm_runs.specs.KeptBodies.{KeepsBodies}
 use Rattle.vm_runs.specs.Runs.{Runs}
-use Rattle.vm_waiting.specs.Waiting.{Becomes}
-use Rattle.vm_feeding.specs.Passed.{checks_off, MachineState}
-use Rattle.vm_outcomes.specs.Carrying.{Answers}
+use Rattle.vm_waiting.specs.TakeEffects.{Becomes}
+use Rattle.vm_machine.specs.Calls.{checks_off}
+use Rattle.vm_machine.specs.declared.machine_state.MachineState.{MachineState}
+use Rattle.vm_outcomes.specs.CallOutcomes.{Answers}
 use Rattle.vm_outcomes.specs.Causes.{NumbersLeft}
 use Rattle.vm_outcomes.specs.Driven.{IsDriven, reply_of}
 use Rattle.vm_outcomes.specs.Runs.{KeepsBodiesOf, runs_after}

@@ -33,15 +33,20 @@ use Rattle.vm_context.specs.Output.{Written}
 use Rattle.vm_types.specs.Reads.{EphemeralReads, no_reads}
 use Rattle.vm_start.specs.declared.phase.Phase.{Phase}
 use Rattle.vm_start.specs.declared.phase.Phase.TheVariants as phases
-use Rattle.vm_machine.specs.PassedMachine.{child_not_id_error}
+use Rattle.vm_machine.specs.Causes.{child_not_id_error, CallCauses, TellsPlainError, TellsLast, Unless}
 use Rattle.vm_refusals.specs.Refusals.{refusal_code, refusal_text}
 use Rattle.vm_refusals.specs.declared.refusal.CallRefusal.{CallRefusal}
 use Rattle.vm_refusals.specs.declared.refusal_error.RefusalError.{RefusalError}
 use Rattle.journal_model.specs.Refusal.{Refusal, refusal_of}
-use Rattle.vm_feeding.specs.Passed.{IsRefused, checks_off, CallCauses, MachineFails, IsRefusalOf, IsUnexpected, MachineState, Settles, Tells, TellsLast, Unless}
-use Rattle.vm_progress.specs.Asleep.{too_deep_error, LacksMemory, FailsUntold, SettlesStay, ClosesAs, HandsOutRun, SleepIs, SleepsAs, SleepsWhere}
-use Rattle.vm_progress.specs.Awaiting.{ready_read, AwaitsUnread, GoesOnAs, IsAwaited, DoesAwaitWhere, DoesAwait}
-use Rattle.vm_progress.specs.Executing.{executes_any, is_executing_for, run_for}
+use Rattle.vm_machine.specs.CallAdmission.{IsRefused}
+use Rattle.vm_machine.specs.Calls.{checks_off, IsRefusalOf}
+use Rattle.vm_machine.specs.MachineFailure.{MachineFails}
+use Rattle.vm_machine.specs.Steps.{IsUnexpected}
+use Rattle.vm_machine.specs.declared.machine_state.MachineState.{MachineState}
+use Rattle.vm_machine.specs.CallAnswers.{Settles}
+use Rattle.vm_progress.specs.Asleep.{too_deep_error, LacksMemoryToAwait, FailsUntold, SettlesStay, ClosesAs, HandsOutRun, SleepIs, SleepsAs, SleepsWhere}
+use Rattle.vm_progress.specs.AwaitEffects.{ready_read, AwaitsUnread, GoesOnAs, IsAwaited, DoesAwaitWhere, DoesAwait}
+use Rattle.vm_progress.specs.AwaitedRuns.{executes_any, is_executing_for, run_for}
 use Rattle.vm_progress.specs.Uncompleted.{started_id, TellsUncompleted}
 use Rattle.vm_progress.proofs.Naming.{uncompleted_code}
 use Rattle.vm_progress.specs.declared.asleep.Sleep.{Sleep}
@@ -50,10 +55,10 @@ use Rattle.vm_runs.specs.Runs.{Runs}
 use Rattle.vm_types.specs.declared.answers.AwaitResponse.{AwaitResponse}
 use Rattle.vm_types.specs.declared.answers.AwaitResponse.TheVariants.{ExecuteRun, WaitingExternalProgress}
 use Rattle.vm_types.specs.declared.handles.EphemeralCompletionId.{EphemeralCompletionId}
-use Rattle.vm_waiting.specs.Awaiting.{LooksAlone, ComesTo, FailsCancelling, Awaits}
-use Rattle.vm_waiting.specs.Cancelling.{after_cancels}
-use Rattle.vm_waiting.specs.Suspending.{suspension_payload_in, is_too_deep, Suspends, tells_awaiting, TellsIf}
-use Rattle.vm_waiting.specs.Waiting.{Becomes}
+use Rattle.vm_waiting.specs.AwaitSteps.{LooksAlone, AwaitComesTo, FailsCancelling, Awaits}
+use Rattle.vm_waiting.specs.ChildCancellation.{after_cancels}
+use Rattle.vm_waiting.specs.SuspensionFrames.{suspension_payload_in, is_too_deep, Suspends, tells_awaiting, TellsIf}
+use Rattle.vm_waiting.specs.TakeEffects.{Becomes}
 use Rattle.vm_waiting.specs.WaitsFor.{awaited_ids, waits_for_any, waits_as}
 use Rattle.vm_waiting.specs.declared.awaiting.Awaited.{Awaited}
 use Rattle.vm_waiting.specs.declared.awaiting.Awaited.TheVariants.{AnyCompleted, Cancelled, Asleep}
@@ -63,17 +68,17 @@ use Rattle.vm_waiting.specs.declared.suspending.TellError.{TellError}
 use Rattle.vm_waiting.specs.declared.suspending.TellError.TheVariants.{TooDeep, Encoding}
 use Rattle.vm_waiting.specs.declared.waits_for.WaitsFor.{WaitsFor}
 use Rattle.vm_waiting.specs.declared.waits_for.WaitsFor.TheVariants as waitings
-use Rattle.vm_outcomes.specs.Carrying.{tells_waiting, Answers, Waits, Executes, Suspends as IsSuspended, Comes, CarriesOut}
-use Rattle.vm_outcomes.specs.Causes.{ByFault, TooLong, TooDeep as Deep, Unread, Differs, IsAsked, IsLookedAt, IsAsleep, waiting_payload, is_wait_too_deep, HasCause}
+use Rattle.vm_outcomes.specs.CallOutcomes.{tells_waiting, Answers, Waits, Executes, Suspends as IsSuspended, Comes, CarriesOut}
+use Rattle.vm_outcomes.specs.Causes.{ByFault, TooLong, TooDeep as Deep, Unread, Differs, AreRequestsAsked, IsLookedAt, IsAsleep, waiting_payload, is_wait_too_deep, HasCause}
 use Rattle.vm_outcomes.specs.Driven.{IsDriven, reply_of}
 use Rattle.vm_outcomes.specs.Outcomes.{awaited_as}
-use Rattle.vm_outcomes.specs.Stopping.{unless_refused, HasPut, IsUnmatchedNext}
+use Rattle.vm_outcomes.specs.PartialCalls.{unless_refused, HasPut, IsUnmatchedNext}
 use Rattle.vm_outcomes.specs.declared.outcome.CallOutcome.{CallOutcome}
 use Rattle.vm_outcomes.proofs.Answering.{leaves_runs, driven_on, commands_stay, answered, answered_quietly, none_taken, nothing_written}
 use Rattle.vm_outcomes.proofs.Calling.{refusal_none, refusal_some}
 use Rattle.vm_outcomes.proofs.Failing.{code_apart, plain_code, told_plain, told_last, looked_at, looked_asked, none_put, memory_lacks, mismatches_at, unless_ok, fails_of, failed_behind, refused_cause}
 use Rattle.vm_outcomes.proofs.Steps.{steps_of}
-use Rattle.vm_outcomes.proofs.Stopping.{StopsBehind, StopsFor, PutWhy, Keeps, await_keeps}
+use Rattle.vm_outcomes.proofs.PartialCalls.{StopsBehind, StopsFor, PutWhy, Keeps, await_keeps}
 use Rattle.vm_outcomes.proofs.Telling.{tells_seen, untold, failed_unsuspended}
 
 -- ---- what is told is no suspension
@@ -102,7 +107,7 @@ refusal_apart CallRefusal.UnsupportedFailureMetadata = refl
 refusal_apart CallRefusal.UnsupportedAtLeast = refl
 refusal_apart CallRefusal.OutOfBoundsDuration = refl
 
-refused_apart : (refused : CallRefusal) (text : Option Bytes) (told : Result Error AllocError) → IfOk told (Tells (refusal_code refused) text) → Apart told
+refused_apart : (refused : CallRefusal) (text : Option Bytes) (told : Result Error AllocError) → IfOk told (TellsPlainError (refusal_code refused) text) → Apart told
 refused_apart refused text told causes = code_apart (refusal_code refused) told (refusal_apart refused) (plain_code (refusal_code refused) text told causes)
 
 decoding_apart : (error : DecodingError) → (decoding_code error == suspended) ≡ false
@@ -132,7 +137,7 @@ uncompleted_told : (invocation : Bytes) (slots : Slots) (runs : Runs) (waits : W
 uncompleted_told invocation slots runs waits (Ok error) uncompleted = (waits, uncompleted)
 uncompleted_told invocation slots runs waits (Err refused) uncompleted = tt
 
-asked_behind : (front : List Request) (old new : JournalCounts) → new ≡ after_command SendSignalCommand [] (after_cancels front old) → IsAsked front old new
+asked_behind : (front : List Request) (old new : JournalCounts) → new ≡ after_command SendSignalCommand [] (after_cancels front old) → AreRequestsAsked front old new
 asked_behind front old new is = inr (
   SendSignalCommand,
   ([], record { commands = ap (λ (j : JournalCounts). j.commands) is; last_type = ap (λ (j : JournalCounts). j.last_type) is; last_name = ap (λ (j : JournalCounts). j.last_name) is }),
@@ -174,8 +179,8 @@ module _ (given : Invocation) (m : Machine) (tree : AwaitTree ℕ) (old : Machin
   fails_awaiting told active answer new apart has_cause unwritten fails =
       fails_behind told none active answer new apart has_cause (unwritten ∙ nothing_written old.active.output) fails
 
-  lacks_memory_behind : (far : HasPut given m (Call.Await tree) old) (active : Active) (answer : Error) (new : MachineState) → IsAsked far.front old.active.journal active.journal
-      → active.output ≡ writes_frames far.more old.active.output → LacksMemory (record old { active = active }) answer new → Comes given m (Call.Await tree) old (awaited_as (Err answer)) new
+  lacks_memory_behind : (far : HasPut given m (Call.Await tree) old) (active : Active) (answer : Error) (new : MachineState) → AreRequestsAsked far.front old.active.journal active.journal
+      → active.output ≡ writes_frames far.more old.active.output → LacksMemoryToAwait (record old { active = active }) answer new → Comes given m (Call.Await tree) old (awaited_as (Err answer)) new
   lacks_memory_behind far active answer new asked written lacks =
       fails_behind lacks.cause far active answer new (memory_apart lacks.cause lacks.causes) (memory_lacks given m (Call.Await tree) old far active asked lacks.cause lacks.causes) written lacks.fails
 
@@ -188,7 +193,7 @@ module _ (given : Invocation) (m : Machine) (tree : AwaitTree ℕ) (old : Machin
     unwritten : resolved.output ≡ old.active.output
     unwritten = ap (λ (a : Active). a.output) looks
 
-    lacks_memory : (answer : Error) (new : MachineState) → LacksMemory (record old { active = resolved }) answer new → Comes given m (Call.Await tree) old (awaited_as (Err answer)) new
+    lacks_memory : (answer : Error) (new : MachineState) → LacksMemoryToAwait (record old { active = resolved }) answer new → Comes given m (Call.Await tree) old (awaited_as (Err answer)) new
     lacks_memory answer new lacks =
         lacks_memory_behind none resolved answer new (looked_asked old.active resolved looked) (unwritten ∙ nothing_written old.active.output) lacks
 
@@ -339,7 +344,7 @@ module _ (given : Invocation) (m : Machine) (tree : AwaitTree ℕ) (old : Machin
             (λ closed. idle)
             (subst (λ (a : Active). FailsUntold (Encoding unsent.PayloadTooLong) (record old { active = a }) answer new) suspended.1.1 closes)
         suspends is_closed idle (Err (Encoding unsent.OutOfMemory)) active answer new suspended closes =
-            lacks_memory answer new (subst (λ (a : Active). LacksMemory (record old { active = a }) answer new) suspended.1 closes)
+            lacks_memory answer new (subst (λ (a : Active). LacksMemoryToAwait (record old { active = a }) answer new) suspended.1 closes)
 
         sleeps_as : (sleep : Sleep) (result : Result AwaitResponse Error) (new : MachineState) → SleepIs sleep waits (record old { active = resolved }) → SleepsAs sleep waits (record old { active = resolved }) result new
             → Comes given m (Call.Await tree) old (awaited_as result) new
@@ -362,7 +367,7 @@ module _ (given : Invocation) (m : Machine) (tree : AwaitTree ℕ) (old : Machin
   -- ---- a cancellation stops among its requests
 
   module _ (active : Active) (stops : StopsBehind given m tree old active) where
-    command_asked : IsAsked stops.far.front old.active.journal active.journal
+    command_asked : AreRequestsAsked stops.far.front old.active.journal active.journal
     command_asked = asked_behind stops.far.front old.active.journal active.journal stops.journal
 
     unmatched_next : put_one (same_header (checks_off old.options.non_determinism_checks) (Call.Await tree)) stops.next stops.far.put.left stops.far.put.written ≡ None → IsUnmatchedNext given m (Call.Await tree) old stops.far.behind stops.far.put
@@ -427,7 +432,7 @@ module _ (given : Invocation) (m : Machine) (tree : AwaitTree ℕ) (old : Machin
   await_made unrefused result new made =
       goes_on_as made.awaited made.between.active result new
       (await_keeps given m tree old driven.sees unrefused made.awaited made.between.active
-      (subst (λ (c : ImplicitCancellationOption). ComesTo c (checks_off old.options.non_determinism_checks) tree old.active made.awaited made.between.active) (sym driven.version.cancellation) made.held))
+      (subst (λ (c : ImplicitCancellationOption). AwaitComesTo c (checks_off old.options.non_determinism_checks) tree old.active made.awaited made.between.active) (sym driven.version.cancellation) made.held))
       (made.awaits given m driven.version.cancellation unrefused driven.sees)
       (subst (λ (vm : MachineState). GoesOnAs made.awaited vm result new) made.others made.goes_on)
 

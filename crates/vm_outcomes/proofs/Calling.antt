@@ -16,7 +16,7 @@ use Rattle.protocol_stream.specs.declared.encoder.EncodingError.TheVariants as u
 use Rattle.protocol_types.specs.declared.message_type.MessageType.{MessageType}
 use Rattle.vm_awaits.specs.Views.{AsyncResults}
 use Rattle.vm_calls.specs.Active.{Sees, LacksCompletions}
-use Rattle.vm_calls.specs.Making.{FailsAs, Makes}
+use Rattle.vm_calls.specs.CommandCalls.{FailsAs, Makes}
 use Rattle.vm_calls.specs.declared.active.Active.{Active}
 use Rattle.vm_calls.specs.declared.call_error.CallError.{CallError}
 use Rattle.vm_calls.specs.declared.call_error.CallError.TheVariants.{Number, Put, OutOfMemory}
@@ -26,11 +26,15 @@ use Rattle.vm_commands.specs.declared.replay_error.ReplayError.TheVariants as un
 use Rattle.vm_context.specs.Journal.{no_id_text}
 use Rattle.vm_runs.specs.Runs.{Runs}
 use Rattle.vm_refusals.specs.declared.refusal_error.RefusalError.{RefusalError}
-use Rattle.vm_feeding.specs.Passed.{IsElsewhere, IsRefused, checks_off, IsOf, IsRefusalOf, IsMade, Calls, Settles, MachineState, CallCauses}
-use Rattle.vm_outcomes.specs.Carrying.{Answers, Fails, Comes, CarriesOut}
-use Rattle.vm_outcomes.specs.Causes.{Unread, Differs, NoNumber, TooLong, LacksNumber, IsAsked, moment_event, HasCause}
+use Rattle.vm_machine.specs.CallAdmission.{IsElsewhere, IsRefused}
+use Rattle.vm_machine.specs.Calls.{checks_off, IsOf, IsRefusalOf, IsMade, Calls}
+use Rattle.vm_machine.specs.CallAnswers.{Settles}
+use Rattle.vm_machine.specs.declared.machine_state.MachineState.{MachineState}
+use Rattle.vm_machine.specs.Causes.{CallCauses}
+use Rattle.vm_outcomes.specs.CallOutcomes.{Answers, Fails, Comes, CarriesOut}
+use Rattle.vm_outcomes.specs.Causes.{Unread, Differs, NoNumber, TooLong, LacksNumber, AreRequestsAsked, moment_event, HasCause}
 use Rattle.vm_outcomes.specs.Driven.{IsDriven}
-use Rattle.vm_outcomes.specs.Stopping.{requests_passed_on}
+use Rattle.vm_outcomes.specs.PartialCalls.{requests_passed_on}
 use Rattle.vm_outcomes.specs.Outcomes.{answered_as}
 use Rattle.vm_outcomes.specs.declared.outcome.CallOutcome.{CallOutcome}
 use Rattle.vm_outcomes.proofs.Answering.{MayBe, RunsIn, is_run, leaves_runs_in, no_signal, answered}
@@ -73,7 +77,7 @@ module _ (given : Invocation) (m : Machine) (call : Call) (old : MachineState) (
   is_of = record { version = driven.version.version; cancellation = driven.version.cancellation }
 
   module _ (unrefused : refusal_of given.version call ≡ None) (same : length (ids_of m.completions m.signals call) ≡ completions_of call) (alone : requests_passed_on given m call ≡ []) where
-    call_cause : {M : Type 0} (difference : M → M → List ℕ) (active : Active) (asked : IsAsked [] old.active.journal active.journal) (error : CallError M) (told : Result Error AllocError)
+    call_cause : {M : Type 0} (difference : M → M → List ℕ) (active : Active) (asked : AreRequestsAsked [] old.active.journal active.journal) (error : CallError M) (told : Result Error AllocError)
         → FailsAs (checks_off old.options.non_determinism_checks) given m call old.active error → CallCauses difference active.journal error told → HasCause given m call old (none_put given m call old) active told
     call_cause difference active asked (Number numbers.IdsExhausted) told fails causes = record {
       cause = NoNumber;
@@ -99,7 +103,7 @@ module _ (given : Invocation) (m : Machine) (call : Call) (old : MachineState) (
     call_cause difference active asked (Put (Encoding unsent.OutOfMemory)) told fails causes = no_memory given m call old active asked told causes
     call_cause difference active asked OutOfMemory told fails causes = no_memory given m call old active asked told causes
 
-    call_settles : {M Taken : Type 0} (difference : M → M → List ℕ) (answer : Taken → Answer) (made : Result Taken (CallError M)) (active : Active) (asked : IsAsked [] old.active.journal active.journal) (result : Result Taken Error) (new : MachineState)
+    call_settles : {M Taken : Type 0} (difference : M → M → List ℕ) (answer : Taken → Answer) (made : Result Taken (CallError M)) (active : Active) (asked : AreRequestsAsked [] old.active.journal active.journal) (result : Result Taken Error) (new : MachineState)
         → RunsIn m call old runs result → Makes (checks_off old.options.non_determinism_checks) given m call answer old.active made active
         → Settles difference made (record over { active = active }) result new → Comes given m call old (answered_as answer result) new
     call_settles {Taken = Taken} difference answer (Ok taken) active asked (Ok got) new keeps makes settles =

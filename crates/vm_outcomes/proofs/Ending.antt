@@ -14,12 +14,13 @@ use Rattle.vm_context.specs.Output.{Written}
 use Rattle.vm_start.specs.Phases.{kept_error, unexpected_error}
 use Rattle.vm_start.specs.declared.phase.Phase.{Phase}
 use Rattle.vm_start.specs.declared.phase.Phase.TheVariants as phases
-use Rattle.vm_feeding.specs.Passed.{IsUnexpected, MachineState}
-use Rattle.vm_progress.specs.Ending.{end_place, ClosesEnd, Ends, EndsAt, EndsAs}
+use Rattle.vm_machine.specs.Steps.{IsUnexpected}
+use Rattle.vm_machine.specs.declared.machine_state.MachineState.{MachineState}
+use Rattle.vm_progress.specs.EndEffects.{end_place, ClosesEnd, WritesEnd, EndsAt, EndsAs}
 use Rattle.vm_progress.specs.declared.ending.EndPlace.{EndPlace}
 use Rattle.vm_progress.specs.declared.ending.EndPlace.TheVariants.{Elsewhere}
-use Rattle.vm_waiting.specs.Suspending.{Writes}
-use Rattle.vm_outcomes.specs.Carrying.{Ends as IsEnded, Comes, CarriesOut}
+use Rattle.vm_waiting.specs.SuspensionFrames.{WritesFrame}
+use Rattle.vm_outcomes.specs.CallOutcomes.{Ends, Comes, CarriesOut}
 use Rattle.vm_outcomes.specs.Causes.{ByFault}
 use Rattle.vm_outcomes.specs.Driven.{IsDriven}
 use Rattle.vm_outcomes.specs.Outcomes.{ended_as}
@@ -38,15 +39,15 @@ unexpected_at : (phase : Phase) (is_replaying : Bool) (event : List ℕ) → pha
 unexpected_at phase is_replaying event is replays = ap (λ (p : Phase). unexpected_error p is_replaying event) is ∙ ap (λ (b : Bool). unexpected_error phases.Active b event) replays
 
 module _ (given : Invocation) (m : Machine) (old : MachineState) (driven : IsDriven given m old) where
-  unwritten : (error : EncodingError) (output : Written) → Writes messages.End [] old.active.output (Err error) output → output ≡ old.active.output
+  unwritten : (error : EncodingError) (output : Written) → WritesFrame messages.End [] old.active.output (Err error) output → output ≡ old.active.output
   unwritten unsent.PayloadTooLong output writes = writes.1
   unwritten unsent.OutOfMemory output writes = writes
 
   ends : (written : Result (Unit {0}) EncodingError) (output : Written) (result : Result (Unit {0}) Error) (new : MachineState) → old.active.is_replaying ≡ false
-      → Writes messages.End [] old.active.output written output → ClosesEnd written (record old { active = record old.active { output = output } }) result new
+      → WritesFrame messages.End [] old.active.output written output → ClosesEnd written (record old { active = record old.active { output = output } }) result new
       → Comes given m Call.End old (ended_as result) new
   ends (Ok done) output (Ok ended) new behind writes closes =
-      subst (λ (vm : MachineState). IsEnded given m Call.End old vm) (sym closes) (record {
+      subst (λ (vm : MachineState). Ends given m Call.End old vm) (sym closes) (record {
         replies = ends_behind m m.left (sym driven.sees.replaying ∙ behind);
         output = ap (λ (w : Written). record w { is_closed = true }) writes.1;
         others = refl;
@@ -77,7 +78,7 @@ module _ (given : Invocation) (m : Machine) (old : MachineState) (driven : IsDri
       let at : EndsAt (end_place old.phase old.active.is_replaying) old result new = subst (λ (kept : Option Error). EndsAs kept old result new) (ap kept_error driven.phase) ends_as in
       elim (cases_Bool old.active.is_replaying) [
         | inl t ↦ elsewhere result new t (subst (λ (place : EndPlace). EndsAt place old result new) (place_of true t) at)
-        | inr f ↦ (let ended : Ends old result new = subst (λ (place : EndPlace). EndsAt place old result new) (place_of false f) at in ends ended.written ended.output result new f ended.writes ended.closes)
+        | inr f ↦ (let ended : WritesEnd old result new = subst (λ (place : EndPlace). EndsAt place old result new) (place_of false f) at in ends ended.written ended.output result new f ended.writes ended.closes)
       ]
 
 -- the end is carried out

@@ -18,18 +18,22 @@ use Rattle.vm_calls.specs.declared.active.Active.{Active}
 use Rattle.vm_commands.specs.HeaderEquality.{same_header}
 use Rattle.vm_context.specs.Journal.{JournalCounts}
 use Rattle.vm_context.specs.Output.{Written}
-use Rattle.vm_start.specs.Failing.{FailsAs, FailsNow}
+use Rattle.vm_start.specs.FailureReport.{FailsAs, FailsNow}
 use Rattle.vm_start.specs.Phases.{kept_error}
 use Rattle.vm_start.specs.declared.phase.Phase.TheVariants as phases
 use Rattle.vm_progress.specs.Uncompleted.{started_id}
 use Rattle.vm_refusals.specs.Refusals.{refusal_meant, refusal_code, refusal_text, text_of_refusal}
 use Rattle.vm_runs.specs.Runs.{Runs}
 use Rattle.vm_refusals.specs.declared.refusal_error.RefusalError.{RefusalError}
-use Rattle.vm_feeding.specs.Passed.{IsRefused, checks_off, MachineFails, MachineState, Tells, TellsLast, Unless}
-use Rattle.vm_outcomes.specs.Carrying.{Fails}
-use Rattle.vm_outcomes.specs.Causes.{Cause, ByFault, NoNumber, TooLong, TooDeep, NoReplay, NoMemory, FailsAt, IsAsked, IsAsBefore, IsLookedAt, Leaves, Unmatched, IsUnmatched, unmatched_code, unmatched_text, TellsEither, FaultTells, CauseTells, moment_event, HasCause}
+use Rattle.vm_machine.specs.CallAdmission.{IsRefused}
+use Rattle.vm_machine.specs.Calls.{checks_off}
+use Rattle.vm_machine.specs.MachineFailure.{MachineFails}
+use Rattle.vm_machine.specs.declared.machine_state.MachineState.{MachineState}
+use Rattle.vm_machine.specs.Causes.{TellsPlainError, TellsLast, Unless}
+use Rattle.vm_outcomes.specs.CallOutcomes.{Fails}
+use Rattle.vm_outcomes.specs.Causes.{Cause, ByFault, NoNumber, TooLong, TooDeep, NoReplay, NoMemory, FailsAt, AreRequestsAsked, IsAsBefore, IsLookedAt, LeavesPartly, Unmatched, IsUnmatched, unmatched_code, unmatched_text, TellsEither, FaultTells, CauseTells, moment_event, HasCause}
 use Rattle.vm_outcomes.specs.Driven.{reply_of}
-use Rattle.vm_outcomes.specs.Stopping.{HasPut, requests_passed_on, IsUnmatchedNext}
+use Rattle.vm_outcomes.specs.PartialCalls.{HasPut, requests_passed_on, IsUnmatchedNext}
 use Rattle.vm_outcomes.proofs.Answering.{MayBe, nothing_written}
 
 -- ---- what is told
@@ -38,11 +42,11 @@ pub told_last : (journal : JournalCounts) (code : ℕ) (text : Option (List ℕ)
 told_last journal code text (Ok error) tells = inr tells
 told_last journal code text (Err refused) tells = tt
 
-pub told_plain : (journal : JournalCounts) (code : ℕ) (text : Option (List ℕ)) (told : Result Error AllocError) → IfOk told (Tells code text) → IfOk told (λ error. TellsEither journal code text error)
+pub told_plain : (journal : JournalCounts) (code : ℕ) (text : Option (List ℕ)) (told : Result Error AllocError) → IfOk told (TellsPlainError code text) → IfOk told (λ error. TellsEither journal code text error)
 told_plain journal code text (Ok error) tells = inl tells
 told_plain journal code text (Err refused) tells = tt
 
-pub plain_code : (code : ℕ) (text : Option (List ℕ)) (told : Result Error AllocError) → IfOk told (Tells code text) → IfOk told (λ error. error.code.0 ≡ code)
+pub plain_code : (code : ℕ) (text : Option (List ℕ)) (told : Result Error AllocError) → IfOk told (TellsPlainError code text) → IfOk told (λ error. error.code.0 ≡ code)
 plain_code code text (Ok error) tells = ap (λ (e : Error). e.code.0) tells.plain
 plain_code code text (Err refused) tells = tt
 
@@ -51,7 +55,7 @@ pub code_apart : (code : ℕ) (told : Result Error AllocError) → (code == susp
 code_apart code (Ok error) other is = ap (λ (n : ℕ). n == suspended) is ∙ other
 code_apart code (Err refused) other is = tt
 
-pub unless_plain : (journal : JournalCounts) (code : ℕ) (text : Option (List ℕ)) (told : Result Error AllocError) → Unless false (Tells code text) told → IfOk told (λ error. TellsEither journal code text error)
+pub unless_plain : (journal : JournalCounts) (code : ℕ) (text : Option (List ℕ)) (told : Result Error AllocError) → Unless false (TellsPlainError code text) told → IfOk told (λ error. TellsEither journal code text error)
 unless_plain journal code text (Ok error) tells = inl tells
 unless_plain journal code text (Err refused) tells = tt
 
@@ -68,7 +72,7 @@ pub looked_at : (old new : Active) → new ≡ record old { results = new.result
 looked_at old new others = others ∙ sym (ap (λ (a : Active). record old { results = new.results; output = a.output }) others)
 
 -- then no command was asked for
-pub looked_asked : (old new : Active) → IsLookedAt old new → IsAsked [] old.journal new.journal
+pub looked_asked : (old new : Active) → IsLookedAt old new → AreRequestsAsked [] old.journal new.journal
 looked_asked old new looked = inl (record {
   commands = ap (λ (a : Active). a.journal.commands) looked;
   last_type = ap (λ (a : Active). a.journal.last_type) looked;
@@ -83,10 +87,10 @@ looked_on : (old between new : Active) → new ≡ record between { output = new
 looked_on old between new others looked =
     others ∙ ap (λ (a : Active). record a { output = new.output }) looked ∙ sym (ap (λ (a : Active). record old { results = a.results; output = new.output }) others)
 
-asked_on : (front : List Request) (old between new : Active) → new ≡ record between { output = new.output } → IsAsked front old.journal between.journal → IsAsked front old.journal new.journal
-asked_on front old between new others asked = subst (λ (journal : JournalCounts). IsAsked front old.journal journal) (sym (ap (λ (a : Active). a.journal) others)) asked
+asked_on : (front : List Request) (old between new : Active) → new ≡ record between { output = new.output } → AreRequestsAsked front old.journal between.journal → AreRequestsAsked front old.journal new.journal
+asked_on front old between new others asked = subst (λ (journal : JournalCounts). AreRequestsAsked front old.journal journal) (sym (ap (λ (a : Active). a.journal) others)) asked
 
-leaves_on : (cause : Cause) (front : List Request) (old between new : Active) → new ≡ record between { output = new.output } → Leaves cause front old between → Leaves cause front old new
+leaves_on : (cause : Cause) (front : List Request) (old between new : Active) → new ≡ record between { output = new.output } → LeavesPartly cause front old between → LeavesPartly cause front old new
 leaves_on (ByFault Mismatch) front old between new others leaves = asked_on front old between new others leaves
 leaves_on (ByFault UncompletedInReplay) front old between new others leaves = looked_on old between new others leaves
 leaves_on (ByFault EndInReplay) front old between new others leaves = before_on old between new others leaves
@@ -115,7 +119,7 @@ module _ (given : Invocation) (m : Machine) (call : Call) (vm : MachineState) wh
     fit = tt;
   }
 
-  module _ (far : HasPut given m call vm) (after : Active) (asked : IsAsked far.front vm.active.journal after.journal) where
+  module _ (far : HasPut given m call vm) (after : Active) (asked : AreRequestsAsked far.front vm.active.journal after.journal) where
     pub memory_lacks : (told : Result Error AllocError) → IfOk told (λ error. ⊥) → HasCause given m call vm far after told
     memory_lacks (Ok error) none = absurd none
     memory_lacks (Err refused) none = record { cause = NoMemory; when = tt; at = tt; tells = tt; leaves = asked }
@@ -134,7 +138,7 @@ pub unless_ok : (told : Result Error AllocError) → Unless true (λ error. ⊥)
 unless_ok (Ok error) none = none
 unless_ok (Err refused) none = tt
 
-module _ (given : Invocation) (m : Machine) (call : Call) (vm : MachineState) (after : Active) (asked : IsAsked [] vm.active.journal after.journal) where
+module _ (given : Invocation) (m : Machine) (call : Call) (vm : MachineState) (after : Active) (asked : AreRequestsAsked [] vm.active.journal after.journal) where
   pub no_memory : (told : Result Error AllocError) → Unless true (λ error. ⊥) told → HasCause given m call vm (none_put given m call vm) after told
   no_memory told none = memory_lacks given m call vm (none_put given m call vm) after asked told (unless_ok told none)
 
@@ -156,13 +160,13 @@ fails_of told old answer new is fails =
     subst (λ (kept : Option Error). FailsAs old.version old.options.journal_mismatch_retry_behavior told kept old.phase old.active.output answer new.phase new.active.output) (ap kept_error is) fails.fails
 
 refusal_tells : (version : Version) (invocation : Bytes) (left : Commands) (journal : JournalCounts) (slots : Slots) (runs : Runs) (call : Call) (error : RefusalError) (told : Result Error AllocError) → error.version ≡ version → error.event.now ≡ moment_event call
-    → IfOk told (Tells (refusal_code error.refusal) (Some (refusal_text error))) → IfOk told (λ e. FaultTells version invocation left journal slots runs call (Refused (refusal_meant error.refusal)) e)
+    → IfOk told (TellsPlainError (refusal_code error.refusal) (Some (refusal_text error))) → IfOk told (λ e. FaultTells version invocation left journal slots runs call (Refused (refusal_meant error.refusal)) e)
 refusal_tells version invocation left journal slots runs call error (Ok e) speaks names tells = (
   error.refusal,
   (
     refl,
-    subst (λ (v : Version). Tells (refusal_code error.refusal) (Some (text_of_refusal error.refusal v (moment_event call))) e) speaks
-        (subst (λ (event : List ℕ). Tells (refusal_code error.refusal) (Some (text_of_refusal error.refusal error.version event)) e) names tells),
+    subst (λ (v : Version). TellsPlainError (refusal_code error.refusal) (Some (text_of_refusal error.refusal v (moment_event call))) e) speaks
+        (subst (λ (event : List ℕ). TellsPlainError (refusal_code error.refusal) (Some (text_of_refusal error.refusal error.version event)) e) names tells),
   ),
 )
 refusal_tells version invocation left journal slots runs call error (Err refused) speaks names tells = tt

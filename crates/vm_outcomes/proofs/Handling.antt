@@ -23,22 +23,24 @@ use Rattle.vm_calls.specs.declared.call_error.NumberError.{NumberError}
 use Rattle.vm_calls.specs.declared.call_error.NumberError.TheVariants as numbers
 use Rattle.vm_context.specs.Journal.{no_id_text}
 use Rattle.vm_start.specs.declared.phase.Phase.{Phase}
-use Rattle.vm_feeding.specs.Calling.{AnswersBy, IsCalled}
-use Rattle.vm_feeding.specs.Handles.{MakesSignal, IsNoSignal, IsAwakeableWhere, IsAwakeable, IsNoAwakeable, TakesFirst, TakeCauses, Looks}
+use Rattle.vm_feeding.specs.CommandlessCalls.{AnswersBy, IsCalled}
+use Rattle.vm_feeding.specs.Handles.{MakesSignal, IsNoSignal, IsAwakeableWhere, IsAwakeable, IsNoAwakeable, TakesFirstResult, TakeCauses, LooksAtHandle}
 use Rattle.vm_types.specs.declared.handles.AwakeableHandle.{AwakeableHandle}
 use Rattle.vm_types.specs.declared.options.JournalReplay.{JournalReplay}
 use Rattle.vm_types.specs.declared.options.JournalReplay.TheVariants.{Enabled, Disabled}
-use Rattle.vm_feeding.specs.Passed.{checks_off, IsUnexpected, Steps, MachineState, NumberCauses}
+use Rattle.vm_machine.specs.Calls.{checks_off}
+use Rattle.vm_machine.specs.Steps.{IsUnexpected, Steps}
+use Rattle.vm_machine.specs.declared.machine_state.MachineState.{MachineState}
+use Rattle.vm_machine.specs.Causes.{NumberCauses, child_not_id_error}
 use Rattle.vm_waiting.specs.declared.taking.TakeError.{TakeError}
 use Rattle.vm_waiting.specs.declared.taking.TakeError.TheVariants as untaken
-use Rattle.vm_outcomes.specs.Carrying.{Answers, Comes, CarriesOut}
-use Rattle.vm_outcomes.specs.Causes.{ByFault, NoNumber, NoReplay, NoMemory, LacksNumber, IsAsked, IsLookedAt, HasCause}
+use Rattle.vm_outcomes.specs.CallOutcomes.{Answers, Comes, CarriesOut}
+use Rattle.vm_outcomes.specs.Causes.{ByFault, NoNumber, NoReplay, NoMemory, LacksNumber, AreRequestsAsked, IsLookedAt, HasCause}
 use Rattle.vm_outcomes.specs.Driven.{IsDriven}
 use Rattle.vm_outcomes.specs.Outcomes.{answered_as}
 use Rattle.vm_outcomes.specs.declared.outcome.CallOutcome.{CallOutcome}
 use Rattle.vm_outcomes.specs.declared.outcome.CallOutcome.TheVariants.{Answered}
 use Rattle.vm_outcomes.proofs.Answering.{is_run, leaves_runs, answered, answered_quietly, none_taken, nothing_written}
-use Rattle.vm_machine.specs.PassedMachine.{child_not_id_error}
 use Rattle.vm_outcomes.proofs.Failing.{none_put, no_memory, unless_plain, looked_at, looked_asked, failed}
 use Rattle.vm_outcomes.proofs.Steps.{steps_of}
 
@@ -67,7 +69,7 @@ signal_left given m active sees has = by_test (leb_tells (m.signals + 1) (2 ^ 32
 
 module _ (given : Invocation) (m : Machine) (call : Call) (old : MachineState) (driven : IsDriven given m old) (unrefused : refusal_of given.version call ≡ None) (quiet : is_run call ≡ false) where
   handle_settles : {Taken : Type 0} (answer : Taken → Answer) (Lacks : Active → Type 0) (lacks : Lacks old.active → LacksNumber m call)
-      (left : (Lacks old.active → ⊥) → (signals_of call ≡ 0) ⊎ (m.signals + signals_of call ≤ 2 ^ 32)) (made : Result Taken NumberError) (active : Active) (asked : IsAsked [] old.active.journal active.journal)
+      (left : (Lacks old.active → ⊥) → (signals_of call ≡ 0) ⊎ (m.signals + signals_of call ≤ 2 ^ 32)) (made : Result Taken NumberError) (active : Active) (asked : AreRequestsAsked [] old.active.journal active.journal)
       (result : Result Taken Error) (new : MachineState) → MakesHandle (checks_off old.options.non_determinism_checks) given m call answer Lacks old.active made active
       → AnswersBy NumberCauses made (record old { active = active }) result new → Comes given m call old (answered_as answer result) new
   handle_settles {Taken = Taken} answer Lacks lacks left (Ok taken) active asked (Ok got) new makes answers =
@@ -134,7 +136,7 @@ module _ (given : Invocation) (m : Machine) (handle : ℕ) (old : MachineState) 
   taken_alone : (active : Active) → active ≡ record old.active { results = active.results; children = active.children } → active.children ≡ old.active.children → IsLookedAt old.active active
   taken_alone active others same = looked_at old.active active (others ∙ ap (λ (children : List Child). record old.active { results = active.results; children = children }) same)
 
-  take_settles : (made : Result (Option Value) TakeError) (active : Active) (result : Result (Option Value) Error) (new : MachineState) → TakesFirst handle old.active made active
+  take_settles : (made : Result (Option Value) TakeError) (active : Active) (result : Result (Option Value) Error) (new : MachineState) → TakesFirstResult handle old.active made active
       → AnswersBy TakeCauses made (record old { active = active }) result new → Comes given m (Call.Take handle) old (answered_as (λ taken. Answer.Taken taken) result) new
   take_settles (Ok taken) active (Ok got) new does answers =
       subst (λ (t : Option Value). Answers given m (Call.Take handle) old (Answer.Taken t) new) (sym answers.0)
@@ -161,26 +163,26 @@ module _ (given : Invocation) (m : Machine) (handle : ℕ) (old : MachineState) 
   take_settles (Err untaken.OutOfMemory) active (Err told) new does answers =
       failed given m (Call.Take handle) old driven.phase answers.cause active told new (no_take active (taken_alone active does.others does.children) answers.cause answers.causes) (ap (λ (a : Active). a.output) does.others) answers.fails
 
-  take_comes : (result : Result (Option Value) Error) (new : MachineState) → Steps (IsCalled (TakesFirst handle) TakeCauses) (IsUnexpected (codes "TakeNotification")) None old result new
+  take_comes : (result : Result (Option Value) Error) (new : MachineState) → Steps (IsCalled (TakesFirstResult handle) TakeCauses) (IsUnexpected (codes "TakeNotification")) None old result new
       → Comes given m (Call.Take handle) old (answered_as (λ taken. Answer.Taken taken) result) new
   take_comes result new steps =
-      steps_of (IsCalled (TakesFirst handle) TakeCauses) (IsUnexpected (codes "TakeNotification")) None old driven.phase
+      steps_of (IsCalled (TakesFirstResult handle) TakeCauses) (IsUnexpected (codes "TakeNotification")) None old driven.phase
       (λ (r : Result (Option Value) Error) (vm : MachineState). Comes given m (Call.Take handle) old (answered_as (λ taken. Answer.Taken taken) r) vm)
       (λ r vm free called. take_settles called.made called.active r vm called.does called.answers) (λ error told vm some refused. cc) result new steps
 
 -- what has come is taken
 pub take_carried : (handle : ℕ) (old : MachineState) (result : Result (Option Value) Error) (new : MachineState)
-    → Steps (IsCalled (TakesFirst handle) TakeCauses) (IsUnexpected (codes "TakeNotification")) None old result new
+    → Steps (IsCalled (TakesFirstResult handle) TakeCauses) (IsUnexpected (codes "TakeNotification")) None old result new
     → CarriesOut (Call.Take handle) old (answered_as (λ taken. Answer.Taken taken) result) new
 take_carried handle old result new steps = λ given m driven. take_comes given m handle old driven result new steps
 
 -- ---- looks
 
 -- it is looked at
-pub look_carried : (handle : ℕ) (completed : Bool) (old : MachineState) → Looks old.phase old.active handle completed → CarriesOut (Call.IsCompleted handle) old (Answered (Answer.Completed completed)) old
+pub look_carried : (handle : ℕ) (completed : Bool) (old : MachineState) → LooksAtHandle old.phase old.active handle completed → CarriesOut (Call.IsCompleted handle) old (Answered (Answer.Completed completed)) old
 look_carried handle completed old looks = λ given m driven. record {
   machine = m;
-  replies = (subst (λ (p : Phase). Looks p old.active handle completed) driven.phase looks).made given m (checks_off old.options.non_determinism_checks) driven.sees;
+  replies = (subst (λ (p : Phase). LooksAtHandle p old.active handle completed) driven.phase looks).made given m (checks_off old.options.non_determinism_checks) driven.sees;
   driven = driven;
   more = [];
   written = sym (append-nil m.written);

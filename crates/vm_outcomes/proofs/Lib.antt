@@ -5,7 +5,7 @@ pub mod Calling
 pub mod Reading
 pub mod Handling
 pub mod Telling
-pub mod Stopping
+pub mod PartialCalls
 pub mod Midway
 pub mod Awaiting
 pub mod Ending

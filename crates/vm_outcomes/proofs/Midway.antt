@@ -13,9 +13,10 @@ use Rattle.attempt_model.specs.Machine.{Machine, Reply, Answered, Work, ToAwait,
 use Rattle.attempt_model.specs.Requests.{Commands, PutState, put_all, requests_by}
 use Rattle.attempt_model.specs.Results.{Resolution, Awake, Asleep, resolution_of, waiting_for}
 use Rattle.vm_commands.specs.HeaderEquality.{same_header}
-use Rattle.vm_feeding.specs.Passed.{checks_off, MachineState}
+use Rattle.vm_machine.specs.Calls.{checks_off}
+use Rattle.vm_machine.specs.declared.machine_state.MachineState.{MachineState}
 use Rattle.vm_outcomes.specs.Driven.{reply_of}
-use Rattle.vm_outcomes.specs.Stopping.{children_requests, awake_requests, await_requests, unless_refused, requests_at, HasPut}
+use Rattle.vm_outcomes.specs.PartialCalls.{children_requests, awake_requests, await_requests, unless_refused, requests_at, HasPut}
 
 -- what was matched and written by a machine that answers
 abbrev done_by : Reply → List Request

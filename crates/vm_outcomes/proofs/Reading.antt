@@ -21,16 +21,17 @@ use Rattle.vm_commands.specs.declared.replay_error.ReplayError.TheVariants as un
 use Rattle.vm_commands.specs.declared.state_read.StateReadError.TheVariants as errors
 use Rattle.vm_context.specs.Journal.{no_id_text}
 use Rattle.vm_progress.specs.Causes.{ReadCauses}
-use Rattle.vm_progress.specs.Reading.{ReadKind, IsRead, MissesNext, SettlesRead, StepsOfRead}
-use Rattle.vm_state_reads.specs.Reading.{ReadFailsAs, Reads}
-use Rattle.vm_state_reads.specs.Telling.{type_in_replay, type_behind, IsAtRead}
+use Rattle.vm_progress.specs.StateReadEffects.{ReadKind, IsRead, MissesNext, SettlesRead, StepsOfRead}
+use Rattle.vm_state_reads.specs.ReadAnswers.{ReadFailsAs, Reads}
+use Rattle.vm_state_reads.specs.ReadDescriptions.{type_in_replay, type_behind, IsAtRead}
 use Rattle.vm_state_reads.specs.declared.read_error.ReadError.{ReadError}
 use Rattle.vm_state_reads.specs.declared.read_error.ReadError.TheVariants.{Number, Replay, Encoding, OutOfMemory}
-use Rattle.vm_feeding.specs.Passed.{checks_off, MachineState}
-use Rattle.vm_outcomes.specs.Carrying.{Answers, Comes, CarriesOut}
-use Rattle.vm_outcomes.specs.Causes.{Unread, NoRead, Differs, Unanswered, NoNumber, TooLong, IsAsked, HasCause}
+use Rattle.vm_machine.specs.Calls.{checks_off}
+use Rattle.vm_machine.specs.declared.machine_state.MachineState.{MachineState}
+use Rattle.vm_outcomes.specs.CallOutcomes.{Answers, Comes, CarriesOut}
+use Rattle.vm_outcomes.specs.Causes.{Unread, NoRead, Differs, Unanswered, NoNumber, TooLong, AreRequestsAsked, HasCause}
 use Rattle.vm_outcomes.specs.Driven.{IsDriven}
-use Rattle.vm_outcomes.specs.Stopping.{requests_passed_on}
+use Rattle.vm_outcomes.specs.PartialCalls.{requests_passed_on}
 use Rattle.vm_outcomes.specs.Outcomes.{answered_as}
 use Rattle.vm_outcomes.specs.declared.outcome.CallOutcome.{CallOutcome}
 use Rattle.vm_outcomes.proofs.Answering.{is_run, leaves_runs, no_signal, answered}
@@ -39,14 +40,14 @@ use Rattle.vm_outcomes.proofs.Failing.{none_put, no_memory, told_last, mismatche
 use Rattle.vm_outcomes.proofs.Steps.{steps_of}
 
 -- a read is a command that was asked for
-at_read : (eager lazy : MessageType) (replaying known : Bool) (name : Text) (old new : Active) → IsAtRead eager lazy replaying known name old new → IsAsked [] old.journal new.journal
+at_read : (eager lazy : MessageType) (replaying known : Bool) (name : Text) (old new : Active) → IsAtRead eager lazy replaying known name old new → AreRequestsAsked [] old.journal new.journal
 at_read eager lazy true known name old new told = inr (type_in_replay eager lazy old.commands.items, ([], told))
 at_read eager lazy false known name old new told = inr (type_behind eager lazy known, (name, told))
 
 module _ (given : Invocation) (m : Machine) (call : Call) (old : MachineState) (driven : IsDriven given m old) (unrefused : refusal_of given.version call ≡ None)
     (same : length (ids_of m.completions m.signals call) ≡ completions_of call) (alone : requests_passed_on given m call ≡ []) (quiet : is_run call ≡ false) where
   module _ {L E : Type 0} (lazy_difference : L → L → List ℕ) (eager_difference : E → E → List ℕ) (empty : FixedError) (violates : fixed_code empty ≡ protocol_violation) where
-    read_cause : (active : Active) (asked : IsAsked [] old.active.journal active.journal) (error : ReadError L E) (told : Result Error AllocError) → ReadFailsAs (checks_off old.options.non_determinism_checks) given m call old.active error
+    read_cause : (active : Active) (asked : AreRequestsAsked [] old.active.journal active.journal) (error : ReadError L E) (told : Result Error AllocError) → ReadFailsAs (checks_off old.options.non_determinism_checks) given m call old.active error
         → ReadCauses lazy_difference eager_difference empty active.journal error told → HasCause given m call old (none_put given m call old) active told
     read_cause active asked (Number numbers.IdsExhausted) told fails causes = record {
       cause = NoNumber;
@@ -74,7 +75,7 @@ module _ (given : Invocation) (m : Machine) (call : Call) (old : MachineState) (
     read_cause active asked (Encoding unsent.OutOfMemory) told fails causes = no_memory given m call old active asked told causes
     read_cause active asked OutOfMemory told fails causes = no_memory given m call old active asked told causes
 
-    pub read_settles : (made : Result ℕ (ReadError L E)) (active : Active) (asked : IsAsked [] old.active.journal active.journal) (result : Result ℕ Error) (new : MachineState)
+    pub read_settles : (made : Result ℕ (ReadError L E)) (active : Active) (asked : AreRequestsAsked [] old.active.journal active.journal) (result : Result ℕ Error) (new : MachineState)
         → Reads (checks_off old.options.non_determinism_checks) given m call old.active made active → SettlesRead lazy_difference eager_difference empty made (record old { active = active }) result new
         → Comes given m call old (answered_as (λ handle. Answer.Handle handle) result) new
     read_settles (Ok handle) active asked (Ok got) new reads settles =

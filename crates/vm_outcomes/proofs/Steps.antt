@@ -4,7 +4,11 @@ use Rattle.protocol_errors.specs.declared.error.Error.{Error}
 use Rattle.vm_start.specs.Phases.{kept_error}
 use Rattle.vm_start.specs.declared.phase.Phase.TheVariants as phases
 use Rattle.vm_refusals.specs.declared.refusal_error.RefusalError.{RefusalError}
-use Rattle.vm_feeding.specs.Passed.{is_active, IsRefused, AdmitsWhere, GoesOn, Steps, Admission, Admitted, Elsewhere, Stopped, MachineState}
+use Rattle.vm_machine.specs.CallAdmission.{is_active, IsRefused, AdmitsWhere}
+use Rattle.vm_machine.specs.Steps.{GoesOn, Steps}
+use Rattle.vm_machine.specs.declared.admitting.Admission.{Admission}
+use Rattle.vm_machine.specs.declared.admitting.Admission.TheVariants.{Admitted, Elsewhere, Stopped}
+use Rattle.vm_machine.specs.declared.machine_state.MachineState.{MachineState}
 
 module _ {Taken : Type 0} (Makes : MachineState → Result Taken Error → MachineState → Type 0) (Misses : MachineState → Error → MachineState → Type 0) (refusal : Option RefusalError)
     (old : MachineState) (is : old.phase ≡ phases.Active) (Goal : Result Taken Error → MachineState → Type 0)

@@ -15,11 +15,11 @@ use Rattle.protocol_types.specs.declared.version.Version.{Version}
 use Rattle.vm_calls.specs.Active.{Sees}
 use Rattle.vm_calls.specs.declared.active.Active.{Active}
 use Rattle.vm_context.specs.Output.{Written}
-use Rattle.vm_start.specs.Failing.{FailsNow, IsCopy, Tells, TellsCause}
+use Rattle.vm_start.specs.FailureReport.{FailsNow, IsCopy, TellsError, TellsFailureCause}
 use Rattle.vm_start.specs.Failure.{failed_with, asked_behavior}
 use Rattle.vm_start.specs.declared.phase.Phase.{Phase}
 use Rattle.vm_types.specs.declared.options.JournalMismatchRetryBehavior.{JournalMismatchRetryBehavior}
-use Rattle.vm_waiting.specs.Suspending.{TellsIf}
+use Rattle.vm_waiting.specs.SuspensionFrames.{TellsIf}
 use Rattle.vm_waiting.specs.declared.suspending.TellError.{TellError}
 use Rattle.vm_waiting.specs.declared.suspending.TellError.TheVariants.{TooDeep, Encoding}
 use Rattle.vm_outcomes.specs.Outcomes.{awaited_as}
@@ -89,13 +89,13 @@ behaved_code asked error false = refl
 abbrev IsOneOf : ℕ → ℕ → Type 0
 IsOneOf n code = (code ≡ n) ⊎ (code ≡ internal)
 
-told_one : (error : Error) (old : Written) (told : Error) (new : Written) (n : ℕ) → error.code.0 ≡ n → Tells error old told new → IsOneOf n told.code.0
+told_one : (error : Error) (old : Written) (told : Error) (new : Written) (n : ℕ) → error.code.0 ≡ n → TellsError error old told new → IsOneOf n told.code.0
 told_one error old told new n is (inl tells) = inl (ap (λ (e : Error). e.code.0) tells.0 ∙ is)
 told_one error old told new n is (inr (inl tells)) = inr (ap (λ (e : Error). e.code.0) tells.1)
 told_one error old told new n is (inr (inr tells)) = inr (ap (λ (e : Error). e.code.0) tells.0)
 
 cause_one : (version : Version) (asked : JournalMismatchRetryBehavior) (cause : Result Error AllocError) (old : Written) (told : Error) (new : Written) (n : ℕ) → IfOk cause (λ error. error.code.0 ≡ n)
-    → TellsCause version asked cause old told new → IsOneOf n told.code.0
+    → TellsFailureCause version asked cause old told new → IsOneOf n told.code.0
 cause_one version asked (Ok error) old told new n is tells = told_one (failed_with (version_number version) asked error) old told new n (behaved_code asked error _ ∙ is) tells
 cause_one version asked (Err refused) old told new n is tells = inr (ap (λ (e : Error). e.code.0) tells.0)
 

@@ -26,27 +26,29 @@ use Rattle.protocol_types.specs.declared.message_type.MessageType.{MessageType}
 use Rattle.protocol_types.specs.declared.version.Version.{Version}
 use Rattle.vm_awaits.specs.Views.{slots_of}
 use Rattle.vm_calls.specs.Active.{Sees, TellsSame, IsAtCommand}
-use Rattle.vm_calls.specs.Making.{IsLong}
+use Rattle.vm_calls.specs.CommandCalls.{IsLong}
 use Rattle.vm_calls.specs.declared.active.Active.{Active}
-use Rattle.vm_commands.specs.Popping.{IsNoRequest, IsNextUnread}
+use Rattle.vm_commands.specs.NextCommand.{IsNoRequest, IsNextUnread}
 use Rattle.vm_context.specs.Journal.{JournalCounts, no_id_text}
 use Rattle.vm_start.specs.Phases.{unexpected_error}
 use Rattle.vm_start.specs.declared.phase.Phase.TheVariants as phases
 use Rattle.vm_progress.specs.Asleep.{too_deep_error}
-use Rattle.vm_progress.specs.Executing.{executes_any, is_executing_for, run_for}
+use Rattle.vm_progress.specs.AwaitedRuns.{executes_any, is_executing_for, run_for}
 use Rattle.vm_progress.specs.Uncompleted.{started_id, TellsUncompleted}
 use Rattle.vm_refusals.specs.Refusals.{refusal_meant, refusal_code, text_of_refusal}
 use Rattle.vm_refusals.specs.declared.refusal.CallRefusal.{CallRefusal}
-use Rattle.vm_machine.specs.PassedMachine.{child_not_id_error}
+use Rattle.vm_machine.specs.Causes.{child_not_id_error, TellsPlainError, TellsLast}
 use Rattle.vm_runs.specs.Runs.{Runs}
 use Rattle.vm_types.specs.declared.options.JournalReplay.TheVariants.{Disabled}
-use Rattle.vm_waiting.specs.Cancelling.{after_cancels}
-use Rattle.vm_waiting.specs.Suspending.{suspension_payload_in, is_too_deep, is_suspension_too_deep, tells_awaiting}
+use Rattle.vm_waiting.specs.ChildCancellation.{after_cancels}
+use Rattle.vm_waiting.specs.SuspensionFrames.{suspension_payload_in, is_too_deep, is_suspension_too_deep, tells_awaiting}
 use Rattle.vm_waiting.specs.WaitsFor.{awaited_ids, waits_for_any, waits_as}
 use Rattle.vm_waiting.specs.declared.waits_for.WaitsFor.{WaitsFor}
-use Rattle.vm_feeding.specs.Passed.{place_text, checks_off, MachineState, Tells, TellsLast}
+use Rattle.protocol_differences.specs.Mismatch.{place_text}
+use Rattle.vm_machine.specs.Calls.{checks_off}
+use Rattle.vm_machine.specs.declared.machine_state.MachineState.{MachineState}
 use Rattle.vm_outcomes.specs.Driven.{reply_of}
-use Rattle.vm_outcomes.specs.Stopping.{HasPut, IsUnmatchedNext}
+use Rattle.vm_outcomes.specs.PartialCalls.{HasPut, IsUnmatchedNext}
 
 -- why a call fails
 pub data Cause : Type 0 where
@@ -136,7 +138,7 @@ moment_event _ = []
 
 -- an error about no command, or about the one that was asked for last
 abbrev pub TellsEither : JournalCounts → ℕ → Option (List ℕ) → Error → Type 0
-TellsEither journal code text told = Tells code text told ⊎ TellsLast journal code text told
+TellsEither journal code text told = TellsPlainError code text told ⊎ TellsLast journal code text told
 
 -- why the next recorded command is not the one that a call makes
 pub data Unmatched : Type 0 where
@@ -179,7 +181,7 @@ module _ (version : Version) (invocation : Bytes) (left : Commands) (journal : J
   FaultTells KeysNotText told = told ≡ plain_error internal (codes "Cannot convert an eager state key into UTF-8 String")
   FaultTells ChildNotId told = told ≡ child_not_id_error
   FaultTells (Refused refusal) told =
-      (refused : CallRefusal) × ((refusal_meant refused ≡ refusal) × Tells (refusal_code refused) (Some (text_of_refusal refused version (moment_event call))) told)
+      (refused : CallRefusal) × ((refusal_meant refused ≡ refusal) × TellsPlainError (refusal_code refused) (Some (text_of_refusal refused version (moment_event call))) told)
 
   abbrev pub CauseTells : Cause → Error → Type 0
   CauseTells (ByFault fault) told = FaultTells fault told
@@ -193,8 +195,8 @@ module _ (version : Version) (invocation : Bytes) (left : Commands) (journal : J
 -- ---- what is left
 
 -- these requests were put, and a command was asked for behind them, or none was
-abbrev pub IsAsked : (front : List Request) → (old new : JournalCounts) → Type 0
-IsAsked front old new = TellsSame (after_cancels front old) new ⊎ ((ty : MessageType) × ((name : Text) × IsAtCommand ty name (after_cancels front old) new))
+abbrev pub AreRequestsAsked : (front : List Request) → (old new : JournalCounts) → Type 0
+AreRequestsAsked front old new = TellsSame (after_cancels front old) new ⊎ ((ty : MessageType) × ((name : Text) × IsAtCommand ty name (after_cancels front old) new))
 
 -- but for what is written nothing has changed
 abbrev pub IsAsBefore : (old new : Active) → Type 0
@@ -205,7 +207,7 @@ abbrev pub IsLookedAt : (old new : Active) → Type 0
 IsLookedAt old new = new ≡ record old { results = new.results; output = new.output }
 
 abbrev pub LeavesFault : Fault → (front : List Request) → (old new : Active) → Type 0
-LeavesFault Mismatch front old new = IsAsked front old.journal new.journal
+LeavesFault Mismatch front old new = AreRequestsAsked front old.journal new.journal
 LeavesFault UncompletedInReplay front old new = IsLookedAt old new
 LeavesFault EndInReplay front old new = IsAsBefore old new
 LeavesFault KeysNotText front old new = IsLookedAt old new
@@ -214,13 +216,13 @@ LeavesFault (Refused refusal) front old new = IsAsBefore old new
 
 -- What is left of what is kept for calls, where these requests were put. Where a number was taken, a record was matched or a frame was
 -- made the commands alone are told.
-abbrev pub Leaves : Cause → (front : List Request) → (old new : Active) → Type 0
-Leaves (ByFault fault) front old new = LeavesFault fault front old new
-Leaves NoNumber front old new = IsAsked front old.journal new.journal
-Leaves TooLong front old new = IsAsked front old.journal new.journal
-Leaves TooDeep front old new = IsLookedAt old new
-Leaves NoReplay front old new = IsAsBefore old new
-Leaves NoMemory front old new = IsAsked front old.journal new.journal
+abbrev pub LeavesPartly : Cause → (front : List Request) → (old new : Active) → Type 0
+LeavesPartly (ByFault fault) front old new = LeavesFault fault front old new
+LeavesPartly NoNumber front old new = AreRequestsAsked front old.journal new.journal
+LeavesPartly TooLong front old new = AreRequestsAsked front old.journal new.journal
+LeavesPartly TooDeep front old new = IsLookedAt old new
+LeavesPartly NoReplay front old new = IsAsBefore old new
+LeavesPartly NoMemory front old new = AreRequestsAsked front old.journal new.journal
 
 -- A cause that there is where the call has come so far with its requests, with the error that it is told by, or that memory was refused for
 -- one; `after` is kept for calls then.
@@ -229,4 +231,4 @@ pub record HasCause (given : Invocation) (m : Machine) (call : Call) (vm : Machi
   pub when : FailsWhen given m call vm far cause
   pub at : FailsAt given m call vm far cause
   pub tells : IfOk told (λ error. CauseTells vm.version (started_id vm.start) far.put.left after.journal (slots_of after.results) vm.runs call cause error)
-  pub leaves : Leaves cause far.front vm.active after
+  pub leaves : LeavesPartly cause far.front vm.active after

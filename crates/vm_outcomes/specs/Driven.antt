@@ -8,7 +8,8 @@ use Rattle.vm_commands.specs.HeaderEquality.{same_header}
 use Rattle.vm_types.specs.Reads.{no_reads}
 use Rattle.vm_start.specs.declared.phase.Phase.TheVariants as phases
 use Rattle.vm_feeding.specs.Handles.{id_of}
-use Rattle.vm_feeding.specs.Passed.{checks_off, IsOf, MachineState}
+use Rattle.vm_machine.specs.Calls.{checks_off, IsOf}
+use Rattle.vm_machine.specs.declared.machine_state.MachineState.{MachineState}
 
 -- Calls are made of the machine, and what it keeps for them is what the abstract machine keeps. It is a machine of this invocation:
 -- it speaks its version, was started with its id, and cancellations do there what they do here.

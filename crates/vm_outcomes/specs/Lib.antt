@@ -1,6 +1,6 @@
 pub mod Driven
 pub mod Runs
-pub mod Stopping
+pub mod PartialCalls
 pub mod Causes
-pub mod Carrying
+pub mod CallOutcomes
 pub mod Outcomes

@@ -4,9 +4,9 @@ use Rattle.std.specs.List.{AllByRecursion}
 use Rattle.journal_model.specs.declared.notification.NotificationId.{NotificationId}
 use Rattle.journal_model.specs.AwaitTree.{AwaitTree, Single, Combined, AwaitTrees, no_trees, and_trees}
 use Rattle.journal_model.specs.Spelling.{completions_in, signals_in, names_in}
-use Rattle.vm_waiting.specs.Suspending.{below, listed}
+use Rattle.vm_waiting.specs.SuspensionFrames.{below, listed}
 use Rattle.vm_request_laws.specs.Trees.{LeavesFit, AllLeavesFit}
-use Rattle.vm_request_laws.proofs.Fitting.{all_append, IsSmall, completions_fit, signals_fit, names_fit}
+use Rattle.vm_request_laws.proofs.RequestBounds.{all_append, IsSmall, completions_fit, signals_fit, names_fit}
 
 module _ {Leaf : Type 0} (own : AwaitTrees NotificationId → List Leaf) (P : Leaf → Type 0) (owned : (trees : AwaitTrees NotificationId) → AllLeavesFit trees → AllByRecursion P (own trees)) where
   below_fit : (trees : AwaitTrees NotificationId) → AllLeavesFit trees → AllByRecursion P (below own trees)

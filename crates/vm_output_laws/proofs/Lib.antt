@@ -1,9 +1,9 @@
 pub mod Nested
 pub mod Fitting
-pub mod Reading
+pub mod FrameMeanings
 pub mod Streams
 pub mod Told
-pub mod Telling
-pub mod Writing
-pub mod Taking
-pub mod Turning
+pub mod SuspensionContent
+pub mod WrittenFrames
+pub mod FrameSoundness
+pub mod TurnFrames

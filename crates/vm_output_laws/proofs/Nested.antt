@@ -3,7 +3,7 @@ use Rattle.std.proofs.Common.{◌≡◌, ◌-◌, ℕ, zero, suc, Bool, true, fa
 use Rattle.protocol_wire.specs.declared.record.TheConstants.{LEVELS}
 use Rattle.journal_model.specs.declared.notification.NotificationId.{NotificationId}
 use Rattle.journal_model.specs.AwaitTree.{AwaitTree, Single, Combined, AwaitTrees, no_trees, and_trees}
-use Rattle.vm_waiting.specs.Suspending.{is_nested_within, are_nested_within, is_too_deep}
+use Rattle.vm_waiting.specs.SuspensionFrames.{is_nested_within, are_nested_within, is_too_deep}
 use Rattle.vm_request_laws.specs.Trees.{LeavesFit, IsWithin, AreWithin, TreeFits}
 use Rattle.vm_output_laws.specs.Sent.{SuspendedFits}
 

@@ -6,9 +6,9 @@ use Rattle.protocol_stream.specs.Item.{Item, message, item_at}
 use Rattle.protocol_stream.proofs.Fronts.{item_at_extends}
 use Rattle.protocol_wire.proofs.Extends.{Extends}
 use Rattle.vm_output_laws.specs.Sent.{Sent, sent_frame, sent_stream, sent_message, SentFits, AllFit, frame_meant}
-use Rattle.vm_output_laws.specs.Reading.{TakesFirst, StreamsAreRead, StreamsJoin}
-use Rattle.vm_request_laws.proofs.Fitting.{all_append}
-use Rattle.vm_output_laws.proofs.Reading.{frames_are_read, read_as_meant}
+use Rattle.vm_output_laws.specs.OutputMeaning.{TakesFirstItem, StreamsAreRead, StreamsJoin}
+use Rattle.vm_request_laws.proofs.RequestBounds.{all_append}
+use Rattle.vm_output_laws.proofs.FrameMeanings.{frames_are_read, read_as_meant}
 
 nothing_at_none : (x : Item × List ℕ) → None ≡ Some x → ⊥
 nothing_at_none x e = cc
@@ -26,7 +26,7 @@ in_all come more all item rest bytes first =
     ap item_at (sym bytes) ∙ subst (λ (o : Option (Item × List ℕ)). Extends more o (item_at (come ++ more))) first (item_at_extends more come)
 
 cut : (version : Version) (coming : List Sent) (come more : List ℕ) (item : Item) (rest : List ℕ) → AllFit version coming → come ++ more ≡ sent_stream version coming
-    → item_at come ≡ Some (item, rest) → TakesFirst version item rest more coming
+    → item_at come ≡ Some (item, rest) → TakesFirstItem version item rest more coming
 cut version [] come more item rest fit bytes first = absurd (nothing_at_none (item, rest ++ more) (sym empty_at ∙ in_all come more [] item rest bytes first))
 cut version (sent ∷ others) come more item rest fit bytes first =
     let front : item_at (sent_stream version (sent ∷ others)) ≡ Some (message (sent_message version sent), sent_stream version others) = (frames_are_read version sent (sent_stream version others) fit.0).front in

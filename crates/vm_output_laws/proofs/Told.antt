@@ -4,12 +4,12 @@ use Rattle.journal_model.specs.declared.notification.NotificationId.{Notificatio
 use Rattle.journal_model.specs.declared.notification.NotificationId.TheVariants as ids
 use Rattle.journal_model.specs.AwaitTree.{AwaitTree, Single, Combined, AwaitTrees, no_trees, and_trees, Combinator, Unknown, FirstCompleted, AllCompleted, FirstSucceededOrAllFailed, AllSucceededOrFirstFailed, AtLeast, asks_number, has_number, some_has_number}
 use Rattle.journal_model.specs.Spelling.{completions_in, signals_in, names_in, required_by}
-use Rattle.journal_model.specs.Waiting.{SameTree, same_leaf, same_list, Puts, in_front, behind, Reordered, none, put}
+use Rattle.journal_model.specs.PrunedTrees.{SameTree, same_leaf, same_list, Puts, in_front, behind, Reordered, none, put}
 use Rattle.protocol_records.specs.declared.future.Future.{Future, roll-Future}
 use Rattle.protocol_records.specs.declared.future.Future.TheOpen.{Future-F}
 use Rattle.protocol_records.specs.declared.future.Future.TheViews.{out-roll-Future}
 use Rattle.protocol_stream.specs.Records.{combinator_record, future_record, nested_records}
-use Rattle.protocol_trees.specs.Shape.{combinator_of, forest, node}
+use Rattle.protocol_trees.specs.Shape.{shape_combinator, forest, node}
 use Rattle.protocol_trees.specs.Future.{shape_in, ids_in, future_tree}
 use Rattle.protocol_trees.specs.FutureShape.{future_tree_is}
 
@@ -25,12 +25,12 @@ abbrev under : List NotificationId → List Tree → Trees
 under leaves trees = forest (map (λ leaf. Single leaf) leaves ++ trees)
 
 rolled_tree : (o : Future-F Future)
-    → future_tree (roll-Future o) ≡ node (combinator_of (shape_in o.combinator_type o.required)) (ids_in o.waiting_completions o.waiting_signals o.waiting_named_signals) (map future_tree o.nested_futures)
+    → future_tree (roll-Future o) ≡ node (shape_combinator (shape_in o.combinator_type o.required)) (ids_in o.waiting_completions o.waiting_signals o.waiting_named_signals) (map future_tree o.nested_futures)
 rolled_tree o =
     future_tree_is (roll-Future o)
-    ∙ ap (λ (p : Future-F Future). node (combinator_of (shape_in p.combinator_type p.required)) (ids_in p.waiting_completions p.waiting_signals p.waiting_named_signals) (map future_tree p.nested_futures)) (out-roll-Future o)
+    ∙ ap (λ (p : Future-F Future). node (shape_combinator (shape_in p.combinator_type p.required)) (ids_in p.waiting_completions p.waiting_signals p.waiting_named_signals) (map future_tree p.nested_futures)) (out-roll-Future o)
 
-combinator_back : (combinator : Combinator) → combinator_of (shape_in (combinator_record combinator) (required_by combinator)) ≡ combinator
+combinator_back : (combinator : Combinator) → shape_combinator (shape_in (combinator_record combinator) (required_by combinator)) ≡ combinator
 combinator_back Unknown = refl
 combinator_back FirstCompleted = refl
 combinator_back AllCompleted = refl

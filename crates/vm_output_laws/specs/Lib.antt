@@ -1,6 +1,6 @@
 pub mod Sent
-pub mod Reading
-pub mod Telling
-pub mod Writing
-pub mod Taking
-pub mod Turning
+pub mod OutputMeaning
+pub mod SuspensionContent
+pub mod WrittenFrames
+pub mod FrameSoundness
+pub mod TurnFrames

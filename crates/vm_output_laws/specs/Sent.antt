@@ -25,12 +25,12 @@ use Rattle.protocol_stream.specs.Records.{future_record}
 use Rattle.protocol_trees.specs.Future.{ids_in, future_tree}
 use Rattle.store_frames.specs.declared.kind.FrameKind.{FrameKind}
 use Rattle.store_frames.specs.declared.kind.FrameKind.TheVariants as kinds
-use Rattle.store_frames.specs.Kind.{kind_of}
-use Rattle.store_frames.specs.Meaning.{error_frame}
-use Rattle.vm_proposals.specs.Proposing.{proposal, proposal_message}
-use Rattle.vm_waiting.specs.Suspending.{listed, suspension_payload_in}
+use Rattle.store_frames.specs.Kind.{frame_kind}
+use Rattle.store_frames.specs.FrameMeanings.{error_frame}
+use Rattle.vm_proposals.specs.ProposalEffects.{proposal, proposal_message}
+use Rattle.vm_waiting.specs.SuspensionFrames.{listed, suspension_payload_in}
 use Rattle.vm_request_laws.specs.Calls.{IsTypedValue}
-use Rattle.vm_request_laws.specs.Fitting.{RequestFits}
+use Rattle.vm_request_laws.specs.RequestBounds.{RequestFits}
 use Rattle.vm_request_laws.specs.Trees.{IsSpoken, LeavesFit, TreeFits}
 
 -- a request, the outcome of a run that is proposed for its completion, what is waited for while the attempt stays and where it is suspended,
@@ -81,17 +81,17 @@ abbrev pub SuspendedFits : (has_lists : Bool) → AwaitTree NotificationId → T
 SuspendedFits true tree = LeavesFit tree
 SuspendedFits false tree = TreeFits tree
 
-abbrev pub IsTold : Version → Sent → Type 0
-IsTold version (Asks request) = RequestFits request
-IsTold version (Proposes n value) = (n < 2 ^ 32) × IsTypedValue value
-IsTold version (Awaits tree) = TreeFits tree × IsSpoken (version_number version) tree
-IsTold version (Suspends tree) = SuspendedFits (lacks_feature (version_number version) TellsTrees) tree × IsSpoken (version_number version) tree
-IsTold version (Fails error) = ErrorFits LEVELS error
-IsTold version Ends = Unit {0}
+abbrev pub IsSentTold : Version → Sent → Type 0
+IsSentTold version (Asks request) = RequestFits request
+IsSentTold version (Proposes n value) = (n < 2 ^ 32) × IsTypedValue value
+IsSentTold version (Awaits tree) = TreeFits tree × IsSpoken (version_number version) tree
+IsSentTold version (Suspends tree) = SuspendedFits (lacks_feature (version_number version) TellsTrees) tree × IsSpoken (version_number version) tree
+IsSentTold version (Fails error) = ErrorFits LEVELS error
+IsSentTold version Ends = Unit {0}
 
 -- and the length of its payload is one that a header tells
 pub record SentFits (version : Version) (sent : Sent) : Type 0 where
-  pub told : IsTold version sent
+  pub told : IsSentTold version sent
   pub short : length (sent_payload version sent) < 2 ^ 32
 
 abbrev pub AllFit : Version → List Sent → Type 0
@@ -105,7 +105,7 @@ is_command kinds.Command = true
 is_command _ = false
 
 abbrev pub is_recorded : Request → Bool
-is_recorded request = is_command (kind_of (request_type request))
+is_recorded request = is_command (frame_kind (request_type request))
 
 -- from version 7 on a suspension tells the tree, and before that the three lists of its ids
 abbrev pub suspension_told : (has_lists : Bool) → AwaitTree NotificationId → Suspension

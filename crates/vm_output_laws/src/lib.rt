@@ -1,11 +1,11 @@
 //! What an attempt writes, as a store reads it. Each function does nothing: its contract is the law.
 #![tactic(auto)]
 
-ghost use Rattle.vm_output_laws.specs.Reading.{ErrorsAreMeant, FramesAreRead, StreamsAreRead, StreamsJoin};
-ghost use Rattle.vm_output_laws.specs.Taking.{NoneLieInFrames};
-ghost use Rattle.vm_output_laws.specs.Telling.{SuspensionsTell};
-ghost use Rattle.vm_output_laws.specs.Turning.{TurnsSend};
-ghost use Rattle.vm_output_laws.specs.Writing.{FramesAreWritten};
+ghost use Rattle.vm_output_laws.specs.OutputMeaning.{ErrorsAreMeant, FramesAreRead, StreamsAreRead, StreamsJoin};
+ghost use Rattle.vm_output_laws.specs.FrameSoundness.{NoneLieInFrames};
+ghost use Rattle.vm_output_laws.specs.SuspensionContent.{SuspensionsTell};
+ghost use Rattle.vm_output_laws.specs.TurnFrames.{TurnsSend};
+ghost use Rattle.vm_output_laws.specs.WrittenFrames.{FramesAreWritten};
 
 /// Each frame that an attempt writes is read as what it was meant as.
 pub fn frames_are_read()

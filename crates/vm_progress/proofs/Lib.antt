@@ -1,5 +1,5 @@
 mod Made
 mod Machines
 pub mod Naming
-mod Executing
+mod AwaitedRuns
 mod Greatest

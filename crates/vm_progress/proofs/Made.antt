@@ -8,17 +8,17 @@ use Rattle.protocol_errors.specs.declared.error.Error.{Error}
 use Rattle.vm_calls.specs.Active.{Sees}
 use Rattle.vm_calls.specs.declared.active.Active.{Active}
 use Rattle.vm_calls.specs.Spent.{IsSpent}
-use Rattle.vm_state_reads.specs.Finding.{FindsRead}
-use Rattle.vm_state_reads.specs.Reading.{Reads}
+use Rattle.vm_state_reads.specs.MismatchedReads.{FindsRead}
+use Rattle.vm_state_reads.specs.ReadAnswers.{Reads}
 use Rattle.vm_state_reads.specs.Spent.{ReadFailsSpent}
-use Rattle.vm_state_reads.specs.Telling.{IsAtRead}
+use Rattle.vm_state_reads.specs.ReadDescriptions.{IsAtRead}
 use Rattle.vm_state_reads.specs.declared.read_error.ReadError.{ReadError}
-use Rattle.vm_machine.specs.Admitting.{Admits}
+use Rattle.vm_machine.specs.CallAdmission.{Admits}
 use Rattle.vm_machine.specs.declared.admitting.Admission.TheVariants.{Admitted, Elsewhere, Stopped}
 use Rattle.vm_machine.specs.Calls.{checks_off}
 use Rattle.vm_machine.specs.declared.machine_state.MachineState.{MachineState}
 use Rattle.vm_machine.proofs.Admitted.{steps_made, steps_elsewhere, steps_stopped}
-use Rattle.vm_progress.specs.Reading.{SettlesRead, MissesNext, ReadKind, IsRead, StepsOfRead}
+use Rattle.vm_progress.specs.StateReadEffects.{SettlesRead, MissesNext, ReadKind, IsRead, StepsOfRead}
 
 module _ {L E : Type 0} (kind : ReadKind L E) (call : Call) (known : Active → Bool) (name : Text) (old between : MachineState) where
   pub read_made : (off : Bool) (made : Result ℕ (ReadError L E)) (active : Active) (result : Result ℕ Error) (new : MachineState) → Admits None old Admitted between

@@ -10,18 +10,18 @@ use Rattle.protocol_stream.specs.ErrorText.{too_long_text}
 use Rattle.protocol_stream.specs.declared.encoder.EncodingError.TheVariants.{PayloadTooLong, OutOfMemory}
 use Rattle.vm_calls.specs.declared.active.Active.{Active}
 use Rattle.vm_start.specs.declared.phase.Phase.TheVariants.{Closed}
-use Rattle.vm_machine.specs.Failing.{MachineFails}
-use Rattle.vm_machine.specs.PassedMachine.{Tells}
+use Rattle.vm_machine.specs.MachineFailure.{MachineFails}
+use Rattle.vm_machine.specs.Causes.{TellsPlainError}
 use Rattle.vm_machine.specs.Steps.{FailsBy}
 use Rattle.vm_machine.specs.declared.machine_state.MachineState.{MachineState}
 use Rattle.vm_types.specs.declared.answers.AwaitResponse.{AwaitResponse}
 use Rattle.vm_types.specs.declared.answers.AwaitResponse.TheVariants.{WaitingExternalProgress, ExecuteRun}
-use Rattle.vm_waiting.specs.Suspending.{Suspends, tells_awaiting, TellsIf}
+use Rattle.vm_waiting.specs.SuspensionFrames.{Suspends, tells_awaiting, TellsIf}
 use Rattle.vm_waiting.specs.WaitsFor.{awaited_ids, waits_for_any}
 use Rattle.vm_waiting.specs.declared.suspending.TellError.{TellError}
 use Rattle.vm_waiting.specs.declared.suspending.TellError.TheVariants.{TooDeep, Encoding}
 use Rattle.vm_waiting.specs.declared.waits_for.WaitsFor.{WaitsFor}
-use Rattle.vm_progress.specs.Executing.{LooksForRun, run_for, is_executing_for, executes_any}
+use Rattle.vm_progress.specs.AwaitedRuns.{LooksForRun, run_for, is_executing_for, executes_any}
 use Rattle.vm_progress.specs.declared.asleep.Sleep.{Sleep}
 use Rattle.vm_progress.specs.declared.asleep.Sleep.TheVariants as sleeps
 
@@ -36,8 +36,8 @@ SleepIs sleeps.Suspends waits vm = (vm.is_input_closed ≡ true) × (vm.reads.in
 -- ---- how it fails
 
 -- the machine fails for want of memory
-abbrev pub LacksMemory : (old : MachineState) → Error → (new : MachineState) → Type 0
-LacksMemory old answer new = FailsBy (λ told. ⊥) old answer new
+abbrev pub LacksMemoryToAwait : (old : MachineState) → Error → (new : MachineState) → Type 0
+LacksMemoryToAwait old answer new = FailsBy (λ told. ⊥) old answer new
 
 -- of what no frame can tell
 abbrev pub too_deep_error : Error
@@ -46,8 +46,8 @@ too_deep_error = plain_error unsupported_feature (codes "what is awaited is nest
 -- the machine fails with why what it waits for is not told, about no command
 abbrev pub FailsUntold : TellError → (old : MachineState) → Error → (new : MachineState) → Type 0
 FailsUntold TooDeep old answer new = MachineFails (Ok too_deep_error) old answer new
-FailsUntold (Encoding PayloadTooLong) old answer new = FailsBy (Tells internal (Some too_long_text)) old answer new
-FailsUntold (Encoding OutOfMemory) old answer new = LacksMemory old answer new
+FailsUntold (Encoding PayloadTooLong) old answer new = FailsBy (TellsPlainError internal (Some too_long_text)) old answer new
+FailsUntold (Encoding OutOfMemory) old answer new = LacksMemoryToAwait old answer new
 
 abbrev pub fixed_error : FixedError → Error
 fixed_error error = plain_error (fixed_code error) (fixed_text error)
@@ -66,7 +66,7 @@ SettlesStay executing (Err error) old (Ok response) new = ⊥
 SettlesStay executing (Err error) old (Err answer) new = FailsUntold error old answer new
 
 -- it is told what is waited for, where that is to be told, by whether any run is being executed; answered is whether one of these is
-pub record Stays (waits : WaitsFor) (old : MachineState) (result : Result AwaitResponse Error) (new : MachineState) : Type 0 where
+pub record RemainsAsleep (waits : WaitsFor) (old : MachineState) (result : Result AwaitResponse Error) (new : MachineState) : Type 0 where
   pub told : Result (Unit {0}) TellError
   pub active : Active
   pub tells : TellsIf (tells_awaiting old.version old.options.awaiting_on_policy (executes_any old.runs) (waits_for_any waits)) (awaited_ids old.active waits) old.active told active
@@ -88,7 +88,7 @@ pub record SuspendsWith (waits : WaitsFor) (old : MachineState) (answer : Error)
 -- ---- all of them
 
 abbrev pub SleepsAs : Sleep → WaitsFor → (old : MachineState) → Result AwaitResponse Error → (new : MachineState) → Type 0
-SleepsAs sleeps.Stays waits old result new = Stays waits old result new
+SleepsAs sleeps.Stays waits old result new = RemainsAsleep waits old result new
 SleepsAs sleeps.Unanswered waits old (Ok response) new = ⊥
 SleepsAs sleeps.Unanswered waits old (Err answer) new = FailsUnanswered old answer new
 SleepsAs sleeps.Proposal waits old (Ok response) new = (response ≡ WaitingExternalProgress false true) × (new ≡ old)

@@ -11,8 +11,8 @@ use Rattle.protocol_stream.specs.ErrorText.{decoding_text, too_long_text}
 use Rattle.protocol_stream.specs.declared.encoder.EncodingError.{EncodingError}
 use Rattle.protocol_stream.specs.declared.encoder.EncodingError.TheVariants as unsent
 use Rattle.vm_calls.specs.declared.call_error.NumberError.TheVariants as numbers
-use Rattle.vm_machine.specs.PassedMachine.{Tells, TellsLast, Unless}
-use Rattle.vm_commands.specs.Popping.{replay_text}
+use Rattle.vm_machine.specs.Causes.{TellsPlainError, TellsLast, Unless}
+use Rattle.vm_commands.specs.NextCommand.{replay_text}
 use Rattle.vm_commands.specs.declared.replay_error.ReplayError.{ReplayError}
 use Rattle.vm_commands.specs.declared.replay_error.ReplayError.TheVariants as unmatched
 use Rattle.vm_commands.specs.declared.state_read.StateReadError.{StateReadError}
@@ -26,12 +26,12 @@ abbrev pub ReplayCauses : {M : Type 0} → (M → M → List ℕ) → JournalCou
 ReplayCauses difference journal (unmatched.Unavailable error) result = Unless false (TellsLast journal journal_mismatch (Some (unavailable_text error.expected))) result
 ReplayCauses difference journal (unmatched.Decoding error) result = Unless false (TellsLast journal (decoding_code error) (Some (decoding_text error))) result
 ReplayCauses difference journal (unmatched.Mismatch error) result = Unless false (TellsLast journal journal_mismatch (Some (replay_text difference (unmatched.Mismatch error)))) result
-ReplayCauses difference journal unmatched.OutOfMemory result = Unless true (Tells internal None) result
+ReplayCauses difference journal unmatched.OutOfMemory result = Unless true (TellsPlainError internal None) result
 
 -- of a frame that could not be made
 abbrev pub EncodingCauses : JournalCounts → EncodingError → Result Error AllocError → Type 0
 EncodingCauses journal unsent.PayloadTooLong result = Unless false (TellsLast journal internal (Some too_long_text)) result
-EncodingCauses journal unsent.OutOfMemory result = Unless true (Tells internal None) result
+EncodingCauses journal unsent.OutOfMemory result = Unless true (TellsPlainError internal None) result
 
 module _ {L E : Type 0} (lazy_difference : L → L → List ℕ) (eager_difference : E → E → List ℕ) (empty : FixedError) (journal : JournalCounts) where
   -- of the next recorded command, which is the read of neither kind, or whose answer was known and is not there
@@ -43,7 +43,7 @@ module _ {L E : Type 0} (lazy_difference : L → L → List ℕ) (eager_differen
 
   abbrev pub ReadCauses : ReadError L E → Result Error AllocError → Type 0
   ReadCauses (Number numbers.IdsExhausted) result = Unless false (TellsLast journal internal (Some no_id_text)) result
-  ReadCauses (Number numbers.OutOfMemory) result = Unless true (Tells internal None) result
+  ReadCauses (Number numbers.OutOfMemory) result = Unless true (TellsPlainError internal None) result
   ReadCauses (Replay error) result = MatchCauses error result
   ReadCauses (Encoding error) result = EncodingCauses journal error result
-  ReadCauses OutOfMemory result = Unless true (Tells internal None) result
+  ReadCauses OutOfMemory result = Unless true (TellsPlainError internal None) result

@@ -1,7 +1,7 @@
 pub mod Causes
-pub mod Reading
+pub mod StateReadEffects
 pub mod Uncompleted
-pub mod Executing
+pub mod AwaitedRuns
 pub mod Asleep
-pub mod Awaiting
-pub mod Ending
+pub mod AwaitEffects
+pub mod EndEffects

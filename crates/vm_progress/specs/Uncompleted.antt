@@ -9,7 +9,7 @@ use Rattle.journal_model.specs.Notification.{Bytes}
 use Rattle.journal_model.specs.declared.notification.NotificationId.{NotificationId}
 use Rattle.attempt_model.specs.Results.{Slots}
 use Rattle.body_laws.specs.Bodies.{has_handle}
-use Rattle.protocol_differences.specs.Passed.{CommandMetadata}
+use Rattle.protocol_errors.specs.declared.metadata.CommandMetadata.{CommandMetadata}
 use Rattle.protocol_errors.specs.Awaited.{comes_before}
 use Rattle.protocol_errors.specs.Code.{journal_mismatch}
 use Rattle.protocol_errors.specs.Texts.{uncompleted_text}
@@ -23,11 +23,11 @@ use Rattle.protocol_messages.specs.Leaves.{lists_of}
 use Rattle.protocol_records.specs.declared.suspension_v6.SuspensionMessageV6.{SuspensionMessageV6}
 use Rattle.protocol_stream.specs.Records.{future_record}
 use Rattle.vm_awaits.specs.Views.{slots_of}
-use Rattle.vm_machine.specs.Admitting.{IsAbout}
-use Rattle.vm_machine.specs.PassedMachine.{Tells}
+use Rattle.vm_machine.specs.CallAdmission.{IsAbout}
+use Rattle.vm_machine.specs.Causes.{TellsPlainError}
 use Rattle.vm_machine.specs.Steps.{FailsBy}
 use Rattle.vm_machine.specs.declared.machine_state.MachineState.{MachineState}
-use Rattle.vm_proposals.specs.Failing.{run_told}
+use Rattle.vm_proposals.specs.RunFailureCauses.{run_told}
 use Rattle.vm_runs.specs.Runs.{Table, Runs, run_at}
 use Rattle.vm_runs.specs.declared.run.Run.{Run}
 use Rattle.vm_waiting.specs.WaitsFor.{ids_over}
@@ -87,15 +87,15 @@ abbrev pub IsLast : Table → WaitsFor → Option ℕ → Type 0
 IsLast table (Future left) last = IsGreatest (is_unfinished table (tree_of left)) last
 IsLast table (Child completion) last = last ≡ None
 
-abbrev pub run_of : Table → Option ℕ → Option Run
-run_of table None = None
-run_of table (Some handle) = run_at table handle
+abbrev pub uncompleted_run : Table → Option ℕ → Option Run
+uncompleted_run table None = None
+uncompleted_run table (Some handle) = run_at table handle
 
 -- this command is that of the run of the last such handle, or there is none
 pub record IsLastRun (table : Table) (waits : WaitsFor) (command : Option CommandMetadata) : Type 0 where
   pub last : Option ℕ
   pub is_last : IsLast table waits last
-  pub command_is : command ≡ option_map run_told (run_of table last)
+  pub command_is : command ≡ option_map run_told (uncompleted_run table last)
 
 -- an error of which this is known is told about a command, or about none
 abbrev pub TellsAbout : Option CommandMetadata → (Error → Type 0) → Error → Type 0
@@ -108,7 +108,7 @@ TellsAbout (Some command) Causes told = IsAbout command Causes told
 pub record TellsAwaited (invocation : Bytes) (table : Table) (tree : AwaitTree NotificationId) (told : Error) : Type 0 where
   pub error : UncompletedDoProgressDuringReplay
   pub names : NamesIn invocation table (lists_over tree) error
-  pub tells : Tells journal_mismatch (Some (uncompleted_text error)) told
+  pub tells : TellsPlainError journal_mismatch (Some (uncompleted_text error)) told
 
 -- It is told of the ids that are waited for, that of a run by its command, about the run of the last handle whose outcome was not proposed;
 -- where there is none, about no command. A handle that stands for nothing is left out.

@@ -1,7 +1,7 @@
 // An await that waits behind the journal.
 ghost use Rattle.std.specs.Prelude.{◌≡◌};
-ghost use Rattle.vm_progress.specs.Asleep.{SleepIs, LacksMemory, too_deep_error, FailsUntold, FailsUnanswered, SettlesStay, Stays, ClosesAs, SuspendsWith, SleepsOn, Sleeps};
-ghost use Rattle.vm_progress.specs.Executing.{LooksForRun, is_executing_for};
+ghost use Rattle.vm_progress.specs.Asleep.{SleepIs, LacksMemoryToAwait, too_deep_error, FailsUntold, FailsUnanswered, SettlesStay, RemainsAsleep, ClosesAs, SuspendsWith, SleepsOn, Sleeps};
+ghost use Rattle.vm_progress.specs.AwaitedRuns.{LooksForRun, is_executing_for};
 
 use bytes::ByteStr;
 use journal_model::NotificationHandle;
@@ -67,7 +67,7 @@ fn sleep_of(vm: &MachineState, waits: &WaitsFor) -> Sleep
 
 /// Fails for want of memory.
 pub(crate) fn fail_for_memory(vm: &mut MachineState) -> Error
-    ensures { LacksMemory vm.old result vm.new }
+    ensures { LacksMemoryToAwait vm.old result vm.new }
 {
     vm.fail(Err(AllocError))
 }
@@ -122,7 +122,7 @@ fn settle_stay(
 
 // Waits for more input, and says whether a run of what is waited for is being executed.
 fn stay_with(vm: &mut MachineState, waits: WaitsFor) -> Result<AwaitResponse, Error>
-    ensures { Stays waits vm.old result vm.new }
+    ensures { RemainsAsleep waits vm.old result vm.new }
 {
     let executing = is_executing(&vm.runs, &waits);
     let told = tell_awaiting_on(

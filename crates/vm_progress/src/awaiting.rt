@@ -1,7 +1,7 @@
 // A future is awaited, in any phase.
 ghost use Rattle.std.specs.Prelude.{◌≡◌};
 ghost use Rattle.journal_model.specs.Future.{tree_of};
-ghost use Rattle.vm_progress.specs.Awaiting.{ready_read, AwaitsUnread, GoesOnAs, IsAwaited, DoesAwait};
+ghost use Rattle.vm_progress.specs.AwaitEffects.{ready_read, AwaitsUnread, GoesOnAs, IsAwaited, DoesAwait};
 
 use crate::asleep::{fail_for_memory, sleep_with};
 use crate::uncompleted::fail_uncompleted;

@@ -2,8 +2,8 @@
 ghost use Rattle.std.specs.Prelude.{◌≡◌, []};
 ghost use Rattle.protocol_types.specs.declared.message_type.MessageType.TheVariants.{End as end_type};
 ghost use Rattle.vm_start.specs.Phases.{kept_error};
-ghost use Rattle.vm_waiting.specs.Suspending.{Writes};
-ghost use Rattle.vm_progress.specs.Ending.{end_place, ClosesEnd, Ends, EndsAt, EndsAs};
+ghost use Rattle.vm_waiting.specs.SuspensionFrames.{WritesFrame};
+ghost use Rattle.vm_progress.specs.EndEffects.{end_place, ClosesEnd, WritesEnd, EndsAt, EndsAs};
 
 use crate::asleep::fail_for_memory;
 use protocol_errors::Error;
@@ -44,7 +44,7 @@ fn end_place(phase: &Phase, is_replaying: bool) -> EndPlace
 }
 
 fn write_end(output: &mut Output, alloc: Global) -> Result<(), EncodingError>
-    ensures { Writes end_type [] output.old result output.new }
+    ensures { WritesFrame end_type [] output.old result output.new }
 {
     let message = EndMessage {};
     let sent = output.send(alloc, &message);
@@ -68,7 +68,7 @@ fn close_end(vm: &mut MachineState, written: Result<(), EncodingError>) -> Resul
 
 // Ends an attempt behind its journal.
 fn end(vm: &mut MachineState) -> Result<(), Error>
-    ensures { Ends vm.old result vm.new }
+    ensures { WritesEnd vm.old result vm.new }
 {
     let written = write_end(&mut vm.active.output, vm.alloc);
     close_end(vm, written)

@@ -3,7 +3,7 @@ ghost use Rattle.std.specs.Prelude.{◌≡◌, not, IfOk};
 ghost use Rattle.journal_model.specs.Run.{name_or_empty};
 ghost use Rattle.journal_model.specs.declared.call.Call.{Call};
 ghost use Rattle.vm_context.specs.Eager.{is_known};
-ghost use Rattle.vm_progress.specs.Reading.{SettlesRead, NextCauses, MissesNext, value_read, keys_read, StepsOfRead};
+ghost use Rattle.vm_progress.specs.StateReadEffects.{SettlesRead, NextCauses, MissesNext, value_read, keys_read, StepsOfRead};
 
 use crate::read_cause;
 use bytes::ByteStr;

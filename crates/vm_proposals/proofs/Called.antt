@@ -11,22 +11,22 @@ use Rattle.protocol_differences.specs.Promises.{run_command_difference}
 use Rattle.protocol_errors.specs.declared.error.Error.{Error}
 use Rattle.protocol_types.specs.declared.message_type.MessageType.TheVariants.{RunCommand}
 use Rattle.vm_calls.specs.Active.{Sees, IsAtCommand}
-use Rattle.vm_calls.specs.Finding.{FindsAs}
-use Rattle.vm_calls.specs.Making.{Makes}
+use Rattle.vm_calls.specs.MismatchedCommands.{FindsAs}
+use Rattle.vm_calls.specs.CommandCalls.{Makes}
 use Rattle.vm_calls.specs.Spent.{IsSpent, FailsSpent}
 use Rattle.vm_calls.specs.declared.active.Active.{Active}
 use Rattle.vm_calls.specs.declared.call_error.CallError.{CallError}
-use Rattle.vm_machine.specs.Admitting.{AdmitsWhere, Admits, IsElsewhere}
+use Rattle.vm_machine.specs.CallAdmission.{AdmitsWhere, Admits, IsElsewhere}
 use Rattle.vm_machine.specs.Calls.{checks_off, Calls}
-use Rattle.vm_machine.specs.PassedCauses.{kept_error}
-use Rattle.vm_machine.specs.Settling.{Settles}
+use Rattle.vm_start.specs.Phases.{kept_error}
+use Rattle.vm_machine.specs.CallAnswers.{Settles}
 use Rattle.vm_machine.specs.declared.admitting.Admission.TheVariants.{Admitted, Elsewhere, Stopped}
 use Rattle.vm_machine.specs.declared.machine_state.MachineState.{MachineState}
 use Rattle.vm_machine.proofs.Admitted.{admitted_free, made_by, calls_made, calls_elsewhere, calls_stopped}
 use Rattle.vm_refusals.specs.declared.runs.RunHandle.{RunHandle}
 use Rattle.vm_runs.specs.Runs.{Runs}
-use Rattle.vm_proposals.specs.Calling.{CallsRun, KeepsBodiesOf}
-use Rattle.vm_proposals.specs.Running.{KeepsRun}
+use Rattle.vm_proposals.specs.RunCallEffects.{CallsRun, KeepsBodiesOf}
+use Rattle.vm_proposals.specs.RunRegistration.{KeepsRun}
 use Rattle.vm_proposals.proofs.Runs.{bodies_of_run}
 
 abbrev over : Runs → MachineState → MachineState

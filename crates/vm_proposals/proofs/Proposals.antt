@@ -4,7 +4,7 @@ use Rattle.std.proofs.lemmas.Bool.{cases_lt}
 use Rattle.journal_model.specs.declared.value.NonEmptyValue.{NonEmptyValue}
 use Rattle.protocol_controls.specs.declared.propose_run_completion.ProposeRunCompletionMessage.{ProposeRunCompletionMessage}
 use Rattle.protocol_controls.specs.declared.propose_run_completion.ProposeRunCompletionResult.{ProposeRunCompletionResult}
-use Rattle.protocol_differences.specs.Passed.{CommandMetadata}
+use Rattle.protocol_errors.specs.declared.metadata.CommandMetadata.{CommandMetadata}
 use Rattle.protocol_errors.specs.declared.error.Error.{Error}
 use Rattle.protocol_messages.specs.Carried.{proposed_record}
 use Rattle.protocol_stream.specs.Frame.{spelled}
@@ -15,14 +15,14 @@ use Rattle.vm_context.specs.Output.{Written, with_frame}
 use Rattle.vm_machine.specs.declared.machine_state.MachineState.{MachineState}
 use Rattle.vm_refusals.specs.declared.retries.RetryPolicy.{RetryPolicy}
 use Rattle.vm_refusals.specs.declared.runs.RunExitResult.{RunExitResult}
-use Rattle.vm_refusals.specs.Ending.{as_ending, ending, makes_failure}
-use Rattle.vm_refusals.specs.Retrying.{Tried, inherits}
+use Rattle.vm_refusals.specs.BodyExits.{as_ending, ending, makes_failure}
+use Rattle.vm_refusals.specs.RetryDecisions.{Tried, inherits}
 use Rattle.vm_refusals.specs.declared.ending.BodyEnd.{BodyEnd}
-use Rattle.vm_runs.specs.Keeping.{copy_of, Proposes}
+use Rattle.vm_runs.specs.KeptBodies.{copy_of, ProposesOutcome}
 use Rattle.vm_runs.specs.Runs.{Runs, after_proposal, run_at}
 use Rattle.vm_runs.specs.declared.run.Run.{Run}
-use Rattle.vm_proposals.specs.Failing.{LacksMemory, run_told}
-use Rattle.vm_proposals.specs.Proposing.{tried_at_start, tried_before, proposal, proposal_message, WritesProposal, SettlesProposal, LetsGo, ProposesValue, GoesOnAs, EndsAs, EndsKnown, EndsRun}
+use Rattle.vm_proposals.specs.RunFailureCauses.{LacksMemoryToPropose, run_told}
+use Rattle.vm_proposals.specs.ProposalEffects.{tried_at_start, tried_before, proposal, proposal_message, WritesProposal, SettlesProposal, LetsGo, ProposesValue, GoesOnAs, EndsAs, EndsKnown, EndsRun}
 
 -- ---- the frame
 
@@ -52,11 +52,11 @@ writes_proposal completion value recorded result old new is sent kept long =
 
 module _ (handle completion : ℕ) (command : CommandMetadata) (value : NonEmptyValue) (old : MachineState) (runs : Runs) where
   lets_go : (written : Result (Unit {0}) EncodingError) (output : Written) (result : Result (Unit {0}) Error) (new : MachineState)
-      → runs ≡ after_proposal handle (copy_of (version_number old.version) value) old.runs → Proposes handle (copy_of (version_number old.version) value) (run_at old.runs.table handle) old.runs runs
+      → runs ≡ after_proposal handle (copy_of (version_number old.version) value) old.runs → ProposesOutcome handle (copy_of (version_number old.version) value) (run_at old.runs.table handle) old.runs runs
       → WritesProposal (proposal completion value) old.active.output written output
       → SettlesProposal command written (record old { runs = runs; active = record old.active { output = output } }) result new → LetsGo handle completion command value old result new
   lets_go written output result new is bodies writes settles = record {
-    bodies = subst (λ (after : Runs). Proposes handle (copy_of (version_number old.version) value) (run_at old.runs.table handle) old.runs after) is bodies;
+    bodies = subst (λ (after : Runs). ProposesOutcome handle (copy_of (version_number old.version) value) (run_at old.runs.table handle) old.runs after) is bodies;
     written = written;
     output = output;
     writes = writes;
@@ -68,7 +68,7 @@ module _ (handle completion : ℕ) (command : CommandMetadata) (value : NonEmpty
   proposes_by (Err told) new is = inl is
 
   pub proposes_value : (written : Result (Unit {0}) EncodingError) (output : Written) (result : Result (Unit {0}) Error) (new : MachineState)
-      → runs ≡ after_proposal handle (copy_of (version_number old.version) value) old.runs → Proposes handle (copy_of (version_number old.version) value) (run_at old.runs.table handle) old.runs runs
+      → runs ≡ after_proposal handle (copy_of (version_number old.version) value) old.runs → ProposesOutcome handle (copy_of (version_number old.version) value) (run_at old.runs.table handle) old.runs runs
       → WritesProposal (proposal completion value) old.active.output written output
       → SettlesProposal command written (record old { runs = runs; active = record old.active { output = output } }) result new → ProposesValue handle completion command value old result new
   proposes_value written output result new is bodies writes settles = proposes_by result new (lets_go written output result new is bodies writes settles)
@@ -88,7 +88,7 @@ module _ (handle completion : ℕ) (command : CommandMetadata) (exit : RunExitRe
     goes_on = goes_on;
   })
 
-  pub ends_lacking : (before : Tried) (told : Error) (new : MachineState) → before ≡ tried_before old → makes_failure policy before exit ≡ true → LacksMemory old told new
+  pub ends_lacking : (before : Tried) (told : Error) (new : MachineState) → before ≡ tried_before old → makes_failure policy before exit ≡ true → LacksMemoryToPropose old told new
       → EndsKnown handle completion command exit policy old (Err told) new
   ends_lacking before told new is makes lacks = inr (sym (ap (λ (tried : Tried). makes_failure policy tried exit) is) ∙ makes, lacks)
 
@@ -110,5 +110,5 @@ module _ (handle : ℕ) (exit : RunExitResult) (policy : RetryPolicy) (old : Mac
       subst (λ (found : Option Run). EndsRun handle found exit policy old result new) is
       (known_by result new (subst (λ (command : CommandMetadata). EndsKnown handle run.completion command exit policy old result new) told ends))
 
-  pub run_lacks : (found : Option Run) (told : Error) (new : MachineState) → Some run ≡ found → LacksMemory old told new → EndsRun handle found exit policy old (Err told) new
+  pub run_lacks : (found : Option Run) (told : Error) (new : MachineState) → Some run ≡ found → LacksMemoryToPropose old told new → EndsRun handle found exit policy old (Err told) new
   run_lacks found told new is lacks = subst (λ (found : Option Run). EndsRun handle found exit policy old (Err told) new) is (inr lacks)

@@ -10,15 +10,15 @@ use Rattle.journal_model.specs.declared.call.Call.{Call}
 use Rattle.attempt_model.specs.Machine.{Machine, next_slot}
 use Rattle.body_laws.specs.Bodies as bodies
 use Rattle.body_laws.specs.Bodies.{Executor, bodies_of_call}
-use Rattle.protocol_differences.specs.Passed.{CommandMetadata}
+use Rattle.protocol_errors.specs.declared.metadata.CommandMetadata.{CommandMetadata}
 use Rattle.protocol_differences.specs.declared.relationship.CommandRelationship.TheVariants.{Last}
 use Rattle.protocol_types.specs.declared.message_type.MessageType.TheVariants.{RunCommand}
 use Rattle.protocol_types.specs.declared.message_type.MessageType.{MessageType}
 use Rattle.vm_awaits.specs.Calls.{has_come}
 use Rattle.vm_awaits.specs.Views.{AsyncResults, results_of}
 use Rattle.vm_calls.specs.Active.{Sees, TakesCompletion, asking}
-use Rattle.vm_calls.specs.Finding.{FindsAs}
-use Rattle.vm_calls.specs.Making.{CompletesOne, Makes}
+use Rattle.vm_calls.specs.MismatchedCommands.{FindsAs}
+use Rattle.vm_calls.specs.CommandCalls.{CompletesOne, Makes}
 use Rattle.vm_calls.specs.Spent.{FailsSpent}
 use Rattle.vm_calls.specs.declared.active.Active.{Active}
 use Rattle.vm_calls.specs.declared.call_error.CallError.{CallError}
@@ -26,11 +26,11 @@ use Rattle.vm_calls.specs.declared.call_error.CallError.TheVariants.{Number, Put
 use Rattle.vm_calls.proofs.Calls.{brings_none}
 use Rattle.vm_context.specs.Journal.{JournalCounts, command_told, last_index, name_told}
 use Rattle.vm_refusals.specs.declared.runs.RunHandle.{RunHandle}
-use Rattle.vm_runs.specs.Keeping.{IsNew, KeepsBodies, with_body}
+use Rattle.vm_runs.specs.KeptBodies.{IsNew, KeepsBodies, with_body}
 use Rattle.vm_runs.specs.Runs.{Runs, with_run}
 use Rattle.vm_runs.specs.declared.run.Run.{Run}
-use Rattle.vm_proposals.specs.Calling.{KeepsBodiesOf}
-use Rattle.vm_proposals.specs.Running.{Inserts, IsKept, Keeps, KeepsRun, run_of, run_called, handle_called, is_known, called}
+use Rattle.vm_proposals.specs.RunCallEffects.{KeepsBodiesOf}
+use Rattle.vm_proposals.specs.RunRegistration.{Inserts, IsRunKept, Keeps, KeepsRun, last_run_asked, run_called, handle_called, is_known, called}
 
 pub run_completes : (given : Invocation) (m : Machine) (name copy : Text) (id : ℕ)
     → refusal_of given.version (Call.Run name) ≡ None → copy ≡ name → id ≡ m.completions → CompletesOne given m (Call.Run name) (Request.Run id copy)
@@ -46,7 +46,7 @@ named [] = refl
 named (byte ∷ bytes) = refl
 
 kept_is : (completion : ℕ) (journal : JournalCounts) (command : CommandMetadata) (name : Text) → command ≡ command_told journal Last → name ≡ name_or_empty command.name
-    → kept_of completion command.index name ≡ run_of completion journal
+    → kept_of completion command.index name ≡ last_run_asked completion journal
 kept_is completion journal command name is called =
     ap (λ (text : Text). kept_of completion command.index text) called ∙ ap (λ (one : CommandMetadata). kept_of completion one.index (name_or_empty one.name)) is
     ∙ ap (λ (text : Text). kept_of completion (last_index journal) text) (named journal.last_name)
@@ -55,7 +55,7 @@ pub inserts : (handle completion : ℕ) (journal : JournalCounts) (command : Com
     → command ≡ command_told journal Last → name ≡ name_or_empty command.name
     → OnOk result (new ≡ with_run handle (record { completion = completion; command_index = command.index; command_name = name; is_executing = false }) old)
     → OnOk result ((e : Executor) → KeepsBodies old e → IsNew handle e → KeepsBodies new (with_body e (record { handle = handle; completion = completion })))
-    → OnErr result (new ≡ old) → Inserts handle (run_of completion journal) old result new
+    → OnErr result (new ≡ old) → Inserts handle (last_run_asked completion journal) old result new
 inserts handle completion journal command name old (Ok done) new is called runs bodies stays = record {
   runs = runs ∙ ap (λ (run : Run). with_run handle run old) (kept_is completion journal command name is called);
   bodies = bodies;
@@ -78,22 +78,22 @@ module _ (name : Text) (old begun : Active) (handle completion : ℕ) (takes : T
   known_is : has_come completion (results_of begun.results) ≡ is_known old
   known_is = ap₂ has_come takes.id takes.results
 
-  run_is : run_of completion begun.journal ≡ run_called name old
-  run_is = ap₂ (λ (n : ℕ) (active : Active). run_of n active.journal) takes.id takes.others
+  run_is : last_run_asked completion begun.journal ≡ run_called name old
+  run_is = ap₂ (λ (n : ℕ) (active : Active). last_run_asked n active.journal) takes.id takes.others
 
-  kept_by : {M : Type 0} (runs new : Runs) (known : Bool) (made : Result ℕ (CallError M)) → known ≡ is_known old → IsKept (is_known old) (handle_called old) (run_called name old) runs new
+  kept_by : {M : Type 0} (runs new : Runs) (known : Bool) (made : Result ℕ (CallError M)) → known ≡ is_known old → IsRunKept (is_known old) (handle_called old) (run_called name old) runs new
       → KeepsRun name old runs (called known made) new
   kept_by runs new known (Ok one) is kept = (is, kept)
   kept_by runs new known (Err error) is kept = inr kept
 
   pub keeps_run : {M : Type 0} (runs new : Runs) (known : Bool) (made : Result ℕ (CallError M)) (result : Result RunHandle (CallError M)) → result ≡ called known made
-      → Keeps (has_come completion (results_of begun.results)) handle (run_of completion begun.journal) runs (Ok known) new → KeepsRun name old runs result new
+      → Keeps (has_come completion (results_of begun.results)) handle (last_run_asked completion begun.journal) runs (Ok known) new → KeepsRun name old runs result new
   keeps_run {M} runs new known made result is (told, kept) =
       subst (λ (r : Result RunHandle (CallError M)). KeepsRun name old runs r new) (sym is)
       (kept_by runs new known made (told ∙ known_is)
-      (subst (λ (known : Bool). IsKept known (handle_called old) (run_called name old) runs new) known_is
-      (subst (λ (handle : ℕ). IsKept (has_come completion (results_of begun.results)) handle (run_called name old) runs new) takes.handle
-      (subst (λ (run : Run). IsKept (has_come completion (results_of begun.results)) handle run runs new) run_is kept))))
+      (subst (λ (known : Bool). IsRunKept known (handle_called old) (run_called name old) runs new) known_is
+      (subst (λ (handle : ℕ). IsRunKept (has_come completion (results_of begun.results)) handle (run_called name old) runs new) takes.handle
+      (subst (λ (run : Run). IsRunKept (has_come completion (results_of begun.results)) handle run runs new) run_is kept))))
 
 -- ---- the handle, and whether its outcome is known
 
@@ -133,7 +133,7 @@ found_called {M} ty old new known made result is found = subst (λ (r : Result R
 keeps_none : (runs : Runs) (e : Executor) → KeepsBodies runs e → KeepsBodies runs (record e { left = e.left ++ [] })
 keeps_none runs e keeps = record { left = keeps.left ∙ sym (append-nil e.left); executing = keeps.executing; cached = keeps.cached }
 
-bodies_kept : (m : Machine) (name : Text) (run : Run) (old new : Runs) (known : Bool) → IsKept known (next_slot m) run old new → run.completion ≡ m.completions
+bodies_kept : (m : Machine) (name : Text) (run : Run) (old new : Runs) (known : Bool) → IsRunKept known (next_slot m) run old new → run.completion ≡ m.completions
     → (e : Executor) → KeepsBodies old e → IsNew (next_slot m) e
     → KeepsBodies new (record e { left = e.left ++ (if known then [] else bodies_of_call (next_slot m) m.completions (Call.Run name)) })
 bodies_kept m name run old new true kept is e keeps fresh = subst (λ (runs : Runs). KeepsBodies runs (record e { left = e.left ++ [] })) (sym kept) (keeps_none old e keeps)
@@ -142,11 +142,11 @@ bodies_kept m name run old new false kept is e keeps fresh =
 
 -- behind a call that was answered, of a machine that is seen
 pub bodies_of_run : (given : Invocation) (m : Machine) (name : Text) (active : Active) (old new : Runs) → Sees given active m
-    → IsKept (is_known active) (handle_called active) (run_called name active) old new → KeepsBodiesOf m (Call.Run name) old new
+    → IsRunKept (is_known active) (handle_called active) (run_called name active) old new → KeepsBodiesOf m (Call.Run name) old new
 bodies_of_run given m name active old new sees kept =
     let handle : handle_called active ≡ next_slot m = ap (λ (results : AsyncResults). 17 + length results.slots) sees.results in
     let known : is_known active ≡ bodies.has_come m m.completions = ap₂ has_come sees.completions sees.results in
     bodies_kept m name (run_called name active) old new (bodies.has_come m m.completions)
-    (subst (λ (known : Bool). IsKept known (next_slot m) (run_called name active) old new) known
-    (subst (λ (handle : ℕ). IsKept (is_known active) handle (run_called name active) old new) handle kept))
+    (subst (λ (known : Bool). IsRunKept known (next_slot m) (run_called name active) old new) known
+    (subst (λ (handle : ℕ). IsRunKept (is_known active) handle (run_called name active) old new) handle kept))
     sees.completions

@@ -1,4 +1,4 @@
-pub mod Running
-pub mod Failing
-pub mod Calling
-pub mod Proposing
+pub mod RunRegistration
+pub mod RunFailureCauses
+pub mod RunCallEffects
+pub mod ProposalEffects

@@ -4,7 +4,7 @@ ghost use Rattle.journal_model.specs.Run.{Invocation};
 ghost use Rattle.journal_model.specs.declared.call.Call.{Call};
 ghost use Rattle.attempt_model.specs.Machine.{Machine};
 ghost use Rattle.vm_calls.specs.Active.{Sees};
-ghost use Rattle.vm_proposals.specs.Calling.{CallsRun, KeepsBodiesOf};
+ghost use Rattle.vm_proposals.specs.RunCallEffects.{CallsRun, KeepsBodiesOf};
 
 use crate::running::run;
 use bytes::ByteStr;

@@ -2,7 +2,7 @@
 ghost use Rattle.std.specs.Prelude.{◌≡◌, IfOk};
 ghost use Rattle.protocol_types.specs.Feature.{first_version};
 ghost use Rattle.vm_machine.specs.Steps.{FailsBy};
-ghost use Rattle.vm_proposals.specs.Failing.{LacksMemory, IsUnsupported, unknown_run_error, name_of, run_told, with_delay};
+ghost use Rattle.vm_proposals.specs.RunFailureCauses.{LacksMemoryToPropose, IsUnsupported, unknown_run_error, feature_name_of, run_told, with_delay};
 
 use bytes::ByteStr;
 use protocol_errors::{CommandMetadata, Error, UnsupportedFeatureForNegotiatedVersion, codes};
@@ -14,7 +14,7 @@ use vm_runs::Run;
 
 /// Fails for want of memory.
 pub(crate) fn fail_for_memory(vm: &mut MachineState) -> Error
-    ensures { LacksMemory vm.old result vm.new }
+    ensures { LacksMemoryToPropose vm.old result vm.new }
 {
     vm.fail(Err(AllocError))
 }
@@ -31,7 +31,7 @@ pub(crate) fn unknown_run() -> Error
 
 // What errors call a feature.
 fn name_of(feature: Feature) -> &'static str
-    ensures { result.now ≡ name_of feature }
+    ensures { result.now ≡ feature_name_of feature }
 {
     match feature {
         Feature::FailureMetadata => "terminal error metadata",

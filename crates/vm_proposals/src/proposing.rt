@@ -2,11 +2,11 @@
 ghost use Rattle.std.specs.Prelude.{◌≡◌, IfOk, OnOk, OnErr};
 ghost use Rattle.std.specs.Option.{option_copied};
 ghost use Rattle.vm_awaits.specs.Views.{slots_of};
-ghost use Rattle.vm_refusals.specs.Retrying.{tried};
-ghost use Rattle.vm_runs.specs.Keeping.{copy_of, Proposes};
+ghost use Rattle.vm_refusals.specs.RetryDecisions.{tried};
+ghost use Rattle.vm_runs.specs.KeptBodies.{copy_of, ProposesOutcome};
 ghost use Rattle.vm_runs.specs.Runs.{after_proposal, run_at};
 ghost use Rattle.protocol_types.specs.Version.{version_number};
-ghost use Rattle.vm_proposals.specs.Proposing.{is_processing, tried_at_start, proposal, WritesProposal, UnwrittenCauses, SettlesProposal, ProposesValue, GoesOnAs, EndsKnown, open_run, EndsRun, ProposesIf, ProposesWhere, ProposesRun};
+ghost use Rattle.vm_proposals.specs.ProposalEffects.{is_processing, tried_at_start, proposal, WritesProposal, UnwrittenCauses, SettlesProposal, ProposesValue, GoesOnAs, EndsKnown, open_run, EndsRun, ProposesIf, ProposesWhere, ProposesRun};
 
 use crate::failing::{fail_for_memory, fail_unsupported, run_told, unknown_run, with_delay};
 use journal_model::{NonEmptyValue, NotificationHandle};
@@ -124,7 +124,7 @@ fn let_go(
     value: &NonEmptyValue,
 ) -> Result<(), AllocError>
     ensures ok { OnOk result (runs.new ≡ after_proposal handle (copy_of (version_number version) value.now) runs.old) }
-    ensures bodies { OnOk result (Proposes handle (copy_of (version_number version) value.now) (run_at runs.old.table handle) runs.old runs.new) }
+    ensures bodies { OnOk result (ProposesOutcome handle (copy_of (version_number version) value.now) (run_at runs.old.table handle) runs.old runs.new) }
     ensures err { OnErr result (runs.new ≡ runs.old) }
 {
     let copy = copy_of(version, value)?;

@@ -6,10 +6,10 @@ ghost use Rattle.vm_awaits.specs.Calls.{has_come};
 ghost use Rattle.vm_awaits.specs.Views.{results_of};
 ghost use Rattle.vm_calls.specs.Words.{Call, Answer, Invocation, Machine};
 ghost use Rattle.vm_calls.specs.Active.{Sees, IsAtCommand};
-ghost use Rattle.vm_calls.specs.Making.{Makes};
+ghost use Rattle.vm_calls.specs.CommandCalls.{Makes};
 ghost use Rattle.vm_calls.specs.Spent.{IsSpent, FailsSpent};
-ghost use Rattle.vm_calls.specs.Finding.{FindsAs};
-ghost use Rattle.vm_proposals.specs.Running.{run_of, Inserts, Keeps, KeepsRun, called};
+ghost use Rattle.vm_calls.specs.MismatchedCommands.{FindsAs};
+ghost use Rattle.vm_proposals.specs.RunRegistration.{last_run_asked, Inserts, Keeps, KeepsRun, called};
 
 use bytes::ByteStr;
 use journal_model::NotificationHandle;
@@ -28,7 +28,7 @@ fn insert(
     handle: NotificationHandle,
     completion: u32,
 ) -> Result<(), AllocError>
-    ensures { Inserts handle (run_of completion journal.now) runs.old result runs.new }
+    ensures { Inserts handle (last_run_asked completion journal.now) runs.old result runs.new }
 {
     let command = journal.last_command_metadata()?;
     let name = or_empty(command.name);
@@ -42,7 +42,7 @@ fn keep(
     handle: NotificationHandle,
     completion: u32,
 ) -> Result<bool, AllocError>
-    ensures { Keeps (has_come completion (results_of active.now.results)) handle (run_of completion active.now.journal) runs.old result runs.new }
+    ensures { Keeps (has_come completion (results_of active.now.results)) handle (last_run_asked completion active.now.journal) runs.old result runs.new }
 {
     if active.results.has_come(completion) {
         return Ok(true);

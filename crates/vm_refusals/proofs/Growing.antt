@@ -4,7 +4,7 @@ use Rattle.std.proofs.lemmas.Bool.{leb-true, leb-false, le-ltb}
 use Rattle.std.proofs.Math.Nat.{mul_comm, mul-le-mul_left, mul-le-mul_right, le-div_iff_mul-le, div-le_of_le-mul, min-eq_left, min_comm}
 use Rattle.std.proofs.lemmas.Nat.{mul-le}
 use Rattle.std.specs.Duration.{max_nanos}
-use Rattle.vm_refusals.specs.Retrying.{longer_by, interval_after, at_most}
+use Rattle.vm_refusals.specs.RetryDecisions.{longer_by, interval_after, at_most}
 
 -- an interval, multiplied by 32 bits, fits into 128
 pub product-fits : (interval n : ℕ) → interval ≤ max_nanos → n < 2 ^ 32 → interval * n < 2 ^ 128

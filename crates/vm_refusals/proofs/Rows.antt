@@ -10,8 +10,8 @@ use Rattle.vm_refusals.specs.declared.retries.OnMaxAttempts.{OnMaxAttempts}
 use Rattle.vm_refusals.specs.declared.retries.Factor.{Factor}
 use Rattle.vm_refusals.specs.declared.retries.RetryPolicy.{RetryPolicy}
 use Rattle.vm_refusals.specs.declared.runs.RunExitResult.{RunExitResult}
-use Rattle.vm_refusals.specs.Retrying.{Tried, inherits, one_more, TriedAgain, FailsAsTerminal, after_failure, at_most, interval_after}
-use Rattle.vm_refusals.specs.Ending.{Outcome, Retry, Pause, ending, feature_lacked}
+use Rattle.vm_refusals.specs.RetryDecisions.{Tried, inherits, one_more, TriedAgain, FailsAsTerminal, after_failure, at_most, interval_after}
+use Rattle.vm_refusals.specs.BodyExits.{Outcome, Retry, Pause, ending, feature_lacked}
 use Rattle.vm_refusals.proofs.Growing.{none-stays}
 
 abbrev seconds : ℕ → Duration

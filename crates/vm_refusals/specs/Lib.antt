@@ -1,3 +1,3 @@
 pub mod Refusals
-pub mod Retrying
-pub mod Ending
+pub mod RetryDecisions
+pub mod BodyExits

@@ -1,8 +1,8 @@
 // The end of a run's body.
 ghost use Rattle.std.specs.Prelude.{◌≡◌, true, IfOk, OnErr};
-ghost use Rattle.vm_refusals.specs.Retrying.{tried};
+ghost use Rattle.vm_refusals.specs.RetryDecisions.{tried};
 ghost use Rattle.journal_model.specs.declared.value.NonEmptyValue.{NonEmptyValue};
-ghost use Rattle.vm_refusals.specs.Ending.{Outcome, as_ending, ending, feature_lacked, has_metadata, makes_failure, terminal_of};
+ghost use Rattle.vm_refusals.specs.BodyExits.{Outcome, as_ending, ending, feature_lacked, has_metadata, makes_failure, terminal_of};
 
 use crate::retrying::{failed_again, next_retry, should_pause_on_max_attempts};
 use crate::{EntryRetryInfo, NextRetry, RetryPolicy, RunExitResult};

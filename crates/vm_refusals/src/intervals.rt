@@ -1,7 +1,7 @@
 // Intervals that grow, or shrink, by a factor. All are in nanoseconds.
 ghost use Rattle.std.specs.Prelude.{◌≡◌, ◌≤◌, ◌*◌, ◌/◌, ◌&&◌, nat_le};
 ghost use Rattle.std.specs.Duration.{max_nanos};
-ghost use Rattle.vm_refusals.specs.Retrying.{at_most, interval_after};
+ghost use Rattle.vm_refusals.specs.RetryDecisions.{at_most, interval_after};
 
 use crate::Factor;
 

@@ -1,7 +1,7 @@
 // Policies, their bounds, and what was tried so far.
 ghost use Rattle.std.specs.Prelude.{◌≡◌, ◌≤◌, option_map};
 ghost use Rattle.std.specs.Duration.{as_nanos, max_nanos};
-ghost use Rattle.vm_refusals.specs.Retrying.{after_failure, as_told, at_bound, inherits, is_reached, may_pause, most_of, one_more, pauses_at_bound, reaches_bound, tried};
+ghost use Rattle.vm_refusals.specs.RetryDecisions.{after_failure, as_told, at_bound, inherits, is_reached, may_pause, most_of, one_more, pauses_at_bound, reaches_bound, tried};
 
 use crate::intervals::interval_after;
 use crate::{EntryRetryInfo, NextRetry, OnMaxAttempts, RetryPolicy};

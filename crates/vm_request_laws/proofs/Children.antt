@@ -14,8 +14,8 @@ use Rattle.attempt_model.specs.Requests.{Commands, PutState, put_all}
 use Rattle.attempt_model.specs.Results.{Ready, Resolution, Awake, Asleep, ready_after, resolution_of}
 use Rattle.attempt_model.specs.Machine.{Machine, AwaitsChild, is_cancelled, reply_where_asleep, reply_where_cancelled, reply_where_unknown, reply_to_children, reply_where_awake, reply_to_await, reply_unless_refused}
 use Rattle.vm_awaits.specs.Children.{AreMade}
-use Rattle.vm_request_laws.specs.Awaiting.{ChildrenLeave, AwaitedTreesFit}
-use Rattle.vm_request_laws.proofs.Fitting.{future_fits}
+use Rattle.vm_request_laws.specs.AwaitedTrees.{ChildrenLeave, AwaitedTreesFit}
+use Rattle.vm_request_laws.proofs.RequestBounds.{future_fits}
 use Rattle.vm_request_laws.proofs.Handles.{handles_fit, awaits_leave}
 
 -- ---- the first that is unknown

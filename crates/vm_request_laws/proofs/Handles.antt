@@ -15,7 +15,7 @@ use Rattle.journal_model.specs.History.{cancel_handle}
 use Rattle.journal_model.specs.Request.{Request}
 use Rattle.journal_model.specs.Refusal.{Refusal, UnsupportedAtLeast, first_refusal, refusal_of}
 use Rattle.journal_model.specs.Run.{Invocation}
-use Rattle.journal_model.specs.Waiting.{lowered, pruned, pruned_children, earlier_or_later, leaf_or_nothing, and_leaf, only_leaves, only_children}
+use Rattle.journal_model.specs.PrunedTrees.{lowered, pruned, pruned_children, earlier_or_later, leaf_or_nothing, and_leaf, only_leaves, only_children}
 use Rattle.journal_laws.proofs.Leaving.{or-true_right}
 use Rattle.journal_laws.proofs.Pruning.{pruned-awake}
 use Rattle.protocol_types.specs.declared.feature.Feature.TheVariants as features
@@ -27,7 +27,7 @@ use Rattle.attempt_model.specs.Results.{Slots, Ready, slot_in, slot_of, handle_s
 use Rattle.attempt_model.specs.Machine.{Machine, AwaitsTree, is_cancelled, reply_where_asleep, reply_where_cancelled, reply_where_unknown, reply_to_children, reply_where_awake, reply_to_await, reply_unless_refused}
 use Rattle.attempt_laws.proofs.Waking.{awake-map}
 use Rattle.vm_request_laws.specs.Trees.{IdFits, IsSpoken, LeavesFit, AllLeavesFit, SlotsFit}
-use Rattle.vm_request_laws.specs.Awaiting.{HandlesFit, IsLeft, AwaitsLeave}
+use Rattle.vm_request_laws.specs.AwaitedTrees.{HandlesFit, IsLeft, AwaitsLeave}
 
 -- ---- what handles stand for
 

@@ -1,7 +1,7 @@
 pub mod Requests
 pub mod Records
-pub mod Making
-pub mod Fitting
+pub mod MadeRequests
+pub mod RequestBounds
 pub mod Handles
 pub mod Children
 pub mod Machines

@@ -20,8 +20,8 @@ use Rattle.attempt_model.specs.Machine.{Machine, Reply, Work, ToAwait, ToEnd, To
 use Rattle.attempt_laws.proofs.Tables.{slot-high}
 use Rattle.vm_request_laws.specs.Calls.{IsTypedCall}
 use Rattle.vm_request_laws.specs.Trees.{IdFits, SlotsFit}
-use Rattle.vm_request_laws.specs.Machines.{HasIds, Leaves, CallsLeaveFitting, MachinesStandFitting, TreesStandFitting, MachinesFit}
-use Rattle.vm_request_laws.proofs.Fitting.{all_append}
+use Rattle.vm_request_laws.specs.Machines.{HasIds, LeavesMachine, CallsLeaveFitting, MachinesStandFitting, TreesStandFitting, MachinesFit}
+use Rattle.vm_request_laws.proofs.RequestBounds.{all_append}
 use Rattle.vm_request_laws.proofs.Handles.{FitsIfSome, chosen_fits, cancel_fits, handles_fit}
 
 -- ---- the ids of a call
@@ -72,7 +72,7 @@ without slots handle h = go (handle == cancel_handle)
 -- ---- one call
 
 abbrev After : Reply → Type 0
-After reply = Leaves (λ after. SlotsFit after.slots) reply
+After reply = LeavesMachine (λ after. SlotsFit after.slots) reply
 
 module _ (same : Request → Request → Bool) (given : Invocation) where
   made : (m : Machine) (call : Call) (requests : List Request) (put : Option PutState) → HasIds m call → SlotsFit m.slots → After (reply_to_make same given m call requests put)

@@ -30,7 +30,7 @@ use Rattle.protocol_laws.specs.Requests.{request_of_output, request_of_get_lazy_
 use Rattle.protocol_laws.proofs.Told.{requests_told}
 use Rattle.protocol_laws.proofs.Requests.{requests_spelled}
 use Rattle.vm_commands.specs.Recorded.{request_read, command_by, command_of}
-use Rattle.vm_request_laws.specs.Fitting.{RequestFits}
+use Rattle.vm_request_laws.specs.RequestBounds.{RequestFits}
 use Rattle.vm_request_laws.specs.Requests.{RequestsReadBack}
 
 -- what a record that fits stands for is read of its payload

@@ -1,7 +1,7 @@
-pub mod Fitting
+pub mod RequestBounds
 pub mod Requests
 pub mod Calls
-pub mod Making
+pub mod MadeRequests
 pub mod Trees
-pub mod Awaiting
+pub mod AwaitedTrees
 pub mod Machines

@@ -7,10 +7,10 @@ use Rattle.journal_model.specs.History.{completions_of, signals_of}
 use Rattle.journal_model.specs.Notification.{Arrival}
 use Rattle.journal_model.specs.Request.{Request}
 use Rattle.journal_model.specs.Run.{Handler, Invocation}
-use Rattle.journal_model.specs.Waiting.{only_leaves}
+use Rattle.journal_model.specs.PrunedTrees.{only_leaves}
 use Rattle.attempt_model.specs.Results.{slot_of}
 use Rattle.attempt_model.specs.Machine.{Machine, Reply, Answered, AwaitsTree, AwaitsChild, Finished, FailedBy, reply_to}
-use Rattle.attempt_model.specs.Standing.{Stands}
+use Rattle.attempt_model.specs.Simulation.{Stands}
 use Rattle.vm_request_laws.specs.Calls.{NumbersFit, IsTypedCall}
 use Rattle.vm_request_laws.specs.Trees.{LeavesFit, SlotsFit}
 
@@ -23,16 +23,16 @@ pub record HasIds (m : Machine) (call : Call) : Type 0 where
   pub signals : m.signals + signals_of call ≤ 2 ^ 32
 
 -- of the machine behind the call, where that does not fail
-abbrev pub Leaves : (Machine → Type 0) → Reply → Type 0
-Leaves P (Answered answer after) = P after
-Leaves P (AwaitsTree left after) = P after
-Leaves P (AwaitsChild child after) = P after
-Leaves P (Finished after) = P after
-Leaves P (FailedBy fault) = Unit {0}
+abbrev pub LeavesMachine : (Machine → Type 0) → Reply → Type 0
+LeavesMachine P (Answered answer after) = P after
+LeavesMachine P (AwaitsTree left after) = P after
+LeavesMachine P (AwaitsChild child after) = P after
+LeavesMachine P (Finished after) = P after
+LeavesMachine P (FailedBy fault) = Unit {0}
 
 abbrev pub CallsLeaveFitting : Type 0
 CallsLeaveFitting = (same_header : Call → Request → Request → Bool) (given : Invocation) (m : Machine) (call : Call) → HasIds m call → SlotsFit m.slots
-    → Leaves (λ after. SlotsFit after.slots) (reply_to same_header given m call)
+    → LeavesMachine (λ after. SlotsFit after.slots) (reply_to same_header given m call)
 
 -- ---- all calls of a run
 

@@ -3,8 +3,8 @@
 #![tactic(auto)]
 
 ghost use Rattle.vm_request_laws.specs.Requests.{RequestsReadBack};
-ghost use Rattle.vm_request_laws.specs.Making.{CallsMakeFit};
-ghost use Rattle.vm_request_laws.specs.Awaiting.{AwaitedTreesFit};
+ghost use Rattle.vm_request_laws.specs.MadeRequests.{CallsMakeFit};
+ghost use Rattle.vm_request_laws.specs.AwaitedTrees.{AwaitedTreesFit};
 ghost use Rattle.vm_request_laws.specs.Machines.{MachinesFit};
 
 /// A machine that is fed a request's frame is handed that request.

@@ -1,5 +1,5 @@
 pub mod Ordered
 pub mod Tables
 pub mod Awaited
-pub mod Keeping
+pub mod KeptBodies
 pub mod Rows

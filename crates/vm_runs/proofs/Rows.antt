@@ -5,7 +5,7 @@ use Rattle.journal_model.specs.AwaitTree as Trees
 use Rattle.journal_model.specs.AwaitTree.{AwaitTree, Single, Combined, no_trees, and_trees}
 use Rattle.body_laws.specs.Bodies.{Body, body_awaited}
 use Rattle.vm_runs.specs.declared.run.Run.{Run}
-use Rattle.vm_runs.specs.Runs.{Runs, no_runs, with_run, handed_out, after_proposal, acknowledged, outcome_at, bodies_in}
+use Rattle.vm_runs.specs.Runs.{Runs, no_runs, with_run, run_handed_out, after_proposal, acknowledged, outcome_at, bodies_in}
 
 abbrev called : (completion index : ℕ) → Run
 called completion index = record { completion = completion; command_index = index; command_name = codes "r"; is_executing = false }
@@ -27,10 +27,10 @@ are_left = refl
 least_first : body_awaited both (bodies_in false two.table) ≡ Some (body 17 1)
 least_first = refl
 
-one_executing : bodies_in true (handed_out (Some 17) two).table ≡ body 17 1 ∷ []
+one_executing : bodies_in true (run_handed_out (Some 17) two).table ≡ body 17 1 ∷ []
 one_executing = refl
 
-then_the_other : body_awaited both (bodies_in false (handed_out (Some 17) two).table) ≡ Some (body 18 2)
+then_the_other : body_awaited both (bodies_in false (run_handed_out (Some 17) two).table) ≡ Some (body 18 2)
 then_the_other = refl
 
 abbrev value : NonEmptyValue
@@ -38,7 +38,7 @@ value = NonEmptyValue.Success (codes "v")
 
 -- an outcome waits for its acknowledgement, and for that alone
 abbrev proposed : Runs
-proposed = after_proposal 17 (Some value) (handed_out (Some 17) two)
+proposed = after_proposal 17 (Some value) (run_handed_out (Some 17) two)
 
 gone : bodies_in true proposed.table ≡ []
 gone = refl
@@ -50,7 +50,7 @@ comes_once : outcome_at (acknowledged 1 proposed).cached 1 ≡ None
 comes_once = refl
 
 -- none waits where none is acknowledged
-waits_for_none : after_proposal 17 None (handed_out (Some 17) two) ≡ record { table = (18, called 2 2) ∷ []; cached = [] }
+waits_for_none : after_proposal 17 None (run_handed_out (Some 17) two) ≡ record { table = (18, called 2 2) ∷ []; cached = [] }
 waits_for_none = refl
 
 -- a proposal for a handle of no run, and a second one for the same

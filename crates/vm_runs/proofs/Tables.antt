@@ -12,11 +12,11 @@ use Rattle.std.specs.List.Sorted.{IsStrictlySortedBy}
 use Rattle.std.specs.Map.{keys_of, values_of, remove_entry, set_value}
 use Rattle.std.specs.BTreeMap.{insert_entry, is_at}
 use Rattle.body_laws.specs.Bodies.{Body, is_body, without_body}
-use Rattle.body_laws.specs.Standing.{Among}
+use Rattle.body_laws.specs.BodySimulation.{Among}
 use Rattle.body_laws.proofs.Lists.{is_body-refl}
 use Rattle.vm_runs.specs.declared.run.Run.{Run}
 use Rattle.vm_runs.specs.Runs.{Table, run_at, is_so, body_of, bodies_in, weight, weights, weight_at, count_executing, started}
-use Rattle.vm_runs.specs.Keeping.{times}
+use Rattle.vm_runs.specs.KeptBodies.{times}
 use Rattle.vm_runs.proofs.Ordered.{at-same, at-own, at-not, less, greater}
 
 -- the handles ascend

@@ -88,9 +88,9 @@ started handle (entry ∷ entries) = if is_at (nat_cmp handle) entry.0 then (ent
 abbrev pub with_run : ℕ → Run → Runs → Runs
 with_run handle run runs = record runs { table = insert_entry nat_cmp runs.table handle run }
 
-abbrev pub handed_out : Option ℕ → Runs → Runs
-handed_out None runs = runs
-handed_out (Some handle) runs = record runs { table = started handle runs.table }
+abbrev pub run_handed_out : Option ℕ → Runs → Runs
+run_handed_out None runs = runs
+run_handed_out (Some handle) runs = record runs { table = started handle runs.table }
 
 abbrev pub with_cached : ℕ → Option NonEmptyValue → List (ℕ × NonEmptyValue) → List (ℕ × NonEmptyValue)
 with_cached completion None cached = cached

@@ -5,9 +5,9 @@ ghost use Rattle.std.specs.Option.{option_copied};
 ghost use Rattle.journal_model.specs.Future.{tree_of};
 ghost use Rattle.attempt_model.specs.Machine.{Machine};
 ghost use Rattle.body_laws.specs.Bodies.{Body, Executor, body_awaited, executes_or_awaits, executor_over, has_handle, is_executing};
-ghost use Rattle.body_laws.specs.Standing.{Among};
-ghost use Rattle.vm_runs.specs.Runs.{acknowledged, after_proposal, bodies_in, body_of, handed_out, no_runs, outcome_at, run_at, with_run};
-ghost use Rattle.vm_runs.specs.Keeping.{Acknowledges, HandsOut, IsNew, KeepsBodies, Proposes, with_body};
+ghost use Rattle.body_laws.specs.BodySimulation.{Among};
+ghost use Rattle.vm_runs.specs.Runs.{acknowledged, after_proposal, bodies_in, body_of, run_handed_out, no_runs, outcome_at, run_at, with_run};
+ghost use Rattle.vm_runs.specs.KeptBodies.{Acknowledges, HandsOut, IsNew, KeepsBodies, ProposesOutcome, with_body};
 
 use crate::least::least_awaited;
 use crate::run::Run;
@@ -82,7 +82,7 @@ impl RunState {
     /// Hands out the body of what is awaited that is to be executed first: that of the least handle.
     pub fn try_execute_run(&mut self, awaited: &UnresolvedFuture) -> Option<NotificationHandle>
         ensures least { result ≡ option_map (λ body. body.handle) (body_awaited (tree_of awaited.now) (bodies_in false self.old.table)) }
-        ensures runs { self.new ≡ handed_out result self.old }
+        ensures runs { self.new ≡ run_handed_out result self.old }
         ensures bodies { (e : Executor) → KeepsBodies self.old e → HandsOut (executes_or_awaits (tree_of awaited.now) e (body_awaited (tree_of awaited.now) e.left)) result self.new }
     {
         let Some(handle) = least_awaited(false, &self.table, awaited) else {
@@ -134,7 +134,7 @@ impl RunState {
         outcome: Option<NonEmptyValue>,
     ) -> Result<(), AllocError>
         ensures ok { OnOk result (self.new ≡ after_proposal executed outcome self.old) }
-        ensures bodies { OnOk result (Proposes executed outcome (run_at self.old.table executed) self.old self.new) }
+        ensures bodies { OnOk result (ProposesOutcome executed outcome (run_at self.old.table executed) self.old self.new) }
         ensures err { OnErr result (self.new ≡ self.old) }
         ensures memory { OnErr result (is_some outcome ≡ true) }
     {

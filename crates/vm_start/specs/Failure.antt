@@ -2,7 +2,7 @@
 use Rattle.std.specs.Prelude.{ℕ, ◌-◌, ◌/◌, ◌^◌, ◌==◌, ◌&&◌, if◌then◌else◌, min, List, [], ◌∷◌, Option, Some, None, option_map}
 use Rattle.std.specs.declared.time.Duration.{Duration}
 use Rattle.std.specs.Duration.{as_nanos}
-use Rattle.protocol_types.specs.MessageType.{number_of}
+use Rattle.protocol_types.specs.MessageType.{type_number}
 use Rattle.protocol_types.specs.Feature.{has_feature}
 use Rattle.protocol_types.specs.declared.feature.Feature.TheVariants as features
 use Rattle.protocol_errors.specs.Code.{journal_mismatch}
@@ -52,7 +52,7 @@ told_error error = record {
   message = error.message;
   related_command_index = option_map (λ (command : CommandMetadata). command.index) error.related_command;
   related_command_name = told_name error.related_command;
-  related_command_type = option_map (λ (command : CommandMetadata). number_of command.ty) error.related_command;
+  related_command_type = option_map (λ (command : CommandMetadata). type_number command.ty) error.related_command;
   next_retry_delay = option_map told_delay error.next_retry_delay;
   behavior = behavior_number error.behavior;
 }

@@ -2,5 +2,4 @@ pub mod Negotiation
 pub mod Starts
 pub mod Failure
 pub mod Phases
-pub mod Failing
-pub mod Passed
+pub mod FailureReport

@@ -12,7 +12,7 @@ use Rattle.protocol_errors.specs.Fixed.{fixed_text}
 use Rattle.protocol_errors.specs.Texts.{bad_state_key_text}
 use Rattle.protocol_stream.specs.ErrorText.{no_memory_text}
 use Rattle.vm_context.specs.Eager.{known_from}
-use Rattle.vm_context.specs.Following.{KnowsState, start_of}
+use Rattle.vm_context.specs.StateKnowledge.{KnowsState, start_state_of}
 use Rattle.vm_start.specs.declared.start.Started.{Started}
 use Rattle.vm_start.specs.declared.error.StartError.{StartError}
 use Rattle.vm_start.specs.declared.error.StartError.TheVariants.{BadStateKey, KnownEntriesIsZero, OutOfMemory}
@@ -53,12 +53,12 @@ FirstNotText (entry ∷ entries) error = IsNoText entry.key error ⊎ (IsUtf8 en
 -- ---- the start
 
 -- the attempt begins: keys are text, an entry is announced at least, and what is known of the state is what is shown
-pub record Begins (start : StartMessage) (started : Started) : Type 0 where
+pub record BeginsStarted (start : StartMessage) (started : Started) : Type 0 where
   pub text : AreText start.state_map
   pub announced : 0 < start.known_entries
   pub rest : started.start ≡ without_state start
   pub shown : started.state ≡ known_from start.partial_state (pairs_of start.state_map)
-  pub knows : KnowsState started.state (start_of start.partial_state (pairs_of start.state_map)) []
+  pub knows : KnowsState started.state (start_state_of start.partial_state (pairs_of start.state_map)) []
 
 -- why a key is not taken
 abbrev pub KeyFails : Bytes → StartError → Type 0

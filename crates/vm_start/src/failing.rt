@@ -3,7 +3,7 @@ ghost use Rattle.std.specs.Prelude.{◌≡◌, ◌⊎◌, OnOk, OnErr, IfOk, IsE
 ghost use Rattle.protocol_errors.specs.Code.{internal};
 ghost use Rattle.protocol_errors.specs.Error.{plain_error};
 ghost use Rattle.protocol_stream.specs.declared.encoder.EncodingError.TheVariants.{PayloadTooLong};
-ghost use Rattle.vm_start.specs.Failing.{out_of_memory, or_out_of_memory, IsTooLong, Writes, Tells, TellsCause, IsCopy, Fails, IsAgain};
+ghost use Rattle.vm_start.specs.FailureReport.{out_of_memory, or_out_of_memory, IsErrorTooLong, WritesError, TellsError, TellsFailureCause, IsCopy, FailsMachine, IsAgain};
 ghost use Rattle.vm_start.specs.Phases.{kept_error};
 
 use crate::{Phase, error_message, fail_with};
@@ -46,9 +46,9 @@ fn copy_of(kept: &Error) -> Error
 
 // The frame of an error, whole or not at all; behind the end nothing.
 fn write_error(output: &mut Output, alloc: Global, error: &Error) -> Result<(), EncodingError>
-    ensures ok { OnOk result (Writes error.now output.old output.new) }
+    ensures ok { OnOk result (WritesError error.now output.old output.new) }
     ensures err { OnErr result (output.new ≡ output.old) }
-    ensures too_long { IsErrOf result PayloadTooLong → IsTooLong error.now output.old }
+    ensures too_long { IsErrOf result PayloadTooLong → IsErrorTooLong error.now output.old }
 {
     if output.is_closed() {
         return Ok(());
@@ -61,7 +61,7 @@ fn write_error(output: &mut Output, alloc: Global, error: &Error) -> Result<(), 
 
 // An error in place of one whose frame would be too long.
 fn tell_too_long(output: &mut Output, alloc: Global) -> Error
-    ensures { ((result ≡ plain_error internal result.message) × Writes result output.old output.new) ⊎ ((result ≡ out_of_memory) × (output.new ≡ output.old)) }
+    ensures { ((result ≡ plain_error internal result.message) × WritesError result output.old output.new) ⊎ ((result ≡ out_of_memory) × (output.new ≡ output.old)) }
 {
     let Ok(error) = to_error(alloc, &EncodingError::PayloadTooLong) else {
         return out_of_memory();
@@ -77,7 +77,7 @@ fn tell_too_long(output: &mut Output, alloc: Global) -> Error
 
 // Writes the frame of an error, and answers what the machine fails with.
 fn tell(output: &mut Output, alloc: Global, error: Error) -> Error
-    ensures { Tells error output.old result output.new }
+    ensures { TellsError error output.old result output.new }
 {
     match write_error(output, alloc, &error) {
         Ok(()) => error,
@@ -100,7 +100,7 @@ fn tell_cause(
     asked: JournalMismatchRetryBehavior,
     cause: Result<Error, AllocError>,
 ) -> Error
-    ensures { TellsCause version asked cause output.old result output.new }
+    ensures { TellsFailureCause version asked cause output.old result output.new }
 {
     match cause {
         Ok(error) => tell(output, alloc, fail_with(version, asked, error)),
@@ -140,7 +140,7 @@ pub fn fail(
     asked: JournalMismatchRetryBehavior,
     cause: Result<Error, AllocError>,
 ) -> Error
-    ensures { Fails version asked cause phase.old output.old result phase.new output.new }
+    ensures { FailsMachine version asked cause phase.old output.old result phase.new output.new }
 {
     if let Some(answer) = again(phase) {
         drop(cause);

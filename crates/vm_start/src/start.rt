@@ -1,6 +1,6 @@
 // What a start tells.
 ghost use Rattle.std.specs.Prelude.{◌≡◌, ◌++◌, ◌∷◌, [], IsUtf8, IfOk, OnOk, IfErr};
-ghost use Rattle.vm_start.specs.Starts.{pair_of, pairs_of, without_state, AreText, IsNoText, Begins, KeyFails, KeysFail, StartFails};
+ghost use Rattle.vm_start.specs.Starts.{pair_of, pairs_of, without_state, AreText, IsNoText, BeginsStarted, KeyFails, KeysFail, StartFails};
 
 use crate::error::StartError;
 use bytes::{ByteStr, Bytes};
@@ -76,7 +76,7 @@ fn split_state(alloc: Global, start: StartMessage) -> (StartMessage, Vec<StateEn
 ///
 /// Nothing of the state is copied.
 pub fn read_start(alloc: Global, start: StartMessage) -> Result<Started, StartError>
-    ensures ok { IfOk result (Begins start) }
+    ensures ok { IfOk result (BeginsStarted start) }
     ensures err { IfErr result (StartFails start) }
 {
     let (start, entries) = split_state(alloc, start);

@@ -20,7 +20,7 @@ use Rattle.journal_model.specs.Notification.{Text}
 use Rattle.vm_awaits.specs.Calls.{with_handle}
 use Rattle.vm_context.specs.Eager.{KnownState}
 use Rattle.vm_context.specs.Journal.{after_command, after_completions}
-use Rattle.vm_context.specs.Following.{KnowsState}
+use Rattle.vm_context.specs.StateKnowledge.{KnowsState}
 use Rattle.vm_context.proofs.Keeping.{others_keep}
 use Rattle.vm_commands.specs.HeaderEquality.{is_unstable}
 use Rattle.protocol_stream.specs.declared.encoder.EncodingError.TheVariants as unsent
@@ -30,16 +30,16 @@ use Rattle.vm_calls.specs.declared.put_error.PutError.TheVariants as puts
 use Rattle.vm_calls.specs.declared.call_error.CallError.TheVariants.{Put}
 use Rattle.vm_calls.specs.declared.call_error.NumberError.{NumberError}
 use Rattle.vm_calls.specs.declared.call_error.NumberError.TheVariants as numbers
-use Rattle.vm_calls.specs.Active.{Sees, asking, TakesCompletion, has_left, left_of, LacksCompletions, HasCompletions, IsSettled, PutsOne, PutsIn}
-use Rattle.vm_calls.specs.Making.{Replies, FailsAs, IsReady, HasBegun}
+use Rattle.vm_calls.specs.Active.{Sees, asking, TakesCompletion, has_left, left_of, LacksCompletions, HasCompletions, IsActiveSettled, PutsOne, PutsIn}
+use Rattle.vm_calls.specs.CommandCalls.{Replies, FailsAs, IsReadyToPut, HasCallBegun}
 use Rattle.vm_calls.proofs.Tracking.{none_more, none_made}
-use Rattle.vm_calls.proofs.Making.{no_more, put_answers, put_fails_as}
+use Rattle.vm_calls.proofs.CommandCalls.{no_more, put_answers, put_fails_as}
 use Rattle.vm_state_reads.specs.declared.read_error.ReadError.{ReadError}
 use Rattle.vm_state_reads.specs.declared.read_error.ReadError.TheVariants as errors
 use Rattle.vm_state_reads.specs.Errors.{lazy_read, eager_read}
-use Rattle.vm_state_reads.specs.Reading.{ReadFailsAs, Reads, ReadsFor, PutsRead, PutsReadAs, ReadsOne, with_known}
+use Rattle.vm_state_reads.specs.ReadAnswers.{ReadFailsAs, Reads, ReadsFor, PutsRead, PutsReadAs, ReadsOne, with_known}
 
-module _ (given : Invocation) (m : Machine) (call : Call) (request : Request) (one : ReadsOne given m call request) (handle : ℕ) (old begun : Active) (begins : HasBegun given m handle old begun) where
+module _ (given : Invocation) (m : Machine) (call : Call) (request : Request) (one : ReadsOne given m call request) (handle : ℕ) (old begun : Active) (begins : HasCallBegun given m handle old begun) where
   pub handle_is : answer_by given.input.invocation_id (next_slot m) m.signals call ≡ Answer.Handle handle
   handle_is = one.answer given.input.invocation_id (next_slot m) m.signals ∙ ap Answer.Handle (sym (begins.takes.handle ∙ ap (λ (r : AsyncResults). 17 + length r.slots) begins.sees.results))
 
@@ -56,14 +56,14 @@ module _ (given : Invocation) (m : Machine) (call : Call) (request : Request) (o
   pub output_is : begun.output ≡ old.output
   output_is = ap (λ (a : Active). a.output) begins.takes.others
 
-  pub settled_is : IsSettled begun
+  pub settled_is : IsActiveSettled begun
   settled_is = record {
     replaying = ap (λ (a : Active). a.is_replaying) begins.takes.others ∙ begins.sees.replaying ∙ ap has_left (sym left_is);
     opened = ap (λ (a : Active). a.output.is_closed) begins.takes.others ∙ begins.sees.opened;
   }
 
   pub read_is_ready : (read : Active) → results_of read.results ≡ with_known (known_result m.completions (request ∷ [])) (results_of begun.results)
-      → read ≡ record begun { results = read.results } → IsReady given m call request old read
+      → read ≡ record begun { results = read.results } → IsReadyToPut given m call request old read
   read_is_ready read results is =
       let others : read ≡ record old { journal = after_completions 1 (after_command begins.ty begins.name old.journal); results = read.results } =
       is ∙ ap (λ (a : Active). record a { results = read.results }) begins.takes.others in
@@ -88,10 +88,10 @@ module _ (given : Invocation) (m : Machine) (call : Call) (request : Request) (o
 
   module _ (checks_off ignoring : Bool) (ignores : ignoring ≡ (checks_off || is_unstable call)) (read : Active)
       (results : results_of read.results ≡ with_known (known_result m.completions (request ∷ [])) (results_of begun.results)) (is : read ≡ record begun { results = read.results }) (new : Active) where
-    pub read_fails : {M : Type 0} (error : PutError M) → (IsSettled read → PutsIn ignoring request m.written read (Err error) new) → FailsAs checks_off given m call old (Put error) × (new.output ≡ old.output)
+    pub read_fails : {M : Type 0} (error : PutError M) → (IsActiveSettled read → PutsIn ignoring request m.written read (Err error) new) → FailsAs checks_off given m call old (Put error) × (new.output ≡ old.output)
     read_fails error puts = put_fails_as checks_off ignoring given m call request one.asks ignores old read (read_is_ready read results is) error new puts
 
-    pub read_answers : (IsSettled read → PutsOne ignoring request m.written read new) → Replies checks_off given m call (Answer.Handle handle) old new
+    pub read_answers : (IsActiveSettled read → PutsOne ignoring request m.written read new) → Replies checks_off given m call (Answer.Handle handle) old new
     read_answers puts = put_answers checks_off ignoring given m call request one.asks ignores old read (read_is_ready read results is) (Answer.Handle handle) handle_is new puts
 
 -- ---- what it is put as

@@ -17,8 +17,8 @@ use Rattle.vm_context.specs.Eager.{told_of}
 use Rattle.vm_commands.specs.declared.state_read.StateRead.{StateRead}
 use Rattle.vm_commands.specs.declared.state_read.StateRead.TheVariants as reads
 use Rattle.vm_commands.specs.Recorded.{as_recorded}
-use Rattle.vm_state_reads.specs.Reading.{arrivals_of}
-use Rattle.vm_state_reads.specs.Replaying.{TellsNext, value_known, keys_known}
+use Rattle.vm_state_reads.specs.ReadAnswers.{arrivals_of}
+use Rattle.vm_state_reads.specs.RecordedReads.{TellsNext, value_known, keys_known}
 
 -- ---- in replay
 

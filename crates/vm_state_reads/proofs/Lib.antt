@@ -4,4 +4,4 @@ pub mod Replayed
 pub mod Knowing
 pub mod Asked
 pub mod Spending
-pub mod Finding
+pub mod MismatchedReads

@@ -13,17 +13,17 @@ use Rattle.vm_commands.specs.declared.state_read.StateReadError.{StateReadError}
 use Rattle.vm_commands.specs.declared.state_read.StateReadError.TheVariants as errors
 use Rattle.vm_commands.specs.Recorded.{as_recorded, commands_of}
 use Rattle.vm_commands.specs.Meant.{MeansRequests}
-use Rattle.vm_commands.specs.Popping.{next_of}
+use Rattle.vm_commands.specs.NextCommand.{next_of}
 use Rattle.vm_commands.specs.StateReads.{ReadsAs, MatchesRead}
-use Rattle.vm_commands.proofs.Popping.{read_as}
+use Rattle.vm_commands.proofs.NextCommand.{read_as}
 use Rattle.vm_calls.specs.declared.active.Active.{Active}
-use Rattle.vm_calls.specs.Putting.{Puts, RefusesLong}
-use Rattle.vm_calls.specs.Active.{has_left, left_of, still_replays, IsSettled, PutsOne}
+use Rattle.vm_calls.specs.RequestPuts.{Puts, RefusesLong}
+use Rattle.vm_calls.specs.Active.{has_left, left_of, still_replays, IsActiveSettled, PutsOne}
 use Rattle.vm_calls.proofs.Settling.{put_settles}
-use Rattle.vm_state_reads.specs.Replaying.{MatchFails, TellsNext}
+use Rattle.vm_state_reads.specs.RecordedReads.{MatchFails, TellsNext}
 use Rattle.vm_state_reads.specs.Spent.{MatchFindsNone}
 
-module _ (ignoring : Bool) (made : Request) (written : List Request) (old : Active) (t : old.is_replaying ≡ true) (settled : IsSettled old) where
+module _ (ignoring : Bool) (made : Request) (written : List Request) (old : Active) (t : old.is_replaying ≡ true) (settled : IsActiveSettled old) where
   pub match_settles : {K : Type 0} (L E : Type 0) (read : StateRead K) (new : Active) → new.is_replaying ≡ still_replays true new.commands.items
       → MatchesRead {K = K} {L = L} {E = E} ignoring made written old.commands.items (Ok read) new.commands.items → new.output ≡ old.output
       → new ≡ record old { is_replaying = new.is_replaying; commands = new.commands; output = new.output } → PutsOne ignoring (as_recorded (left_of old) made) written old new

@@ -20,22 +20,22 @@ use Rattle.vm_commands.specs.declared.replay_error.ReplayError.TheVariants as un
 use Rattle.vm_commands.specs.declared.state_read.StateRead.{StateRead}
 use Rattle.vm_commands.specs.declared.state_read.StateReadError.{StateReadError}
 use Rattle.vm_commands.specs.declared.state_read.StateReadError.TheVariants as errors
-use Rattle.vm_commands.specs.Popping.{IsNoRequest, IsNextUnread}
+use Rattle.vm_commands.specs.NextCommand.{IsNoRequest, IsNextUnread}
 use Rattle.vm_commands.specs.Recorded.{as_recorded}
 use Rattle.vm_calls.specs.declared.active.Active.{Active}
-use Rattle.vm_calls.specs.Active.{Sees, asking, TakesCompletion, HasCompletions, left_of, IsSettled, PutsOne}
-use Rattle.vm_calls.specs.Making.{Replies, HasBegun}
-use Rattle.vm_calls.proofs.Making.{replied}
+use Rattle.vm_calls.specs.Active.{Sees, asking, TakesCompletion, HasCompletions, left_of, IsActiveSettled, PutsOne}
+use Rattle.vm_calls.specs.CommandCalls.{Replies, HasCallBegun}
+use Rattle.vm_calls.proofs.CommandCalls.{replied}
 use Rattle.vm_state_reads.specs.declared.read_error.ReadError.TheVariants.{Replay, OutOfMemory}
 use Rattle.vm_state_reads.specs.declared.read_error.ReadError.{ReadError}
-use Rattle.vm_state_reads.specs.Reading.{MatchFailsAs, Reads, ReadsFor, ReadsOne, arrivals_of, with_known}
-use Rattle.vm_state_reads.specs.Replaying.{MatchFails, TellsNext}
+use Rattle.vm_state_reads.specs.ReadAnswers.{MatchFailsAs, Reads, ReadsFor, ReadsOne, arrivals_of, with_known}
+use Rattle.vm_state_reads.specs.RecordedReads.{MatchFails, TellsNext}
 use Rattle.vm_state_reads.proofs.Answering.{left_is, output_is, settled_is, read_answers}
 
 module _ (checks_off ignoring : Bool) (given : Invocation) (m : Machine) (call : Call) (request : Request) (one : ReadsOne given m call request) (ignores : ignoring ≡ (checks_off || is_unstable call))
-    (handle : ℕ) (old begun : Active) (begins : HasBegun given m handle old begun) where
+    (handle : ℕ) (old begun : Active) (begins : HasCallBegun given m handle old begun) where
   -- the same, with what is known of it ready
-  with_results : (matched : Active) (results : AsyncResultsState) → PutsOne ignoring request m.written begun matched → IsSettled (record begun { results = results })
+  with_results : (matched : Active) (results : AsyncResultsState) → PutsOne ignoring request m.written begun matched → IsActiveSettled (record begun { results = results })
       → PutsOne ignoring request m.written (record begun { results = results }) (record matched { results = results })
   with_results matched results puts settled = record {
     put = puts.put;
@@ -104,11 +104,11 @@ abbrev pub recorded : (ℕ → Request) → Machine → Request
 recorded asked m = as_recorded m.left (asked m.completions)
 
 module _ (ignoring : Bool) (asked : ℕ → Request) {handle id : ℕ} (ty : MessageType) (old : Active) {begun : Active} (taken : TakesCompletion (id, handle) (asking ty [] old) begun) (replays : old.is_replaying ≡ true) where
-  begun_in_replay : (given : Invocation) (m : Machine) → Sees given old m → HasBegun given m handle old begun
+  begun_in_replay : (given : Invocation) (m : Machine) → Sees given old m → HasCallBegun given m handle old begun
   begun_in_replay given m sees = record { sees = sees; ty = ty; name = []; id = id; takes = taken }
 
   module _ (given : Invocation) (m : Machine) (call : Call) (one : ReadsOne given m call (recorded asked m)) (sees : Sees given old m) where
-    settled : IsSettled begun
+    settled : IsActiveSettled begun
     settled = settled_is given m call (recorded asked m) one handle old begun (begun_in_replay given m sees)
 
     left : left_of begun ≡ m.left
@@ -124,7 +124,7 @@ module _ (ignoring : Bool) (asked : ℕ → Request) {handle id : ℕ} (ty : Mes
   pub reads_recorded : {K L E : Type 0} (read : StateRead K) (known_of : StateRead K → Option NotificationResult)
       (lazy_request_of : L → Option Request) (request_of : E → Option Request) (known : E → Option K)
       → ((left : Commands) (n : ℕ) → TellsNext lazy_request_of request_of known left read → known_result n (as_recorded left (asked n) ∷ []) ≡ arrivals_of n (known_of read))
-      → (matched : Active) → ((made : Request) (written : List Request) → Some (asked id) ≡ Some made → begun.is_replaying ≡ true → IsSettled begun
+      → (matched : Active) → ((made : Request) (written : List Request) → Some (asked id) ≡ Some made → begun.is_replaying ≡ true → IsActiveSettled begun
       → PutsOne ignoring (as_recorded (left_of begun) made) written begun matched)
       → TellsNext lazy_request_of request_of known (left_of begun) read → (shown : Option NotificationResult) → shown ≡ known_of read
       → (results : AsyncResultsState) → results_of results ≡ with_known (arrivals_of id shown) (results_of matched.results)
@@ -137,7 +137,7 @@ module _ (ignoring : Bool) (asked : ℕ → Request) {handle id : ℕ} (ty : Mes
       (ready ∙ ap (λ (known : List Arrival). with_known known (results_of matched.results)) ((λ i. arrivals_of (id_is i) (shows i)) ∙ sym (is_known m.left m.completions next_left)))
 
   -- it is not matched
-  pub fails_unmatched : {L E : Type 0} (error : StateReadError L E) → ((made : Request) (written : List Request) → Some (asked id) ≡ Some made → begun.is_replaying ≡ true → IsSettled begun
+  pub fails_unmatched : {L E : Type 0} (error : StateReadError L E) → ((made : Request) (written : List Request) → Some (asked id) ≡ Some made → begun.is_replaying ≡ true → IsActiveSettled begun
       → MatchFails ignoring made written (left_of begun) error) → (result : Result ℕ (ReadError L E)) → IsErrAnd result (λ told. told ≡ Replay error)
       → (new : Active) → new.output ≡ begun.output → ReadsFor (recorded asked) ignoring old result new
   fails_unmatched error unmatched result fails new output checks_off given m call one ignores sees =

@@ -1,6 +1,6 @@
 pub mod Errors
-pub mod Telling
-pub mod Reading
-pub mod Replaying
+pub mod ReadDescriptions
+pub mod ReadAnswers
+pub mod RecordedReads
 pub mod Spent
-pub mod Finding
+pub mod MismatchedReads

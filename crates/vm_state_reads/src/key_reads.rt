@@ -7,11 +7,11 @@ ghost use Rattle.protocol_types.specs.declared.message_type.MessageType.TheVaria
 ghost use Rattle.vm_commands.specs.Recorded.{as_recorded};
 ghost use Rattle.vm_calls.specs.Active.{IsAtCommand};
 ghost use Rattle.vm_calls.specs.Spent.{IsSpent};
-ghost use Rattle.vm_state_reads.specs.Reading.{ReadsByCall, ReadsFor};
-ghost use Rattle.vm_state_reads.specs.Replaying.{keys_known};
+ghost use Rattle.vm_state_reads.specs.ReadAnswers.{ReadsByCall, ReadsFor};
+ghost use Rattle.vm_state_reads.specs.RecordedReads.{keys_known};
 ghost use Rattle.vm_state_reads.specs.Spent.{ReadFailsSpent};
-ghost use Rattle.vm_state_reads.specs.Finding.{FindsRead};
-ghost use Rattle.vm_state_reads.specs.Telling.{type_in_replay, type_behind, IsAtRead};
+ghost use Rattle.vm_state_reads.specs.MismatchedReads.{FindsRead};
+ghost use Rattle.vm_state_reads.specs.ReadDescriptions.{type_in_replay, type_behind, IsAtRead};
 
 use crate::ReadError;
 use crate::known::{put_read, ready_at_once};

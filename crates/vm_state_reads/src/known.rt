@@ -1,10 +1,10 @@
 // What is left of a read once it has begun.
 ghost use Rattle.std.specs.Prelude.{◌≡◌, Some, OnOk, IfErr};
 ghost use Rattle.protocol_types.specs.declared.message_type.MessageType.{MessageType};
-ghost use Rattle.vm_commands.specs.Passed.{type_of_record};
-ghost use Rattle.vm_calls.specs.Finding.{command_place, TellsPut};
+ghost use Rattle.protocol_messages.specs.RecordMessage.{type_of_record};
+ghost use Rattle.vm_calls.specs.MismatchedCommands.{command_place, TellsPut};
 ghost use Rattle.vm_awaits.specs.Views.{results_of};
-ghost use Rattle.vm_state_reads.specs.Reading.{PutsReadAs, arrivals_of, with_known};
+ghost use Rattle.vm_state_reads.specs.ReadAnswers.{PutsReadAs, arrivals_of, with_known};
 
 use journal_model::{Notification, NotificationHandle, NotificationId, NotificationResult};
 use std::alloc::{AllocError, Global};

@@ -1,12 +1,12 @@
 // Taking the recorded read.
 ghost use Rattle.std.specs.Prelude.{◌≡◌, true, List, [], Some, IfOk, IfErr};
 ghost use Rattle.protocol_types.specs.declared.message_type.MessageType.{MessageType};
-ghost use Rattle.vm_commands.specs.Passed.{type_of_record};
-ghost use Rattle.vm_calls.specs.Finding.{command_place};
-ghost use Rattle.vm_state_reads.specs.Finding.{TellsUnread};
+ghost use Rattle.protocol_messages.specs.RecordMessage.{type_of_record};
+ghost use Rattle.vm_calls.specs.MismatchedCommands.{command_place};
+ghost use Rattle.vm_state_reads.specs.MismatchedReads.{TellsUnread};
 ghost use Rattle.vm_calls.specs.Words.{Request};
-ghost use Rattle.vm_calls.specs.Active.{left_of, still_replays, IsSettled};
-ghost use Rattle.vm_state_reads.specs.Replaying.{MatchesIn, TellsNext};
+ghost use Rattle.vm_calls.specs.Active.{left_of, still_replays, IsActiveSettled};
+ghost use Rattle.vm_state_reads.specs.RecordedReads.{MatchesIn, TellsNext};
 ghost use Rattle.vm_state_reads.specs.Spent.{MatchFindsNone};
 
 use protocol_stream::RawMessage;
@@ -30,7 +30,7 @@ pub(crate) fn match_read<E: EagerRead>(
     expected: E::Lazy,
     ignoring: bool,
 ) -> Result<StateRead<E::Known>, StateReadError<E::Lazy, E>>
-    ensures matched { (made : Request) (written : List Request) → E.Lazy.request_of expected ≡ Some made → active.old.is_replaying ≡ true → IsSettled active.old
+    ensures matched { (made : Request) (written : List Request) → E.Lazy.request_of expected ≡ Some made → active.old.is_replaying ≡ true → IsActiveSettled active.old
         → MatchesIn ignoring made written active.old result active.new }
     ensures next { IfOk result (TellsNext E.Lazy.request_of E.request_of E.known (left_of active.old)) }
     ensures spent { active.old.commands.items ≡ [] → MatchFindsNone result }

@@ -2,7 +2,7 @@
 ghost use Rattle.std.specs.Prelude.{◌≡◌, IfOk, IfErr, []};
 ghost use Rattle.vm_calls.specs.Active.{asking, IsAtCommand, TakesCompletion, LacksCompletions};
 ghost use Rattle.vm_calls.specs.declared.call_error.NumberError.TheVariants.{IdsExhausted};
-ghost use Rattle.vm_state_reads.specs.Telling.{begins_with, type_in_replay};
+ghost use Rattle.vm_state_reads.specs.ReadDescriptions.{begins_with, type_in_replay};
 
 use bytes::ByteStr;
 use journal_model::NotificationHandle;

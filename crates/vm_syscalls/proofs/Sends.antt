@@ -7,15 +7,15 @@ use Rattle.journal_model.specs.declared.call.Call.{Call}
 use Rattle.journal_model.specs.declared.call.Moment.{Moment}
 use Rattle.journal_model.specs.declared.call.Target.{Target}
 use Rattle.vm_calls.specs.Words.{Machine}
-use Rattle.vm_calls.specs.Making.{Makes}
+use Rattle.vm_calls.specs.CommandCalls.{Makes}
 use Rattle.vm_calls.specs.Spent.{FailsSpent}
-use Rattle.vm_calls.specs.Finding.{FindsAs}
+use Rattle.vm_calls.specs.MismatchedCommands.{FindsAs}
 use Rattle.protocol_types.specs.declared.message_type.MessageType.{MessageType}
 use Rattle.vm_calls.specs.declared.active.Active.{Active}
 use Rattle.vm_calls.specs.declared.call_error.CallError.{CallError}
 use Rattle.vm_calls.specs.declared.call_error.CallError.TheVariants.{Number, Put, OutOfMemory}
 use Rattle.vm_types.specs.declared.handles.SendHandle.{SendHandle}
-use Rattle.vm_syscalls.specs.Sending.{sent}
+use Rattle.vm_syscalls.specs.SendAnswer.{sent}
 
 -- where no test holds, none of the last ones does
 passed : (tests more : List (Bool × Refusal)) → first_refusal (tests ++ more) ≡ None → first_refusal more ≡ None

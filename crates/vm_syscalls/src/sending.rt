@@ -7,7 +7,7 @@ ghost use Rattle.journal_model.specs.declared.call.Call.{Call};
 ghost use Rattle.protocol_differences.specs.Calls.{one_way_call_command_difference};
 ghost use Rattle.protocol_types.specs.declared.message_type.MessageType.TheVariants.{OneWayCallCommand};
 ghost use Rattle.vm_machine.specs.Calls.{Calls};
-ghost use Rattle.vm_syscalls.specs.Sending.{sent};
+ghost use Rattle.vm_syscalls.specs.SendAnswer.{sent};
 
 use bytes::{ByteStr, Bytes};
 use journal_model::{Moment, NotificationHandle, PayloadOptions, Target};

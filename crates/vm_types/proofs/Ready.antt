@@ -9,7 +9,7 @@ use Rattle.std.specs.Cmp.{ranks}
 use Rattle.std.specs.Ordering.{MatchOrdering, nat_cmp, is_gt}
 use Rattle.std.specs.declared.cmp.Ordering.{Ordering}
 use Rattle.journal_model.specs.declared.value.Value.{Value}
-use Rattle.vm_types.specs.Reads.{EphemeralReads, asked, known, first_of, after_answer}
+use Rattle.vm_types.specs.Reads.{EphemeralReads, asked, known, first_answered_read, after_answer}
 
 by_rank : (o : Ordering) (n m : ℕ) → MatchOrdering o (n < m) (n ≡ m) (m < n) → is_gt o ≡ false → n ≤ m
 by_rank Less n m h e = omega (arith, h)
@@ -19,11 +19,11 @@ by_rank Greater n m h e = absurd (true≢false e)
 pub at_most : (n m : ℕ) → is_gt (nat_cmp n m) ≡ false → n ≤ m
 at_most n m = by_rank (nat_cmp n m) n m (ranks n m)
 
-pub first_is : (reads : List (ℕ × Value)) (n : ℕ) (value : Value) → slice_get reads 0 ≡ Some (n, value) → first_of reads ≡ Some (record { number = n })
+pub first_is : (reads : List (ℕ × Value)) (n : ℕ) (value : Value) → slice_get reads 0 ≡ Some (n, value) → first_answered_read reads ≡ Some (record { number = n })
 first_is [] n value e = absurd cc
-first_is (read ∷ reads) n value e = ap (λ (r : ℕ × Value). first_of (r ∷ reads)) (ap (λ (found : Option (ℕ × Value)). unwrap_or found read) e)
+first_is (read ∷ reads) n value e = ap (λ (r : ℕ × Value). first_answered_read (r ∷ reads)) (ap (λ (found : Option (ℕ × Value)). unwrap_or found read) e)
 
-pub none_first : (reads : List (ℕ × Value)) → (0 < length reads → false ≡ true) → first_of reads ≡ None
+pub none_first : (reads : List (ℕ × Value)) → (0 < length reads → false ≡ true) → first_answered_read reads ≡ None
 none_first [] none = refl
 none_first (read ∷ reads) none = absurd (true≢false (sym (none (omega arith))))
 

@@ -1,7 +1,7 @@
 -- Worked rows: a read that is answered twice before it is taken, an answer that nobody waits for, and one that is known at once.
 use Rattle.std.proofs.Common.{◌≡◌, refl, List, [], ◌∷◌, Some, None}
 use Rattle.journal_model.specs.declared.value.Value.{Value}
-use Rattle.vm_types.specs.Reads.{EphemeralReads, no_reads, asked, known, answer_of, after_answer, after_take, least_of}
+use Rattle.vm_types.specs.Reads.{EphemeralReads, no_reads, asked, known, answer_of, after_answer, reads_after_take, least_of}
 
 -- the first read is asked for
 in_flight : asked no_reads ≡ record { next = 2; in_flight = 1 ∷ []; ready = [] }
@@ -16,10 +16,10 @@ replaced : after_answer 1 Value.Void (after_answer 1 (Value.Success (49 ∷ []))
 replaced = refl
 
 -- a second take finds nothing
-taken : after_take 1 (after_answer 1 (Value.Success (49 ∷ [])) (asked no_reads)) ≡ record { next = 2; in_flight = []; ready = [] }
+taken : reads_after_take 1 (after_answer 1 (Value.Success (49 ∷ [])) (asked no_reads)) ≡ record { next = 2; in_flight = []; ready = [] }
 taken = refl
 
-taken_twice : answer_of (after_take 1 (after_answer 1 (Value.Success (49 ∷ [])) (asked no_reads))) 1 ≡ None
+taken_twice : answer_of (reads_after_take 1 (after_answer 1 (Value.Success (49 ∷ [])) (asked no_reads))) 1 ≡ None
 taken_twice = refl
 
 -- no read has the number 7

@@ -44,13 +44,13 @@ after_answer number value reads =
     else reads
 
 -- an answer is taken
-abbrev pub after_take : ℕ → EphemeralReads → EphemeralReads
-after_take number reads = record reads { ready = remove_entry (is_at (nat_cmp number)) reads.ready }
+abbrev pub reads_after_take : ℕ → EphemeralReads → EphemeralReads
+reads_after_take number reads = record reads { ready = remove_entry (is_at (nat_cmp number)) reads.ready }
 
 -- the least whose answer can be taken
-abbrev pub first_of : List (ℕ × Value) → Option EphemeralCompletionId
-first_of [] = None
-first_of (read ∷ reads) = Some (record { number = read.0 })
+abbrev pub first_answered_read : List (ℕ × Value) → Option EphemeralCompletionId
+first_answered_read [] = None
+first_answered_read (read ∷ reads) = Some (record { number = read.0 })
 
 abbrev pub least_of : EphemeralReads → Option EphemeralCompletionId
-least_of reads = first_of reads.ready
+least_of reads = first_answered_read reads.ready

@@ -5,7 +5,7 @@ ghost use Rattle.std.specs.Map.{lookup};
 ghost use Rattle.std.specs.BTreeMap.{is_at, insert_entry};
 ghost use Rattle.std.specs.BTreeSet.{insert_key};
 ghost use Rattle.std.specs.Ordering.{nat_cmp};
-ghost use Rattle.vm_types.specs.Reads.{no_reads, asked, known, is_in_flight, answer_of, after_answer, after_take, least_of};
+ghost use Rattle.vm_types.specs.Reads.{no_reads, asked, known, is_in_flight, answer_of, after_answer, reads_after_take, least_of};
 ghost use Rattle.vm_types.specs.declared.commands.RegisterError.TheVariants.{IdsExhausted, OutOfMemory};
 
 use crate::EphemeralCompletionId;
@@ -167,7 +167,7 @@ impl EphemeralCommands {
     /// Takes the answer of a read, if there is one.
     pub fn take_notification(&mut self, id: EphemeralCompletionId) -> Option<Value>
         ensures value { result ≡ answer_of self.old id.number }
-        ensures rest { self.new ≡ after_take id.number self.old }
+        ensures rest { self.new ≡ reads_after_take id.number self.old }
     {
         self.ready.remove(&id.number)
     }

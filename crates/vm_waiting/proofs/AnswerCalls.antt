@@ -12,7 +12,7 @@ use Rattle.protocol_laws.specs.Commands.{CommandRecord}
 use Rattle.protocol_laws.specs.Records.{target_record}
 use Rattle.protocol_laws.specs.Requests.{request_told}
 use Rattle.protocol_laws.proofs.Told.{requests_told}
-use Rattle.vm_calls.specs.Making.{CompletesOne}
+use Rattle.vm_calls.specs.CommandCalls.{CompletesOne}
 use Rattle.vm_calls.proofs.Calls.{brings_none}
 
 pub attach_completes : (given : Invocation) (m : Machine) (target : AttachInvocationTarget) (copy : Text) (id : ℕ)

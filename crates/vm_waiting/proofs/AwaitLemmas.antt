@@ -7,7 +7,7 @@ use Rattle.journal_model.specs.Await.{with_cancellation}
 use Rattle.journal_model.specs.declared.future.UnresolvedFuture.{UnresolvedFuture}
 use Rattle.journal_model.specs.declared.future.UnresolvedFuture.TheVariants.{Single, FirstCompleted}
 use Rattle.journal_model.proofs.TreeLemmas.{tree_of-Single, tree_of-FirstCompleted}
-use Rattle.vm_waiting.specs.Awaiting.{awaits_nothing}
+use Rattle.vm_waiting.specs.AwaitSteps.{awaits_nothing}
 
 by_children : (children : List UnresolvedFuture) (empty : Bool) → (IsTrue empty ↔ (children ≡ [])) → empty ≡ awaits_nothing (node Trees.FirstCompleted (map tree_of children))
 by_children [] true is = refl

@@ -17,7 +17,7 @@ use Rattle.attempt_model.specs.Results.{Ready, Slots, waiting_for, Resolution, r
 use Rattle.journal_model.specs.Refusal.{Refusal, refusal_of}
 use Rattle.attempt_model.specs.Machine.{Machine, Reply, FailedBy, UncompletedInReplay, ChildNotId, is_cancelled, reply_where_asleep, reply_where_unknown, reply_where_awake, reply_to_children, reply_to_await, reply_unless_refused, reply_to}
 use Rattle.vm_awaits.specs.Views.{AsyncResults, results_of}
-use Rattle.vm_awaits.specs.Resolving.{resolution_as}
+use Rattle.vm_awaits.specs.FutureResolution.{resolution_as}
 use Rattle.vm_awaits.specs.declared.resolving.ResolveFutureResult.{ResolveFutureResult}
 use Rattle.vm_awaits.specs.declared.resolving.ResolveFutureResult.TheVariants as resolved
 use Rattle.vm_commands.specs.HeaderEquality.{same_header}
@@ -31,8 +31,8 @@ use Rattle.vm_waiting.specs.declared.children.ChildrenKnown.{ChildrenKnown}
 use Rattle.vm_waiting.specs.declared.children.ChildrenKnown.TheVariants as known
 use Rattle.vm_waiting.specs.declared.waits_for.WaitsFor.{WaitsFor}
 use Rattle.vm_waiting.specs.declared.waits_for.WaitsFor.TheVariants.{Future, Child as OfChild}
-use Rattle.vm_waiting.specs.Awaiting.{is_cancelled_in, LooksAlone, asleep_as, PassesOnBy, RunsOut, PassesOn, WakesBy, Resolves, GoesOnBy, ComesTo, Awaits, AwaitsSeen}
-use Rattle.vm_waiting.specs.Cancelling.{outcome_as, LooksFor}
+use Rattle.vm_waiting.specs.AwaitSteps.{is_cancelled_in, LooksAlone, asleep_as, PassesOnBy, RunsOut, PassesOn, WakesBy, Resolves, GoesOnBy, AwaitComesTo, Awaits, AwaitsSeen}
+use Rattle.vm_waiting.specs.ChildCancellation.{outcome_as, LooksFor}
 use Rattle.vm_waiting.specs.WaitsFor.{waits_as}
 use Rattle.vm_waiting.proofs.Seeing.{seen_as, still_sees}
 use Rattle.vm_waiting.proofs.CancelReplies.{cancels_as}
@@ -187,7 +187,7 @@ module _ (checks_off : Bool) (given : Invocation) (m : Machine) (tree : AwaitTre
 
 -- whatever it comes to, it is what the abstract machine's comes to
 pub awaits_as : (cancellation : ImplicitCancellationOption) (checks_off : Bool) (tree : AwaitTree ℕ) (old : Active) (result : Result Awaited AwaitError) (new : Active)
-    → ComesTo cancellation checks_off tree old result new → AwaitsSeen cancellation checks_off tree old result new
+    → AwaitComesTo cancellation checks_off tree old result new → AwaitsSeen cancellation checks_off tree old result new
 awaits_as cancellation checks_off tree old result new (inl comes) given m is unrefused sees =
     by_answer checks_off given m tree old unrefused sees cancellation is comes.looked comes.others comes.answer comes.resolves result new comes.goes_on
 awaits_as cancellation checks_off tree old result new (inr out) given m is unrefused sees = runs_out checks_off given m tree old unrefused old new result refl out

@@ -13,8 +13,8 @@ use Rattle.journal_model.specs.Delivery.{known_result}
 use Rattle.journal_model.specs.Run.{Invocation, call_record, invoke_time, name_or_empty}
 use Rattle.attempt_model.specs.Machine.{Machine}
 use Rattle.protocol_stream.specs.Records.{header_told, header_record}
-use Rattle.vm_context.specs.Following.{changes_state}
-use Rattle.vm_waiting.specs.Pairing.{CompletesTwo, CompletesTracked}
+use Rattle.vm_context.specs.StateKnowledge.{changes_state}
+use Rattle.vm_waiting.specs.CompletionPairs.{CompletesTwo, CompletesTracked}
 
 -- the records of headers tell them
 pub headers_told : (headers : List Header) → map header_told (map header_record headers) ≡ headers

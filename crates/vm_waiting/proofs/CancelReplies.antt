@@ -3,10 +3,9 @@ use Rattle.std.proofs.Common.{◌≡◌, inl, inr, refl, sym, ap, ◌∙◌, sub
 use Rattle.journal_model.specs.declared.call.Call.{Call}
 use Rattle.journal_model.specs.declared.call.Answer.{Answer}
 use Rattle.journal_model.specs.declared.value.Value.{Value}
-use Rattle.journal_model.specs.Notification.{Text, cancel_id}
+use Rattle.journal_model.specs.Notification.{Text, cancel_id, Arrival}
 use Rattle.journal_model.specs.AwaitTree.{AwaitTree}
 use Rattle.journal_model.specs.Await.{cancel_request}
-use Rattle.journal_model.specs.Notification.{Arrival}
 use Rattle.journal_model.specs.Request.{Request}
 use Rattle.journal_model.specs.State.{StartState}
 use Rattle.journal_model.specs.Run.{Invocation}
@@ -18,18 +17,18 @@ use Rattle.protocol_calls.specs.declared.send_signal_command.SendSignalCommandMe
 use Rattle.protocol_stream.specs.declared.encoder.EncodingError.TheVariants as unsent
 use Rattle.vm_awaits.specs.Views.{AsyncResults, results_of, ready_of}
 use Rattle.vm_commands.specs.HeaderEquality.{header_equal, same_header}
-use Rattle.vm_commands.specs.Popping.{IsNextUnread}
+use Rattle.vm_commands.specs.NextCommand.{IsNextUnread}
 use Rattle.vm_commands.specs.declared.replay_error.ReplayError.TheVariants as unmatched
 use Rattle.vm_context.specs.Eager.{KnownState}
-use Rattle.vm_context.specs.Following.{KnowsState}
+use Rattle.vm_context.specs.StateKnowledge.{KnowsState}
 use Rattle.vm_context.specs.Journal.{JournalCounts}
 use Rattle.vm_context.specs.Output.{Written}
 use Rattle.vm_context.proofs.Keeping.{others_keep}
 use Rattle.vm_calls.specs.declared.active.Active.{Active}
 use Rattle.vm_calls.specs.declared.put_error.PutError.{PutError}
 use Rattle.vm_calls.specs.declared.put_error.PutError.TheVariants.{Replay, Encoding}
-use Rattle.vm_calls.specs.Active.{Sees, IsSettled, left_of, has_left, writes_frames, PutFails}
-use Rattle.vm_calls.specs.Making.{Replies}
+use Rattle.vm_calls.specs.Active.{Sees, IsActiveSettled, left_of, has_left, writes_frames, PutFails}
+use Rattle.vm_calls.specs.CommandCalls.{Replies}
 use Rattle.vm_calls.proofs.Calls.{unchecked}
 use Rattle.vm_waiting.specs.declared.awaiting.Awaited.{Awaited}
 use Rattle.vm_waiting.specs.declared.awaiting.Awaited.TheVariants.{AnyCompleted, Cancelled, Asleep}
@@ -37,8 +36,8 @@ use Rattle.vm_waiting.specs.declared.awaiting.AwaitError.{AwaitError}
 use Rattle.vm_waiting.specs.declared.awaiting.AwaitError.TheVariants as unawaited
 use Rattle.vm_waiting.specs.declared.cancelling.CancelError.{CancelError}
 use Rattle.vm_waiting.specs.declared.cancelling.CancelError.TheVariants as uncancelled
-use Rattle.vm_waiting.specs.Awaiting.{after_cancellation, Cancels, StopsCancelling, StopsFor, FailsCancelling, Awaits}
-use Rattle.vm_waiting.specs.Cancelling.{id_in, with_id, ids_known, cancels, after_cancels, PutsAll, StopsAt, FailsPutting, PutsEach}
+use Rattle.vm_waiting.specs.AwaitSteps.{after_cancellation, Cancels, StopsCancelling, StopsFor, FailsCancelling, Awaits}
+use Rattle.vm_waiting.specs.ChildCancellation.{id_in, with_id, ids_known, cancels, after_cancels, PutsAll, StopsAt, FailsPutting, PutsEach}
 use Rattle.vm_waiting.proofs.PuttingAll.{put_joined}
 
 -- ---- the requests
@@ -101,7 +100,7 @@ module _ (checks_off : Bool) (given : Invocation) (m : Machine) (tree : AwaitTre
   pub asked_is : cancel_requests_for (ready_of looked.results) looked.children ≡ asked
   asked_is = ap (λ (r : AsyncResults). cancel_requests_for r.ready looked.children) sees.results ∙ ap (λ (cs : List Child). cancel_requests_for ready cs) sees.children
 
-  pub settled : IsSettled looked
+  pub settled : IsActiveSettled looked
   settled = record { replaying = sees.replaying ∙ ap has_left (sym sees.left); opened = sees.opened }
 
   -- headers are compared as each request compares them
@@ -205,7 +204,7 @@ module _ (checks_off : Bool) (given : Invocation) (m : Machine) (tree : AwaitTre
 
     -- ---- what it answers
 
-    each_asked : (result : Result (Unit {0}) CancelError) (put : Active) → ((written : List Request) → IsSettled looked → PutsEach checks_off (cancel_requests_for (ready_of looked.results) looked.children) written looked result put)
+    each_asked : (result : Result (Unit {0}) CancelError) (put : Active) → ((written : List Request) → IsActiveSettled looked → PutsEach checks_off (cancel_requests_for (ready_of looked.results) looked.children) written looked result put)
         → PutsEach checks_off asked m.written looked result put
     each_asked result put puts = subst (λ (requests : List Request). PutsEach checks_off requests m.written looked result put) asked_is (puts m.written settled)
 

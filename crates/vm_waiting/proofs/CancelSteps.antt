@@ -6,13 +6,13 @@ use Rattle.journal_model.specs.declared.notification.NotificationResult.{Notific
 use Rattle.attempt_model.specs.Children.{Child, cancel_requests_for}
 use Rattle.attempt_model.specs.Results.{waiting_for}
 use Rattle.vm_awaits.specs.Views.{AsyncResults, results_of, ready_of, slots_of}
-use Rattle.vm_awaits.specs.Calls.{after_take}
+use Rattle.vm_awaits.specs.Calls.{results_after_take}
 use Rattle.vm_awaits.specs.declared.state.AsyncResultsState.{AsyncResultsState}
 use Rattle.vm_calls.specs.declared.active.Active.{Active}
-use Rattle.vm_calls.specs.Active.{IsSettled}
+use Rattle.vm_calls.specs.Active.{IsActiveSettled}
 use Rattle.vm_calls.specs.Spent.{IsSpent}
-use Rattle.vm_waiting.specs.Awaiting.{CancelsAll, StopsAmong}
-use Rattle.vm_waiting.specs.Cancelling.{LooksFor, ids_known, cancels, PutsEach, PutsNone}
+use Rattle.vm_waiting.specs.AwaitSteps.{CancelsAll, StopsAmong}
+use Rattle.vm_waiting.specs.ChildCancellation.{LooksFor, ids_known, cancels, PutsEach, PutsNone}
 use Rattle.vm_waiting.specs.declared.cancelling.CancelError.{CancelError}
 use Rattle.vm_waiting.specs.declared.children.ChildrenKnown.{ChildrenKnown}
 use Rattle.vm_waiting.proofs.CancelReplies.{all_asked}
@@ -27,22 +27,22 @@ module _ (ignoring : Bool) (old : Active) (ids : List Text) (is : ids ≡ ids_kn
   asked_same : map cancels ids ≡ cancel_requests_for (ready_of old.results) old.children
   asked_same = ap (λ (some : List Text). map cancels some) is ∙ all_asked (ready_of old.results) old.children
 
-  module _ (result : Result (Unit {0}) CancelError) (new : Active) (puts : (written : List Request) → IsSettled old → PutsEach ignoring (map cancels ids) written old result new)
+  module _ (result : Result (Unit {0}) CancelError) (new : Active) (puts : (written : List Request) → IsActiveSettled old → PutsEach ignoring (map cancels ids) written old result new)
       (spent : IsSpent old → PutsNone (map cancels ids) old result new) where
-    puts_same : (written : List Request) → IsSettled old → PutsEach ignoring (cancel_requests_for (ready_of old.results) old.children) written old result new
+    puts_same : (written : List Request) → IsActiveSettled old → PutsEach ignoring (cancel_requests_for (ready_of old.results) old.children) written old result new
     puts_same written settled = subst (λ (requests : List Request). PutsEach ignoring requests written old result new) asked_same (puts written settled)
 
     spent_same : IsSpent old → PutsNone (cancel_requests_for (ready_of old.results) old.children) old result new
     spent_same none = subst (λ (requests : List Request). PutsNone requests old result new) asked_same (spent none)
 
-  pub stops_among : (error other : CancelError) (new : Active) → error ≡ other → ((written : List Request) → IsSettled old → PutsEach ignoring (map cancels ids) written old (Err error) new)
+  pub stops_among : (error other : CancelError) (new : Active) → error ≡ other → ((written : List Request) → IsActiveSettled old → PutsEach ignoring (map cancels ids) written old (Err error) new)
       → (IsSpent old → PutsNone (map cancels ids) old (Err error) new) → StopsAmong ignoring old other new
   stops_among error other new same puts spent =
       subst (λ (e : CancelError). StopsAmong ignoring old e new) same (record { puts = puts_same (Err error) new puts spent; spent = spent_same (Err error) new puts spent })
 
   pub cancels_each : (put : Active) (taken : Option NotificationResult) (results : AsyncResultsState) (children : List Child)
-      → ((written : List Request) → IsSettled old → PutsEach ignoring (map cancels ids) written old (Ok tt) put) → (IsSpent old → PutsNone (map cancels ids) old (Ok tt) put)
-      → taken ≡ waiting_for (slots_of put.results) (ready_of put.results) 1 → results_of results ≡ after_take 1 taken (results_of put.results) → children ≡ []
+      → ((written : List Request) → IsActiveSettled old → PutsEach ignoring (map cancels ids) written old (Ok tt) put) → (IsSpent old → PutsNone (map cancels ids) old (Ok tt) put)
+      → taken ≡ waiting_for (slots_of put.results) (ready_of put.results) 1 → results_of results ≡ results_after_take 1 taken (results_of put.results) → children ≡ []
       → CancelsAll ignoring old (record put { results = results; children = children })
   cancels_each put taken results children puts spent value rest none = record {
     put = put;

@@ -10,7 +10,7 @@ use Rattle.attempt_model.specs.Children.{Child, child_value, ChildrenState, AreI
 use Rattle.attempt_model.specs.Results.{Ready, ready_after}
 use Rattle.vm_awaits.specs.Views.{AsyncResults}
 use Rattle.vm_awaits.specs.Calls.{has_next, looked_at, after_look}
-use Rattle.vm_waiting.specs.Cancelling.{LooksFor, id_in, with_id, ids_known}
+use Rattle.vm_waiting.specs.ChildCancellation.{LooksFor, id_in, with_id, ids_known}
 use Rattle.vm_waiting.specs.declared.children.ChildrenKnown.TheVariants as known
 
 -- ---- places

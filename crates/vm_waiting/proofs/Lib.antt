@@ -11,7 +11,7 @@ pub mod AwaitReplies
 pub mod Listing
 pub mod WaitingFrames
 pub mod TellsAsRun
-pub mod Pairing
+pub mod CompletionPairs
 pub mod Calls
 pub mod AnswerCalls
 pub mod Nested

@@ -20,7 +20,7 @@ use Rattle.protocol_stream.proofs.RecordSpellings.{tree_spelled}
 use Rattle.protocol_messages.specs.Encoded.{suspension_parts_as}
 use Rattle.protocol_messages.specs.Leaves.{own_first, completions_of, signals_of, named_signals_of, three_lists}
 use Rattle.protocol_messages.proofs.Preorder.{completions_is, signals_is, named_signals_is}
-use Rattle.vm_waiting.specs.Suspending.{below, listed, lists_payload}
+use Rattle.vm_waiting.specs.SuspensionFrames.{below, listed, lists_payload}
 
 -- one level of the record of a tree
 abbrev layer_of : AwaitTree NotificationId → Future-F Future

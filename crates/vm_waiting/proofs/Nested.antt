@@ -3,10 +3,10 @@ use Rattle.std.proofs.Common.{◌≡◌, ◌-◌, ◌∙◌, ℕ, zero, suc, Boo
 use Rattle.protocol_wire.specs.declared.record.TheConstants.{LEVELS}
 use Rattle.journal_model.specs.AwaitTree.{AwaitTree, Single, Combined, AwaitTrees, no_trees, and_trees}
 use Rattle.journal_model.specs.Future.{tree_of}
-use Rattle.journal_model.specs.Waiting.{leaf_or_nothing, and_leaf, only_leaves, only_children}
+use Rattle.journal_model.specs.PrunedTrees.{leaf_or_nothing, and_leaf, only_leaves, only_children}
 use Rattle.journal_model.specs.declared.future.UnresolvedFuture.{UnresolvedFuture}
 use Rattle.attempt_model.specs.Results.{Slots, slot_of}
-use Rattle.vm_waiting.specs.Suspending.{is_nested_within, are_nested_within, is_too_deep}
+use Rattle.vm_waiting.specs.SuspensionFrames.{is_nested_within, are_nested_within, is_too_deep}
 use Rattle.vm_waiting.specs.WaitsFor.{ids_over}
 use Rattle.vm_waiting.specs.declared.waits_for.WaitsFor.{WaitsFor}
 use Rattle.vm_waiting.specs.declared.waits_for.WaitsFor.TheVariants.{Future, Child}

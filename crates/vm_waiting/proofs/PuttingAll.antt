@@ -15,11 +15,11 @@ use Rattle.vm_context.specs.Output.{Written}
 use Rattle.vm_calls.specs.declared.active.Active.{Active}
 use Rattle.vm_calls.specs.declared.put_error.PutError.{PutError}
 use Rattle.vm_calls.specs.declared.put_error.PutError.TheVariants.{Replay, Encoding}
-use Rattle.vm_calls.specs.Active.{Fits, IsSettled, left_of, asking, writes_frames, PutsOne, PutFails, PutsIn}
+use Rattle.vm_calls.specs.Active.{Fits, IsActiveSettled, left_of, asking, writes_frames, PutsOne, PutFails, PutsIn}
 use Rattle.vm_calls.proofs.Settling.{frames_joined}
-use Rattle.vm_calls.specs.Finding.{command_place, TellsPut}
+use Rattle.vm_calls.specs.MismatchedCommands.{command_place, TellsPut}
 use Rattle.vm_calls.specs.Spent.{IsSpent, FindsNone}
-use Rattle.vm_waiting.specs.Cancelling.{cancels, after_cancels, PutsAll, StopsAt, PutsEach, PutsNone}
+use Rattle.vm_waiting.specs.ChildCancellation.{cancels, after_cancels, PutsAll, StopsAt, PutsEach, PutsNone}
 use Rattle.vm_waiting.specs.declared.cancelling.CancelError.{CancelError}
 use Rattle.vm_waiting.specs.declared.cancelling.CancelError.TheVariants as uncancelled
 
@@ -44,7 +44,7 @@ frames_none written = ap (λ (bytes : List _). record written { bytes = bytes })
 -- ---- what was put
 
 module _ (ignoring : Bool) where
-  abbrev pub puts_nothing : (written : List Request) (old : Active) → IsSettled old → PutsAll ignoring [] written old old
+  abbrev pub puts_nothing : (written : List Request) (old : Active) → IsActiveSettled old → PutsAll ignoring [] written old old
   puts_nothing written old settled = record {
     put = record { left = left_of old; written = written };
     puts = refl;
@@ -112,14 +112,14 @@ module _ (ignoring : Bool) where
     stops_each uncancelled.OutOfMemory new lacks = record { stops = stops_later lacks.stops; asked = lacks.asked }
 
   -- the first is asked for alone
-  abbrev stops_first : (request : Request) (written : List Request) (old : Active) → IsSettled old → StopsAt ignoring (request ∷ []) written old
+  abbrev stops_first : (request : Request) (written : List Request) (old : Active) → IsActiveSettled old → StopsAt ignoring (request ∷ []) written old
   stops_first request written old settled = record { front = []; next = request; behind = []; parts = refl; put = old; puts = puts_nothing written old settled }
 
-  pub lacks_one : (request : Request) (written : List Request) (old new : Active) → IsSettled old → new ≡ asking SendSignalCommand [] old
+  pub lacks_one : (request : Request) (written : List Request) (old new : Active) → IsActiveSettled old → new ≡ asking SendSignalCommand [] old
       → PutsEach ignoring (request ∷ []) written old (Err uncancelled.OutOfMemory) new
   lacks_one request written old new settled asked = record { stops = stops_first request written old settled; asked = asked }
 
-  fails_asked : (request : Request) (written : List Request) (old new : Active) (error : PutError SendSignalCommandMessage) → IsSettled old
+  fails_asked : (request : Request) (written : List Request) (old new : Active) (error : PutError SendSignalCommandMessage) → IsActiveSettled old
       → PutsIn ignoring request written (asking SendSignalCommand [] old) (Err error) new → new.journal ≡ (asking SendSignalCommand [] old).journal
       → TellsPut SendSignalCommand (command_place new.journal) (asking SendSignalCommand [] old).commands.items error
       → PutsEach ignoring (request ∷ []) written old (Err (uncancelled.Put error)) new
@@ -139,15 +139,15 @@ module _ (ignoring : Bool) where
       by_error (Encoding unsent.PayloadTooLong) h = h
       by_error (Encoding unsent.OutOfMemory) h = h
 
-  pub fails_one : (request : Request) (written : List Request) (old asked new : Active) (error : PutError SendSignalCommandMessage) → asked ≡ asking SendSignalCommand [] old → IsSettled old
+  pub fails_one : (request : Request) (written : List Request) (old asked new : Active) (error : PutError SendSignalCommandMessage) → asked ≡ asking SendSignalCommand [] old → IsActiveSettled old
       → PutsIn ignoring request written asked (Err error) new → new.journal ≡ asked.journal → TellsPut SendSignalCommand (command_place new.journal) asked.commands.items error
       → PutsEach ignoring (request ∷ []) written old (Err (uncancelled.Put error)) new
   fails_one request written old asked new error is settled puts journal found =
       fails_asked request written old new error settled (subst (λ (a : Active). PutsIn ignoring request written a (Err error) new) is puts) (subst (λ (a : Active). new.journal ≡ a.journal) is journal)
       (subst (λ (a : Active). TellsPut SendSignalCommand (command_place new.journal) a.commands.items error) is found)
 
-pub settled_asked : (old asked : Active) → asked ≡ asking SendSignalCommand [] old → IsSettled old → IsSettled asked
-settled_asked old asked is settled = subst (λ (a : Active). IsSettled a) (sym is) (record { replaying = settled.replaying; opened = settled.opened })
+pub settled_asked : (old asked : Active) → asked ≡ asking SendSignalCommand [] old → IsActiveSettled old → IsActiveSettled asked
+settled_asked old asked is settled = subst (λ (a : Active). IsActiveSettled a) (sym is) (record { replaying = settled.replaying; opened = settled.opened })
 
 -- ---- where nothing recorded is left
 
@@ -174,7 +174,7 @@ none_of_all one all old mid new uncancelled.OutOfMemory is none = none ∙ ap (�
 pub record PutsOn (ignoring : Bool) (ids left : List Text) (old now : Active) : Type 0 where
   pub front : List Text
   pub all : front ++ left ≡ ids
-  pub puts : (written : List Request) → IsSettled old → PutsAll ignoring (map cancels front) written old now
+  pub puts : (written : List Request) → IsActiveSettled old → PutsAll ignoring (map cancels front) written old now
   pub spent : IsSpent old → (front ≡ []) × (now ≡ old)
 
 module _ (ignoring : Bool) (ids : List Text) (old : Active) where
@@ -185,7 +185,7 @@ module _ (ignoring : Bool) (ids : List Text) (old : Active) where
     parted : (on.front ++ id ∷ []) ++ rest ≡ ids
     parted = append_assoc on.front (id ∷ []) rest ∙ ap (λ (some : List Text). on.front ++ some) (sym is) ∙ on.all
 
-    pub puts_next : (new : Active) → ((written : List Request) → IsSettled now → PutsEach ignoring (cancels id ∷ []) written now (Ok tt) new) → (IsSpent now → PutsNone (cancels id ∷ []) now (Ok tt) new)
+    pub puts_next : (new : Active) → ((written : List Request) → IsActiveSettled now → PutsEach ignoring (cancels id ∷ []) written now (Ok tt) new) → (IsSpent now → PutsNone (cancels id ∷ []) now (Ok tt) new)
         → PutsOn ignoring ids rest old new
     puts_next new puts spent = record {
       front = on.front ++ id ∷ [];
@@ -200,8 +200,8 @@ module _ (ignoring : Bool) (ids : List Text) (old : Active) where
         not_put : now ≡ old → IsSpent old → ⊥
         not_put same none = let wrong : (cancels id ∷ []) ≡ [] = (spent (subst (λ (a : Active). IsSpent a) (sym same) none)).0 in cc
 
-    pub stops_next : (error : CancelError) (new : Active) → ((written : List Request) → IsSettled now → PutsEach ignoring (cancels id ∷ []) written now (Err error) new)
-        → (written : List Request) → IsSettled old → PutsEach ignoring (map cancels ids) written old (Err error) new
+    pub stops_next : (error : CancelError) (new : Active) → ((written : List Request) → IsActiveSettled now → PutsEach ignoring (cancels id ∷ []) written now (Err error) new)
+        → (written : List Request) → IsActiveSettled old → PutsEach ignoring (map cancels ids) written old (Err error) new
     stops_next error new puts written settled =
         let first = on.puts written settled in
         subst (λ (requests : List Request). PutsEach ignoring requests written old (Err error) new) asked_all
@@ -219,7 +219,7 @@ module _ (ignoring : Bool) (ids : List Text) (old : Active) where
     all_front : on.front ≡ ids
     all_front = sym (append-nil on.front) ∙ ap (λ (some : List Text). on.front ++ some) (sym is) ∙ on.all
 
-    pub puts_whole : (written : List Request) → IsSettled old → PutsEach ignoring (map cancels ids) written old (Ok tt) now
+    pub puts_whole : (written : List Request) → IsActiveSettled old → PutsEach ignoring (map cancels ids) written old (Ok tt) now
     puts_whole written settled = subst (λ (some : List Text). PutsAll ignoring (map cancels some) written old now) all_front (on.puts written settled)
 
     pub none_whole : IsSpent old → PutsNone (map cancels ids) old (Ok tt) now

@@ -8,7 +8,7 @@ use Rattle.attempt_model.specs.Machine.{Machine}
 use Rattle.vm_awaits.specs.Children.{AreMade}
 use Rattle.vm_awaits.specs.Views.{AsyncResults, results_of}
 use Rattle.vm_context.specs.Eager.{KnownState}
-use Rattle.vm_context.specs.Following.{KnowsState}
+use Rattle.vm_context.specs.StateKnowledge.{KnowsState}
 use Rattle.vm_calls.specs.declared.active.Active.{Active}
 use Rattle.vm_calls.specs.Active.{left_of, Sees}
 

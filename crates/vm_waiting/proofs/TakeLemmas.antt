@@ -20,11 +20,11 @@ use Rattle.protocol_messages.specs.Taken.{NotTaken}
 use Rattle.vm_waiting.specs.declared.taking.TakeError.{TakeError}
 use Rattle.vm_waiting.specs.declared.taking.TakeError.TheVariants.{KeyNotText, ChildNotId, OutOfMemory}
 use Rattle.vm_awaits.specs.Views.{AsyncResults, results_of, slots_of, ready_of}
-use Rattle.vm_awaits.specs.Calls.{after_take}
+use Rattle.vm_awaits.specs.Calls.{results_after_take}
 use Rattle.vm_calls.specs.declared.active.Active.{Active}
 use Rattle.vm_calls.specs.Active.{Sees}
-use Rattle.vm_waiting.specs.Tracking.{child_of_id, is_allowed, with_taken, Remembers}
-use Rattle.vm_waiting.specs.Waiting.{taken_error, IsTaken, KeepsTaken, Takes}
+use Rattle.vm_waiting.specs.TrackedChildren.{child_of_id, is_allowed, with_taken, Remembers}
+use Rattle.vm_waiting.specs.TakeEffects.{taken_error, IsResultTaken, KeepsTaken, TakesResult}
 use Rattle.vm_waiting.proofs.Seeing.{with_results, with_children, sees_with}
 use Rattle.vm_waiting.proofs.TrackLemmas.{nothing_taken, taken_is, allowed_is, taken_made}
 
@@ -46,26 +46,26 @@ refused (NotificationResult.Failure failure) why = absurd why
 refused (NotificationResult.InvocationId id) why = absurd why
 refused (NotificationResult.StateKeys keys) why = ap (λ (ks : List (List ℕ)). list_all is_utf8 ks) why.3 ∙ one_is_none why.0 why.1 why.2 why.4
 
-pub not_taken : (of_child : Bool) (brought : NotificationResult) (error : untaken.TakeError) → NotTaken brought error → IsTaken of_child (Some brought) (Err (taken_error error))
+pub not_taken : (of_child : Bool) (brought : NotificationResult) (error : untaken.TakeError) → NotTaken brought error → IsResultTaken of_child (Some brought) (Err (taken_error error))
 not_taken of_child brought unheld.KeyNotText why = refused brought why
 not_taken of_child brought unheld.OutOfMemory why = tt
 
 -- what was handed out is remembered, or memory is refused for that
-pub remembered : (child : Option ℕ) (of_child : Bool) (brought : Option NotificationResult) (taken : Option Value) (old new : List Child) (result : Result (Option Value) TakeError) → IsTaken of_child brought (Ok taken)
-    → Remembers child taken old result new → IfErr result (λ error. (error ≡ OutOfMemory) × (is_some taken ≡ true)) → IsTaken of_child brought result × KeepsTaken child old result new
+pub remembered : (child : Option ℕ) (of_child : Bool) (brought : Option NotificationResult) (taken : Option Value) (old new : List Child) (result : Result (Option Value) TakeError) → IsResultTaken of_child brought (Ok taken)
+    → Remembers child taken old result new → IfErr result (λ error. (error ≡ OutOfMemory) × (is_some taken ≡ true)) → IsResultTaken of_child brought result × KeepsTaken child old result new
 remembered child of_child brought taken old new (Ok value) is remembers memory =
-    (subst (λ (t : Option Value). IsTaken of_child brought (Ok t)) (sym remembers.0) is, remembers.1 ∙ ap (λ (t : Option Value). with_taken child t old) (sym remembers.0))
+    (subst (λ (t : Option Value). IsResultTaken of_child brought (Ok t)) (sym remembers.0) is, remembers.1 ∙ ap (λ (t : Option Value). with_taken child t old) (sym remembers.0))
 remembered child of_child None taken old new (Err error) is remembers memory = let none : false ≡ true = ap (λ (t : Option Value). is_some t) (sym is) ∙ memory.1 in cc
-remembered child of_child (Some brought) taken old new (Err error) is remembers memory = (subst (λ (e : TakeError). IsTaken of_child (Some brought) (Err e)) (sym memory.0) tt, remembers)
+remembered child of_child (Some brought) taken old new (Err error) is remembers memory = (subst (λ (e : TakeError). IsResultTaken of_child (Some brought) (Err e)) (sym memory.0) tt, remembers)
 
 -- what was handed out, and what is remembered of it, in the words of the clauses
 module _ (handle : ℕ) (old : Active) (found : Option ℕ) (is : found ≡ child_of_id (slot_of (slots_of old.results) handle) old.children) (of_child : Bool) (told : of_child ≡ is_some found)
     (brought : Option NotificationResult) (waits : brought ≡ waiting_for (slots_of old.results) (ready_of old.results) handle) (result : Result (Option Value) TakeError) where
-  pub value_then : IsTaken of_child brought result
-      → IsTaken (is_some (child_of_id (slot_of (slots_of old.results) handle) old.children)) (waiting_for (slots_of old.results) (ready_of old.results) handle) result
+  pub value_then : IsResultTaken of_child brought result
+      → IsResultTaken (is_some (child_of_id (slot_of (slots_of old.results) handle) old.children)) (waiting_for (slots_of old.results) (ready_of old.results) handle) result
   value_then taken =
-      subst (λ (b : Option NotificationResult). IsTaken (is_some (child_of_id (slot_of (slots_of old.results) handle) old.children)) b result) waits
-      (subst (λ (b : Bool). IsTaken b brought result) (told ∙ ap (λ (c : Option ℕ). is_some c) is) taken)
+      subst (λ (b : Option NotificationResult). IsResultTaken (is_some (child_of_id (slot_of (slots_of old.results) handle) old.children)) b result) waits
+      (subst (λ (b : Bool). IsResultTaken b brought result) (told ∙ ap (λ (c : Option ℕ). is_some c) is) taken)
 
   pub kept_then : (new : List Child) → KeepsTaken found old.children result new → KeepsTaken (child_of_id (slot_of (slots_of old.results) handle) old.children) old.children result new
   kept_then new kept = subst (λ (c : Option ℕ). KeepsTaken c old.children result new) is kept
@@ -94,12 +94,12 @@ module _ (checks_off : Bool) (given : Invocation) (m : Machine) (handle : ℕ) (
       ∙ (λ i. reply_where_taken m handle brought (texts i) (allows i))
 
   pub takes : (brought : Option NotificationResult) (result : Result (Option Value) TakeError) → brought ≡ waiting_for (slots_of old.results) (ready_of old.results) handle
-      → results_of new.results ≡ after_take handle brought (results_of old.results) → IsTaken (is_some child) brought result → KeepsTaken child old.children result new.children
-      → Takes checks_off given m handle result new
+      → results_of new.results ≡ results_after_take handle brought (results_of old.results) → IsResultTaken (is_some child) brought result → KeepsTaken child old.children result new.children
+      → TakesResult checks_off given m handle result new
   takes None (Ok taken) is rest nothing kept = record {
     machine = m;
     replies = ap (λ (b : Option NotificationResult). reply_to_take m handle b) (waits_as None is) ∙ ap (λ (t : Option Value). Answered (Answer.Taken t) m) (sym nothing);
-    sees = sees_with given m old new sees others m.queue m.ready m.slots m.children (rest ∙ ap (λ (r : AsyncResults). after_take handle None r) sees.results)
+    sees = sees_with given m old new sees others m.queue m.ready m.slots m.children (rest ∙ ap (λ (r : AsyncResults). results_after_take handle None r) sees.results)
         (kept ∙ ap (λ (t : Option Value). with_taken child t old.children) nothing ∙ nothing_taken child old.children ∙ sees.children) sees.made;
     written = refl;
   }
@@ -112,7 +112,7 @@ module _ (checks_off : Bool) (given : Invocation) (m : Machine) (handle : ℕ) (
         machine = with_children (with_results m m.queue ready slots) children;
         replies = replies brought true true is value.0 (allowed_as brought true value.1)
             ∙ ap (λ (t : Option Value). Answered (Answer.Taken t) (with_children (with_results m m.queue ready slots) children)) (sym value.2);
-        sees = sees_with given m old new sees others m.queue ready slots children (rest ∙ ap (λ (r : AsyncResults). after_take handle (Some brought) r) sees.results)
+        sees = sees_with given m old new sees others m.queue ready slots children (rest ∙ ap (λ (r : AsyncResults). results_after_take handle (Some brought) r) sees.results)
             (kept ∙ ap (λ (t : Option Value). with_taken child t old.children) value.2 ∙ (λ i. with_taken (child_is i) (Some (as_taken brought)) (sees.children i))
             ∙ taken_is slot m.children (as_taken brought) (ap (λ (c : Option ℕ). is_allowed (is_some c) (as_taken brought)) (sym child_is) ∙ value.1))
             (taken_made m.completions slot (as_taken brought) m.children sees.made);

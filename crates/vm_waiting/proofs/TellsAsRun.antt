@@ -5,13 +5,13 @@ use Rattle.journal_model.specs.Notification.{Arrival}
 use Rattle.journal_model.specs.AwaitTree.{AwaitTree, Single, Combined, AwaitTrees, no_trees, and_trees, map_leaves, map_leaves_of_trees}
 use Rattle.journal_model.specs.Request.{Request}
 use Rattle.journal_model.specs.History.{Step, stands_for}
-use Rattle.journal_model.specs.Waiting.{only_leaves, only_children, and_leaf, still_awaited}
+use Rattle.journal_model.specs.PrunedTrees.{only_leaves, only_children, and_leaf, still_awaited}
 use Rattle.journal_model.specs.Run.{Handler, Invocation, Progress, run}
 use Rattle.attempt_model.specs.Results.{slot_of}
 use Rattle.attempt_model.specs.Machine.{Machine}
-use Rattle.attempt_model.specs.Standing.{WaitsWithRun}
+use Rattle.attempt_model.specs.Simulation.{WaitsWithRun}
 use Rattle.vm_awaits.specs.Views.{AsyncResults}
-use Rattle.vm_waiting.specs.Telling.{WaitsTellAsRun}
+use Rattle.vm_waiting.specs.WaitReport.{WaitsTellAsRun}
 
 -- leaves are replaced, and then left out, in one step
 only_mapped : {A B : Type 0} (f : A → Option B) (trees : AwaitTrees A) → only_children (λ (leaf : Option B). leaf) (map_leaves_of_trees f trees) ≡ only_children f trees

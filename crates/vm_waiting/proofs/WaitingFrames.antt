@@ -9,7 +9,7 @@ use Rattle.protocol_table.specs.declared.table.RecordType.TheVariants as records
 use Rattle.protocol_types.specs.declared.message_type.MessageType.{MessageType}
 use Rattle.protocol_types.specs.declared.message_type.MessageType.TheVariants as messages
 use Rattle.protocol_types.specs.declared.version.Version.{Version}
-use Rattle.protocol_types.specs.MessageType.{number_of}
+use Rattle.protocol_types.specs.MessageType.{type_number}
 use Rattle.protocol_records.specs.declared.future.Future.{Future}
 use Rattle.protocol_records.specs.AwaitingOn.{awaiting_on_parts}
 use Rattle.protocol_stream.specs.declared.decoder.RawMessage.{RawMessage}
@@ -22,7 +22,7 @@ use Rattle.protocol_stream.proofs.RecordSpellings.{awaiting_on_spelled}
 use Rattle.protocol_messages.specs.Encoded.{suspends_by_lists, payload_message, suspension_message, plain_message}
 use Rattle.vm_context.specs.Output.{Written, with_frame}
 use Rattle.vm_calls.specs.declared.active.Active.{Active}
-use Rattle.vm_waiting.specs.Suspending.{suspension_payload_in, Writes, IsWritten}
+use Rattle.vm_waiting.specs.SuspensionFrames.{suspension_payload_in, WritesFrame, IsSuspensionWritten}
 use Rattle.vm_waiting.proofs.Listing.{suspension_spelled}
 
 -- ---- messages
@@ -57,16 +57,16 @@ module _ (ty : MessageType) (payload : List ℕ) (message : RawMessage) (result 
   too_long : result ≡ Err PayloadTooLong → 2 ^ 32 ≤ length payload
   too_long refused = subst (λ (one : RawMessage). 2 ^ 32 ≤ length one.payload) is (long.0 refused).1
 
-  frame_is : number_of ty < 2 ^ 16 → (result ≡ Err PayloadTooLong → ⊥) → new ≡ with_frame (spelled message) old → new ≡ with_frame (frame_bytes ty payload) old
+  frame_is : type_number ty < 2 ^ 16 → (result ≡ Err PayloadTooLong → ⊥) → new ≡ with_frame (spelled message) old → new ≡ with_frame (frame_bytes ty payload) old
   frame_is numbered not sent = elim (cases_Bool old.is_closed) [
     | inl closed ↦ sent ∙ behind_end (spelled message) (frame_bytes ty payload) old closed
     | inr opened ↦ sent ∙ ap (λ (frame : List ℕ). with_frame frame old) (ap spelled is ∙ spelled-frame_bytes ty payload numbered (fits not opened))
   ]
 
-pub writes : (ty : MessageType) (payload : List ℕ) (message : RawMessage) (result : Result (Unit {0}) EncodingError) (old new : Written) → message ≡ message_of ty payload → number_of ty < 2 ^ 16
+pub writes : (ty : MessageType) (payload : List ℕ) (message : RawMessage) (result : Result (Unit {0}) EncodingError) (old new : Written) → message ≡ message_of ty payload → type_number ty < 2 ^ 16
     → OnOk result (new ≡ with_frame (spelled message) old) → OnErr result (new ≡ old)
     → ((result ≡ Err PayloadTooLong) ↔ ((old.is_closed ≡ false) × (2 ^ 32 ≤ length message.payload)))
-    → Writes ty payload old result new
+    → WritesFrame ty payload old result new
 writes ty payload message (Ok done) old new is numbered sent kept long =
     (fits ty payload message (Ok done) old new is long (λ wrong. cc wrong), frame_is ty payload message (Ok done) old new is long numbered (λ wrong. cc wrong) sent)
 writes ty payload message (Err PayloadTooLong) old new is numbered sent kept long = (too_long ty payload message (Err PayloadTooLong) old new is long refl, kept)
@@ -78,5 +78,5 @@ module _ (ids : AwaitTree NotificationId) (old : Active) where
   abbrev suspension : List ℕ
   suspension = suspension_payload_in old.output.version ids
 
-  pub suspended : (output : Written) → Writes messages.Suspension suspension old.output (Ok tt) output → IsWritten ids old (Ok tt) (record old { output = record output { is_closed = true } })
+  pub suspended : (output : Written) → WritesFrame messages.Suspension suspension old.output (Ok tt) output → IsSuspensionWritten ids old (Ok tt) (record old { output = record output { is_closed = true } })
   suspended output writes = record { fits = writes.0; suspended = ap (λ (o : Written). record old { output = record o { is_closed = true } }) writes.1 }

@@ -1,8 +1,8 @@
-pub mod Waiting
-pub mod Suspending
+pub mod TakeEffects
+pub mod SuspensionFrames
 pub mod WaitsFor
-pub mod Cancelling
-pub mod Awaiting
-pub mod Telling
-pub mod Tracking
-pub mod Pairing
+pub mod ChildCancellation
+pub mod AwaitSteps
+pub mod WaitReport
+pub mod TrackedChildren
+pub mod CompletionPairs

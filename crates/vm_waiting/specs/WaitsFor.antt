@@ -4,12 +4,12 @@ use Rattle.journal_model.specs.declared.notification.NotificationId.{Notificatio
 use Rattle.journal_model.specs.declared.notification.NotificationId.TheVariants.{CompletionId}
 use Rattle.journal_model.specs.AwaitTree.{AwaitTree, Single}
 use Rattle.journal_model.specs.Future.{tree_of}
-use Rattle.journal_model.specs.Waiting.{only_leaves}
+use Rattle.journal_model.specs.PrunedTrees.{only_leaves}
 use Rattle.attempt_model.specs.Machine.{Machine, Reply, AwaitsTree, AwaitsChild}
 use Rattle.attempt_model.specs.Results.{Slots, slot_of}
 use Rattle.vm_awaits.specs.Views.{slots_of}
 use Rattle.vm_calls.specs.declared.active.Active.{Active}
-use Rattle.vm_waiting.specs.Suspending.{has_leaf}
+use Rattle.vm_waiting.specs.SuspensionFrames.{has_leaf}
 use Rattle.vm_waiting.specs.declared.waits_for.WaitsFor.{WaitsFor}
 use Rattle.vm_waiting.specs.declared.waits_for.WaitsFor.TheVariants.{Future, Child}
 

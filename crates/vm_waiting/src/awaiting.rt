@@ -4,7 +4,7 @@ ghost use Rattle.journal_model.specs.declared.future.UnresolvedFuture.{Unresolve
 ghost use Rattle.journal_model.specs.Future.{tree_of};
 ghost use Rattle.journal_model.specs.Await.{with_cancellation, awaited_tree};
 ghost use Rattle.vm_awaits.specs.Views.{results_of};
-ghost use Rattle.vm_waiting.specs.Awaiting.{awaits_nothing, is_cancelled_in, asleep_as, Cancels, PassesOn, WakesAs, Resolves, ComesTo, AwaitsSeen};
+ghost use Rattle.vm_waiting.specs.AwaitSteps.{awaits_nothing, is_cancelled_in, asleep_as, Cancels, PassesOn, WakesAs, Resolves, AwaitComesTo, AwaitsSeen};
 
 use crate::WaitsFor;
 use crate::cancelling::{CancelError, put_cancels};
@@ -184,7 +184,7 @@ fn come_to(
     checks_off: bool,
     future: UnresolvedFuture,
 ) -> Result<Awaited, AwaitError>
-    ensures { ComesTo cancellation checks_off (tree_of future) active.old result active.new }
+    ensures { AwaitComesTo cancellation checks_off (tree_of future) active.old result active.new }
 {
     match resolve(&mut active.results, alloc, cancellation, future) {
         Ok(ResolveFutureResult::AnyCompleted) => wake(active, alloc, cancellation, checks_off),
@@ -207,7 +207,7 @@ pub fn await_future(
     checks_off: bool,
     future: UnresolvedFuture,
 ) -> Result<Awaited, AwaitError>
-    ensures held { ComesTo cancellation checks_off (tree_of future) active.old result active.new }
+    ensures held { AwaitComesTo cancellation checks_off (tree_of future) active.old result active.new }
     ensures awaits { AwaitsSeen cancellation checks_off (tree_of future) active.old result active.new }
 {
     come_to(active, alloc, cancellation, checks_off, future)

@@ -6,15 +6,15 @@ ghost use Rattle.journal_model.specs.Run.{call_record, name_or_empty};
 ghost use Rattle.journal_model.specs.Refusal.{refusal_of};
 ghost use Rattle.protocol_laws.specs.Requests.{request_of_call};
 ghost use Rattle.vm_commands.specs.HeaderEquality.{is_unstable};
-ghost use Rattle.vm_commands.specs.Passed.{type_of_record};
+ghost use Rattle.protocol_messages.specs.RecordMessage.{type_of_record};
 ghost use Rattle.vm_calls.specs.Words.{Call, Answer, Request, Invocation, Machine};
 ghost use Rattle.vm_calls.specs.Active.{Sees, asking, IsAtCommand, TellsSame, LacksCompletions, HasCompletions};
-ghost use Rattle.vm_calls.specs.Making.{Makes, AsksOne, IsReady};
+ghost use Rattle.vm_calls.specs.CommandCalls.{Makes, AsksOne, IsReadyToPut};
 ghost use Rattle.vm_calls.specs.Spent.{IsSpent, FailsSpent, KeepsRest};
-ghost use Rattle.vm_calls.specs.Finding.{FindsAs};
+ghost use Rattle.vm_calls.specs.MismatchedCommands.{FindsAs};
 ghost use Rattle.vm_calls.specs.declared.call_error.NumberError.TheVariants.{IdsExhausted};
-ghost use Rattle.vm_waiting.specs.Pairing.{TakesTwo};
-ghost use Rattle.vm_waiting.specs.Tracking.{Tracks};
+ghost use Rattle.vm_waiting.specs.CompletionPairs.{TakesTwo};
+ghost use Rattle.vm_waiting.specs.TrackedChildren.{Tracks};
 
 use crate::tracking::{keep_child, tracks_calls};
 use bytes::{ByteStr, Bytes};
@@ -147,7 +147,7 @@ pub(crate) fn put_call<M: Command, T: Copy>(
 ) -> Result<T, CallError<M>>
     ensures journal { active.new.journal ≡ active.old.journal }
     ensures makes { (checks_off : Bool) (given : Invocation) (m : Machine) (call : Call) (request : Request) (old : Active) → M.request_of command ≡ Some request
-        → (answer : T → Answer) → AsksOne given m call request → ignore ≡ (checks_off || is_unstable call) → IsReady given m call request old active.old
+        → (answer : T → Answer) → AsksOne given m call request → ignore ≡ (checks_off || is_unstable call) → IsReadyToPut given m call request old active.old
         → answer_by given.input.invocation_id (next_slot m) m.signals call ≡ answer handles → Makes checks_off given m call answer old result active.new }
     ensures spent { (request : Request) (taken : ℕ) (old : Active) → M.request_of command ≡ Some request → KeepsRest old active.old → HasCompletions taken old
         → IsSpent old → FailsSpent taken old result active.new }

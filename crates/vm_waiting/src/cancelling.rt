@@ -1,9 +1,9 @@
 // How a cancellation is passed on to the children.
 ghost use Rattle.std.specs.Prelude.{◌≡◌, List, [], ◌∷◌, Some, map};
 ghost use Rattle.journal_model.specs.Request.{Request};
-ghost use Rattle.vm_calls.specs.Active.{IsSettled};
+ghost use Rattle.vm_calls.specs.Active.{IsActiveSettled};
 ghost use Rattle.vm_calls.specs.Spent.{IsSpent};
-ghost use Rattle.vm_waiting.specs.Cancelling.{cancels, PutsEach, PutsNone};
+ghost use Rattle.vm_waiting.specs.ChildCancellation.{cancels, PutsEach, PutsNone};
 
 use bytes::ByteStr;
 use protocol_calls::SendSignalCommandMessage;
@@ -26,7 +26,7 @@ fn put_cancel(
     checks_off: bool,
     id: ByteStr,
 ) -> Result<(), CancelError>
-    ensures puts { (written : List Request) → IsSettled active.old → PutsEach checks_off (cancels id ∷ []) written active.old result active.new }
+    ensures puts { (written : List Request) → IsActiveSettled active.old → PutsEach checks_off (cancels id ∷ []) written active.old result active.new }
     ensures spent { IsSpent active.old → PutsNone (cancels id ∷ []) active.old result active.new }
 {
     let Ok(entry_name) = active.ask(MessageType::SendSignalCommand, ByteStr::new()) else {
@@ -51,7 +51,7 @@ pub(crate) fn put_cancels(
     checks_off: bool,
     ids: Vec<ByteStr>,
 ) -> Result<(), CancelError>
-    ensures puts { (written : List Request) → IsSettled active.old → PutsEach checks_off (map cancels ids.items) written active.old result active.new }
+    ensures puts { (written : List Request) → IsActiveSettled active.old → PutsEach checks_off (map cancels ids.items) written active.old result active.new }
     ensures spent { IsSpent active.old → PutsNone (map cancels ids.items) active.old result active.new }
 {
     for id in ids {

@@ -5,7 +5,7 @@ ghost use Rattle.journal_model.specs.Value.{as_taken};
 ghost use Rattle.attempt_model.specs.Children.{AreIds, child_value, children_state, with_child};
 ghost use Rattle.vm_awaits.specs.Views.{results_of, ready_of};
 ghost use Rattle.vm_awaits.specs.Children.{child_told};
-ghost use Rattle.vm_waiting.specs.Cancelling.{state_as, LooksFor, id_in, with_id, ids_known};
+ghost use Rattle.vm_waiting.specs.ChildCancellation.{state_as, LooksFor, id_in, with_id, ids_known};
 
 use crate::taking::is_id;
 use bytes::ByteStr;

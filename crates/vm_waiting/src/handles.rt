@@ -1,7 +1,7 @@
 // Whether a future has a handle at all.
 ghost use Rattle.std.specs.Prelude.{◌≡◌};
 ghost use Rattle.journal_model.specs.Future.{tree_of};
-ghost use Rattle.vm_waiting.specs.Suspending.{has_leaf};
+ghost use Rattle.vm_waiting.specs.SuspensionFrames.{has_leaf};
 
 use journal_model::UnresolvedFuture;
 use vm_awaits::tree::{Opened, open};

@@ -1,7 +1,7 @@
 // How deep a future is nested.
 ghost use Rattle.std.specs.Prelude.{◌≡◌};
 ghost use Rattle.journal_model.specs.Future.{tree_of};
-ghost use Rattle.vm_waiting.specs.Suspending.{is_nested_within};
+ghost use Rattle.vm_waiting.specs.SuspensionFrames.{is_nested_within};
 
 use journal_model::UnresolvedFuture;
 use vm_awaits::tree::{Opened, open};

@@ -7,9 +7,9 @@ ghost use Rattle.protocol_types.specs.declared.message_type.MessageType.TheVaria
 ghost use Rattle.protocol_laws.specs.Requests.{request_of_one_way_call};
 ghost use Rattle.vm_calls.specs.Words.{Call, Answer, Request, Invocation, Machine};
 ghost use Rattle.vm_calls.specs.Active.{Sees, IsAtCommand};
-ghost use Rattle.vm_calls.specs.Making.{Makes};
+ghost use Rattle.vm_calls.specs.CommandCalls.{Makes};
 ghost use Rattle.vm_calls.specs.Spent.{IsSpent, FailsSpent};
-ghost use Rattle.vm_calls.specs.Finding.{FindsAs};
+ghost use Rattle.vm_calls.specs.MismatchedCommands.{FindsAs};
 
 use crate::calling::put_call;
 use crate::tracking::{begin_tracked, tracks_sends};

@@ -9,7 +9,7 @@ ghost use Rattle.protocol_types.specs.declared.message_type.MessageType.TheVaria
 ghost use Rattle.vm_awaits.specs.Views.{slots_of};
 ghost use Rattle.attempt_model.specs.Results.{Slots};
 ghost use Rattle.vm_waiting.specs.WaitsFor.{ids_over, awaited_ids, waits_for_any};
-ghost use Rattle.vm_waiting.specs.Suspending.{suspension_payload_in, is_suspension_too_deep, Writes, IsWritten, WritesAwaited, Suspends, allows_telling, tells_awaiting, TellsIf};
+ghost use Rattle.vm_waiting.specs.SuspensionFrames.{suspension_payload_in, is_suspension_too_deep, WritesFrame, IsSuspensionWritten, WritesAwaited, Suspends, allows_telling, tells_awaiting, TellsIf};
 
 use crate::WaitsFor;
 use protocol_records::{AwaitingOnMessage, Future, SuspensionMessage};
@@ -51,7 +51,7 @@ fn write_suspension(
     awaiting_on: Future,
 ) -> Result<(), EncodingError>
     ensures { (tree : AwaitTree NotificationId) → awaiting_on ≡ future_record tree
-        → Writes Suspension (suspension_payload_in output.old.version tree) output.old result output.new }
+        → WritesFrame Suspension (suspension_payload_in output.old.version tree) output.old result output.new }
 {
     let message = SuspensionMessage {
         awaiting_on: Some(awaiting_on),
@@ -63,7 +63,7 @@ fn write_suspension(
 
 fn write_awaiting_on(output: &mut Output, alloc: Global, told: Future) -> Result<(), EncodingError>
     ensures { (tree : AwaitTree NotificationId) → told ≡ future_record tree
-        → Writes AwaitingOn (awaiting_on_payload tree false) output.old result output.new }
+        → WritesFrame AwaitingOn (awaiting_on_payload tree false) output.old result output.new }
 {
     let message = AwaitingOnMessage {
         awaiting_on: Some(told),
@@ -86,7 +86,7 @@ fn is_suspension_too_deep(version: Version, waits: &WaitsFor) -> bool
 
 // Writes what it waits for, and ends the output, or leaves the attempt as it was.
 fn write_and_end(active: &mut Active, alloc: Global, waits: WaitsFor) -> Result<(), EncodingError>
-    ensures { IsWritten (awaited_ids active.old waits) active.old result active.new }
+    ensures { IsSuspensionWritten (awaited_ids active.old waits) active.old result active.new }
 {
     let awaiting_on = record_of(&active.results, alloc, waits)?;
     write_suspension(&mut active.output, alloc, awaiting_on)?;

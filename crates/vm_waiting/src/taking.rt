@@ -6,9 +6,9 @@ ghost use Rattle.journal_model.specs.Value.{as_taken};
 ghost use Rattle.attempt_model.specs.Children.{is_id};
 ghost use Rattle.attempt_model.specs.Results.{are_keys_text, slot_of, waiting_for};
 ghost use Rattle.vm_awaits.specs.Views.{results_of, slots_of, ready_of};
-ghost use Rattle.vm_awaits.specs.Calls.{after_take};
-ghost use Rattle.vm_waiting.specs.Tracking.{child_of_id, is_allowed, Remembers};
-ghost use Rattle.vm_waiting.specs.Waiting.{taken_error, IsTaken, KeepsTaken, TakesSeen};
+ghost use Rattle.vm_awaits.specs.Calls.{results_after_take};
+ghost use Rattle.vm_waiting.specs.TrackedChildren.{child_of_id, is_allowed, Remembers};
+ghost use Rattle.vm_waiting.specs.TakeEffects.{taken_error, IsResultTaken, KeepsTaken, TakesSeen};
 ghost use Rattle.vm_waiting.specs.declared.taking.TakeError.TheVariants.{OutOfMemory};
 
 use bytes::Bytes;
@@ -94,7 +94,7 @@ fn handed_out(
     of_child: bool,
     brought: Option<NotificationResult>,
 ) -> Result<Option<Value>, TakeError>
-    ensures { IsTaken of_child brought result }
+    ensures { IsResultTaken of_child brought result }
 {
     let Some(brought) = brought else {
         return Ok(None);
@@ -158,10 +158,10 @@ pub fn take(
     handle: NotificationHandle,
 ) -> Result<Option<Value>, TakeError>
     ensures taken { TakesSeen handle active.old result active.new }
-    ensures value { IsTaken (is_some (child_of_id (slot_of (slots_of active.old.results) handle) active.old.children))
+    ensures value { IsResultTaken (is_some (child_of_id (slot_of (slots_of active.old.results) handle) active.old.children))
         (waiting_for (slots_of active.old.results) (ready_of active.old.results) handle) result }
     ensures rest { results_of active.new.results
-        ≡ after_take handle (waiting_for (slots_of active.old.results) (ready_of active.old.results) handle) (results_of active.old.results) }
+        ≡ results_after_take handle (waiting_for (slots_of active.old.results) (ready_of active.old.results) handle) (results_of active.old.results) }
     ensures children { KeepsTaken (child_of_id (slot_of (slots_of active.old.results) handle) active.old.children) active.old.children result active.new.children }
     ensures others { active.new ≡ record active.old { results = active.new.results; children = active.new.children } }
 {

@@ -2,7 +2,7 @@
 ghost use Rattle.std.specs.Prelude.{◌≡◌, OnOk, IfOk, IfErr};
 ghost use Rattle.vm_calls.specs.Active.{asking, IsAtCommand, TakesCompletion, LacksCompletions};
 ghost use Rattle.vm_calls.specs.declared.call_error.NumberError.TheVariants.{IdsExhausted};
-ghost use Rattle.vm_waiting.specs.Tracking.{tracks_calls, tracks_sends, children_kept, Tracks};
+ghost use Rattle.vm_waiting.specs.TrackedChildren.{tracks_calls, tracks_sends, children_kept, Tracks};
 
 use bytes::ByteStr;
 use journal_model::{ImplicitCancellationOption, NotificationHandle};

@@ -5,7 +5,7 @@ ghost use Rattle.journal_model.specs.declared.notification.NotificationId.TheVar
 ghost use Rattle.protocol_stream.specs.Records.{future_record};
 ghost use Rattle.attempt_model.specs.Results.{Slots};
 ghost use Rattle.vm_awaits.specs.Views.{slots_of};
-ghost use Rattle.vm_waiting.specs.Suspending.{is_too_deep};
+ghost use Rattle.vm_waiting.specs.SuspensionFrames.{is_too_deep};
 ghost use Rattle.vm_waiting.specs.WaitsFor.{ids_over, waits_for_any};
 
 use crate::handles::has_handle;

@@ -1,6 +1,6 @@
 -- The laws are proved in `Calling` and `Standing`.
 use Rattle.body_laws.proofs.Calling.{calls_simulate, leaves_none}
-use Rattle.body_laws.proofs.Standing.{are_requested}
+use Rattle.body_laws.proofs.BodySimulation.{are_requested}
 use Rattle.body_laws.proofs.bodies_simulate.Goals as goal
 
 pub returns-clause-answers : goal.returns-clause-answers

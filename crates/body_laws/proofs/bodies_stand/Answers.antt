@@ -1,5 +1,5 @@
 -- The laws are proved in `Standing`.
-use Rattle.body_laws.proofs.Standing.{begins_with, reads, comes, others_refused, proposes}
+use Rattle.body_laws.proofs.BodySimulation.{begins_with, reads, comes, others_refused, proposes}
 use Rattle.body_laws.proofs.bodies_stand.Goals as goal
 
 pub returns-clause-begins : goal.returns-clause-begins

@@ -1,5 +1,5 @@
 -- All are proved in `Listing`.
-use Rattle.due_laws.proofs.Listing.{due_listed, awake_found, due_tells}
+use Rattle.due_laws.proofs.DueList.{due_listed, awake_found, due_tells}
 use Rattle.due_laws.proofs.due_listed.Goals as goal
 
 pub returns-clause-listed : goal.returns-clause-listed

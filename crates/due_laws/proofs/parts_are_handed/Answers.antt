@@ -1,5 +1,5 @@
 -- All are proved in `Handing` and in `Told`.
-use Rattle.due_laws.proofs.Handing.{part_is_taken, taken_is_part, given_is_asked, count_is_unseen, part_is_handed, chains_are_one}
+use Rattle.due_laws.proofs.InputParts.{part_is_taken, taken_is_part, given_is_asked, count_is_unseen, part_is_handed, chains_are_one}
 use Rattle.due_laws.proofs.Told.{chain_is_handed_out, chain_goes_on}
 use Rattle.due_laws.proofs.parts_are_handed.Goals as goal
 

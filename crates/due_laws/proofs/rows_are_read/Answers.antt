@@ -1,5 +1,5 @@
 -- Both are proved in `Handing`.
-use Rattle.due_laws.proofs.Handing.{rows_are_read, rows_tell}
+use Rattle.due_laws.proofs.InputParts.{rows_are_read, rows_tell}
 use Rattle.due_laws.proofs.rows_are_read.Goals as goal
 
 pub returns-clause-steps : goal.returns-clause-steps

@@ -1,5 +1,5 @@
 -- Both are proved in `Reading`.
-use Rattle.input_laws.proofs.Reading.{read_first, read_all}
+use Rattle.input_laws.proofs.ArrivalsRead.{read_first, read_all}
 use Rattle.input_laws.proofs.read_is_handed.Goals as goal
 
 pub returns-clause-first : goal.returns-clause-first

@@ -2,7 +2,7 @@
 use Rattle.std.proofs.Common.{◌≡◌, refl, Option, Some, None, inr}
 use Rattle.journal_model.specs.declared.notification.NotificationId.{NotificationId}
 use Rattle.journal_model.specs.AwaitTree.{AwaitState, Pending}
-use Rattle.journal_model.specs.Waiting.{state_of_some}
+use Rattle.journal_model.specs.PrunedTrees.{state_of_some}
 use Rattle.journal_laws.proofs.Leaving.{only_leaves-awake}
 use Rattle.journal_laws.proofs.Pruning.{pruned-awake}
 use Rattle.journal_laws.proofs.suspensions_wake.Goals as goal

@@ -1,5 +1,5 @@
 -- It is proved in `Asking`.
-use Rattle.live_laws.proofs.Asking.{come_as_asked}
+use Rattle.live_laws.proofs.AskedArrivals.{come_as_asked}
 use Rattle.live_laws.proofs.arrivals_come_as_asked.Goals as goal
 
 pub returns : goal.returns

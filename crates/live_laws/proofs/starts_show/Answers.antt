@@ -1,5 +1,5 @@
 -- It is proved in `Beginning`.
-use Rattle.live_laws.proofs.Beginning.{start_shows}
+use Rattle.live_laws.proofs.StartFrame.{start_shows}
 use Rattle.live_laws.proofs.starts_show.Goals as goal
 
 pub returns : goal.returns

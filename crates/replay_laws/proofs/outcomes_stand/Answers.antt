@@ -1,5 +1,5 @@
 -- The laws are proved in `Flying`.
-use Rattle.replay_laws.proofs.Flying.{outcomes_begin, outcomes_stay, outcomes_are_new, others_follow, outcomes_are_open}
+use Rattle.replay_laws.proofs.OutcomesInFlight.{outcomes_begin, outcomes_stay, outcomes_are_new, others_follow, outcomes_are_open}
 use Rattle.replay_laws.proofs.outcomes_stand.Goals as goal
 
 pub returns-clause-begins : goal.returns-clause-begins

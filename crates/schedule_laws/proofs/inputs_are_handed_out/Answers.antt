@@ -1,5 +1,5 @@
 -- The law is proved in `Handing`.
-use Rattle.schedule_laws.proofs.Handing.{hands_out_input}
+use Rattle.schedule_laws.proofs.HandedInput.{hands_out_input}
 use Rattle.schedule_laws.proofs.inputs_are_handed_out.Goals as goal
 
 pub returns : goal.returns

@@ -1,5 +1,5 @@
 -- Proved in `Telling`.
-use Rattle.vm_attempt_laws.proofs.Telling.{turns_tell}
+use Rattle.vm_attempt_laws.proofs.TurnReports.{turns_tell}
 use Rattle.vm_attempt_laws.proofs.turns_tell.Goals as goal
 
 pub returns : goal.returns

@@ -1,5 +1,5 @@
 -- Proved in `Reading`.
-use Rattle.vm_input_laws.proofs.Reading.{arrivals_are_read}
+use Rattle.vm_input_laws.proofs.JournalReads.{arrivals_are_read}
 use Rattle.vm_input_laws.proofs.arrivals_are_read.Goals as goal
 
 pub returns : goal.returns

@@ -1,5 +1,5 @@
 -- Proved in `Beginning`.
-use Rattle.vm_input_laws.proofs.Beginning.{attempts_begin}
+use Rattle.vm_input_laws.proofs.NewMachineInput.{attempts_begin}
 use Rattle.vm_input_laws.proofs.attempts_begin.Goals as goal
 
 pub returns : goal.returns

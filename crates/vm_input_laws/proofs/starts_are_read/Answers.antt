@@ -1,5 +1,5 @@
 -- Proved in `Starting`.
-use Rattle.vm_input_laws.proofs.Starting.{starts_are_read}
+use Rattle.vm_input_laws.proofs.MachineStart.{starts_are_read}
 use Rattle.vm_input_laws.proofs.starts_are_read.Goals as goal
 
 pub returns : goal.returns

@@ -1,5 +1,5 @@
 -- Proved in `Reading`.
-use Rattle.vm_output_laws.proofs.Reading.{errors_are_meant}
+use Rattle.vm_output_laws.proofs.FrameMeanings.{errors_are_meant}
 use Rattle.vm_output_laws.proofs.errors_are_meant.Goals as goal
 
 pub returns : goal.returns

@@ -1,5 +1,5 @@
 -- Proved in `Telling`.
-use Rattle.vm_output_laws.proofs.Telling.{suspensions_tell}
+use Rattle.vm_output_laws.proofs.SuspensionContent.{suspensions_tell}
 use Rattle.vm_output_laws.proofs.suspensions_tell.Goals as goal
 
 pub returns : goal.returns

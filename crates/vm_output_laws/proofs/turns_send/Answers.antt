@@ -1,5 +1,5 @@
 -- Proved in `Turning`.
-use Rattle.vm_output_laws.proofs.Turning.{turns_send}
+use Rattle.vm_output_laws.proofs.TurnFrames.{turns_send}
 use Rattle.vm_output_laws.proofs.turns_send.Goals as goal
 
 pub returns : goal.returns

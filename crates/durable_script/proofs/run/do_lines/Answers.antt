@@ -7,7 +7,7 @@ use Rattle.script_lines.specs.Script.{numbered_lines}
 use Rattle.script_lines.specs.ScriptLines.{lines_left}
 use Rattle.durable_script.specs.Runner.{DoesNext}
 use Rattle.durable_script.specs.Run.{texts_of, DoesAll, DoesFirst}
-use Rattle.durable_script.proofs.Reaching.{reaches_none}
+use Rattle.durable_script.proofs.SchedulerChanges.{reaches_none}
 use Rattle.durable_script.proofs.Doing.{next_line, one_more, stops, breaks}
 use Rattle.durable_script.proofs.run.do_lines.Goals as goal
 

@@ -2,7 +2,7 @@ use Rattle.std.proofs.Common.{List}
 use Rattle.std.specs.Io.KnownBytes.{Appends}
 use Rattle.script_lines.specs.Script.{numbered_lines}
 use Rattle.script_lines.specs.ScriptLines.{lines_left}
-use Rattle.durable_script.specs.Reaching.{Reaches}
+use Rattle.durable_script.specs.SchedulerChanges.{Reaches}
 use Rattle.durable_script.specs.Run.{DoneLine, texts_of, DoesAll, DoesFirst, HasDone}
 use Rattle.durable_script.proofs.run.do_lines.Given as goal
 

@@ -1,6 +1,6 @@
 use Rattle.std.proofs.Common.{ℕ, List, subst, inr}
 use Rattle.script_lines.specs.Script.{numbered_lines}
-use Rattle.durable_script.specs.Reaching.{Reaches}
+use Rattle.durable_script.specs.SchedulerChanges.{Reaches}
 use Rattle.durable_script.specs.Run.{DoneLine, DoesAll, DoesFirst, DoesLines, AreDone}
 use Rattle.durable_script.proofs.Doing.{comes_so}
 use Rattle.durable_script.proofs.Leaving.{are_done}

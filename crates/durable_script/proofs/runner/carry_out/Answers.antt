@@ -6,22 +6,22 @@ use Rattle.durable_schedule.specs.Schedules.event
 use Rattle.durable_schedule.specs.Schedules.{Event}
 use Rattle.script_lines.specs.declared.line.Line.TheVariants as line
 use Rattle.durable_script.specs.Line.{DoesEvent, DoesSomeEvent}
-use Rattle.durable_script.specs.Printed.{Makes}
-use Rattle.durable_script.specs.Reaching.{Reaches}
+use Rattle.durable_script.specs.Printed.{MakesText}
+use Rattle.durable_script.specs.SchedulerChanges.{Reaches}
 use Rattle.durable_script.proofs.Printing.{makes_begun, makes_quiet}
 use Rattle.durable_script.proofs.runner.carry_out.Goals as goal
 
 pub returns-in-Invoke : goal.returns-in-Invoke
 returns-in-Invoke g c =
     rw c.in-Invoke.is
-    (subst (λ (one : Event BuiltIn). Makes string_bytes c.do_event.result (λ text. Reaches g.S.Store (DoesSomeEvent one) (DoesEvent one text) c.args.scheduler.now c.do_event.new.scheduler)) c.invoke-event.ensures c.do_event.ensures)
+    (subst (λ (one : Event BuiltIn). MakesText string_bytes c.do_event.result (λ text. Reaches g.S.Store (DoesSomeEvent one) (DoesEvent one text) c.args.scheduler.now c.do_event.new.scheduler)) c.invoke-event.ensures c.do_event.ensures)
 
 pub returns-in-Result : goal.returns-in-Result
 returns-in-Result g c =
     let it = c.in-Result in
     rw it.is
     (subst (λ (value : NotificationResult). let one = event.Result it.id it.completion value in
-    Makes string_bytes c.do_event-in-Result.result (λ text. Reaches g.S.Store (DoesSomeEvent one) (DoesEvent one text) c.args.scheduler.now c.do_event-in-Result.new.scheduler)) c.brought-value.ensures c.do_event-in-Result.ensures)
+    MakesText string_bytes c.do_event-in-Result.result (λ text. Reaches g.S.Store (DoesSomeEvent one) (DoesEvent one text) c.args.scheduler.now c.do_event-in-Result.new.scheduler)) c.brought-value.ensures c.do_event-in-Result.ensures)
 
 pub returns-in-Signal : goal.returns-in-Signal
 returns-in-Signal g c =
@@ -29,7 +29,7 @@ returns-in-Signal g c =
     let did = c.do_event-in-Signal in
     rw it.is
     (subst (λ (value : NotificationResult). let one = event.Signal it.id it.target value in
-    Makes string_bytes did.result (λ text. Reaches g.S.Store (DoesSomeEvent one) (DoesEvent one text) c.args.scheduler.now did.new.scheduler)) c.brought-value-in-Signal.ensures did.ensures)
+    MakesText string_bytes did.result (λ text. Reaches g.S.Store (DoesSomeEvent one) (DoesEvent one text) c.args.scheduler.now did.new.scheduler)) c.brought-value-in-Signal.ensures did.ensures)
 
 pub returns-in-Cancel : goal.returns-in-Cancel
 returns-in-Cancel g c = rw c.in-Cancel.is c.do_event-in-Cancel.ensures

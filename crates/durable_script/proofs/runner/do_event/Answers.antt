@@ -2,7 +2,7 @@ use Rattle.std.proofs.Common.{◌≡◌, ℕ, List, ◌∷◌, [], ◌++◌, ref
 use Rattle.std.specs.Prelude.{string_bytes, IfOk}
 use Rattle.durable_script.specs.Printed.{printed}
 use Rattle.durable_script.proofs.Printing.{event_printed}
-use Rattle.durable_script.proofs.Reaching.{reaches_applied}
+use Rattle.durable_script.proofs.SchedulerChanges.{reaches_applied}
 use Rattle.durable_script.proofs.runner.do_event.Goals as goal
 
 pub returns : goal.returns

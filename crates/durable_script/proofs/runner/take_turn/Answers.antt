@@ -1,7 +1,7 @@
 use Rattle.std.proofs.Common.{refl, subst}
 use Rattle.durable_schedule.specs.Attempts.{RunOutcome}
 use Rattle.durable_schedule.specs.Schedules.event
-use Rattle.durable_script.proofs.Reaching.{Promised}
+use Rattle.durable_script.proofs.SchedulerChanges.{Promised}
 use Rattle.durable_script.proofs.Turning.{turn_not_taken, turn_taken}
 use Rattle.durable_script.proofs.runner.take_turn.Goals as goal
 

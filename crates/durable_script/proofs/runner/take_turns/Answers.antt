@@ -1,7 +1,7 @@
 use Rattle.std.proofs.Common.{refl, arith}
 use Rattle.durable_script.specs.Line.{TurnsGoOn}
-use Rattle.durable_script.specs.Reaching.{Nowhere}
-use Rattle.durable_script.proofs.Reaching.{reaches_none}
+use Rattle.durable_script.specs.SchedulerChanges.{Nowhere}
+use Rattle.durable_script.proofs.SchedulerChanges.{reaches_none}
 use Rattle.durable_script.proofs.Turning.{turned_last, turned_more}
 use Rattle.durable_script.proofs.runner.take_turns.Goals.{then-taken-count-via-then-taken-count, then-taken-count-via-else-taken-count+then-not-goes_on}
 use Rattle.durable_script.proofs.runner.take_turns.Goals as goal

@@ -1,6 +1,6 @@
 use Rattle.std.proofs.Common.{◌≡◌, ◌≤◌, ◌+◌, ◌-◌, ℕ}
 use Rattle.durable_script.specs.Line.{TurnsGoOn}
-use Rattle.durable_script.specs.Reaching.{Reaches, Nowhere}
+use Rattle.durable_script.specs.SchedulerChanges.{Reaches, Nowhere}
 use Rattle.durable_script.proofs.runner.take_turns.Given as goal
 
 abbrev pub invariant-loop-taken : goal.invariant-loop-taken

@@ -1,6 +1,6 @@
 use Rattle.std.proofs.Common.{◌≡◌, ℕ, List, ◌∷◌, [], ◌++◌, subst}
 use Rattle.std.specs.Prelude.{string_bytes, IfOk}
-use Rattle.store_refusals.specs.Names.{name_of}
+use Rattle.store_refusals.specs.Names.{refusal_name_of}
 use Rattle.script_lines.specs.Text.{refused_text}
 use Rattle.durable_script.specs.Shown.{shown_text}
 use Rattle.durable_script.proofs.Showing.{records_printed, refusal_printed}
@@ -16,7 +16,7 @@ returns-in-Ok g c =
 
 pub returns-in-Err : goal.returns-in-Err
 returns-in-Err g c = (
-  refused_text (name_of c.in-Err.refusal) ++ 10 ∷ [],
+  refused_text (refusal_name_of c.in-Err.refusal) ++ 10 ∷ [],
   subst (λ (name : List ℕ). IfOk c.reply_line.result (λ s. string_bytes s ≡ refused_text name ++ 10 ∷ [])) c.name.ensures c.reply_line.ensures,
   refusal_printed g.S.Store c.args.id.now c.args.scheduler.now c.shown.new.scheduler c.in-Err.refusal c.in-Err.ensures.err,
 )

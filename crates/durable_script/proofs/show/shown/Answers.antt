@@ -1,4 +1,4 @@
-use Rattle.durable_script.proofs.Reaching.{reaches_told}
+use Rattle.durable_script.proofs.SchedulerChanges.{reaches_told}
 use Rattle.durable_script.proofs.Showing.{KnownAnswer, KnownOpen, refused_as, refused_so, shown_all, unknown_second, unknown_third}
 use Rattle.durable_script.proofs.show.shown.Goals as goal
 

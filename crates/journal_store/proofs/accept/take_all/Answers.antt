@@ -1,7 +1,7 @@
 use Rattle.std.proofs.Common.{rules, refl, Ok, Err}
-use Rattle.store_calls.specs.Frames.{TakesFirst}
+use Rattle.store_calls.specs.Frames.{TakesFirstFrames}
 use Rattle.journal_store.proofs.Enduring.{same_endures}
-use Rattle.journal_store.proofs.Accepting.{first_endures, goes_further, kept_on, none_taken, refused_settled, refused_so, refused_tried, rests_settled, rests_so, settled_on}
+use Rattle.journal_store.proofs.OutputAcceptance.{first_endures, goes_further, kept_on, none_taken, refused_settled, refused_so, refused_tried, rests_settled, rests_so, settled_on}
 use Rattle.journal_store.proofs.accept.take_all.Goals as goal
 
 pub loop-replies-init : goal.loop-replies-init
@@ -9,7 +9,7 @@ loop-replies-init g c = record {
   taken = none_taken g.S.Store c.args.id.now c.args.attempt _ (search rules) c.args.store.now;
   settled = λ some. absurd (some (search rules));
   kept = λ none clean is_open. (is_open, refl);
-  crash = same_endures g.S.Store (TakesFirst c.args.id.now c.args.attempt) c.args.store.now;
+  crash = same_endures g.S.Store (TakesFirstFrames c.args.id.now c.args.attempt) c.args.store.now;
 }
 
 pub loop-replies-preserved : goal.loop-replies-preserved

@@ -2,18 +2,18 @@
 use Rattle.std.proofs.Common.{◌≡◌, ◌-◌, ◌^◌, ◌≢◌, []}
 use Rattle.std.specs.Prelude.{vec_len}
 use Rattle.sqlite.specs.Held.{state}
-use Rattle.sql_tables.specs.Asking.{IsKept}
-use Rattle.store_calls.specs.Frames.{TakesEach, TakesFirst}
+use Rattle.sql_tables.specs.QueryAnswers.{AreTablesKept}
+use Rattle.store_calls.specs.Frames.{TakesEach, TakesFirstFrames}
 use Rattle.journal_store.specs.Stands.{Endures, Leads, Settles}
-use Rattle.journal_store.proofs.Accepting.{GoesOn}
+use Rattle.journal_store.proofs.OutputAcceptance.{GoesOn}
 use Rattle.journal_store.proofs.accept.take_all.Given as goal
 
 abbrev pub invariant-loop-replies : goal.invariant-loop-replies
 invariant-loop-replies g l = record {
   taken : Leads g.S.Store (GoesOn l.id l.attempt l.replies.items) l.initial.store l.store;
   settled : l.replies.items ≢ [] → Settles g.S.Store (TakesEach l.id l.attempt l.replies.items) l.initial.store l.store;
-  kept : l.replies.items ≡ [] → IsKept (state g.S.Store l.initial.store.connection) (state g.S.Store l.store.connection);
-  crash : Endures g.S.Store (TakesFirst l.id l.attempt) l.initial.store l.store;
+  kept : l.replies.items ≡ [] → AreTablesKept (state g.S.Store l.initial.store.connection) (state g.S.Store l.store.connection);
+  crash : Endures g.S.Store (TakesFirstFrames l.id l.attempt) l.initial.store l.store;
 }
 
 abbrev pub decreases-loop-replies : goal.decreases-loop-replies

@@ -2,8 +2,8 @@ use Rattle.std.proofs.Common.{inl, inr, sym, ap, subst, ◌∙◌, List, [], ◌
 use Rattle.store_steps.specs.declared.frame.FrameReply.{FrameReply}
 use Rattle.store_calls.specs.Frames.{Steps}
 use Rattle.journal_store.specs.Stands.{Leads}
-use Rattle.journal_store.specs.Taking.{SettlesStep}
-use Rattle.journal_store.proofs.Accepting.{more_behind, next_none, next_refused, next_taken, next_unroomed}
+use Rattle.journal_store.specs.FrameAcceptance.{SettlesStep}
+use Rattle.journal_store.proofs.OutputAcceptance.{more_behind, next_none, next_refused, next_taken, next_unroomed}
 use Rattle.journal_store.proofs.Lasting.{same_kept}
 use Rattle.journal_store.proofs.accept.take_next.Goals as goal
 

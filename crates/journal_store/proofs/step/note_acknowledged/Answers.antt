@@ -1,5 +1,5 @@
 use Rattle.std.proofs.Common.{ℕ, subst, Option}
-use Rattle.journal_store.specs.Taking.{HasRoomToNote}
+use Rattle.journal_store.specs.FrameAcceptance.{HasRoomToNote}
 use Rattle.journal_store.proofs.step.note_acknowledged.Goals as goal
 
 pub note_outcome-requires : goal.note_outcome-requires

@@ -3,7 +3,7 @@ use Rattle.std.specs.List.{flat_map}
 use Rattle.std.proofs.lemmas.List.{take_all}
 use Rattle.protocol_wire.specs.Spelling.{varint_spelling}
 use Rattle.protocol_wire.specs.Parts.{part_spelling, repeated_bytes}
-use Rattle.protocol_wire.specs.Lengths.{counted}
+use Rattle.protocol_wire.specs.Lengths.{counted_bytes}
 use Rattle.protocol_table.specs.declared.table.suspension_v6.TheConstants.{WAITING_NAMED_SIGNALS}
 use Rattle.protocol_records.specs.declared.future.Future.{out-Future}
 use Rattle.protocol_messages.specs.Leaves.{completions_of, signals_of, named_signals_of}
@@ -17,7 +17,7 @@ returns-clause-completions t c =
     let f = c.args.future.now in
     let before = c.args.lengths.now.completions in
     let whole = take_all c.loop-nested.nested-index items c.loop-nested-test.false ∙ c.as_slice-nested-items.ensures in
-    let own = c.count_numbers-lengths.ensures ∙ ap (λ (xs : List ℕ). counted before (flat_map varint_spelling xs)) c.as_slice.ensures in
+    let own = c.count_numbers-lengths.ensures ∙ ap (λ (xs : List ℕ). counted_bytes before (flat_map varint_spelling xs)) c.as_slice.ensures in
     counted_node (flat_map varint_spelling) numbers_apart completions_of before _ _ (out-Future f).waiting_completions _ (take c.loop-nested.nested-index items) _ own c.loop-nested.invariant.0 whole (completions_is f)
 
 pub returns-clause-signals : goal.returns-clause-signals
@@ -26,7 +26,7 @@ returns-clause-signals t c =
     let f = c.args.future.now in
     let before = c.args.lengths.now.signals in
     let whole = take_all c.loop-nested.nested-index items c.loop-nested-test.false ∙ c.as_slice-nested-items.ensures in
-    let own = c.count_numbers-lengths-2.ensures ∙ ap (λ (xs : List ℕ). counted before (flat_map varint_spelling xs)) c.as_slice-2.ensures in
+    let own = c.count_numbers-lengths-2.ensures ∙ ap (λ (xs : List ℕ). counted_bytes before (flat_map varint_spelling xs)) c.as_slice-2.ensures in
     counted_node (flat_map varint_spelling) numbers_apart signals_of before _ _ (out-Future f).waiting_signals _ (take c.loop-nested.nested-index items) _ own c.loop-nested.invariant.1 whole (signals_is f)
 
 pub returns-clause-named_signals : goal.returns-clause-named_signals

@@ -2,7 +2,7 @@ use Rattle.std.proofs.Common.{◌≡◌, List, take, map}
 use Rattle.std.specs.List.{flat_map}
 use Rattle.protocol_wire.specs.Spelling.{varint_spelling}
 use Rattle.protocol_wire.specs.Parts.{part_spelling, repeated_bytes}
-use Rattle.protocol_wire.specs.Lengths.{counted}
+use Rattle.protocol_wire.specs.Lengths.{counted_bytes}
 use Rattle.protocol_table.specs.declared.table.suspension_v6.TheConstants.{WAITING_NAMED_SIGNALS}
 use Rattle.protocol_records.specs.declared.future.Future.{Future}
 use Rattle.protocol_messages.specs.Leaves.{completions_of, signals_of, named_signals_of}
@@ -14,6 +14,6 @@ leaves_in leaves fs = flat_map (λ found. found) (map leaves fs)
 
 abbrev pub invariant-loop-nested : goal.invariant-loop-nested
 invariant-loop-nested l =
-    (l.lengths.completions ≡ counted l.initial.lengths.completions (flat_map varint_spelling (leaves_in completions_of (take l.nested-index l.nested-items))))
-    × (l.lengths.signals ≡ counted l.initial.lengths.signals (flat_map varint_spelling (leaves_in signals_of (take l.nested-index l.nested-items))))
-    × (l.lengths.named_signals ≡ counted l.initial.lengths.named_signals (part_spelling (repeated_bytes WAITING_NAMED_SIGNALS.number (leaves_in named_signals_of (take l.nested-index l.nested-items)))))
+    (l.lengths.completions ≡ counted_bytes l.initial.lengths.completions (flat_map varint_spelling (leaves_in completions_of (take l.nested-index l.nested-items))))
+    × (l.lengths.signals ≡ counted_bytes l.initial.lengths.signals (flat_map varint_spelling (leaves_in signals_of (take l.nested-index l.nested-items))))
+    × (l.lengths.named_signals ≡ counted_bytes l.initial.lengths.named_signals (part_spelling (repeated_bytes WAITING_NAMED_SIGNALS.number (leaves_in named_signals_of (take l.nested-index l.nested-items)))))

@@ -1,6 +1,6 @@
 use Rattle.std.proofs.Common.{◌∙◌, ◌<◌, length, sym, arith}
 use Rattle.std.proofs.lemmas.List.{length-set}
-use Rattle.protocol_wire.specs.Seen.{field as seen}
+use Rattle.protocol_wire.specs.Seen.{field}
 use Rattle.protocol_wire.proofs.Steps.{are_fields-some}
 use Rattle.protocol_wire.proofs.Listing.{listed_more}
 use Rattle.protocol_wire.proofs.listed.list_fields.Goals as goal
@@ -14,5 +14,5 @@ loop-count-preserved c =
       count = omega (arith, less);
       room = length-set c.loop-count.room c.loop-count.count c.in-Some.field ∙ room;
       all = listed_more c.loop-count.room c.loop-count.count c.in-Some.field c.loop-count.rest.now c.in-Some.after.now here c.in-Some.ensures ∙ c.loop-count.invariant.all;
-      whole = sym (are_fields-some c.loop-count.rest.now (seen c.in-Some.field) c.in-Some.after.now (sym c.in-Some.ensures)) ∙ c.loop-count.invariant.whole;
+      whole = sym (are_fields-some c.loop-count.rest.now (field c.in-Some.field) c.in-Some.after.now (sym c.in-Some.ensures)) ∙ c.loop-count.invariant.whole;
     }

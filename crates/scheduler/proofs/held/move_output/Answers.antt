@@ -5,10 +5,10 @@ use Rattle.store_steps.specs.declared.frame.FrameReply.{FrameReply}
 use Rattle.store_calls.specs.Calls.{PutsBehind}
 use Rattle.store_calls.specs.Frames.{Accepts, AcceptsFirst, TakesEach}
 use Rattle.store_calls.proofs.Taking.{same_stays}
-use Rattle.journal_store.specs.Accepting.{OutlastsFrames}
+use Rattle.journal_store.specs.OutputAcceptance.{OutlastsFrames}
 use Rattle.journal_store.specs.Causes.{TellsWhyUnwritten, TriesFrameOf}
 use Rattle.journal_store.specs.Stands.{Endures}
-use Rattle.store_calls.specs.Standing.{Standing}
+use Rattle.store_calls.specs.AbstractStore.{Standing}
 use Rattle.journal_store.proofs.Enduring.{same_endures}
 use Rattle.schedule_model.specs.Lends.{held_as}
 use Rattle.schedule_model.specs.declared.event.Reply.TheVariants as reply

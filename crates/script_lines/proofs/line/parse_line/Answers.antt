@@ -1,5 +1,5 @@
 use Rattle.std.proofs.Common.{◌∙◌, sym, ap, map, List, ℕ, Bor}
-use Rattle.script_lines.specs.Reading.{line_of}
+use Rattle.script_lines.specs.LineReader.{line_of}
 use Rattle.script_lines.proofs.LineLaws.{read_line, read_no_line}
 use Rattle.script_lines.proofs.line.parse_line.Goals as goal
 

@@ -1,5 +1,5 @@
 use Rattle.std.proofs.Common.{◌∙◌, sym}
-use Rattle.sql_tables.proofs.Reading.{err_and, foreign_among}
+use Rattle.sql_tables.proofs.RowReads.{err_and, foreign_among}
 use Rattle.sql_tables.proofs.stored.all_of.Goals as goal
 
 pub returns-in_err-record-clause-foreign : goal.returns-in_err-record-clause-foreign

@@ -4,13 +4,13 @@ use Rattle.journal_model.specs.Spelling.{notification_payload}
 use Rattle.store_invocations.proofs.Refusing.{refused_memory}
 use Rattle.store_refusals.proofs.Causes.{memory_unasked}
 use Rattle.store_invocations.specs.Rows.{payload_tests}
-use Rattle.store_arrivals.specs.Arrivals.{IsArrival, IsWritten}
+use Rattle.store_arrivals.specs.Arrivals.{IsArrival, IsArrivalWritten}
 use Rattle.store_arrivals.proofs.arrival.arrival_in.Goals as goal
 
 pub returns-in_ok-made-in-Ok-clause-decided : goal.returns-in_ok-made-in-Ok-clause-decided
 returns-in_ok-made-in-Ok-clause-decided c = (
   c.in-Ok.ensures.decided.0,
-  subst₂ (λ (answered : Option ℕ) (payload : Bytes). IsWritten c.args.row c.args.ty answered payload c.in_ok-made-in-Ok.made)
+  subst₂ (λ (answered : Option ℕ) (payload : Bytes). IsArrivalWritten c.args.row c.args.ty answered payload c.in_ok-made-in-Ok.made)
       c.answered_id-answered.ensures c.in-Ok.ensures.decided.1 c.in_ok-made-in-Ok.ensures,
 )
 

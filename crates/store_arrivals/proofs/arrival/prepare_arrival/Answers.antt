@@ -2,7 +2,7 @@ use Rattle.std.proofs.Common.{◌∷◌, [], ◌^◌, ◌-◌, nat_lt}
 use Rattle.journal_model.specs.Spelling.{notification_payload}
 use Rattle.journal_model.specs.Cause.{is_too_long}
 use Rattle.journal_model.specs.declared.cause.Cause.{Cause}
-use Rattle.protocol_types.specs.MessageType.{number_of}
+use Rattle.protocol_types.specs.MessageType.{type_number}
 use Rattle.store_invocations.proofs.Refusing.{decided_later, first_of_two, none_of_one}
 use Rattle.store_invocations.specs.Rows.{payload_tests}
 use Rattle.store_arrivals.specs.Arrivals.{IsArrival}

@@ -1,7 +1,6 @@
-use Rattle.std.proofs.Common.{◌≡◌, ◌∙◌, sym, ap, subst, arith, inr, IsTrue}
+use Rattle.std.proofs.Common.{◌≡◌, ◌∙◌, sym, ap, subst, arith, inr, IsTrue, not, is_some}
 use Rattle.sqlite.specs.Held.{state}
 use Rattle.sqlite.specs.State.{State, HasCleanDisk}
-use Rattle.std.proofs.Common.{not, is_some}
 use Rattle.journal_model.specs.Journal.{entries_of, is_awaited}
 use Rattle.store_tables.specs.Questions.{answers}
 use Rattle.store_model.proofs.Answering.{answer_found}

@@ -1,13 +1,12 @@
-use Rattle.std.proofs.Common.{◌≡◌, ◌∙◌, sym, ap, subst, arith}
+use Rattle.std.proofs.Common.{◌≡◌, ◌∙◌, sym, ap, subst, arith, option_map, []}
 use Rattle.sqlite.specs.Held.{state}
 use Rattle.sqlite.specs.State.{State, HasCleanDisk}
-use Rattle.std.proofs.Common.{option_map, []}
 use Rattle.journal_model.specs.Journal.{entries_of, open_request}
 use Rattle.store_refusals.specs.Refused.{IsRefused}
 use Rattle.store_refusals.proofs.Causes.{cause_by, err_later}
 use Rattle.store_invocations.proofs.Reading.{told_err}
 use Rattle.store_invocations.proofs.Standing.{store_kept}
-use Rattle.store_arrivals.specs.Asked.{asked_by}
+use Rattle.store_arrivals.specs.Asked.{completion_asked_by}
 use Rattle.store_arrivals.proofs.Waiting.{closed_if, open_if, told_open}
 use Rattle.store_arrivals.proofs.asking.open_request_of.Goals as goal
 
@@ -15,13 +14,13 @@ pub returns-in_err-come-clause-told : goal.returns-in_err-come-clause-told
 returns-in_err-come-clause-told g c clean events store =
     let id = c.args.id.now in
     let n = c.args.completion in
-    told_err (λ asked. asked ≡ option_map (asked_by n) (open_request (entries_of events id) n)) c.from_residual.result c.from_residual.ensures.1 (λ why gives.
+    told_err (λ asked. asked ≡ option_map (completion_asked_by n) (open_request (entries_of events id) n)) c.from_residual.result c.from_residual.ensures.1 (λ why gives.
     subst (IsRefused []) (sym gives) (c.in_err-come.ensures.told clean events store))
 
 pub returns-then-come-clause-told : goal.returns-then-come-clause-told
 returns-then-come-clause-told g c clean events store =
     let n = c.args.completion in
-    sym (ap (option_map (asked_by n)) (closed_if n (entries_of events c.args.id.now) (sym (c.in_ok-come.ensures.told clean events store) ∙ c.if-come.true)))
+    sym (ap (option_map (completion_asked_by n)) (closed_if n (entries_of events c.args.id.now) (sym (c.in_ok-come.ensures.told clean events store) ∙ c.if-come.true)))
 
 pub returns-clause-told : goal.returns-clause-told
 returns-clause-told g c clean events store =

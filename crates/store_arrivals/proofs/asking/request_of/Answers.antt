@@ -1,13 +1,12 @@
-use Rattle.std.proofs.Common.{◌≡◌, ◌∙◌, sym, ap, subst, arith}
+use Rattle.std.proofs.Common.{◌≡◌, ◌∙◌, sym, ap, subst, arith, option_map, []}
 use Rattle.sqlite.specs.Held.{state}
 use Rattle.sqlite.specs.State.{State, HasCleanDisk}
-use Rattle.std.proofs.Common.{option_map, []}
 use Rattle.journal_model.specs.Journal.{entries_of, request_asking}
 use Rattle.store_refusals.specs.Refused.{IsRefused}
 use Rattle.store_refusals.proofs.Causes.{cause_by, err_later}
 use Rattle.store_invocations.proofs.Reading.{told_err}
 use Rattle.store_invocations.proofs.Standing.{store_kept}
-use Rattle.store_arrivals.specs.Asked.{as_second, asked_by}
+use Rattle.store_arrivals.specs.Asked.{as_second, completion_asked_by}
 use Rattle.store_arrivals.proofs.Waiting.{first_asked, second_asked}
 use Rattle.store_arrivals.proofs.asking.request_of.Goals as goal
 
@@ -15,7 +14,7 @@ pub returns-in_err-first-clause-told : goal.returns-in_err-first-clause-told
 returns-in_err-first-clause-told g c clean events store =
     let id = c.args.id.now in
     let n = c.args.completion in
-    told_err (λ asked. asked ≡ option_map (asked_by n) (request_asking (entries_of events id) n)) c.from_residual.result c.from_residual.ensures.1 (λ why gives.
+    told_err (λ asked. asked ≡ option_map (completion_asked_by n) (request_asking (entries_of events id) n)) c.from_residual.result c.from_residual.ensures.1 (λ why gives.
     subst (IsRefused []) (sym gives) (c.in_err-first.ensures.told clean events store))
 
 pub returns-in-Some-clause-told : goal.returns-in-Some-clause-told
@@ -31,7 +30,7 @@ returns-in_err-second-in-None-clause-told g c clean events store =
     let id = c.args.id.now in
     let n = c.args.completion in
     let stands = store_kept events old mid c.first_type.ensures.looks.crash c.first_type.ensures.looks.kept store in
-    told_err (λ asked. asked ≡ option_map (asked_by n) (request_asking (entries_of events id) n)) c.from_residual-in_err-second-in-None.result c.from_residual-in_err-second-in-None.ensures.1 (λ why gives.
+    told_err (λ asked. asked ≡ option_map (completion_asked_by n) (request_asking (entries_of events id) n)) c.from_residual-in_err-second-in-None.result c.from_residual-in_err-second-in-None.ensures.1 (λ why gives.
     subst (IsRefused []) (sym gives) (c.in_err-second-in-None.ensures.told clean events stands))
 
 pub returns-in_ok-second-in-None-clause-told : goal.returns-in_ok-second-in-None-clause-told

@@ -3,7 +3,7 @@ use Rattle.sqlite.specs.Held.{state}
 use Rattle.sqlite.specs.State.{State, HasCleanDisk}
 use Rattle.journal_model.specs.Event.{Event}
 use Rattle.journal_model.specs.Cause.{adding_tests}
-use Rattle.protocol_types.specs.MessageType.{number_of}
+use Rattle.protocol_types.specs.MessageType.{type_number}
 use Rattle.store_refusals.proofs.Causes.{err_later}
 use Rattle.store_invocations.proofs.Refusing.{refused_more}
 use Rattle.store_invocations.proofs.Standing.{store_kept}
@@ -25,7 +25,7 @@ pub returns-in-Err-clause-decided : goal.returns-in-Err-clause-decided
 returns-in-Err-clause-decided g c clean events store of =
     let id = c.args.id.now in
     let n = c.args.completion in
-    refused_more (completion_tests events id n c.args.brought) (adding_tests events id (Event.Complete id n c.args.brought)) _ (c.in-Err.ensures.decided clean events store)
+    refused_more (completion_tests events id n c.args.brought) (adding_tests events id (Event.Result id n c.args.brought)) _ (c.in-Err.ensures.decided clean events store)
 
 pub returns-in-Ok-clause-cause : goal.returns-in-Ok-clause-cause
 returns-in-Ok-clause-cause g c =

@@ -4,7 +4,7 @@ use Rattle.journal_model.specs.declared.notification.NotificationId.TheVariants.
 use Rattle.journal_model.specs.Journal.{entries_of, open_request}
 use Rattle.journal_model.specs.Attempt.{notification_type}
 use Rattle.journal_model.specs.Cause.{those_that_hold}
-use Rattle.protocol_types.specs.MessageType.{number_of}
+use Rattle.protocol_types.specs.MessageType.{type_number}
 use Rattle.protocol_types.specs.declared.message_type.MessageType.{MessageType}
 use Rattle.store_refusals.specs.Refused.{IsRefused}
 use Rattle.store_refusals.specs.declared.refusal.Refusal.{Refusal}

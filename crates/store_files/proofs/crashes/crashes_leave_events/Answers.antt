@@ -1,8 +1,8 @@
 -- The laws are proved in `Leaving`.
 use Rattle.journal_model.specs.Event.{Event}
-use Rattle.store_calls.specs.Standing.{Adds}
+use Rattle.store_calls.specs.AbstractStore.{Adds}
 use Rattle.journal_store.specs.Attempts.{BeginsSome}
-use Rattle.store_files.proofs.Crashing.{calls_leave, opens_leave, quiet_calls_leave}
+use Rattle.store_files.proofs.CrashImages.{calls_leave, opens_leave, quiet_calls_leave}
 use Rattle.store_files.proofs.crashes.crashes_leave_events.Goals as goal
 
 pub returns-clause-calls : goal.returns-clause-calls

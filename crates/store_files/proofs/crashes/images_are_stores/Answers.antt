@@ -1,4 +1,4 @@
-use Rattle.store_files.proofs.Crashing.{images_are}
+use Rattle.store_files.proofs.CrashImages.{images_are}
 use Rattle.store_files.proofs.crashes.images_are_stores.Goals as goal
 
 pub returns : goal.returns

@@ -1,7 +1,7 @@
 -- Proved in `Meanings`.
 use Rattle.std.proofs.Common.{ap, ◌∙◌}
 use Rattle.protocol_types.specs.Version.{version_number}
-use Rattle.store_frames.specs.Meaning.{asks_ack}
+use Rattle.store_frames.specs.FrameMeanings.{asks_ack}
 use Rattle.store_frames.proofs.Meanings.{meant}
 use Rattle.store_frames.proofs.read.read_frame.Goals as goal
 

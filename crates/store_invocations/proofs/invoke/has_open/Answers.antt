@@ -1,7 +1,6 @@
-use Rattle.std.proofs.Common.{◌≡◌, ◌∙◌, sym, ap, subst, arith, inr, IsTrue}
+use Rattle.std.proofs.Common.{◌≡◌, ◌∙◌, sym, ap, subst, arith, inr, IsTrue, is_some}
 use Rattle.sqlite.specs.Held.{state}
 use Rattle.sqlite.specs.State.{State, HasCleanDisk}
-use Rattle.std.proofs.Common.{is_some}
 use Rattle.journal_model.specs.Journal.{is_busy}
 use Rattle.store_tables.specs.Questions.{is_open_of}
 use Rattle.store_model.proofs.Opening.{open_found}

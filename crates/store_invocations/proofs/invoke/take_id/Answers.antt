@@ -1,5 +1,4 @@
-use Rattle.std.proofs.Common.{◌≡◌, ◌∙◌, sym, ap, subst}
-use Rattle.std.proofs.Common.{is_some}
+use Rattle.std.proofs.Common.{◌≡◌, ◌∙◌, sym, ap, subst, is_some}
 use Rattle.journal_model.specs.Journal.{invocation_begun}
 use Rattle.journal_model.specs.Cause.{those_that_hold}
 use Rattle.journal_model.specs.declared.cause.Cause.{Cause}

@@ -1,5 +1,4 @@
-use Rattle.std.proofs.Common.{◌∙◌, sym, subst}
-use Rattle.std.proofs.Common.{◌∷◌, [], not, ◌&&◌, is_some}
+use Rattle.std.proofs.Common.{◌∙◌, sym, subst, ◌∷◌, [], not, ◌&&◌, is_some}
 use Rattle.journal_model.specs.Journal.{invocation_begun, is_open}
 use Rattle.journal_model.specs.Cause.{open_tests, those_that_hold}
 use Rattle.journal_model.specs.declared.cause.Cause.{Cause}

@@ -4,7 +4,7 @@ use Rattle.journal_model.specs.Spelling.{frame_bytes}
 use Rattle.protocol_types.specs.declared.message_type.MessageType.{MessageType}
 use Rattle.store_invocations.proofs.Refusing.{refused_memory}
 use Rattle.store_invocations.specs.Rows.{Decides, payload_tests}
-use Rattle.store_invocations.specs.Start.{start_of}
+use Rattle.store_invocations.specs.Start.{start_frame_payload}
 use Rattle.store_invocations.proofs.start.start_frame.Goals as goal
 
 pub returns-clause-decided : goal.returns-clause-decided
@@ -14,5 +14,5 @@ returns-clause-decided c =
 
 pub returns-in_err-payload-clause-decided : goal.returns-in_err-payload-clause-decided
 returns-in_err-payload-clause-decided c =
-    let payload = start_of c.args.row.now c.args.states.now c.args.now in
+    let payload = start_frame_payload c.args.row.now c.args.states.now c.args.now in
     refused_memory (payload_tests payload) (λ start. start ≡ frame_bytes MessageType.Start payload) c.from_residual.result c.from_residual.ensures.1

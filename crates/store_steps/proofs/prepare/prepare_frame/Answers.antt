@@ -11,7 +11,7 @@ use Rattle.journal_model.specs.declared.cause.Cause.{Cause}
 use Rattle.store_refusals.specs.declared.refusal.Refusal.TheVariants as refusal
 use Rattle.store_refusals.proofs.Causes.{err_later, read_cause}
 use Rattle.store_invocations.proofs.Standing.{store_kept}
-use Rattle.store_steps.specs.Taken.{Takes}
+use Rattle.store_steps.specs.Taken.{TakesAttemptFrame}
 use Rattle.store_steps.proofs.Taking.{row_of, never_missing, never_foreign, read_failed, was_asked}
 use Rattle.store_steps.proofs.Waking.{no_other}
 use Rattle.store_steps.proofs.prepare.prepare_frame.Goals as goal
@@ -76,7 +76,7 @@ pub returns-in-Err-clause-prepared : goal.returns-in-Err-clause-prepared
 returns-in-Err-clause-prepared g c clean events store =
     let old : State = state g.S.Store c.args.tables.now in
     let early : HasCleanDisk old = omega (arith, c.invocation_by_id.ensures.looks.crash.clean) in
-    subst (λ (why : Refusal). Takes events c.args.id.now c.args.attempt c.args.frame (Err why)) (sym c.from.ensures)
+    subst (λ (why : Refusal). TakesAttemptFrame events c.args.id.now c.args.attempt c.args.frame (Err why)) (sym c.from.ensures)
     (read_failed events c.args.id.now c.in-Err.error
     (λ is. never_foreign events old (store.keeps early (c.in-Err.ensures.open clean is)) c.args.id.now (c.in-Err.ensures.foreign clean is))
     c.args.attempt c.args.frame)

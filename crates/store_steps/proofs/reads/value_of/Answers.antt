@@ -4,7 +4,7 @@ use Rattle.sqlite.specs.Held.{state}
 use Rattle.sqlite.specs.State.{State, HasCleanDisk}
 use Rattle.journal_model.specs.Delivery.{value_or_void}
 use Rattle.journal_model.specs.Journal.{object_state}
-use Rattle.journal_model.specs.State.{value_at}
+use Rattle.journal_model.specs.State.{value_of_key}
 use Rattle.store_tables.specs.Records.{is_at_key}
 use Rattle.store_tables.specs.Questions.{IsFound}
 use Rattle.store_tables.specs.declared.row.StateRow.{StateRow}
@@ -39,7 +39,7 @@ returns-in_err-found-clause-told g c clean events store =
     let early : HasCleanDisk old = omega (arith, c.state_at.ensures.looks.crash.clean) in
     let object = c.args.object.now in
     let key = c.args.key.now in
-    told_err (λ value. value ≡ value_or_void (value_at (object_state events object) key)) c.from_residual.result c.from_residual.ensures.1 (λ why gives.
+    told_err (λ value. value ≡ value_or_void (value_of_key (object_state events object) key)) c.from_residual.result c.from_residual.ensures.1 (λ why gives.
     inr (subst (λ w. IsTrue (is_circumstance w)) (sym gives)
     (asked_once events old (λ r. r.states) (is_at_key object key) _ (c.in_err-found.ensures.open clean) (c.in_err-found.ensures.foreign clean) (store.keeps early)
     (once_of events (λ r. r.states) (is_at_key object key) (row_at_key events object key) (value_kept events object key)))))

@@ -2,7 +2,7 @@ use Rattle.std.proofs.Common.{◌∙◌, sym, arith}
 use Rattle.std.specs.Prelude.{IfSome}
 use Rattle.sqlite.specs.Values.{or_null}
 use Rattle.sql_tables.specs.Cells.{IsShort, short_cell}
-use Rattle.sql_tables.proofs.Reading.{cell_of, err_and}
+use Rattle.sql_tables.proofs.RowReads.{cell_of, err_and}
 use Rattle.store_tables.specs.Records.{invocation_cells}
 use Rattle.store_tables.proofs.Columns.{closing_number}
 use Rattle.store_tables.proofs.from_row.closing_from.Goals as goal

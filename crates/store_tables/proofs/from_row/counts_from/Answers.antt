@@ -1,6 +1,6 @@
 use Rattle.std.proofs.Common.{◌∙◌, refl, sym, arith}
 use Rattle.sql_tables.specs.Cells.{IsShort, short_cell}
-use Rattle.sql_tables.proofs.Reading.{cell_of, err_and}
+use Rattle.sql_tables.proofs.RowReads.{cell_of, err_and}
 use Rattle.store_tables.specs.Records.{invocation_cells}
 use Rattle.store_tables.proofs.from_row.counts_from.Goals as goal
 

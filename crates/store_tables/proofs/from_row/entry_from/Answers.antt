@@ -1,7 +1,7 @@
 use Rattle.std.proofs.Common.{◌≡◌, ◌∙◌, [], ◌∷◌, length, refl, sym, arith}
 use Rattle.std.specs.Prelude.{IsUtf8, ⊤}
 use Rattle.sqlite.specs.declared.types.Value.TheVariants.{Blob, Text}
-use Rattle.sql_tables.proofs.Reading.{cell_of, err_and}
+use Rattle.sql_tables.proofs.RowReads.{cell_of, err_and}
 use Rattle.store_tables.specs.Records.{entry_cells}
 use Rattle.store_tables.proofs.Columns.{nine}
 use Rattle.store_tables.proofs.from_row.entry_from.Goals as goal

@@ -3,7 +3,7 @@ use Rattle.std.specs.Prelude.{IfSome, IsUtf8}
 use Rattle.sqlite.specs.Values.{or_null}
 use Rattle.sqlite.specs.declared.types.Value.TheVariants.{Text}
 use Rattle.sql_tables.specs.Cells.{IsShort, short_cell}
-use Rattle.sql_tables.proofs.Reading.{cell_of, err_and}
+use Rattle.sql_tables.proofs.RowReads.{cell_of, err_and}
 use Rattle.store_tables.specs.Records.{invocation_cells}
 use Rattle.store_tables.proofs.Columns.{code_number, behavior_number, message_text}
 use Rattle.store_tables.proofs.from_row.error_from.Goals as goal

@@ -1,7 +1,7 @@
 use Rattle.std.proofs.Common.{◌≡◌, ◌∙◌, refl, sym, ap, arith}
 use Rattle.sqlite_value.specs.Order.{Row, column}
 use Rattle.sql_tables.specs.Cells.{IsShort, short_cell}
-use Rattle.sql_tables.proofs.Reading.{cell_of, err_and}
+use Rattle.sql_tables.proofs.RowReads.{cell_of, err_and}
 use Rattle.store_tables.specs.Kinds.{kept_kind}
 use Rattle.store_tables.specs.Records.{entry_cells}
 use Rattle.store_tables.proofs.KeptKinds.{kept_of, kind_fits, none_kept}

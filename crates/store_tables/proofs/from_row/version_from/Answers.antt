@@ -1,7 +1,7 @@
 use Rattle.std.proofs.Common.{◌∙◌, refl, sym, arith}
 use Rattle.protocol_types.specs.Version.{version_number}
 use Rattle.sql_tables.specs.Cells.{IsShort, short_cell}
-use Rattle.sql_tables.proofs.Reading.{cell_of, err_and}
+use Rattle.sql_tables.proofs.RowReads.{cell_of, err_and}
 use Rattle.store_tables.specs.Records.{invocation_cells}
 use Rattle.store_tables.proofs.Columns.{version_fits}
 use Rattle.store_tables.proofs.from_row.version_from.Goals as goal

@@ -3,7 +3,7 @@ use Rattle.std.specs.Option.{option_to_list}
 use Rattle.sqlite.specs.Held.{state}
 use Rattle.sqlite.specs.State.{State, HasCleanDisk}
 use Rattle.sql_tables.proofs.Causes.{read_cause_by}
-use Rattle.sql_tables.proofs.Reading.{err_and}
+use Rattle.sql_tables.proofs.RowReads.{err_and}
 use Rattle.store_tables.specs.Tables.{store_schema}
 use Rattle.store_tables.proofs.Readable.{reads_marks}
 use Rattle.store_tables.specs.Records.{FitsMark, cells_of_mark, the_mark}

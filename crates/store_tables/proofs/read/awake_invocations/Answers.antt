@@ -1,6 +1,6 @@
 use Rattle.std.proofs.Common.{◌≡◌, ◌∙◌, [], ◌∷◌, true, false, sym, subst}
 use Rattle.sqlite.specs.Held.{state}
-use Rattle.sql_tables.proofs.Reading.{err_and}
+use Rattle.sql_tables.proofs.RowReads.{err_and}
 use Rattle.store_tables.specs.Records.{InvocationRow}
 use Rattle.store_tables.specs.Questions.{DoAscend, is_awake}
 use Rattle.store_tables.proofs.Asked.{asked_err}

@@ -1,7 +1,7 @@
 use Rattle.std.proofs.Common.{◌≡◌, ◌∙◌, [], ◌∷◌, true, false, sym, subst, bytes_eq}
 use Rattle.std.proofs.lemmas.List.Sorted.{IsPermutation-refl}
 use Rattle.sqlite.specs.Held.{state}
-use Rattle.sql_tables.proofs.Reading.{err_and}
+use Rattle.sql_tables.proofs.RowReads.{err_and}
 use Rattle.store_tables.specs.Questions.{AreInPlace, journal_of}
 use Rattle.store_tables.proofs.Asked.{asked_err}
 use Rattle.store_tables.proofs.Asking.{asks_entries}

@@ -3,7 +3,7 @@ use Rattle.vm_flat_trees.specs.declared.node.FlatNode.{FlatNode}
 use Rattle.vm_flat_trees.specs.declared.node.Kind.TheVariants as kinds
 use Rattle.vm_flat_trees.specs.Counts.{no_counts}
 use Rattle.vm_flat_trees.proofs.Finding.{where-all}
-use Rattle.vm_flat_trees.specs.Bringing.{waits_for}
+use Rattle.vm_flat_trees.specs.NotificationRecipients.{waits_for}
 use Rattle.vm_awaits.specs.Ids.{Places, leaves_in}
 use Rattle.vm_awaits.proofs.Leaves.{node-next}
 use Rattle.vm_awaits.proofs.flat.leaves_of.Goals as goal

@@ -1,6 +1,6 @@
 use Rattle.std.proofs.Common.{◌≡◌, take}
 use Rattle.journal_model.specs.declared.notification.NotificationId.{NotificationId}
-use Rattle.vm_flat_trees.specs.Bringing.{waits_for}
+use Rattle.vm_flat_trees.specs.NotificationRecipients.{waits_for}
 use Rattle.vm_flat_trees.specs.Places.{places_where}
 use Rattle.vm_awaits.specs.Ids.{leaves_in}
 use Rattle.vm_awaits.proofs.flat.leaves_of.Given as goal

@@ -3,7 +3,7 @@ use Rattle.journal_model.specs.AwaitTree.{AwaitTree}
 use Rattle.journal_model.specs.Future.{tree_of}
 use Rattle.vm_flat_trees.specs.Counts.{state_meant}
 use Rattle.vm_flat_trees.specs.Flat.{flat_at}
-use Rattle.vm_flat_trees.specs.Opening.{combinator_of}
+use Rattle.vm_flat_trees.specs.FutureRoots.{kind_combinator}
 use Rattle.attempt_model.specs.Results.{handle_state}
 use Rattle.vm_awaits.specs.ReadyViews.{ready_in}
 use Rattle.vm_flat_trees.proofs.Growing.{Grown, root_of, grown-more, grown-few, grown-all, grown-state, child-smaller, next-child, all-children, few-children}
@@ -11,7 +11,7 @@ use Rattle.vm_awaits.proofs.growing.+build.Goals as goal
 
 pub build-requires : goal.build-requires
 build-requires t c =
-    let smaller = child-smaller (combinator_of c.in-Node.kind) (tree_of c.args.future.now) c.in-Node.children.now c.loop-child.child-index c.child-item.result c.in-Node.ensures.tree c.loop-child-test.true c.child-item.is in
+    let smaller = child-smaller (kind_combinator c.in-Node.kind) (tree_of c.args.future.now) c.in-Node.children.now c.loop-child.child-index c.child-item.result c.in-Node.ensures.tree c.loop-child-test.true c.child-item.is in
     (omega (arith, smaller, c.decreases), tt)
 
 pub counted-counts-requires-clause-pending : goal.counted-counts-requires-clause-pending
@@ -48,7 +48,7 @@ returns-after-loop-child-clause-nodes t c =
     let whole : Grown (handle_state c.args.slots.now (ready_in c.args.ready.now)) c.args.nodes.now.items c.in-Node.kind c.args.parent (map tree_of c.in-Node.children.now) c.loop-child.nodes.items c.loop-child.counts =
     subst (λ (trees : List (AwaitTree ℕ)). Grown (handle_state c.args.slots.now (ready_in c.args.ready.now)) c.args.nodes.now.items c.in-Node.kind c.args.parent trees c.loop-child.nodes.items c.loop-child.counts)
     (all-children c.in-Node.children.now c.loop-child.child-index (omega (arith, c.loop-child-test.false))) c.loop-child.invariant in
-    grown-all (handle_state c.args.slots.now (ready_in c.args.ready.now)) c.args.nodes.now.items c.in-Node.kind c.args.parent (map tree_of c.in-Node.children.now) c.loop-child.nodes.items _ c.loop-child.counts (combinator_of c.in-Node.kind) (tree_of c.args.future.now) whole
+    grown-all (handle_state c.args.slots.now (ready_in c.args.ready.now)) c.args.nodes.now.items c.in-Node.kind c.args.parent (map tree_of c.in-Node.children.now) c.loop-child.nodes.items _ c.loop-child.counts (kind_combinator c.in-Node.kind) (tree_of c.args.future.now) whole
     c.in-Node.ensures.inner c.in-Node.ensures.tree
     (ap (λ (p : ℕ). slice_set c.loop-child.nodes.items p (root_of c.in-Node.kind c.args.parent c.loop-child.counts)) place)
 
@@ -58,4 +58,4 @@ returns-after-loop-child-clause-state t c =
     subst (λ (trees : List (AwaitTree ℕ)). Grown (handle_state c.args.slots.now (ready_in c.args.ready.now)) c.args.nodes.now.items c.in-Node.kind c.args.parent trees c.loop-child.nodes.items c.loop-child.counts)
     (all-children c.in-Node.children.now c.loop-child.child-index (omega (arith, c.loop-child-test.false))) c.loop-child.invariant in
     c.state_by.ensures ∙ grown-state (handle_state c.args.slots.now (ready_in c.args.ready.now)) c.args.nodes.now.items c.in-Node.kind c.args.parent (map tree_of c.in-Node.children.now) c.loop-child.nodes.items c.loop-child.counts
-    (combinator_of c.in-Node.kind) (tree_of c.args.future.now) whole c.in-Node.ensures.inner c.in-Node.ensures.tree
+    (kind_combinator c.in-Node.kind) (tree_of c.args.future.now) whole c.in-Node.ensures.inner c.in-Node.ensures.tree

@@ -1,7 +1,7 @@
 use Rattle.std.proofs.Common.{refl, sym, ◌∙◌, arith, None}
 use Rattle.vm_flat_trees.specs.declared.node.FlatNode.{FlatNode}
 use Rattle.vm_flat_trees.specs.declared.node.Kind.TheVariants as kinds
-use Rattle.vm_flat_trees.specs.Bringing.{waits_for}
+use Rattle.vm_flat_trees.specs.NotificationRecipients.{waits_for}
 use Rattle.vm_flat_trees.specs.Counts.{state_meant, no_counts}
 use Rattle.vm_awaits.proofs.Passing.{begins-pass, sleeps-here, leaf-here, fits-here, goes-by, goes-on, wakes-here, all-passed}
 use Rattle.vm_awaits.proofs.telling.tell_in_passing.Goals as goal

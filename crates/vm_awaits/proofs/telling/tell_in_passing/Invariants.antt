@@ -1,6 +1,6 @@
 use Rattle.std.proofs.Common.{◌≡◌, true}
 use Rattle.journal_model.specs.AwaitTree.{is_completed}
-use Rattle.vm_flat_trees.specs.Bringing.{waits_for}
+use Rattle.vm_flat_trees.specs.NotificationRecipients.{waits_for}
 use Rattle.vm_flat_trees.specs.Counts.{state_meant}
 use Rattle.vm_awaits.proofs.Passing.{Passing}
 use Rattle.vm_awaits.proofs.telling.tell_in_passing.Given as goal

@@ -1,6 +1,6 @@
 use Rattle.std.proofs.Common.{sym, ◌∙◌, subst, ℕ, List}
 use Rattle.vm_flat_trees.specs.Counts.{state_meant}
-use Rattle.vm_flat_trees.specs.Delivering.{CanHearOf, Delivers}
+use Rattle.vm_flat_trees.specs.NotificationDelivery.{CanHearOf, Delivers}
 use Rattle.vm_awaits.proofs.telling.tell_leaves.Goals as goal
 
 pub deliver_to-requires-clause-hears : goal.deliver_to-requires-clause-hears

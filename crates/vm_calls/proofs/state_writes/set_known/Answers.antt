@@ -1,7 +1,7 @@
 use Rattle.std.proofs.Common.{OnOk, subst}
 use Rattle.journal_model.specs.Notification.{Bytes}
 use Rattle.journal_model.specs.Request.{Request}
-use Rattle.vm_context.specs.Following.{Follows}
+use Rattle.vm_context.specs.StateKnowledge.{Follows}
 use Rattle.vm_calls.proofs.state_writes.set_known.Goals as goal
 
 pub returns : goal.returns

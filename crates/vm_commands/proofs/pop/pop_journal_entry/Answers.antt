@@ -1,7 +1,7 @@
 -- What is taken is the first message, and is matched as a request: in `Popping`.
 use Rattle.std.proofs.Common.{◌≡◌, ℤ, subst, to_z, of_z, to_z-of_z, w64}
-use Rattle.vm_commands.specs.Popping.{TakesAs}
-use Rattle.vm_commands.proofs.Popping.{first_taken, matches}
+use Rattle.vm_commands.specs.NextCommand.{TakesAs}
+use Rattle.vm_commands.proofs.NextCommand.{first_taken, matches}
 use Rattle.vm_commands.proofs.pop.pop_journal_entry.Goals as goal
 
 pub returns-clause-taken : goal.returns-clause-taken

@@ -2,7 +2,7 @@ use Rattle.std.proofs.Common.{refl}
 use Rattle.journal_model.specs.Run.{name_or_empty}
 use Rattle.journal_model.specs.declared.call.Call.{Call}
 use Rattle.vm_context.specs.Eager.{is_known}
-use Rattle.vm_core.specs.Passed.{value_read}
+use Rattle.vm_progress.specs.StateReadEffects.{value_read}
 use Rattle.vm_outcomes.proofs.Reading.{read_carried}
 use Rattle.vm_core.proofs.state.state_get.Goals as goal
 

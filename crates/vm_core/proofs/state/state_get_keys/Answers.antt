@@ -1,7 +1,7 @@
 use Rattle.std.proofs.Common.{refl, not}
 use Rattle.journal_model.specs.Run.{name_or_empty}
 use Rattle.journal_model.specs.declared.call.Call.{Call}
-use Rattle.vm_core.specs.Passed.{keys_read}
+use Rattle.vm_progress.specs.StateReadEffects.{keys_read}
 use Rattle.vm_outcomes.proofs.Reading.{read_carried}
 use Rattle.vm_core.proofs.state.state_get_keys.Goals as goal
 

@@ -1,5 +1,5 @@
 use Rattle.std.proofs.Common.{sym, subst}
-use Rattle.vm_machine.specs.PassedMachine.{NumberCauses}
+use Rattle.vm_machine.specs.Causes.{NumberCauses}
 use Rattle.vm_types.specs.declared.options.JournalReplay.{JournalReplay}
 use Rattle.vm_feeding.specs.Handles.{id_of, MakesAwakeable, IsAwakeableWhere}
 use Rattle.vm_feeding.proofs.Called.{called}

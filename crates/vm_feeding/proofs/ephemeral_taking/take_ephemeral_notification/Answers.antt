@@ -2,7 +2,7 @@ use Rattle.std.proofs.Common.{None, codes}
 use Rattle.vm_machine.specs.Steps.{IsUnexpected}
 use Rattle.vm_machine.specs.declared.machine_state.MachineState.{MachineState}
 use Rattle.vm_machine.proofs.Admitted.{steps_made, steps_elsewhere, steps_stopped}
-use Rattle.vm_feeding.specs.EphemeralReading.{TakesWhere}
+use Rattle.vm_feeding.specs.EphemeralStateReads.{TakesWhere}
 use Rattle.vm_feeding.proofs.ephemeral_taking.take_ephemeral_notification.Goals as goal
 
 pub returns-in-Admitted : goal.returns-in-Admitted

@@ -2,7 +2,7 @@ use Rattle.std.proofs.Common.{None}
 use Rattle.vm_machine.specs.declared.machine_state.MachineState.{MachineState}
 use Rattle.vm_machine.proofs.Admitted.{steps_made, steps_elsewhere, steps_stopped}
 use Rattle.vm_feeding.specs.Refusals.{lacks_reads}
-use Rattle.vm_feeding.specs.EphemeralReading.{GetsIn, MissesIn}
+use Rattle.vm_feeding.specs.EphemeralStateReads.{GetsIn, MissesIn}
 use Rattle.vm_feeding.proofs.getting.ephemeral_state_get.Goals as goal
 
 pub returns-in-Admitted : goal.returns-in-Admitted

@@ -1,6 +1,6 @@
 use Rattle.std.proofs.Common.{sym, subst, ◌∙◌}
 use Rattle.vm_context.specs.declared.eager_state.EagerGetState.{EagerGetState}
-use Rattle.vm_feeding.specs.EphemeralReading.{Gets}
+use Rattle.vm_feeding.specs.EphemeralStateReads.{Gets}
 use Rattle.vm_feeding.proofs.ReadSteps.{unread}
 use Rattle.vm_feeding.proofs.getting.get.Goals as goal
 

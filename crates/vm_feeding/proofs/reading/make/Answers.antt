@@ -1,7 +1,7 @@
 use Rattle.std.proofs.Common.{Ok, Err, refl, subst}
 use Rattle.journal_model.specs.Notification.{Text}
 use Rattle.protocol_types.specs.declared.message_type.MessageType.TheVariants.{InputCommand}
-use Rattle.vm_machine.specs.Admitting.{IsElsewhere}
+use Rattle.vm_machine.specs.CallAdmission.{IsElsewhere}
 use Rattle.vm_feeding.specs.declared.reading.Reading.TheVariants.{Given, Fails, Elsewhere}
 use Rattle.vm_feeding.proofs.Inputs.{made}
 use Rattle.vm_feeding.proofs.reading.make.Goals as goal

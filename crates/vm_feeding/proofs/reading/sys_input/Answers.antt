@@ -1,9 +1,9 @@
 use Rattle.std.proofs.Common.{[], None, subst}
 use Rattle.journal_model.specs.Notification.{Text}
 use Rattle.protocol_types.specs.declared.message_type.MessageType.TheVariants.{InputCommand}
-use Rattle.vm_machine.specs.Admitting.{IsElsewhere}
+use Rattle.vm_machine.specs.CallAdmission.{IsElsewhere}
 use Rattle.vm_machine.proofs.Admitted.{steps_made, steps_elsewhere, steps_stopped}
-use Rattle.vm_feeding.specs.Reading.{ReadsInputs}
+use Rattle.vm_feeding.specs.InputAnswer.{ReadsInputs}
 use Rattle.vm_feeding.proofs.reading.sys_input.Goals as goal
 
 pub returns-in-Admitted : goal.returns-in-Admitted

@@ -1,7 +1,7 @@
 use Rattle.std.proofs.Common.{None}
 use Rattle.vm_machine.proofs.Admitted.{steps_made}
-use Rattle.vm_machine.specs.PassedMachine.{NumberCauses}
-use Rattle.vm_feeding.specs.Calling.{IsCalled}
+use Rattle.vm_machine.specs.Causes.{NumberCauses}
+use Rattle.vm_feeding.specs.CommandlessCalls.{IsCalled}
 use Rattle.vm_feeding.specs.Handles.{MakesSignal, IsNoSignal}
 use Rattle.vm_feeding.proofs.Called.{called}
 use Rattle.vm_feeding.proofs.signals.create_signal_handle.Goals as goal

@@ -1,5 +1,5 @@
 use Rattle.vm_awaits.specs.Views.{results_of}
-use Rattle.vm_machine.proofs.Acknowledging.{told_takes}
+use Rattle.vm_machine.proofs.AcknowledgementReceipt.{told_takes}
 use Rattle.vm_machine.proofs.answers.acknowledge.Goals as goal
 
 pub returns-in-Ok : goal.returns-in-Ok

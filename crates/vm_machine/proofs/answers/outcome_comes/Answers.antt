@@ -1,5 +1,5 @@
 use Rattle.vm_awaits.specs.Views.{results_of}
-use Rattle.vm_machine.proofs.Acknowledging.{queued_comes, lost_comes}
+use Rattle.vm_machine.proofs.AcknowledgementReceipt.{queued_comes, lost_comes}
 use Rattle.vm_machine.proofs.answers.outcome_comes.Goals as goal
 
 pub returns-in-Ok : goal.returns-in-Ok

@@ -1,4 +1,4 @@
-use Rattle.vm_machine.proofs.Gathering.{sees_behind_input}
+use Rattle.vm_machine.proofs.StateBeforeInput.{sees_behind_input}
 use Rattle.vm_machine.proofs.laws.calls_follow_the_input.Goals as goal
 
 pub returns : goal.returns

@@ -1,4 +1,4 @@
-use Rattle.vm_machine.proofs.Gathering.{gathers_commands, gathers_notifications}
+use Rattle.vm_machine.proofs.StateBeforeInput.{gathers_commands, gathers_notifications}
 use Rattle.vm_machine.proofs.laws.entries_are_gathered.Goals as goal
 
 pub returns-clause-commands : goal.returns-clause-commands

@@ -1,6 +1,6 @@
 use Rattle.std.proofs.Common.{List, true, refl, ap, ◌∙◌}
 use Rattle.std.specs.Prelude.{ℕ}
-use Rattle.vm_start.specs.Passed.{known_from}
+use Rattle.vm_context.specs.Eager.{known_from}
 use Rattle.vm_machine.proofs.starting.fresh_active.Goals as goal
 
 pub returns : goal.returns

@@ -1,4 +1,4 @@
-use Rattle.vm_progress.proofs.Executing.{looks_in, looks_for_child}
+use Rattle.vm_progress.proofs.AwaitedRuns.{looks_in, looks_for_child}
 use Rattle.vm_progress.proofs.asleep.next_run.Goals as goal
 
 pub returns-in-Future : goal.returns-in-Future

@@ -1,4 +1,4 @@
-use Rattle.vm_progress.proofs.Executing.{hands_out, executes_none}
+use Rattle.vm_progress.proofs.AwaitedRuns.{hands_out, executes_none}
 use Rattle.vm_progress.proofs.asleep.sleep_with.Goals as goal
 
 pub returns-in-Some : goal.returns-in-Some

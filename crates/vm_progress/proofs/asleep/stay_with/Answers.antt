@@ -1,4 +1,4 @@
-use Rattle.vm_progress.proofs.Executing.{stays_by}
+use Rattle.vm_progress.proofs.AwaitedRuns.{stays_by}
 use Rattle.vm_progress.proofs.asleep.stay_with.Goals as goal
 
 pub returns : goal.returns

@@ -3,7 +3,7 @@ use Rattle.journal_model.specs.Future.{tree_of}
 use Rattle.journal_model.specs.declared.call.Call.{Call}
 use Rattle.vm_machine.proofs.Admitted.{refused_as, steps_made, steps_elsewhere, steps_stopped}
 use Rattle.vm_machine.specs.Steps.{IsUnexpected}
-use Rattle.vm_progress.specs.Awaiting.{IsAwaited}
+use Rattle.vm_progress.specs.AwaitEffects.{IsAwaited}
 use Rattle.vm_progress.proofs.awaiting.await_unread.Goals as goal
 
 pub returns-in-Admitted : goal.returns-in-Admitted

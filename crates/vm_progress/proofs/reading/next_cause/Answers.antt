@@ -1,7 +1,7 @@
 use Rattle.std.proofs.Common.{ℕ, List, Some, ap, subst, ◌∙◌}
-use Rattle.protocol_differences.specs.Passed.{CommandMetadata}
+use Rattle.protocol_errors.specs.declared.metadata.CommandMetadata.{CommandMetadata}
 use Rattle.protocol_errors.specs.declared.error.Error.{Error}
-use Rattle.vm_machine.specs.Admitting.{MissedCauses}
+use Rattle.vm_machine.specs.CallAdmission.{MissedCauses}
 use Rattle.vm_progress.proofs.reading.next_cause.Goals as goal
 
 pub returns-in-Ok : goal.returns-in-Ok

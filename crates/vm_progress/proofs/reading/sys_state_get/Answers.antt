@@ -1,7 +1,7 @@
 use Rattle.journal_model.specs.Run.{name_or_empty}
 use Rattle.journal_model.specs.declared.call.Call.{Call}
 use Rattle.vm_context.specs.Eager.{is_known}
-use Rattle.vm_progress.specs.Reading.{value_read}
+use Rattle.vm_progress.specs.StateReadEffects.{value_read}
 use Rattle.vm_progress.proofs.Made.{read_made, read_elsewhere, read_stopped}
 use Rattle.vm_progress.proofs.reading.sys_state_get.Goals as goal
 

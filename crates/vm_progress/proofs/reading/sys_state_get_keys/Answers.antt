@@ -1,7 +1,7 @@
 use Rattle.std.proofs.Common.{not}
 use Rattle.journal_model.specs.Run.{name_or_empty}
 use Rattle.journal_model.specs.declared.call.Call.{Call}
-use Rattle.vm_progress.specs.Reading.{keys_read}
+use Rattle.vm_progress.specs.StateReadEffects.{keys_read}
 use Rattle.vm_progress.proofs.Made.{read_made, read_elsewhere, read_stopped}
 use Rattle.vm_progress.proofs.reading.sys_state_get_keys.Goals as goal
 

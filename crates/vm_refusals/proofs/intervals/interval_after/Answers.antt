@@ -1,6 +1,6 @@
 use Rattle.std.proofs.Common.{◌≤◌, sym, ap, ◌∙◌, arith}
 use Rattle.std.specs.Duration.{max_nanos}
-use Rattle.vm_refusals.specs.Retrying.{at_most}
+use Rattle.vm_refusals.specs.RetryDecisions.{at_most}
 use Rattle.vm_refusals.proofs.Growing.{goes-on, stays, past, next-small, cut}
 use Rattle.vm_refusals.proofs.intervals.interval_after.Goals as goal
 

@@ -1,6 +1,6 @@
 use Rattle.std.proofs.Common.{◌≡◌, ◌≤◌, Some}
 use Rattle.std.specs.Duration.{max_nanos}
-use Rattle.vm_refusals.specs.Retrying.{interval_after}
+use Rattle.vm_refusals.specs.RetryDecisions.{interval_after}
 use Rattle.vm_refusals.proofs.intervals.interval_after.Given as goal
 
 -- the interval so many retries after the first

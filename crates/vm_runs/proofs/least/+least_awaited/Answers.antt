@@ -2,7 +2,7 @@ use Rattle.std.proofs.Common.{sym, subst, arith, ℕ, ◌+◌, ◌&&◌, List, m
 use Rattle.journal_model.specs.AwaitTree.{AwaitTree}
 use Rattle.journal_model.specs.Future.{tree_of, trees_from}
 use Rattle.body_laws.specs.Bodies.{some_has_handle}
-use Rattle.vm_flat_trees.specs.Opening.{combinator_of}
+use Rattle.vm_flat_trees.specs.FutureRoots.{kind_combinator}
 use Rattle.vm_flat_trees.proofs.Growing.{child-smaller, next-child}
 use Rattle.vm_runs.specs.Runs.{IsLeast, has_run, lesser}
 use Rattle.vm_runs.proofs.Awaited.{more-least}
@@ -10,7 +10,7 @@ use Rattle.vm_runs.proofs.least.+least_awaited.Goals as goal
 
 pub least_awaited-requires : goal.least_awaited-requires
 least_awaited-requires t c =
-    let smaller = child-smaller (combinator_of c.in-Node.field-0) (tree_of c.args.awaited.now) c.in-Node.children.now c.loop-child.child-index c.child-item.result c.in-Node.ensures.tree c.loop-child-test.true c.child-item.is in
+    let smaller = child-smaller (kind_combinator c.in-Node.field-0) (tree_of c.args.awaited.now) c.in-Node.children.now c.loop-child.child-index c.child-item.result c.in-Node.ensures.tree c.loop-child-test.true c.child-item.is in
     (omega (arith, smaller, c.decreases), tt)
 
 pub loop-child-preserved : goal.loop-child-preserved

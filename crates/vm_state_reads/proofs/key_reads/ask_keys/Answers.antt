@@ -4,7 +4,7 @@ use Rattle.attempt_model.specs.Machine.{Machine}
 use Rattle.protocol_types.specs.declared.message_type.MessageType.TheVariants.{GetEagerStateKeysCommand, GetLazyStateKeysCommand}
 use Rattle.vm_state_reads.proofs.Answering.{reads_lazily, number_fails}
 use Rattle.vm_calls.proofs.Spending.{takes_rest}
-use Rattle.vm_state_reads.proofs.Finding.{finds_lazy, finds_no_number}
+use Rattle.vm_state_reads.proofs.MismatchedReads.{finds_lazy, finds_no_number}
 use Rattle.vm_state_reads.proofs.key_reads.ask_keys.Goals as goal
 
 pub returns-clause-made : goal.returns-clause-made

@@ -4,13 +4,13 @@ use Rattle.journal_model.specs.Request.{Request}
 use Rattle.attempt_model.specs.Machine.{Machine}
 use Rattle.protocol_records.specs.declared.state_keys.StateKeys.{StateKeys}
 use Rattle.vm_commands.specs.Recorded.{as_recorded}
-use Rattle.vm_state_reads.specs.Replaying.{keys_known}
+use Rattle.vm_state_reads.specs.RecordedReads.{keys_known}
 use Rattle.vm_state_reads.proofs.Answering.{number_fails}
 use Rattle.vm_state_reads.proofs.Knowing.{keys_are_known}
 use Rattle.vm_state_reads.proofs.Replayed.{reads_recorded, fails_unmatched, fails_unready}
 use Rattle.vm_state_reads.proofs.Spending.{none_then, spent_unmatched, spent_unready, spent_number}
 use Rattle.vm_calls.proofs.Spending.{takes_rest}
-use Rattle.vm_state_reads.proofs.Finding.{finds_unread, finds_unready, finds_no_number}
+use Rattle.vm_state_reads.proofs.MismatchedReads.{finds_unread, finds_unready, finds_no_number}
 use Rattle.vm_state_reads.proofs.key_reads.replay_keys.Goals as goal
 
 pub returns-clause-made : goal.returns-clause-made

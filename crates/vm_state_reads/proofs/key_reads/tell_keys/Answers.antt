@@ -5,10 +5,10 @@ use Rattle.journal_model.specs.Request.{Request}
 use Rattle.attempt_model.specs.Machine.{Machine}
 use Rattle.protocol_types.specs.declared.message_type.MessageType.TheVariants.{GetEagerStateKeysCommand, GetLazyStateKeysCommand}
 use Rattle.vm_awaits.specs.Views.{results_of}
-use Rattle.vm_state_reads.specs.Reading.{with_known}
+use Rattle.vm_state_reads.specs.ReadAnswers.{with_known}
 use Rattle.vm_state_reads.proofs.Answering.{reads_eagerly, number_fails}
 use Rattle.vm_calls.proofs.Spending.{takes_rest}
-use Rattle.vm_state_reads.proofs.Finding.{finds_eager, finds_no_number}
+use Rattle.vm_state_reads.proofs.MismatchedReads.{finds_eager, finds_no_number}
 use Rattle.vm_state_reads.proofs.key_reads.tell_keys.Goals as goal
 
 pub returns-clause-made : goal.returns-clause-made

@@ -1,6 +1,6 @@
 use Rattle.std.proofs.Common.{sym, ap, ◌∙◌}
 use Rattle.vm_context.specs.declared.eager_state.EagerGetStateKeys.{EagerGetStateKeys}
-use Rattle.vm_context.specs.Following.{keys_request_told}
+use Rattle.vm_context.specs.StateKnowledge.{keys_request_told}
 use Rattle.vm_state_reads.proofs.Answering.{reads_the_same}
 use Rattle.vm_state_reads.proofs.key_reads.write_keys.Goals as goal
 

@@ -1,5 +1,5 @@
 use Rattle.std.proofs.Common.{rules, Ok, Err, refl, ◌∙◌, FitsSigned, to_z-of_z, w64}
-use Rattle.vm_state_reads.proofs.Finding.{read_tells}
+use Rattle.vm_state_reads.proofs.MismatchedReads.{read_tells}
 use Rattle.vm_state_reads.proofs.Matching.{match_settles, match_fails, tells_next, none_read, never_unavailable}
 use Rattle.vm_state_reads.proofs.replaying.match_read.Goals as goal
 

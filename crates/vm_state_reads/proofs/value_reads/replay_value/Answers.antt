@@ -4,13 +4,13 @@ use Rattle.journal_model.specs.Request.{Request}
 use Rattle.attempt_model.specs.Machine.{Machine}
 use Rattle.protocol_commands.specs.declared.get_eager_state_command.GetEagerStateCommandResult.{GetEagerStateCommandResult}
 use Rattle.vm_commands.specs.Recorded.{as_recorded}
-use Rattle.vm_state_reads.specs.Replaying.{value_known}
+use Rattle.vm_state_reads.specs.RecordedReads.{value_known}
 use Rattle.vm_state_reads.proofs.Answering.{number_fails}
 use Rattle.vm_state_reads.proofs.Knowing.{value_is_known}
 use Rattle.vm_state_reads.proofs.Replayed.{reads_recorded, fails_unmatched, fails_unready}
 use Rattle.vm_state_reads.proofs.Spending.{none_then, spent_unmatched, spent_unready, spent_number}
 use Rattle.vm_calls.proofs.Spending.{takes_rest}
-use Rattle.vm_state_reads.proofs.Finding.{finds_unread, finds_unready, finds_no_number}
+use Rattle.vm_state_reads.proofs.MismatchedReads.{finds_unread, finds_unready, finds_no_number}
 use Rattle.vm_state_reads.proofs.value_reads.replay_value.Goals as goal
 
 pub returns-clause-made : goal.returns-clause-made

@@ -2,7 +2,7 @@ use Rattle.std.proofs.Common.{None, Some, sym, ap, ◌∙◌}
 use Rattle.journal_model.specs.Notification.{Bytes}
 use Rattle.journal_model.specs.Request.{Request}
 use Rattle.vm_context.specs.declared.eager_state.EagerGetState.{EagerGetState}
-use Rattle.vm_context.specs.Following.{request_told}
+use Rattle.vm_context.specs.StateKnowledge.{request_told}
 use Rattle.vm_state_reads.proofs.Answering.{reads_the_same}
 use Rattle.vm_state_reads.proofs.value_reads.write_value.Goals as goal
 

@@ -1,6 +1,6 @@
 use Rattle.std.proofs.Common.{subst}
 use Rattle.vm_calls.specs.declared.active.Active.{Active}
-use Rattle.vm_waiting.specs.Pairing.{TakesTwo}
+use Rattle.vm_waiting.specs.CompletionPairs.{TakesTwo}
 use Rattle.vm_waiting.proofs.calling.begin_two.Goals as goal
 
 pub returns-in-Ok-clause-taken : goal.returns-in-Ok-clause-taken

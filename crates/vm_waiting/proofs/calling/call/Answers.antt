@@ -2,13 +2,13 @@ use Rattle.std.proofs.Common.{Err, refl, sym, ap, ◌+◌, ◌∙◌, ℕ}
 use Rattle.protocol_types.specs.declared.message_type.MessageType.TheVariants.{CallCommand}
 use Rattle.std.proofs.lemmas.Result.{err_from_is_err_and}
 use Rattle.vm_calls.proofs.Calls.{number_fails}
-use Rattle.vm_calls.proofs.Finding.{number_finds}
+use Rattle.vm_calls.proofs.MismatchedCommands.{number_finds}
 use Rattle.vm_waiting.proofs.Calls.{call_completes}
 use Rattle.journal_model.specs.declared.call.Call.{Call}
 use Rattle.journal_model.specs.declared.call.Answer.{Answer}
-use Rattle.vm_waiting.specs.Pairing.{HasBegunTwo}
-use Rattle.vm_waiting.specs.Tracking.{tracks_calls}
-use Rattle.vm_waiting.proofs.Pairing.{two_rest, two_is_ready, handles_are}
+use Rattle.vm_waiting.specs.CompletionPairs.{HasBegunTwo}
+use Rattle.vm_waiting.specs.TrackedChildren.{tracks_calls}
+use Rattle.vm_waiting.proofs.CompletionPairs.{two_rest, two_is_ready, handles_are}
 use Rattle.vm_waiting.proofs.TrackLemmas.{call_keeps, rest_behind}
 use Rattle.vm_calls.proofs.Spending.{number_spent}
 use Rattle.vm_waiting.proofs.calling.call.Goals as goal

@@ -3,7 +3,7 @@ use Rattle.journal_model.specs.declared.notification.NotificationId.TheVariants.
 use Rattle.vm_awaits.specs.Views.{AsyncResults, results_of, slots_of}
 use Rattle.vm_awaits.specs.Calls.{with_handle}
 use Rattle.vm_context.specs.Journal.{JournalCounts}
-use Rattle.vm_waiting.proofs.Pairing.{next_behind, has_two}
+use Rattle.vm_waiting.proofs.CompletionPairs.{next_behind, has_two}
 use Rattle.vm_waiting.proofs.calling.next_two.Goals as goal
 
 pub returns-clause-ok : goal.returns-clause-ok

@@ -1,5 +1,5 @@
-use Rattle.vm_calls.proofs.Making.{put_answers, put_fails_as}
-use Rattle.vm_calls.proofs.Finding.{tells_before}
+use Rattle.vm_calls.proofs.CommandCalls.{put_answers, put_fails_as}
+use Rattle.vm_calls.proofs.MismatchedCommands.{tells_before}
 use Rattle.vm_calls.proofs.Spending.{none_for, none_stands}
 use Rattle.vm_waiting.proofs.calling.put_call.Goals as goal
 

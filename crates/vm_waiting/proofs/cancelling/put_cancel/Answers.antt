@@ -4,7 +4,7 @@ use Rattle.journal_model.specs.Request.{Request, SignalValue}
 use Rattle.journal_model.specs.declared.notification.SignalKey.{SignalKey}
 use Rattle.protocol_types.specs.declared.message_type.MessageType.TheVariants.{SendSignalCommand}
 use Rattle.vm_calls.specs.Active.{asking}
-use Rattle.vm_waiting.specs.Cancelling.{cancels}
+use Rattle.vm_waiting.specs.ChildCancellation.{cancels}
 use Rattle.vm_waiting.proofs.PuttingAll.{lacks_one, puts_one, fails_one, settled_asked}
 use Rattle.vm_waiting.proofs.cancelling.put_cancel.Goals as goal
 

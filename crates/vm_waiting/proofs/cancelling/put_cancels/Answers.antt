@@ -2,7 +2,7 @@ use Rattle.std.proofs.Common.{sym, ap, subst, ◌∙◌, List, map, length, Resu
 use Rattle.std.proofs.lemmas.Result.{err_from_is_err_and}
 use Rattle.std.specs.Vec.Iter.{into_iter_items, into_iter_len}
 use Rattle.journal_model.specs.Notification.{Text}
-use Rattle.vm_waiting.specs.Cancelling.{cancels, PutsEach}
+use Rattle.vm_waiting.specs.ChildCancellation.{cancels, PutsEach}
 use Rattle.vm_waiting.specs.declared.cancelling.CancelError.{CancelError}
 use Rattle.vm_waiting.proofs.PuttingAll.{PutsOn, puts_first, puts_next, stops_next, one_less}
 use Rattle.vm_waiting.proofs.cancelling.put_cancels.Goals as goal

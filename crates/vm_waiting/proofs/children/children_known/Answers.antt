@@ -2,7 +2,7 @@ use Rattle.std.proofs.Common.{sym, ap, ◌∙◌}
 use Rattle.std.specs.Option.{option_copied}
 use Rattle.vm_awaits.specs.Views.{ready_of}
 use Rattle.vm_awaits.specs.Children.{child_told}
-use Rattle.vm_waiting.specs.Cancelling.{state_as}
+use Rattle.vm_waiting.specs.ChildCancellation.{state_as}
 use Rattle.vm_waiting.proofs.KnownChildren.{unknown_at, no_id_at, next_at, state_past}
 use Rattle.vm_waiting.proofs.children.children_known.Goals.{in-Some+in-AllIds, in_default}
 use Rattle.vm_waiting.proofs.children.children_known.Goals as goal

@@ -1,6 +1,6 @@
 use Rattle.std.proofs.Common.{sym, ap, ◌∙◌}
 use Rattle.vm_awaits.specs.Views.{results_of}
-use Rattle.vm_waiting.specs.Cancelling.{state_as}
+use Rattle.vm_waiting.specs.ChildCancellation.{state_as}
 use Rattle.vm_waiting.proofs.KnownChildren.{looks_all, looks_no_id, looks_unknown, looks_further}
 use Rattle.vm_waiting.proofs.children.look_for_children.Goals as goal
 

@@ -1,7 +1,7 @@
 use Rattle.std.proofs.Common.{◌≡◌, drop, map}
 use Rattle.journal_model.specs.Future.{trees_from, tree_of}
 use Rattle.protocol_trees.proofs.Forests.{tree_size}
-use Rattle.vm_waiting.specs.Suspending.{some_has_leaf}
+use Rattle.vm_waiting.specs.SuspensionFrames.{some_has_leaf}
 use Rattle.vm_waiting.proofs.handles.+has_handle.Given as goal
 
 abbrev pub decreases-has_handle : goal.decreases-has_handle

@@ -1,6 +1,6 @@
 use Rattle.std.proofs.Common.{◌≡◌, ◌-◌, drop, map}
 use Rattle.journal_model.specs.Future.{trees_from, tree_of}
-use Rattle.vm_waiting.specs.Suspending.{are_nested_within}
+use Rattle.vm_waiting.specs.SuspensionFrames.{are_nested_within}
 use Rattle.vm_waiting.proofs.nesting.+is_nested_within.Given as goal
 
 abbrev pub decreases-is_nested_within : goal.decreases-is_nested_within

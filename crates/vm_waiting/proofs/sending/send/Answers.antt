@@ -3,13 +3,13 @@ use Rattle.std.proofs.lemmas.Result.{err_from_is_err_and}
 use Rattle.journal_model.specs.Request.{Request}
 use Rattle.protocol_types.specs.declared.message_type.MessageType.TheVariants.{OneWayCallCommand}
 use Rattle.vm_calls.proofs.Calls.{number_fails}
-use Rattle.vm_calls.proofs.Finding.{number_finds}
+use Rattle.vm_calls.proofs.MismatchedCommands.{number_finds}
 use Rattle.journal_model.specs.declared.call.Call.{Call}
 use Rattle.journal_model.specs.declared.call.Answer.{Answer}
-use Rattle.vm_waiting.specs.Pairing.{HasBegunTracked}
-use Rattle.vm_waiting.specs.Tracking.{tracks_sends}
+use Rattle.vm_waiting.specs.CompletionPairs.{HasBegunTracked}
+use Rattle.vm_waiting.specs.TrackedChildren.{tracks_sends}
 use Rattle.vm_waiting.proofs.Calls.{send_completes}
-use Rattle.vm_waiting.proofs.Pairing.{one_is_ready, handle_is}
+use Rattle.vm_waiting.proofs.CompletionPairs.{one_is_ready, handle_is}
 use Rattle.vm_waiting.proofs.TrackLemmas.{send_keeps, rest_behind}
 use Rattle.vm_calls.proofs.Spending.{takes_rest, number_spent}
 use Rattle.vm_waiting.proofs.sending.send.Goals as goal

@@ -1,6 +1,6 @@
 use Rattle.std.proofs.Common.{sym, subst}
 use Rattle.vm_context.specs.Output.{Written}
-use Rattle.vm_waiting.specs.Suspending.{IsSuspended}
+use Rattle.vm_waiting.specs.SuspensionFrames.{IsSuspended}
 use Rattle.vm_waiting.specs.WaitsFor.{awaited_ids}
 use Rattle.vm_waiting.proofs.WaitingFrames.{suspended}
 use Rattle.vm_waiting.proofs.suspending.write_and_end.Goals as goal

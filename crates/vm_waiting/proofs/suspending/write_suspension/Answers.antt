@@ -1,6 +1,6 @@
 use Rattle.std.proofs.Common.{arith}
 use Rattle.protocol_types.specs.declared.message_type.MessageType.TheVariants.{Suspension}
-use Rattle.vm_waiting.specs.Suspending.{suspension_payload_in}
+use Rattle.vm_waiting.specs.SuspensionFrames.{suspension_payload_in}
 use Rattle.vm_waiting.proofs.WaitingFrames.{suspension_is, writes}
 use Rattle.vm_waiting.proofs.suspending.write_suspension.Goals as goal
 

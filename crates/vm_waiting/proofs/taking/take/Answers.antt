@@ -2,7 +2,7 @@ use Rattle.std.proofs.Common.{refl, ap, ◌∙◌, Option, Err}
 use Rattle.journal_model.specs.declared.notification.NotificationResult.{NotificationResult}
 use Rattle.attempt_model.specs.Results.{waiting_for}
 use Rattle.vm_awaits.specs.Views.{results_of, slots_of, ready_of}
-use Rattle.vm_awaits.specs.Calls.{after_take}
+use Rattle.vm_awaits.specs.Calls.{results_after_take}
 use Rattle.vm_waiting.proofs.TakeLemmas.{remembered, value_then, kept_then, takes}
 use Rattle.vm_waiting.proofs.taking.take.Goals as goal
 
@@ -13,7 +13,7 @@ returns-in-Ok-clause-value c =
 
 pub returns-in-Ok-clause-rest : goal.returns-in-Ok-clause-rest
 returns-in-Ok-clause-rest c =
-    c.take_handle-brought.ensures.rest ∙ ap (λ (brought : Option NotificationResult). after_take c.args.handle brought (results_of c.args.active.now.results)) c.take_handle-brought.ensures.value
+    c.take_handle-brought.ensures.rest ∙ ap (λ (brought : Option NotificationResult). results_after_take c.args.handle brought (results_of c.args.active.now.results)) c.take_handle-brought.ensures.value
 
 pub returns-in-Ok-clause-children : goal.returns-in-Ok-clause-children
 returns-in-Ok-clause-children c =
@@ -32,7 +32,7 @@ returns-in-Err-clause-value c =
 
 pub returns-in-Err-clause-rest : goal.returns-in-Err-clause-rest
 returns-in-Err-clause-rest c =
-    c.take_handle-brought.ensures.rest ∙ ap (λ (brought : Option NotificationResult). after_take c.args.handle brought (results_of c.args.active.now.results)) c.take_handle-brought.ensures.value
+    c.take_handle-brought.ensures.rest ∙ ap (λ (brought : Option NotificationResult). results_after_take c.args.handle brought (results_of c.args.active.now.results)) c.take_handle-brought.ensures.value
 
 pub returns-in-Err-clause-children : goal.returns-in-Err-clause-children
 returns-in-Err-clause-children c =

@@ -2,7 +2,7 @@ use Rattle.std.proofs.Common.{arith, Ok}
 use Rattle.sqlite.specs.Held.{state}
 use Rattle.store_calls.specs.Calls.{Pushes}
 use Rattle.journal_store.specs.Causes.{TriesFrameBehind, TriesFrameOf}
-use Rattle.journal_store.proofs.Accepting.{accepts, accept_endures, accept_settled}
+use Rattle.journal_store.proofs.OutputAcceptance.{accepts, accept_endures, accept_settled}
 use Rattle.journal_store.proofs.Lasting.{kept_then}
 use Rattle.journal_store.proofs.Causing.{frame_behind}
 use Rattle.journal_store.proofs.store.Store.accept.Goals as goal

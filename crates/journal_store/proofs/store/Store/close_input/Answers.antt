@@ -26,7 +26,7 @@ returns-then-not-is_live-clause-frame g c =
 
 pub returns-in_err-read_next-clause-does : goal.returns-in_err-read_next-clause-does
 returns-in_err-read_next-clause-does g c =
-    rw (← c.self.view_is) (none_read (λ r. ClosesInput c.args.id.now c.args.attempt r) (Event.CloseInput c.args.id.now c.args.attempt) c.from_residual.result c.from_residual.ensures.1
+    rw (← c.self.view_is) (none_read (λ r. ClosesInput c.args.id.now c.args.attempt r) (Event.Close c.args.id.now c.args.attempt) c.from_residual.result c.from_residual.ensures.1
     (λ why s t refused. refused) g.S.Store c.self.inside.tables c.read_next.new.tables c.self.inside.live c.read_next.new.live c.in_err-read_next.ensures.stays c.read_next.ensures.looks
     (λ why gives clean s is. subst (IsRefused []) (sym gives) (c.in_err-read_next.ensures.reads clean s is)))
 

@@ -43,7 +43,7 @@ returns-then-is_closed-clause-frame g c =
 
 pub returns-in_err-read_next-clause-does : goal.returns-in_err-read_next-clause-does
 returns-in_err-read_next-clause-does g c =
-    rw (← c.self.view_is) (none_read (λ (r : Result Bytes Refusal). HandsOut c.args.id.now c.args.attempt c.args.most r) (Event.HandOut c.args.id.now c.args.attempt c.args.most) c.from_residual.result c.from_residual.ensures.1
+    rw (← c.self.view_is) (none_read (λ (r : Result Bytes Refusal). HandsOut c.args.id.now c.args.attempt c.args.most r) (Event.Feed c.args.id.now c.args.attempt c.args.most) c.from_residual.result c.from_residual.ensures.1
     (λ why s t refused. refused) g.S.Store c.self.inside.tables c.read_next.new.tables c.self.inside.live c.read_next.new.live c.in_err-read_next.ensures.stays c.read_next.ensures.looks
     (λ why gives clean s is. subst (IsRefused []) (sym gives) (c.in_err-read_next.ensures.reads clean s is)))
 

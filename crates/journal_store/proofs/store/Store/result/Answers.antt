@@ -2,8 +2,8 @@ use Rattle.std.proofs.Common.{refl, arith}
 use Rattle.sqlite.specs.State.{State, HasCleanDisk}
 use Rattle.sqlite.specs.Held.{state}
 use Rattle.journal_model.specs.Event.{Event}
-use Rattle.store_calls.specs.Standing.{Adds}
-use Rattle.store_calls.specs.Calls.{Completes}
+use Rattle.store_calls.specs.AbstractStore.{Adds}
+use Rattle.store_calls.specs.Calls.{CompletesCall}
 use Rattle.journal_store.specs.Stored.{stored}
 use Rattle.journal_store.specs.Causes.{TriesEvent}
 use Rattle.journal_store.proofs.Enduring.{complete_landed}
@@ -22,10 +22,10 @@ returns-in-Ok-clause-does g c =
     let mid : State = state g.S.Store c.prepare_result.new.tables in
     let new : State = state g.S.Store c.record_arrival.new.self.connection in
     let id = c.args.id.now in
-    rw (← c.self.view_is) (arrives g.S.Store (stored c.self.inside.tables c.self.inside.live) c.record_arrival.new.self (Event.Complete id c.args.completion c.args.brought) id c.record_arrival.result
+    rw (← c.self.view_is) (arrives g.S.Store (stored c.self.inside.tables c.self.inside.live) c.record_arrival.new.self (Event.Result id c.args.completion c.args.brought) id c.record_arrival.result
     (λ clean events stands.
     let early : HasCleanDisk mid = omega (arith, c.record_arrival.ensures.made.crash.clean, clean) in
-    arrival_recorded events (Event.Complete id c.args.completion c.args.brought) id old mid new _ _
+    arrival_recorded events (Event.Result id c.args.completion c.args.brought) id old mid new _ _
     c.self.inside.live c.record_arrival.new.self.live c.in-Ok.made c.record_arrival.result refl (λ one. refl) tt
     c.prepare_result.ensures.looks.crash c.prepare_result.ensures.looks.kept c.record_arrival.ensures.made.crash clean (c.in-Ok.ensures.prepared early events stands.kept)
     c.record_arrival.ensures.place (c.record_arrival.ensures.made.done clean) c.record_arrival.ensures.made.why c.record_arrival.ensures.made.undone c.record_arrival.ensures.live stands)
@@ -33,13 +33,13 @@ returns-in-Ok-clause-does g c =
 
 pub returns-in-Err-clause-does : goal.returns-in-Err-clause-does
 returns-in-Err-clause-does g c =
-    rw (← c.self.view_is) (looked g.S.Store c.self.inside.tables c.prepare_result.new.tables c.self.inside.live (Event.Complete c.args.id.now c.args.completion c.args.brought) c.in-Err.why
+    rw (← c.self.view_is) (looked g.S.Store c.self.inside.tables c.prepare_result.new.tables c.self.inside.live (Event.Result c.args.id.now c.args.completion c.args.brought) c.in-Err.why
     c.prepare_result.ensures.looks c.in-Err.ensures.prepared)
 
 pub returns-in-Ok-clause-crash : goal.returns-in-Ok-clause-crash
 returns-in-Ok-clause-crash g c =
-    rw (← c.self.view_is) (commits_after (Adds (Event.Complete c.args.id.now c.args.completion c.args.brought)) (state g.S.Store c.self.inside.tables) (state g.S.Store c.prepare_result.new.tables) (state g.S.Store c.record_arrival.new.self.connection)
-    (Event.Complete c.args.id.now c.args.completion c.args.brought) c.in-Ok.made.writes.items (λ events. tt) (λ s causes. complete_landed s c.args.id.now c.args.completion c.args.brought causes)
+    rw (← c.self.view_is) (commits_after (Adds (Event.Result c.args.id.now c.args.completion c.args.brought)) (state g.S.Store c.self.inside.tables) (state g.S.Store c.prepare_result.new.tables) (state g.S.Store c.record_arrival.new.self.connection)
+    (Event.Result c.args.id.now c.args.completion c.args.brought) c.in-Ok.made.writes.items (λ events. tt) (λ s causes. complete_landed s c.args.id.now c.args.completion c.args.brought causes)
     (λ s t it. it.events) c.prepare_result.ensures.looks.crash c.prepare_result.ensures.looks.kept
     c.record_arrival.ensures.made.crash (λ clean events store. let ready = c.in-Ok.ensures.prepared clean events store in (ready.0, ready.1.writes)))
 
@@ -50,7 +50,7 @@ returns-in-Ok-clause-waits g c =
 pub returns-in-Ok-clause-settled : goal.returns-in-Ok-clause-settled
 returns-in-Ok-clause-settled g c =
     settled_written g.S.Store c.self.inside.tables c.prepare_result.new.tables c.record_arrival.new.self.connection c.self.inside.live c.record_arrival.new.self.live c.args.self.now c.self.view_is
-    (Event.Complete c.args.id.now c.args.completion c.args.brought) c.in-Ok.made.writes.items (Completes c.args.id.now c.args.completion c.args.brought c.record_arrival.result)
+    (Event.Result c.args.id.now c.args.completion c.args.brought) c.in-Ok.made.writes.items (CompletesCall c.args.id.now c.args.completion c.args.brought c.record_arrival.result)
     c.record_arrival.result c.record_arrival.ensures.made (λ clean events store. (c.in-Ok.ensures.prepared clean events store).1.writes) (λ events none. cc) (returns-in-Ok-clause-does g c)
 
 pub returns-in-Ok-clause-kept : goal.returns-in-Ok-clause-kept
@@ -61,9 +61,9 @@ returns-in-Ok-clause-kept g c =
 
 pub returns-in-Ok-clause-cause : goal.returns-in-Ok-clause-cause
 returns-in-Ok-clause-cause g c =
-    rw (← c.self.view_is) (event_tried g.S.Store (Event.Complete c.args.id.now c.args.completion c.args.brought) c.prepare_result.new.tables (stored c.self.inside.tables c.self.inside.live) c.record_arrival.new.self c.in-Ok.made.writes.items c.record_arrival.result
+    rw (← c.self.view_is) (event_tried g.S.Store (Event.Result c.args.id.now c.args.completion c.args.brought) c.prepare_result.new.tables (stored c.self.inside.tables c.self.inside.live) c.record_arrival.new.self c.in-Ok.made.writes.items c.record_arrival.result
     c.prepare_result.ensures.looks (λ clean events store. (c.in-Ok.ensures.prepared clean events store).1.writes) c.record_arrival.ensures.made)
 
 pub returns-in-Err-clause-cause : goal.returns-in-Err-clause-cause
 returns-in-Err-clause-cause g c =
-    rw (← c.self.view_is) (asked_unwritten g.S.Store (TriesEvent (Event.Complete c.args.id.now c.args.completion c.args.brought)) (stored c.self.inside.tables c.self.inside.live) (stored c.prepare_result.new.tables c.self.inside.live) c.in-Err.why c.in-Err.ensures.cause)
+    rw (← c.self.view_is) (asked_unwritten g.S.Store (TriesEvent (Event.Result c.args.id.now c.args.completion c.args.brought)) (stored c.self.inside.tables c.self.inside.live) (stored c.prepare_result.new.tables c.self.inside.live) c.in-Err.why c.in-Err.ensures.cause)

@@ -2,7 +2,7 @@ use Rattle.std.proofs.Common.{refl, arith}
 use Rattle.sqlite.specs.State.{State, HasCleanDisk}
 use Rattle.sqlite.specs.Held.{state}
 use Rattle.journal_model.specs.Event.{Event}
-use Rattle.store_calls.specs.Standing.{Adds}
+use Rattle.store_calls.specs.AbstractStore.{Adds}
 use Rattle.store_calls.specs.Calls.{Signals}
 use Rattle.journal_store.specs.Stored.{stored}
 use Rattle.journal_store.specs.Causes.{TriesEvent}

@@ -6,7 +6,7 @@ use Rattle.journal_store.specs.Stored.{stored}
 use Rattle.journal_store.specs.Causes.{TriesFrame}
 use Rattle.journal_store.proofs.Calls.{dead, step_dead}
 use Rattle.journal_store.proofs.Causing.{asked_unwritten}
-use Rattle.journal_store.proofs.Taking.{header_refused, none_waits, no_room}
+use Rattle.journal_store.proofs.FrameAcceptance.{header_refused, none_waits, no_room}
 use Rattle.journal_store.proofs.store.Store.step.Goals as goal
 
 pub returns-in-Ok-Partial-clause-does : goal.returns-in-Ok-Partial-clause-does

@@ -5,7 +5,7 @@ use Rattle.journal_store.specs.Stored.{stored}
 use Rattle.journal_store.specs.Causes.{TriesFrame}
 use Rattle.journal_store.proofs.Enduring.{quiet_endures}
 use Rattle.journal_store.proofs.Lasting.{undone_kept}
-use Rattle.journal_store.proofs.Taking.{frame_tried, is_here, seen_lands, seen_refused, seen_settled, seen_taken, steps_so}
+use Rattle.journal_store.proofs.FrameAcceptance.{frame_tried, is_here, seen_lands, seen_refused, seen_settled, seen_taken, steps_so}
 use Rattle.journal_store.proofs.Causing.{asked_unwritten, tried_by}
 use Rattle.journal_store.proofs.store.Store.take_seen.Goals as goal
 

@@ -3,7 +3,7 @@ use Rattle.journal_model.specs.Event as model
 use Rattle.journal_model.specs.Journal.{entries_of}
 use Rattle.schedule_model.specs.declared.event.Event.TheVariants as event
 use Rattle.schedule_model.specs.declared.event.Reply.TheVariants as reply
-use Rattle.store_calls.specs.Standing.{Adds}
+use Rattle.store_calls.specs.AbstractStore.{Adds}
 use Rattle.store_calls.specs.Calls.{Cancels}
 use Rattle.scheduler.proofs.Replying.{replies_place}
 use Rattle.scheduler.proofs.Scheduling.{crashes, performs_stored}

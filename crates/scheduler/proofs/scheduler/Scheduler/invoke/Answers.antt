@@ -2,7 +2,7 @@ use Rattle.std.proofs.Common.{refl}
 use Rattle.journal_model.specs.Event as model
 use Rattle.schedule_model.specs.declared.event.Event.TheVariants as event
 use Rattle.schedule_model.specs.declared.event.Reply.TheVariants as reply
-use Rattle.store_calls.specs.Standing.{Adds}
+use Rattle.store_calls.specs.AbstractStore.{Adds}
 use Rattle.store_calls.specs.Calls.{Invokes}
 use Rattle.scheduler.proofs.Replying.{replies_done}
 use Rattle.scheduler.proofs.Scheduling.{crashes, performs_stored}

@@ -3,7 +3,7 @@ use Rattle.journal_model.specs.Event as model
 use Rattle.journal_model.specs.Attempt.{completions_of_tick}
 use Rattle.schedule_model.specs.declared.event.Event.TheVariants as event
 use Rattle.schedule_model.specs.declared.event.Reply.TheVariants as reply
-use Rattle.store_calls.specs.Standing.{Adds}
+use Rattle.store_calls.specs.AbstractStore.{Adds}
 use Rattle.store_calls.specs.Calls.{Ticks}
 use Rattle.scheduler.proofs.Replying.{replies_count}
 use Rattle.scheduler.proofs.Scheduling.{crashes, performs_stored}

@@ -1,7 +1,7 @@
 use Rattle.std.proofs.Common.{subst, ℕ, List, IfOk, ◌≡◌, false}
 use Rattle.journal_model.specs.AwaitTree.{AwaitState, AwaitTree, is_awake}
 use Rattle.journal_model.specs.Future.{tree_of}
-use Rattle.journal_model.specs.Waiting.{pruned}
+use Rattle.journal_model.specs.PrunedTrees.{pruned}
 use Rattle.vm_flat_trees.specs.declared.node.FlatNode.{FlatNode}
 use Rattle.vm_flat_trees.specs.Flat.{flat_of}
 use Rattle.vm_awaits.proofs.Keeping.{seen-left}

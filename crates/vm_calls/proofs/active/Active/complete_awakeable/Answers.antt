@@ -1,6 +1,6 @@
 use Rattle.std.proofs.Common.{refl, ◌∙◌}
 use Rattle.protocol_types.specs.declared.message_type.MessageType.TheVariants.{CompleteAwakeableCommand}
-use Rattle.vm_calls.proofs.Doing.{asks_to_keep}
+use Rattle.vm_calls.proofs.ImmediateCalls.{asks_to_keep}
 use Rattle.vm_calls.proofs.DoneCalls.{awakeable_does, awakeable_requested}
 use Rattle.vm_calls.proofs.Spending.{asks_rest}
 use Rattle.vm_calls.proofs.active.Active.complete_awakeable.Goals as goal

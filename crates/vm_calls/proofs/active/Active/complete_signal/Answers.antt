@@ -1,7 +1,7 @@
 use Rattle.std.proofs.Common.{refl, ◌∙◌}
 use Rattle.protocol_types.specs.declared.message_type.MessageType.TheVariants.{SendSignalCommand}
 use Rattle.vm_calls.proofs.Calls.{unchecked}
-use Rattle.vm_calls.proofs.Doing.{asks_to_keep}
+use Rattle.vm_calls.proofs.ImmediateCalls.{asks_to_keep}
 use Rattle.vm_calls.proofs.DoneCalls.{signal_does, signal_requested}
 use Rattle.vm_calls.proofs.Spending.{asks_rest}
 use Rattle.vm_calls.proofs.active.Active.complete_signal.Goals as goal

@@ -1,6 +1,6 @@
 use Rattle.std.proofs.Common.{refl, ◌∙◌}
 use Rattle.protocol_types.specs.declared.message_type.MessageType.TheVariants.{OutputCommand}
-use Rattle.vm_calls.proofs.Doing.{asks_to_keep}
+use Rattle.vm_calls.proofs.ImmediateCalls.{asks_to_keep}
 use Rattle.vm_calls.proofs.DoneCalls.{output_does, output_requested}
 use Rattle.vm_calls.proofs.Spending.{asks_rest}
 use Rattle.vm_calls.proofs.active.Active.output.Goals as goal

@@ -1,5 +1,5 @@
 use Rattle.std.proofs.Common.{rules, Ok, Err, [], refl, ◌∙◌, FitsSigned, to_z-of_z, w64}
-use Rattle.vm_calls.proofs.Finding.{put_tells}
+use Rattle.vm_calls.proofs.MismatchedCommands.{put_tells}
 use Rattle.vm_calls.proofs.Settling.{put_settles, put_fails}
 use Rattle.vm_calls.proofs.Spending.{finds_none, writes_none}
 use Rattle.vm_calls.proofs.active.Active.put.Goals as goal

@@ -1,5 +1,5 @@
-use Rattle.vm_calls.proofs.Finding.{tells_before}
-use Rattle.vm_calls.proofs.Making.{completes, fails}
+use Rattle.vm_calls.proofs.MismatchedCommands.{tells_before}
+use Rattle.vm_calls.proofs.CommandCalls.{completes, fails}
 use Rattle.vm_calls.proofs.Spending.{none_for, none_stands}
 use Rattle.vm_calls.proofs.active.Active.put_completable.Goals as goal
 

@@ -1,5 +1,5 @@
-use Rattle.vm_calls.proofs.Finding.{tells_before}
-use Rattle.vm_calls.proofs.Doing.{does, does_fail}
+use Rattle.vm_calls.proofs.MismatchedCommands.{tells_before}
+use Rattle.vm_calls.proofs.ImmediateCalls.{does, does_fail}
 use Rattle.vm_calls.proofs.Spending.{none_for, none_stands}
 use Rattle.vm_calls.proofs.active.Active.put_done.Goals as goal
 

@@ -2,9 +2,9 @@ use Rattle.std.proofs.Common.{refl, sym, ◌∙◌, subst}
 use Rattle.journal_model.specs.Notification.{Bytes}
 use Rattle.journal_model.specs.Request.{Request}
 use Rattle.protocol_types.specs.declared.message_type.MessageType.TheVariants.{ClearStateCommand}
-use Rattle.vm_context.specs.Following.{Follows}
+use Rattle.vm_context.specs.StateKnowledge.{Follows}
 use Rattle.vm_calls.proofs.Calls.{unchecked}
-use Rattle.vm_calls.proofs.Doing.{asks_to_change}
+use Rattle.vm_calls.proofs.ImmediateCalls.{asks_to_change}
 use Rattle.vm_calls.proofs.DoneCalls.{clear_does}
 use Rattle.vm_calls.proofs.Spending.{changes_rest}
 use Rattle.vm_calls.proofs.active.Active.state_clear.Goals as goal

@@ -2,7 +2,7 @@ use Rattle.std.proofs.Common.{refl, ◌∙◌}
 use Rattle.journal_model.specs.Request.{Request}
 use Rattle.protocol_types.specs.declared.message_type.MessageType.TheVariants.{ClearAllStateCommand}
 use Rattle.vm_calls.proofs.Calls.{unchecked}
-use Rattle.vm_calls.proofs.Doing.{asks_to_change}
+use Rattle.vm_calls.proofs.ImmediateCalls.{asks_to_change}
 use Rattle.vm_calls.proofs.DoneCalls.{clear_all_does}
 use Rattle.vm_calls.proofs.Spending.{changes_rest}
 use Rattle.vm_calls.proofs.active.Active.state_clear_all.Goals as goal

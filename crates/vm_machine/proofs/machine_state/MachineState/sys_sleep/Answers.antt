@@ -3,7 +3,7 @@ use Rattle.journal_model.specs.declared.call.Answer.{Answer}
 use Rattle.journal_model.specs.declared.call.Call.{Call}
 use Rattle.protocol_differences.specs.Control.{sleep_command_difference}
 use Rattle.protocol_types.specs.declared.message_type.MessageType.TheVariants.{SleepCommand}
-use Rattle.vm_machine.specs.PassedCauses.{kept_error}
+use Rattle.vm_start.specs.Phases.{kept_error}
 use Rattle.vm_machine.proofs.Admitted.{admitted_free, calls_made, calls_elsewhere, calls_stopped}
 use Rattle.vm_machine.proofs.Moments.{refuses_sleep, times_sleep}
 use Rattle.vm_machine.proofs.machine_state.MachineState.sys_sleep.Goals as goal

@@ -2,7 +2,7 @@ use Rattle.std.proofs.Common.{ap, ◌∙◌, nat_lt, ℕ, true}
 use Rattle.body_laws.specs.Bodies.{Body}
 use Rattle.vm_runs.specs.Runs.{bodies_in}
 use Rattle.vm_runs.proofs.Tables.{count-any}
-use Rattle.vm_runs.proofs.Keeping.{any-same}
+use Rattle.vm_runs.proofs.KeptBodies.{any-same}
 use Rattle.vm_runs.proofs.run_state.RunState.any_executing.Goals as goal
 
 pub returns-clause-any : goal.returns-clause-any

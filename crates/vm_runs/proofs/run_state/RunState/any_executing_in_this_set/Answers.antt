@@ -4,7 +4,7 @@ use Rattle.body_laws.specs.Bodies.{Body, has_handle}
 use Rattle.vm_runs.specs.Runs.{bodies_in}
 use Rattle.vm_runs.proofs.Tables.{ascends}
 use Rattle.vm_runs.proofs.Awaited.{least-any}
-use Rattle.vm_runs.proofs.Keeping.{any-same}
+use Rattle.vm_runs.proofs.KeptBodies.{any-same}
 use Rattle.vm_runs.proofs.run_state.RunState.any_executing_in_this_set.Goals as goal
 
 pub returns-clause-any : goal.returns-clause-any

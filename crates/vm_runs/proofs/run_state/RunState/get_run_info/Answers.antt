@@ -1,4 +1,4 @@
-use Rattle.vm_runs.proofs.Keeping.{keeps-found}
+use Rattle.vm_runs.proofs.KeptBodies.{keeps-found}
 use Rattle.vm_runs.proofs.run_state.RunState.get_run_info.Goals as goal
 
 pub returns-clause-body : goal.returns-clause-body

@@ -2,7 +2,7 @@ use Rattle.std.proofs.Common.{refl, ap, arith, false}
 use Rattle.vm_runs.specs.declared.run.Run.{Run}
 use Rattle.vm_runs.specs.Runs.{Table, count_executing}
 use Rattle.vm_runs.proofs.Tables.{count-in}
-use Rattle.vm_runs.proofs.Keeping.{keeps-called}
+use Rattle.vm_runs.proofs.KeptBodies.{keeps-called}
 use Rattle.vm_runs.proofs.run_state.RunState.insert_run_to_execute.Goals as goal
 
 pub overflow_sub-self : goal.overflow_sub-self

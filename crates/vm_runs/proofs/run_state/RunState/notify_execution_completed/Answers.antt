@@ -1,7 +1,7 @@
 use Rattle.std.proofs.Common.{◌≡◌, sym, ap, subst, arith, ℕ}
 use Rattle.vm_runs.specs.Runs.{Table, count_executing, outcome_at}
 use Rattle.vm_runs.proofs.Tables.{ascends, count-out}
-use Rattle.vm_runs.proofs.Keeping.{kept, of-completion, held-with, proposes}
+use Rattle.vm_runs.proofs.KeptBodies.{kept, of-completion, held-with, proposes}
 use Rattle.vm_runs.proofs.run_state.RunState.notify_execution_completed.Goals as goal
 
 pub overflow_sub-self : goal.overflow_sub-self

@@ -3,7 +3,7 @@ use Rattle.journal_model.specs.Future.{tree_of}
 use Rattle.vm_runs.specs.Runs.{Table, IsLeast, is_awaited, count_executing}
 use Rattle.vm_runs.proofs.Tables.{ascends, count-less, count-started}
 use Rattle.vm_runs.proofs.Awaited.{least-is-first}
-use Rattle.vm_runs.proofs.Keeping.{idle-run, keeps-handed, handed-on}
+use Rattle.vm_runs.proofs.KeptBodies.{idle-run, keeps-handed, handed-on}
 use Rattle.vm_runs.proofs.run_state.RunState.try_execute_run.Goals as goal
 
 pub returns-in_default-clause-least : goal.returns-in_default-clause-least

@@ -1,6 +1,0 @@
--- How an attempt reads its input, and what it sends, passed on, so that crates above name this one alone.
-pub use Rattle.vm_input_laws.proofs.Passed.{no_arrival_is_held}
-pub use Rattle.vm_output_laws.proofs.Streams.{streams_are_read}
-pub use Rattle.vm_output_laws.proofs.Taking.{none_lie_in_frames}
-pub use Rattle.vm_output_laws.proofs.Turning.{turns_send}
-pub use Rattle.vm_output_laws.proofs.Writing.{frames_are_written}

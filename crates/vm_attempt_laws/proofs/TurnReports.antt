@@ -1,0 +1,187 @@
+-- What each turn of an attempt tells of the run.
+use Rattle.std.proofs.Common.{◌≡◌, ◌⊎◌, inl, inr, ◌∙◌, ℕ, suc, pred, Bool, false, List, [], ◌∷◌, ◌++◌, map, Option, Some, None, refl, sym, ap, subst}
+use Rattle.journal_model.specs.Run.{GoesOn, RefusedCall, Ended, run, run_requests}
+use Rattle.replay_laws.proofs.Standing.{at}
+use Rattle.attempt_model.specs.Machine.{Mismatch, UncompletedInReplay, EndInReplay, KeysNotText, ChildNotId, Refused}
+use Rattle.vm_attempt_laws.specs.Attempts.{Attempt, Turn}
+use Rattle.vm_attempt_laws.specs.Bodies.{Body, NonEmptyValue, RunOutcome}
+use Rattle.vm_attempt_laws.specs.Machine.{Cause, ByFault, NoNumber, TooLong, TooDeep, NoReplay, NoMemory}
+use Rattle.vm_attempt_laws.specs.BodyExecution.{RunWaitsFor, WaitsForOthers, ExecutesFirst}
+use Rattle.vm_attempt_laws.specs.OutputOfAttempt.{Sent, frame_meant}
+use Rattle.vm_attempt_laws.specs.AttemptSimulation.{HasNotRead, HasRead, Serves}
+use Rattle.vm_attempt_laws.specs.TurnReports.{Told, HasCome, HasJournal, FailsSo, refused, of_body, lacks, too_deep, TurnTells, IsAttemptTold, TellsOne, TurnsTell}
+use Rattle.vm_attempt_laws.specs.TurnsInRun.{turns_answered, IsOwnCause, FailsBy, FailsFor, FailsForBody, TurnsBehind, TurnServes}
+use Rattle.vm_attempt_laws.specs.Words.{Arrival, arrivals_carried, after_turn, Error, Handler, HasReadJournal, Input, item_at, LiveAttempt, Request, requests_carried, Version, VMOptions}
+use Rattle.vm_attempt_laws.proofs.Matching.{code_of_cause, body_code, IsCodeOf, IsOwnCode, IsCode}
+
+module _ (next : Handler) (live : LiveAttempt) (told : Told) (proposed : List (ℕ × NonEmptyValue)) (calls_are : pred told.answered ≡ live.calls) (proposed_are : told.proposed ≡ proposed) where
+  abbrev own_requests : List Request
+  own_requests = requests_carried live.read ++ live.machine.written
+
+  abbrev arrivals : List Arrival
+  arrivals = arrivals_carried live.read
+
+  -- what the run waits for, by what was told
+  told_waits : WaitsForOthers next live.start.given arrivals live.calls own_requests proposed
+      → WaitsForOthers next live.start.given arrivals (pred told.answered) (run_requests next live.start.given arrivals (suc (pred told.answered))) told.proposed
+  told_waits w =
+      subst (λ (calls : ℕ). WaitsForOthers next live.start.given arrivals calls (run_requests next live.start.given arrivals (suc calls)) told.proposed) (sym calls_are)
+      (subst (λ (requests : List Request). WaitsForOthers next live.start.given arrivals live.calls requests told.proposed) (sym w.waits.exactly)
+      (subst (λ (some : List (ℕ × NonEmptyValue)). WaitsForOthers next live.start.given arrivals live.calls own_requests some) (sym proposed_are) w))
+
+  told_first : (body : Body) → ExecutesFirst next live.start.given arrivals live.calls own_requests proposed body
+      → ExecutesFirst next live.start.given arrivals (pred told.answered) (run_requests next live.start.given arrivals (suc (pred told.answered))) told.proposed body
+  told_first body w =
+      subst (λ (calls : ℕ). ExecutesFirst next live.start.given arrivals calls (run_requests next live.start.given arrivals (suc calls)) told.proposed body) (sym calls_are)
+      (subst (λ (requests : List Request). ExecutesFirst next live.start.given arrivals live.calls requests told.proposed body) (sym w.waits.exactly)
+      (subst (λ (some : List (ℕ × NonEmptyValue)). ExecutesFirst next live.start.given arrivals live.calls own_requests some body) (sym proposed_are) w))
+
+module _ {H : Type 0} (function : H → Handler) (next : Handler) (version : Version) (options : VMOptions) (is_closed : Bool) (live : LiveAttempt) (before : Attempt H) (proposed : List (ℕ × NonEmptyValue)) (ran : RunOutcome)
+    (told : Told) (s : Serves function next version options live is_closed before) (t : IsAttemptTold live before is_closed proposed told) where
+  abbrev come : HasCome live.start told.bytes
+  come = record { read = live.read; kept = live.held; parts = t.bytes; whole = ap item_at (sym s.bytes) ∙ s.whole }
+
+  -- the first that has answered reads the input
+  calls_so : HasNotRead function next version options live is_closed before ⊎ HasRead function next version options live before → pred (turns_answered before.input live.calls) ≡ live.calls
+  calls_so (inl n) = ap (λ (input : Option Input). pred (turns_answered input live.calls)) n.input ∙ ap pred n.calls ∙ sym n.calls
+  calls_so (inr r) = ap (λ (input : Option Input). pred (turns_answered input live.calls)) r.input
+
+  calls_are : pred told.answered ≡ live.calls
+  calls_are = ap pred t.answered ∙ calls_so s.stands
+
+  abbrev Tells : Turn → Told → Type 0
+  Tells turn now = TurnTells next live.start told come ran turn now
+
+  -- ---- one more answer
+
+  of_pred : (a b : ℕ) → suc a ≡ suc b → a ≡ b
+  of_pred a b e = ap pred e
+
+  goes_at : (calls : ℕ) → (a : Attempt H) → (sent : List Sent) → turns_answered a.input calls ≡ suc told.answered → (run next live.start.given (arrivals_carried live.read) calls).ending ≡ GoesOn
+      → (input : Option Input) → a.input ≡ input → ((input ≡ None) → calls ≡ 0) → (told.answered ≡ 0) ⊎ ((run next live.start.given (arrivals_carried live.read) told.answered).ending ≡ GoesOn)
+  goes_at calls a sent counted going None is none = absurd (no_suc told.answered (sym (sym (ap (λ (i : Option Input). turns_answered i calls) is ∙ none refl) ∙ counted)))
+    where
+      no_suc : (n : ℕ) → suc n ≡ 0 → ⊥
+      no_suc n e = cc
+  goes_at calls a sent counted going (Some input) is none =
+      let same : calls ≡ told.answered = of_pred calls told.answered (sym (ap (λ (i : Option Input). turns_answered i calls) is) ∙ counted) in
+      inr (subst (λ (n : ℕ). (run next live.start.given (arrivals_carried live.read) n).ending ≡ GoesOn) same going)
+
+  unread_calls : (now : LiveAttempt) (a : Attempt H) → HasNotRead function next version options now is_closed a ⊎ HasRead function next version options now a → a.input ≡ None → now.calls ≡ 0
+  unread_calls now a (inl n) none = n.calls
+  unread_calls now a (inr r) none = absurd (some_none (sym r.input ∙ none))
+    where
+      some_none : {A : Type 0} {x : A} → Some x ≡ None → ⊥
+      some_none e = cc
+
+  -- ---- why it has failed
+
+  of_depth : (error : Error) → RunWaitsFor next live.start.given (arrivals_carried live.read) live.calls → IsOwnCode error → FailsSo next live.start told come ran error
+  of_depth error waits (inl is) = lacks is
+  of_depth error waits (inr is) = too_deep (subst (λ (calls : ℕ). RunWaitsFor next live.start.given (arrivals_carried live.read) calls) (sym calls_are) waits) is
+
+  for_call : (error : Error) (sent : List Sent) (after : Attempt H) → FailsBy next version live (next live.start.given.input before.answers) before.vm.state after.vm.state error sent → FailsSo next live.start told come ran error
+  for_call error sent after by = by_why by.cause by.own (code_of_cause next version live (next live.start.given.input before.answers) before.vm.state after.vm.state error sent by)
+    where
+      by_why : (cause : Cause) → IsOwnCause next live.start.given (arrivals_carried live.read) live.calls cause → IsCodeOf cause error → FailsSo next live.start told come ran error
+      by_why (ByFault (Refused refusal)) own code = refused refusal (subst (λ (calls : ℕ). (run next live.start.given (arrivals_carried live.read) (suc calls)).ending ≡ RefusedCall refusal) (sym calls_are) own)
+      by_why (ByFault Mismatch) own code = absurd own
+      by_why (ByFault UncompletedInReplay) own code = absurd own
+      by_why (ByFault EndInReplay) own code = absurd own
+      by_why (ByFault KeysNotText) own code = absurd own
+      by_why (ByFault ChildNotId) own code = absurd own
+      by_why TooDeep own code = of_depth error own code
+      by_why NoNumber own code = lacks code
+      by_why TooLong own code = lacks code
+      by_why NoReplay own code = absurd own
+      by_why NoMemory own code = lacks code
+
+  for_body : (error : Error) (sent : List Sent) → (body : Body) → ExecutesFirst next live.start.given (arrivals_carried live.read) live.calls (requests_carried live.read ++ live.machine.written) proposed body
+      → IsCode ran error.code.0 → FailsSo next live.start told come ran error
+  for_body error sent body first (inl is) = lacks is
+  for_body error sent body first (inr (inl is)) = of_body body (told_first next live told proposed calls_are t.outcomes body first) (inr is)
+  for_body error sent body first (inr (inr own)) = of_body body (told_first next live told proposed calls_are t.outcomes body first) (inl own)
+
+  failed_so : (error : Error) (sent : List Sent) (after : Attempt H) → FailsFor function next version options is_closed live before error sent after
+      ⊎ FailsForBody function next version options is_closed live before proposed ran error sent
+      → FailsSo next live.start told come ran error
+  failed_so error sent after (inl by) = for_call error sent after by
+  failed_so error sent after (inr by) = for_body error sent by.body by.first (body_code next live proposed version options ran before.vm.state error sent by)
+
+  abbrev One : Turn → Attempt H → Type 0
+  One turn after = TellsOne function next version options live.start is_closed told ran turn after
+
+  by_turn : (sent : List Sent) (turn : Turn) (after : Attempt H) → TurnsBehind function next version options is_closed live before proposed ran sent turn after → One turn after
+  by_turn sent Turn.Answered after b = record {
+    come = come;
+    now = record told { answered = suc told.answered };
+    tells = (
+      refl,
+      goes_at b.0 after sent (b.2 ∙ ap suc (sym t.answered)) (at next _ proposed b.3.bodies.executor b.3.bodies.lives).position.going after.input refl
+          (λ none. unread_calls _ after b.3.serves.stands none),
+    );
+    goes_on = inr (record {
+      live = after_turn live (map (frame_meant version) sent) b.0 b.1;
+      proposed = proposed;
+      start_is = refl;
+      bodies = b.3.bodies;
+      serves = b.3.serves;
+      is_told = record { bytes = t.bytes; closed = t.closed; answered = ap suc t.answered ∙ sym b.2; outcomes = t.outcomes };
+    });
+  }
+  by_turn sent Turn.RanBody after b = record {
+    come = come;
+    now = record told { proposed = told.proposed ++ (b.body.completion, b.value) ∷ [] };
+    tells = (b.body, b.value, told_first next live told proposed calls_are t.outcomes b.body b.first, refl);
+    goes_on = inr (record {
+      live = after_turn live (map (frame_meant version) sent) live.calls b.machine;
+      proposed = proposed ++ (b.body.completion, b.value) ∷ [];
+      start_is = refl;
+      bodies = b.goes_on.bodies;
+      serves = b.goes_on.serves;
+      is_told = record {
+        bytes = t.bytes;
+        closed = t.closed;
+        answered = t.answered ∙ sym (ap (λ (input : Option Input). turns_answered input live.calls) b.input);
+        outcomes = ap (λ (some : List (ℕ × NonEmptyValue)). some ++ (b.body.completion, b.value) ∷ []) t.outcomes;
+      };
+    });
+  }
+  by_turn sent Turn.Waiting after b = record {
+    come = come;
+    now = told;
+    tells = (refl, waits b.0);
+    goes_on = inr (record {
+      live = after_turn live (map (frame_meant version) sent) live.calls b.1.0;
+      proposed = proposed;
+      start_is = refl;
+      bodies = b.1.1.bodies;
+      serves = b.1.1.serves;
+      is_told = record { bytes = t.bytes; closed = t.closed; answered = t.answered ∙ sym (ap (λ (input : Option Input). turns_answered input live.calls) b.1.2); outcomes = t.outcomes };
+    });
+  }
+    where
+      waits : (HasReadJournal live → ⊥) ⊎ ((is_closed ≡ false) × WaitsForOthers next live.start.given (arrivals_carried live.read) live.calls (requests_carried live.read ++ live.machine.written) proposed)
+          → (HasJournal live.start live.read → ⊥) ⊎ ((told.is_closed ≡ false) × WaitsForOthers next live.start.given (arrivals_carried live.read) (pred told.answered)
+          (run_requests next live.start.given (arrivals_carried live.read) (suc (pred told.answered))) told.proposed)
+      waits (inl unread) = inl (λ journal. unread (record { later = journal.later; parts = journal.parts }))
+      waits (inr (opened, w)) = inr (t.closed ∙ opened, told_waits next live told proposed calls_are t.outcomes w)
+  by_turn sent Turn.Suspended after b = record {
+    come = come;
+    now = record told { over = Some Turn.Suspended };
+    tells = (refl, t.closed ∙ b.0, told_waits next live told proposed calls_are t.outcomes b.1);
+    goes_on = inl b.2;
+  }
+  by_turn sent Turn.Ended after b = record {
+    come = come;
+    now = record told { over = Some Turn.Ended };
+    tells = (refl, subst (λ (calls : ℕ). (run next live.start.given (arrivals_carried live.read) (suc calls)).ending ≡ Ended) (sym calls_are) b.0.over);
+    goes_on = inl b.1;
+  }
+  by_turn sent (Turn.Failed error) after b =
+      record { come = come; now = record told { over = Some (Turn.Failed error) }; tells = (refl, failed_so error sent after b.0); goes_on = inl b.1 }
+
+pub turns_tell : {H : Type 0} (function : H → Handler) (next : Handler) (version : Version) (options : VMOptions) → TurnServes function next version options → TurnsTell function next version options
+turns_tell function next version options keeps is_closed live before proposed ran turn after told queued b s t turns =
+    let k = keeps is_closed live before proposed ran turn after queued b s turns in
+    by_turn function next version options is_closed live before proposed ran told s t k.sent turn after k.behind

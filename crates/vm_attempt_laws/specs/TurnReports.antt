@@ -1,0 +1,104 @@
+-- What each turn of an attempt tells of the run, by what its turns have told before.
+use Rattle.std.specs.Prelude.{◌≡◌, ◌⊎◌, ℕ, suc, pred, Bool, true, false, List, [], ◌∷◌, ◌++◌, map, Option, Some, None}
+use Rattle.journal_model.specs.Run.{GoesOn, RefusedCall, Ended, run, run_requests}
+use Rattle.vm_attempt_laws.specs.Attempts.{Attempt, Turn, Turns}
+use Rattle.vm_attempt_laws.specs.Bodies.{Body, NonEmptyValue, RunOutcome}
+use Rattle.vm_attempt_laws.specs.AttemptInvariants.{early_error}
+use Rattle.vm_attempt_laws.specs.BodyExecution.{RunWaitsFor, WaitsForOthers, ExecutesFirst, IsBodyCode}
+use Rattle.vm_attempt_laws.specs.AttemptSimulation.{HasBodies, IsOver, Serves}
+use Rattle.vm_attempt_laws.specs.TurnsInRun.{turns_answered}
+use Rattle.vm_attempt_laws.specs.Words.{Arrival, arrivals_carried, AttemptStart, Bytes, CarriesInput, Error, Handler, input_bytes, InputMessage, internal, item_at, LiveAttempt, piece_of, Queued, Refusal, Request, unsupported_feature, Version, VMOptions}
+
+-- What was told of one attempt by the replies so far: the bytes that it was handed, whether its input was closed, how many of its turns have
+-- answered, the first of which reads the input, which outcomes it has proposed, and the turn by which it is over.
+pub record Told : Type 0 where
+  pub bytes : Bytes
+  pub is_closed : Bool
+  pub answered : ℕ
+  pub proposed : List (ℕ × NonEmptyValue)
+  pub over : Option Turn
+
+abbrev pub told_nothing : Told
+told_nothing = record { bytes = []; is_closed = false; answered = 0; proposed = []; over = None }
+
+-- the messages of its input that have come whole to an attempt that was begun so: its start frame is in front of them
+pub record HasCome (start : AttemptStart) (bytes : Bytes) : Type 0 where
+  pub read : List InputMessage
+  pub kept : Bytes
+  pub parts : bytes ≡ start.frame ++ (input_bytes (map piece_of read) ++ kept)
+  pub whole : item_at kept ≡ None
+
+-- its input and its journal are among them
+pub record HasJournal (start : AttemptStart) (read : List InputMessage) : Type 0 where
+  pub later : List InputMessage
+  pub parts : read ≡ CarriesInput start.new ∷ (start.journal ++ later)
+
+module _ (next : Handler) (start : AttemptStart) (told : Told) (come : HasCome start told.bytes) where
+  -- how many calls were answered, and what the run over the arrivals that have come asks for with one more
+  abbrev pub calls : ℕ
+  calls = pred told.answered
+
+  abbrev pub arrivals : List Arrival
+  arrivals = arrivals_carried come.read
+
+  abbrev pub requests : List Request
+  requests = run_requests next start.given arrivals (suc calls)
+
+  abbrev pub Waits : Type 0
+  Waits = WaitsForOthers next start.given arrivals calls requests told.proposed
+
+  -- the body that the run waits for first, which its attempt executes
+  abbrev pub First : Body → Type 0
+  First body = ExecutesFirst next start.given arrivals calls requests told.proposed body
+
+  -- why an attempt has failed
+  pub data FailsSo (ran : RunOutcome) (error : Error) : Type 0 where
+    -- the run refuses the call that its handler makes next
+    refused : (refusal : Refusal) → (run next start.given arrivals (suc calls)).ending ≡ RefusedCall refusal → FailsSo ran error
+    -- the body that it has executed has ended with that error, or as this version cannot tell
+    of_body : (body : Body) → First body → IsBodyCode ran.result error.code.0 ⊎ (error.code.0 ≡ unsupported_feature) → FailsSo ran error
+    -- its input was closed before its journal had come
+    early : (HasJournal start come.read → ⊥) → told.is_closed ≡ true → error.code.0 ≡ early_error.code.0 → FailsSo ran error
+    -- there was no number or no room for what it makes, or no memory
+    lacks : error.code.0 ≡ internal → FailsSo ran error
+    -- the run waits, for what is nested too deep to be told
+    too_deep : RunWaitsFor next start.given arrivals calls → error.code.0 ≡ unsupported_feature → FailsSo ran error
+
+  -- by what a reply tells of a turn, and of what was told then
+  abbrev pub TurnTells : RunOutcome → Turn → (now : Told) → Type 0
+  TurnTells ran Turn.Answered now = (now ≡ record told { answered = suc told.answered }) × ((told.answered ≡ 0) ⊎ ((run next start.given arrivals told.answered).ending ≡ GoesOn))
+  TurnTells ran Turn.RanBody now =
+      (body : Body) × (value : NonEmptyValue) × First body × (now ≡ record told { proposed = told.proposed ++ (body.completion, value) ∷ [] })
+  TurnTells ran Turn.Waiting now = (now ≡ told) × ((HasJournal start come.read → ⊥) ⊎ ((told.is_closed ≡ false) × Waits))
+  TurnTells ran Turn.Suspended now = (now ≡ record told { over = Some Turn.Suspended }) × (told.is_closed ≡ true) × Waits
+  TurnTells ran Turn.Ended now = (now ≡ record told { over = Some Turn.Ended }) × ((run next start.given arrivals (suc calls)).ending ≡ Ended)
+  TurnTells ran (Turn.Failed error) now = (now ≡ record told { over = Some (Turn.Failed error) }) × FailsSo ran error
+
+-- what was told of an attempt is so: it was handed its start frame, and the messages that it has read and the bytes that it holds
+pub record IsAttemptTold {H : Type 0} (live : LiveAttempt) (a : Attempt H) (is_closed : Bool) (proposed : List (ℕ × NonEmptyValue)) (told : Told) : Type 0 where
+  pub bytes : told.bytes ≡ live.start.frame ++ (input_bytes (map piece_of live.read) ++ live.held)
+  pub closed : told.is_closed ≡ is_closed
+  pub answered : told.answered ≡ turns_answered a.input live.calls
+  pub outcomes : told.proposed ≡ proposed
+
+module _ {H : Type 0} (function : H → Handler) (next : Handler) (version : Version) (options : VMOptions) where
+  -- an attempt that was begun so serves on, by what is told now
+  pub record GoesOnTold (start : AttemptStart) (is_closed : Bool) (now : Told) (after : Attempt H) : Type 0 where
+    pub live : LiveAttempt
+    pub proposed : List (ℕ × NonEmptyValue)
+    pub start_is : live.start ≡ start
+    pub bodies : HasBodies next live proposed after
+    pub serves : Serves function next version options live is_closed after
+    pub is_told : IsAttemptTold live after is_closed proposed now
+
+  -- its turn tells this, of the run over the arrivals that have come to it, and it goes on so, or is over
+  pub record TellsOne (start : AttemptStart) (is_closed : Bool) (told : Told) (ran : RunOutcome) (turn : Turn) (after : Attempt H) : Type 0 where
+    pub come : HasCome start told.bytes
+    pub now : Told
+    pub tells : TurnTells next start told come ran turn now
+    pub goes_on : IsOver after ⊎ GoesOnTold start is_closed now after
+
+  abbrev pub TurnsTell : Type 0
+  TurnsTell = (is_closed : Bool) (live : LiveAttempt) (before : Attempt H) (proposed : List (ℕ × NonEmptyValue)) (ran : RunOutcome) (turn : Turn) (after : Attempt H) (told : Told) → options.signal_delivery ≡ Queued
+      → HasBodies next live proposed before → Serves function next version options live is_closed before → IsAttemptTold live before is_closed proposed told → Turns function ran before turn after
+      → TellsOne live.start is_closed told ran turn after
