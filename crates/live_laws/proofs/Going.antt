@@ -12,7 +12,7 @@ use Rattle.journal_model.specs.Journal.{Entry, entries_of}
 use Rattle.input_laws.specs.Message.{InputMessage, CarriesInput, CarriesRequest, CarriesArrival, CarriesOutcome, requests_carried}
 use Rattle.input_laws.proofs.News.{requests_carried-append}
 use Rattle.live_laws.specs.Begun.{IsLater}
-use Rattle.live_laws.specs.AttemptWithMachine.{LiveAttempt, HasReadJournal, IsLiveMachine}
+use Rattle.live_laws.specs.AttemptWithMachine.{AttemptInRun, HasReadJournal, IsLiveMachine}
 use Rattle.live_laws.proofs.MachinePosition.{none_behind}
 
 -- ---- the journal is read
@@ -25,7 +25,7 @@ later_none entries proposed (CarriesOutcome number value ∷ messages) all = lat
 later_none entries proposed (CarriesInput new ∷ messages) all = absurd all.0
 later_none entries proposed (CarriesRequest request ∷ messages) all = absurd all.0
 
-module _ (next : Handler) (options : RunOptions) (fallback_seed : ℕ) (id : Text) (events : List Event) (live : LiveAttempt)
+module _ (next : Handler) (options : RunOptions) (fallback_seed : ℕ) (id : Text) (events : List Event) (live : AttemptInRun)
     (l : IsLiveMachine next options fallback_seed id events live) (r : HasReadJournal live) where
   read_requests : requests_carried live.read ≡ requests_carried live.start.journal ++ requests_carried r.later
   read_requests = ap requests_carried r.parts ∙ requests_carried-append live.start.journal r.later

@@ -23,7 +23,7 @@ use Rattle.live_laws.proofs.LiveTurns.{reads_messages}
 use Rattle.live_laws.specs.MachinePosition.{IsMachineAt}
 use Rattle.live_laws.specs.MachineTurn.{HasPosition}
 use Rattle.live_laws.specs.StartFrame.{AttemptStart, IsBegunAs, start_after}
-use Rattle.live_laws.specs.AttemptWithMachine.{LiveAttempt, HoldsStart, start_unread, start_read, IsLiveMachine, handed_bytes, after_reading}
+use Rattle.live_laws.specs.AttemptWithMachine.{AttemptInRun, HoldsStart, start_unread, start_read, IsLiveMachine, handed_bytes, after_reading}
 use Rattle.live_laws.specs.MachineLaws.{MachinesBegin, MachinesStayLive}
 use Rattle.live_laws.proofs.MachinePosition.{messages-written, machine_position}
 
@@ -60,7 +60,7 @@ begun_as next options fallback_seed id event events start old going b =
     }
 
 -- more messages that carry no request leave its machine where it is
-module _ (next : Handler) (live : LiveAttempt) where
+module _ (next : Handler) (live : AttemptInRun) where
   pub machine_more : (more : List InputMessage) → requests_carried more ≡ [] → IsMachineAt next live.start.given live.start.shown live.read live.unread live.calls live.machine
       → IsMachineAt next live.start.given live.start.shown live.read (live.unread ++ more) live.calls live.machine
   machine_more more none (inl only) = inl only
@@ -72,7 +72,7 @@ module _ (next : Handler) (live : LiveAttempt) where
   })
 
 -- what holds its start frame does so with more behind it
-module _ (live : LiveAttempt) where
+module _ (live : AttemptInRun) where
   pub holds_on : (unread : List InputMessage) (coming : List Frame) → HoldsStart live → HoldsStart (record live { unread = unread; coming = coming })
   holds_on unread coming (start_unread a b c d) = start_unread a b c d
   holds_on unread coming (start_read a) = start_read a
@@ -81,7 +81,7 @@ module _ (live : LiveAttempt) where
   holds_more bytes (start_unread a b c d) = start_unread (ap (λ (some : Bytes). some ++ bytes) a ∙ append_assoc live.start.frame live.held bytes) b c d
   holds_more bytes (start_read a) = start_read (ap (λ (some : Bytes). some ++ bytes) a)
 
-module _ (next : Handler) (options : RunOptions) (fallback_seed : ℕ) (id : Text) (events : List Event) (live : LiveAttempt) (l : IsLiveMachine next options fallback_seed id events live) where
+module _ (next : Handler) (options : RunOptions) (fallback_seed : ℕ) (id : Text) (events : List Event) (live : AttemptInRun) (l : IsLiveMachine next options fallback_seed id events live) where
   pub position : HasPosition next live.start.given live.start.shown live.read live.unread live.calls live.machine
   position = machine_position next live.start.given live.start.shown live.read live.unread live.calls live.machine l.machine
 

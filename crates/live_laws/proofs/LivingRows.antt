@@ -2,16 +2,16 @@
 use Rattle.std.proofs.Common.{◌≡◌, refl, [], ◌∷◌, codes, length}
 use Rattle.run_laws.proofs.RunRows.{new, given, sleep}
 use Rattle.input_laws.specs.Message.{CarriesInput, CarriesRequest}
-use Rattle.live_laws.specs.AttemptWithMachine.{LiveAttempt, attempt_begun, HoldsStart, start_unread, start_read, HasReadJournal, handed_bytes, after_reading}
+use Rattle.live_laws.specs.AttemptWithMachine.{AttemptInRun, attempt_begun, HoldsStart, start_unread, start_read, HasReadJournal, handed_bytes, after_reading}
 
 -- a start frame of one byte, and an input of one more
-abbrev first : LiveAttempt
+abbrev first : AttemptInRun
 first = attempt_begun (record { new = new; journal = CarriesRequest sleep ∷ []; frame = codes "s"; given = given; shown = given.start })
 
 first-holds : HoldsStart (handed_bytes first (codes "m"))
 first-holds = start_unread refl refl refl refl
 
-abbrev last : LiveAttempt
+abbrev last : AttemptInRun
 last = after_reading (handed_bytes first (codes "m")) (CarriesInput new ∷ CarriesRequest sleep ∷ []) [] []
 
 last-holds : HoldsStart last

@@ -18,7 +18,7 @@ use Rattle.live_laws.specs.RequestsInFlight.{PassesOn}
 use Rattle.attempt_model.specs.Attempts.{ComeAsAsked}
 use Rattle.live_laws.specs.StartFrame.{start_after}
 use Rattle.live_laws.specs.AskedArrivals.{GiveIds, keys_are_text, AsksByText}
-use Rattle.live_laws.specs.AttemptWithMachine.{LiveAttempt, attempt_begun, IsLiveMachine, handed_bytes, after_reading}
+use Rattle.live_laws.specs.AttemptWithMachine.{AttemptInRun, attempt_begun, IsLiveMachine, handed_bytes, after_reading}
 
 -- ---- what has come
 
@@ -45,7 +45,7 @@ MachinesBegin = (next : Handler) (options : RunOptions) (fallback_seed : ℕ) (i
 
 -- it stays so: an event that hands nothing to it may bring it more messages, one that hands it the next bytes brings none; it reads its start
 -- frame, and then messages of which it holds all bytes
-pub record StaysLive (next : Handler) (options : RunOptions) (fallback_seed : ℕ) (id : Text) (events : List Event) (live : LiveAttempt) : Type 0 where
+pub record StaysLive (next : Handler) (options : RunOptions) (fallback_seed : ℕ) (id : Text) (events : List Event) (live : AttemptInRun) : Type 0 where
   pub brings : (event : Event) (coming : List Frame) → begins id event ≡ false → begins_attempt id event ≡ false → bytes_asked id event ≡ None → PassesOn id event live.coming coming
       → (more : List InputMessage) × AllByRecursion (IsBroughtBy (entries_of (event ∷ events) id) id event) more
       × IsLiveMachine next options fallback_seed id (event ∷ events) (record live { unread = live.unread ++ more; coming = coming })
@@ -55,5 +55,5 @@ pub record StaysLive (next : Handler) (options : RunOptions) (fallback_seed : �
       → IsLiveMachine next options fallback_seed id events (after_reading live some still kept)
 
 abbrev pub MachinesStayLive : Type 0
-MachinesStayLive = (next : Handler) (options : RunOptions) (fallback_seed : ℕ) (id : Text) (events : List Event) (live : LiveAttempt) → IsAccepted events
+MachinesStayLive = (next : Handler) (options : RunOptions) (fallback_seed : ℕ) (id : Text) (events : List Event) (live : AttemptInRun) → IsAccepted events
     → IsLiveMachine next options fallback_seed id events live → StaysLive next options fallback_seed id events live

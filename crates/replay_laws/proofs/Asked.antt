@@ -9,7 +9,7 @@ use Rattle.input_laws.specs.Message.{arrivals_carried, requests_carried}
 use Rattle.input_laws.proofs.Telling.{arrivals_carried-append}
 use Rattle.input_laws.proofs.News.{requests_carried-append}
 use Rattle.live_laws.specs.MachineTurn.{HasPosition}
-use Rattle.live_laws.specs.AttemptWithMachine.{LiveAttempt, HasReadJournal}
+use Rattle.live_laws.specs.AttemptWithMachine.{AttemptInRun, HasReadJournal}
 use Rattle.body_laws.specs.Bodies.{Body, bodies_of}
 use Rattle.body_laws.specs.BodySimulation.{Among, has_arrived}
 use Rattle.body_laws.proofs.BodySimulation.{arrived-before}
@@ -22,7 +22,7 @@ some-run n name [] a = absurd a
 some-run n name (request ∷ requests) (inl e) = ap (λ (some : Request). asks_run n some || runs n requests) (sym e) ∙ ap (λ (b : Bool). b || runs n requests) (eq-eqb n n refl)
 some-run n name (request ∷ requests) (inr a) = or-true_right (asks_run n request) (runs n requests) (some-run n name requests a)
 
-module _ (next : Handler) (live : LiveAttempt) (at : HasPosition next live.start.given live.start.shown live.read live.unread live.calls live.machine) where
+module _ (next : Handler) (live : AttemptInRun) (at : HasPosition next live.start.given live.start.shown live.read live.unread live.calls live.machine) where
   -- over what it has read or over its journal, where its input asks for what its journal does
   pub begins_asking : BeginsRun next live.start.given (arrivals_carried live.start.journal) (requests_carried live.start.journal)
       → requests_carried (live.read ++ live.unread) ≡ requests_carried live.start.journal → (arrivals : List Arrival) × BeginsRun next live.start.given arrivals (requests_asked_by live)
@@ -67,12 +67,12 @@ module _ (next : Handler) (live : LiveAttempt) (at : HasPosition next live.start
           ∙ sym at.position.requests
 
 -- one that has called a run has read its journal
-pub journal_read : (next : Handler) (live : LiveAttempt) → (live.calls ≡ 0) ⊎ HasReadJournal live → (body : Body)
+pub journal_read : (next : Handler) (live : AttemptInRun) → (live.calls ≡ 0) ⊎ HasReadJournal live → (body : Body)
     → Among body (bodies_of (run next live.start.given (arrivals_carried live.read) live.calls).steps) → HasReadJournal live
 journal_read next live (inl none) body a = absurd (subst (λ (calls : ℕ). Among body (bodies_of (run next live.start.given (arrivals_carried live.read) calls).steps)) none a)
 journal_read next live (inr r) body a = r
 
-pub journal_come : (live : LiveAttempt) → HasReadJournal live → (n : ℕ) → has_arrived (arrivals_carried live.start.journal) n ≡ true → has_arrived (arrivals_carried live.read) n ≡ true
+pub journal_come : (live : AttemptInRun) → HasReadJournal live → (n : ℕ) → has_arrived (arrivals_carried live.start.journal) n ≡ true → has_arrived (arrivals_carried live.read) n ≡ true
 journal_come live r n come =
     ap (λ (arrivals : List Arrival). has_arrived arrivals n) (ap arrivals_carried r.parts ∙ arrivals_carried-append live.start.journal r.later)
     ∙ arrived-before (arrivals_carried live.start.journal) (arrivals_carried r.later) n come

@@ -16,7 +16,7 @@ use Rattle.live_laws.specs.RequestsInFlight.{requests_sent, FollowsSo}
 use Rattle.live_laws.proofs.Begun.{input_sent}
 use Rattle.live_laws.proofs.LiveTurns.{requests_sent-append, turn_follows}
 use Rattle.attempt_model.specs.Machine.{Machine}
-use Rattle.live_laws.specs.AttemptWithMachine.{LiveAttempt, start_read, HasReadJournal, IsLiveMachine, after_reading, after_turn}
+use Rattle.live_laws.specs.AttemptWithMachine.{AttemptInRun, start_read, HasReadJournal, IsLiveMachine, after_reading, after_turn}
 use Rattle.live_laws.proofs.LiveMachines.{machine_stays, position, is_live}
 use Rattle.body_laws.specs.Bodies.{Body, Executor, bodies_of, acknowledges}
 use Rattle.body_laws.specs.BodySimulation.{Among, has_arrived, count_proposed}
@@ -62,7 +62,7 @@ proposed-split (x ∷ proposed) more one p = by_parts p.before p.behind p.parts 
           | inr a ↦ inr a
         ]
 
-module _ (next : Handler) (options : RunOptions) (fallback_seed : ℕ) (id : Text) (events : List Event) (live : LiveAttempt) (proposed : List (ℕ × NonEmptyValue)) (e : Executor) (accepted : IsAccepted events)
+module _ (next : Handler) (options : RunOptions) (fallback_seed : ℕ) (id : Text) (events : List Event) (live : AttemptInRun) (proposed : List (ℕ × NonEmptyValue)) (e : Executor) (accepted : IsAccepted events)
     (x : IsLiveExecutor next options fallback_seed id events live proposed e) where
   again : (new : Executor) → IsReplayed next live proposed new → IsLiveExecutor next options fallback_seed id events live proposed new
   again new r =

@@ -19,7 +19,7 @@ use Rattle.live_laws.specs.RequestsInFlight.{requests_sent, PassesOn}
 use Rattle.live_laws.specs.Begun.{IsProposed}
 use Rattle.live_laws.specs.MachineTurn.{HasPosition}
 use Rattle.live_laws.specs.StartFrame.{start_after}
-use Rattle.live_laws.specs.AttemptWithMachine.{LiveAttempt, handed_bytes}
+use Rattle.live_laws.specs.AttemptWithMachine.{AttemptInRun, handed_bytes}
 use Rattle.live_laws.proofs.LiveMachines.{machine_begins, machine_stays, position}
 use Rattle.live_laws.proofs.Going.{later_none, none_unread}
 use Rattle.body_laws.specs.Bodies.{Body, Executor, bodies_of}
@@ -55,7 +55,7 @@ executor_begins next options fallback_seed id now events new accepted begun hold
   told = λ n value p. absurd (none_proposed (n, value) p);
 }
 
-module _ (next : Handler) (options : RunOptions) (fallback_seed : ℕ) (id : Text) (events : List Event) (live : LiveAttempt) (proposed : List (ℕ × NonEmptyValue)) (e : Executor) (accepted : IsAccepted events)
+module _ (next : Handler) (options : RunOptions) (fallback_seed : ℕ) (id : Text) (events : List Event) (live : AttemptInRun) (proposed : List (ℕ × NonEmptyValue)) (e : Executor) (accepted : IsAccepted events)
     (x : IsLiveExecutor next options fallback_seed id events live proposed e) where
   pub at : HasPosition next live.start.given live.start.shown live.read live.unread live.calls live.machine
   at = position next options fallback_seed id events live x.is_live

@@ -22,7 +22,7 @@ use Rattle.live_laws.specs.RequestsInFlight.{requests_sent}
 use Rattle.live_laws.specs.Begun.{IsBegunAfter, begun_last, begun_earlier, IsProposed, IsLater}
 use Rattle.live_laws.proofs.StartFrame.{start_shows}
 use Rattle.live_laws.specs.AskedArrivals.{GiveIds, keys_are_text, are_by_text}
-use Rattle.live_laws.specs.AttemptWithMachine.{LiveAttempt}
+use Rattle.live_laws.specs.AttemptWithMachine.{AttemptInRun}
 use Rattle.live_laws.proofs.Recording.{ids_recorded}
 use Rattle.live_laws.proofs.Texts.{requests_text, records_text}
 use Rattle.body_laws.specs.Bodies.{Executor, acknowledges}
@@ -59,7 +59,7 @@ come_behind version entries told proposed (CarriesOutcome number value ∷ messa
 come_behind version entries told proposed (CarriesInput new ∷ messages) is all = absurd all.0
 come_behind version entries told proposed (CarriesRequest request ∷ messages) is all = absurd all.0
 
-module _ (next : Handler) (options : RunOptions) (fallback_seed : ℕ) (id : Text) (events : List Event) (live : LiveAttempt) (proposed : List (ℕ × NonEmptyValue)) (e : Executor) (accepted : IsAccepted events)
+module _ (next : Handler) (options : RunOptions) (fallback_seed : ℕ) (id : Text) (events : List Event) (live : AttemptInRun) (proposed : List (ℕ × NonEmptyValue)) (e : Executor) (accepted : IsAccepted events)
     (x : IsLiveExecutor next options fallback_seed id events live proposed e) where
   starts : CanReplay next live.start
   starts = record {

@@ -26,7 +26,7 @@ use Rattle.live_laws.specs.MachinePosition.{with_messages}
 use Rattle.live_laws.proofs.MachinePosition.{messages-written}
 use Rattle.live_laws.proofs.LiveMachines.{machine_more, holds_on, holds_more}
 use Rattle.live_laws.specs.AskedArrivals.{are_by_text}
-use Rattle.live_laws.specs.AttemptWithMachine.{LiveAttempt, start_unread, start_read, handed_bytes, after_reading}
+use Rattle.live_laws.specs.AttemptWithMachine.{AttemptInRun, start_unread, start_read, handed_bytes, after_reading}
 use Rattle.body_laws.specs.Bodies.{Body, Executor, reads_arrival, reads_outcome, bodies_of, acknowledges}
 use Rattle.body_laws.specs.BodySimulation.{Among, has_arrived, count_bodies, count_proposed, BodiesStand}
 use Rattle.body_laws.specs.Laws.{is_early}
@@ -129,7 +129,7 @@ reads-executing e (CarriesRequest request ∷ messages) = reads-executing (recor
 reads-executing e (CarriesArrival type arrival ∷ messages) = reads-executing (reads_arrival e arrival) messages
 reads-executing e (CarriesOutcome number value ∷ messages) = reads-executing (reads_outcome e number value) messages
 
-module _ (next : Handler) (live : LiveAttempt) (proposed : List (ℕ × NonEmptyValue)) (e : Executor) (x : IsReplayed next live proposed e) where
+module _ (next : Handler) (live : AttemptInRun) (proposed : List (ℕ × NonEmptyValue)) (e : Executor) (x : IsReplayed next live proposed e) where
   -- ---- more that is to come
 
   brings : (more : List InputMessage) (coming : List Frame) → AllByRecursion (IsBehind live.start.given.version proposed) more

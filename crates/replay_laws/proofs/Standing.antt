@@ -22,7 +22,7 @@ use Rattle.live_laws.specs.MachinePosition.{IsInRun}
 use Rattle.live_laws.specs.MachineTurn.{HasPosition}
 use Rattle.live_laws.proofs.MachinePosition.{none_before, none_behind, machine_position}
 use Rattle.live_laws.specs.AskedArrivals.{GiveIds, keys_are_text, are_by_text, AsksByText}
-use Rattle.live_laws.specs.AttemptWithMachine.{LiveAttempt, HasReadJournal}
+use Rattle.live_laws.specs.AttemptWithMachine.{AttemptInRun, HasReadJournal}
 use Rattle.live_laws.proofs.AskedArrivals.{fewer_come, fewer_give, come_as_asked}
 use Rattle.body_laws.specs.Bodies.{Executor}
 use Rattle.replay_laws.proofs.Asked.{begins_asking}
@@ -38,7 +38,7 @@ behind_none version proposed (CarriesOutcome number value ∷ messages) all = be
 behind_none version proposed (CarriesInput new ∷ messages) all = absurd all.0
 behind_none version proposed (CarriesRequest request ∷ messages) all = absurd all.0
 
-module _ (next : Handler) (live : LiveAttempt) (proposed : List (ℕ × NonEmptyValue)) (e : Executor) (x : IsReplayed next live proposed e) where
+module _ (next : Handler) (live : AttemptInRun) (proposed : List (ℕ × NonEmptyValue)) (e : Executor) (x : IsReplayed next live proposed e) where
   pub at : HasPosition next live.start.given live.start.shown live.read live.unread live.calls live.machine
   at = machine_position next live.start.given live.start.shown live.read live.unread live.calls live.machine x.stands
 

@@ -19,7 +19,7 @@ use Rattle.live_laws.specs.Replies.{SendsReply, goes_on, StandsBehind}
 use Rattle.live_laws.specs.MachineTurn.{MakesTurns}
 use Rattle.live_laws.proofs.MachineTurn.{machine_turns}
 use Rattle.live_laws.specs.AskedArrivals.{are_by_text}
-use Rattle.live_laws.specs.AttemptWithMachine.{LiveAttempt, start_read, HasReadJournal, after_turn}
+use Rattle.live_laws.specs.AttemptWithMachine.{AttemptInRun, start_read, HasReadJournal, after_turn}
 use Rattle.body_laws.specs.Bodies.{Body, Executor, without_body, body_awaited, handing_out, executes_or_awaits, reply_after, executor_reply, bodies_left, proposing}
 use Rattle.body_laws.specs.BodySimulation.{BodiesStand, has_arrived, count_proposed, StandsWithBodies, ExecutesBody, RepliesWithBodies}
 use Rattle.body_laws.proofs.Lists.{outcome, among-left, proposed-append}
@@ -69,7 +69,7 @@ still_behind version proposed more (CarriesOutcome number value ∷ messages) al
 still_behind version proposed more (CarriesInput new ∷ messages) all = absurd all.0
 still_behind version proposed more (CarriesRequest request ∷ messages) all = absurd all.0
 
-module _ (same_header : Call → Request → Request → Bool) (next : Handler) (live : LiveAttempt) (proposed : List (ℕ × NonEmptyValue)) (e : Executor) (reflexive : AreReflexive same_header)
+module _ (same_header : Call → Request → Request → Bool) (next : Handler) (live : AttemptInRun) (proposed : List (ℕ × NonEmptyValue)) (e : Executor) (reflexive : AreReflexive same_header)
     (x : IsReplayed next live proposed e) (start : live.bytes ≡ live.held) (r : HasReadJournal live) (fits : Fits next live.start.given (requests_carried live.read) (arrivals_carried live.read))
     (kinds : AreOfKind next live.start.given (arrivals_carried live.read) live.calls) (at : IsInRun next live.start.given live.read live.unread live.calls live.machine) (same : e.machine ≡ live.machine) where
   stands : StandsWithBodies next live.start.given (requests_carried live.read) (arrivals_carried live.read) live.calls proposed (record e { machine = live.machine })

@@ -19,7 +19,7 @@ use Rattle.attempt_model.specs.Machine.{machine_at_start}
 use Rattle.attempt_model.specs.Attempts.{with_entry}
 use Rattle.live_laws.specs.StartFrame.{start_after}
 use Rattle.live_laws.specs.AskedArrivals.{are_by_text}
-use Rattle.live_laws.specs.AttemptWithMachine.{LiveAttempt, attempt_begun, HasReadJournal, IsLiveMachine, handed_bytes}
+use Rattle.live_laws.specs.AttemptWithMachine.{AttemptInRun, attempt_begun, HasReadJournal, IsLiveMachine, handed_bytes}
 use Rattle.body_laws.specs.Bodies.{Executor, executor_over, reads_arrival, reads_outcome, acknowledges}
 use Rattle.body_laws.specs.BodySimulation.{Among, BodiesStand}
 use Rattle.replay_laws.specs.OutcomesInFlight.{OutcomesStand}
@@ -45,7 +45,7 @@ AreCached e (message ∷ messages) = AreCached (reads_message e message) message
 -- ---- the live attempt
 
 -- the live attempt with its bodies, which has proposed these outcomes: it was asked something only once it has read its journal
-pub record IsLiveExecutor (next : Handler) (options : RunOptions) (fallback_seed : ℕ) (id : Text) (events : List Event) (live : LiveAttempt) (proposed : List (ℕ × NonEmptyValue)) (e : Executor) : Type 0 where
+pub record IsLiveExecutor (next : Handler) (options : RunOptions) (fallback_seed : ℕ) (id : Text) (events : List Event) (live : AttemptInRun) (proposed : List (ℕ × NonEmptyValue)) (e : Executor) : Type 0 where
   pub is_live : IsLiveMachine next options fallback_seed id events live
   pub machine : e.machine ≡ live.machine
   pub idle : e.executing ≡ []
@@ -63,7 +63,7 @@ ExecutorsBegin = (next : Handler) (options : RunOptions) (fallback_seed : ℕ) (
     (executor_over (machine_at_start (start_after options fallback_seed events id now new).shown [] []))
 
 -- it stays so, whatever events bring and hand to it, and as it reads its start frame
-pub record StaysWithBodies (next : Handler) (options : RunOptions) (fallback_seed : ℕ) (id : Text) (events : List Event) (live : LiveAttempt) (proposed : List (ℕ × NonEmptyValue)) (e : Executor) : Type 0 where
+pub record StaysWithBodies (next : Handler) (options : RunOptions) (fallback_seed : ℕ) (id : Text) (events : List Event) (live : AttemptInRun) (proposed : List (ℕ × NonEmptyValue)) (e : Executor) : Type 0 where
   pub brings : (event : Event) (coming : List Frame) → IsAccepted (event ∷ events) → begins id event ≡ false → begins_attempt id event ≡ false → bytes_asked id event ≡ None → PassesOn id event live.coming coming
       → (more : List InputMessage) × AllByRecursion (IsBroughtBy (entries_of (event ∷ events) id) id event) more
       × IsLiveExecutor next options fallback_seed id (event ∷ events) (record live { unread = live.unread ++ more; coming = coming }) proposed e
@@ -72,7 +72,7 @@ pub record StaysWithBodies (next : Handler) (options : RunOptions) (fallback_see
   pub reads_start : live.bytes ≡ live.start.frame ++ live.held → IsLiveExecutor next options fallback_seed id events (record live { bytes = live.held }) proposed e
 
 abbrev pub ExecutorsStayLive : Type 0
-ExecutorsStayLive = (next : Handler) (options : RunOptions) (fallback_seed : ℕ) (id : Text) (events : List Event) (live : LiveAttempt) (proposed : List (ℕ × NonEmptyValue)) (e : Executor) → IsAccepted events
+ExecutorsStayLive = (next : Handler) (options : RunOptions) (fallback_seed : ℕ) (id : Text) (events : List Event) (live : AttemptInRun) (proposed : List (ℕ × NonEmptyValue)) (e : Executor) → IsAccepted events
     → IsLiveExecutor next options fallback_seed id events live proposed e → StaysWithBodies next options fallback_seed id events live proposed e
 
 -- ---- turns

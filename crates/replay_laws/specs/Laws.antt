@@ -19,7 +19,7 @@ use Rattle.attempt_model.specs.Simulation.{AreOfKind, Fits, next_call, AreReflex
 use Rattle.live_laws.specs.StartFrame.{AttemptStart}
 use Rattle.live_laws.specs.MachinePosition.{IsInRun}
 use Rattle.live_laws.specs.AskedArrivals.{are_by_text, AsksByText}
-use Rattle.live_laws.specs.AttemptWithMachine.{LiveAttempt, attempt_begun, HasReadJournal, handed_bytes, after_reading, after_turn}
+use Rattle.live_laws.specs.AttemptWithMachine.{AttemptInRun, attempt_begun, HasReadJournal, handed_bytes, after_reading, after_turn}
 use Rattle.body_laws.specs.BodySimulation.{Among, has_arrived, count_proposed}
 use Rattle.body_laws.specs.Bodies.{Body, bodies_of, Executor, executor_over, ExecutorReply, Answers, Executes, AwaitsTreeOf, AwaitsChildOf, Finishes, Fails, executor_reply, proposing}
 use Rattle.replay_laws.specs.OutcomesInFlight.{outcomes_in}
@@ -38,7 +38,7 @@ ReplaysBegin = (next : Handler) (start : AttemptStart) → CanReplay next start
 
 -- it stays so, whatever is on its way from it, as more messages are to come that were asked for, as it is handed the next bytes of what is to
 -- come, and as it reads: then each outcome that is acknowledged is cached
-pub record StaysReplayed (next : Handler) (live : LiveAttempt) (proposed : List (ℕ × NonEmptyValue)) (e : Executor) : Type 0 where
+pub record StaysReplayed (next : Handler) (live : AttemptInRun) (proposed : List (ℕ × NonEmptyValue)) (e : Executor) : Type 0 where
   pub brings : (more : List InputMessage) (coming : List Frame) → AllByRecursion (IsBehind live.start.given.version proposed) more
       → ComesAsAsked (arrivals_carried live.start.journal) proposed (requests_asked_by live) (arrivals_carried (live.read ++ (live.unread ++ more)))
       → IsReplayed next (record live { unread = live.unread ++ more; coming = coming }) proposed e
@@ -50,24 +50,24 @@ pub record StaysReplayed (next : Handler) (live : LiveAttempt) (proposed : List 
   pub cached : AreCached e live.unread
 
 abbrev pub ReplaysStay : Type 0
-ReplaysStay = (next : Handler) (live : LiveAttempt) (proposed : List (ℕ × NonEmptyValue)) (e : Executor) → IsReplayed next live proposed e → StaysReplayed next live proposed e
+ReplaysStay = (next : Handler) (live : AttemptInRun) (proposed : List (ℕ × NonEmptyValue)) (e : Executor) → IsReplayed next live proposed e → StaysReplayed next live proposed e
 
 -- ---- its turns
 
 -- where it has read its journal, its machine stands in the run; what it was fed fits, if signals wait in line, and is of its kind; and all
 -- that its run has asked for so far is by keys that are text
-pub record StandsReplayed (next : Handler) (live : LiveAttempt) : Type 0 where
+pub record StandsReplayed (next : Handler) (live : AttemptInRun) : Type 0 where
   pub at : IsInRun next live.start.given live.read live.unread live.calls live.machine
   pub fits : live.start.given.options.signal_delivery ≡ Queued → Fits next live.start.given (requests_carried live.read) (arrivals_carried live.read)
   pub kinds : AreOfKind next live.start.given (arrivals_carried live.read) live.calls
   pub by_text : AsksByText next live.start.given (arrivals_carried live.read) live.calls
 
 abbrev pub ReplaysStand : Type 0
-ReplaysStand = (next : Handler) (live : LiveAttempt) (proposed : List (ℕ × NonEmptyValue)) (e : Executor) → IsReplayed next live proposed e → HasReadJournal live → StandsReplayed next live
+ReplaysStand = (next : Handler) (live : AttemptInRun) (proposed : List (ℕ × NonEmptyValue)) (e : Executor) → IsReplayed next live proposed e → HasReadJournal live → StandsReplayed next live
 
 -- a turn that goes on leaves it so, whatever it has sent beside: one that answers, if the requests that it has written are by keys that are
 -- text; and one that executes a body, whose outcome it proposes
-abbrev pub TurnsReplayed : Handler → LiveAttempt → List (ℕ × NonEmptyValue) → ExecutorReply → Type 0
+abbrev pub TurnsReplayed : Handler → AttemptInRun → List (ℕ × NonEmptyValue) → ExecutorReply → Type 0
 TurnsReplayed next live proposed (Answers answer e) =
     (sent : List Frame) (written : List Request) → e.machine.written ≡ live.machine.written ++ written → are_by_text written ≡ true
     → IsReplayed next (after_turn live sent (suc live.calls) e.machine) proposed e
@@ -80,7 +80,7 @@ TurnsReplayed next live proposed (Fails fault) = Unit {0}
 
 -- where signals wait in line
 abbrev pub ReplaysTurn : Type 0
-ReplaysTurn = (same_header : Call → Request → Request → Bool) (next : Handler) (live : LiveAttempt) (proposed : List (ℕ × NonEmptyValue)) (e : Executor) → AreReflexive same_header
+ReplaysTurn = (same_header : Call → Request → Request → Bool) (next : Handler) (live : AttemptInRun) (proposed : List (ℕ × NonEmptyValue)) (e : Executor) → AreReflexive same_header
     → live.start.given.options.signal_delivery ≡ Queued → IsReplayed next live proposed e → live.bytes ≡ live.held → HasReadJournal live
     → (at : IsInRun next live.start.given live.read live.unread live.calls live.machine)
     → TurnsReplayed next live proposed (executor_reply same_header live.start.given e (next_call next live.start.given at.stands.steps))
@@ -90,12 +90,12 @@ ReplaysTurn = (same_header : Call → Request → Request → Bool) (next : Hand
 -- the live attempt of a store, whose frames are on their way, replays its journal; where it is stopped or overtaken nothing more comes to it,
 -- so it does still
 abbrev pub LivesReplay : Type 0
-LivesReplay = (next : Handler) (options : RunOptions) (fallback_seed : ℕ) (id : Text) (events : List Event) (live : LiveAttempt) (proposed : List (ℕ × NonEmptyValue)) (e : Executor) → IsAccepted events
+LivesReplay = (next : Handler) (options : RunOptions) (fallback_seed : ℕ) (id : Text) (events : List Event) (live : AttemptInRun) (proposed : List (ℕ × NonEmptyValue)) (e : Executor) → IsAccepted events
     → IsLiveExecutor next options fallback_seed id events live proposed e → IsReplayed next live proposed e
 
 -- It is the live attempt still, if it replays, with whatever bodies; so it is where it reads on, and behind a turn: a turn that proposes nothing, and one that proposes the
 -- outcome of a body of the run, which has not come and was not proposed before. And a turn that it may make keeps the invocation in its run.
-pub record LivesOn (next : Handler) (options : RunOptions) (fallback_seed : ℕ) (id : Text) (events : List Event) (live : LiveAttempt) (proposed : List (ℕ × NonEmptyValue)) : Type 0 where
+pub record LivesOn (next : Handler) (options : RunOptions) (fallback_seed : ℕ) (id : Text) (events : List Event) (live : AttemptInRun) (proposed : List (ℕ × NonEmptyValue)) : Type 0 where
   pub again : (e : Executor) → IsReplayed next live proposed e → IsLiveExecutor next options fallback_seed id events live proposed e
   pub reads : (some still : List InputMessage) (kept : Bytes) (e : Executor) → live.bytes ≡ live.held → live.unread ≡ some ++ still → live.held ≡ input_bytes (map piece_of some) ++ kept
       → IsReplayed next (after_reading live some still kept) proposed e → IsLiveExecutor next options fallback_seed id events (after_reading live some still kept) proposed e
@@ -111,5 +111,5 @@ pub record LivesOn (next : Handler) (options : RunOptions) (fallback_seed : ℕ)
       → FollowsSo next live.start.given id events (live.coming ++ sent)
 
 abbrev pub LivesStay : Type 0
-LivesStay = (next : Handler) (options : RunOptions) (fallback_seed : ℕ) (id : Text) (events : List Event) (live : LiveAttempt) (proposed : List (ℕ × NonEmptyValue)) (e : Executor) → IsAccepted events
+LivesStay = (next : Handler) (options : RunOptions) (fallback_seed : ℕ) (id : Text) (events : List Event) (live : AttemptInRun) (proposed : List (ℕ × NonEmptyValue)) (e : Executor) → IsAccepted events
     → IsLiveExecutor next options fallback_seed id events live proposed e → LivesOn next options fallback_seed id events live proposed

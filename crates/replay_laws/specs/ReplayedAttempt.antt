@@ -13,7 +13,7 @@ use Rattle.input_laws.specs.Once.{ComeWhenAsked}
 use Rattle.live_laws.specs.StartFrame.{AttemptStart, ShowsStart}
 use Rattle.live_laws.specs.MachinePosition.{IsMachineAt}
 use Rattle.live_laws.specs.AskedArrivals.{GiveIds, keys_are_text, are_by_text}
-use Rattle.live_laws.specs.AttemptWithMachine.{LiveAttempt, HoldsStart, HasReadJournal}
+use Rattle.live_laws.specs.AttemptWithMachine.{AttemptInRun, HoldsStart, HasReadJournal}
 use Rattle.body_laws.specs.Bodies.{Executor, acknowledges}
 use Rattle.body_laws.specs.BodySimulation.{Among, has_arrived, count_proposed, BodiesStand}
 use Rattle.replay_laws.specs.Outcomes.{runs}
@@ -58,13 +58,13 @@ pub record ComesAsAsked (journal : List Arrival) (proposed : List (ℕ × NonEmp
 -- ---- between turns
 
 -- what is asked for, once its input was read: the requests of the journal, and what it has written
-abbrev pub requests_asked_by : LiveAttempt → List Request
+abbrev pub requests_asked_by : AttemptInRun → List Request
 requests_asked_by live = requests_carried (live.read ++ live.unread) ++ live.machine.written
 
 -- The attempt has proposed these outcomes. Its input is the journal and what comes behind it, as it was asked for, of which it holds the next
 -- bytes; its machine stands among these messages, and its bodies with the run over those that it has read. It was asked something only once
 -- it has read its journal, and what it has written is by keys that are text.
-pub record IsReplayed (next : Handler) (live : LiveAttempt) (proposed : List (ℕ × NonEmptyValue)) (e : Executor) : Type 0 where
+pub record IsReplayed (next : Handler) (live : AttemptInRun) (proposed : List (ℕ × NonEmptyValue)) (e : Executor) : Type 0 where
   pub start : CanReplay next live.start
   pub later : List InputMessage
   pub parts : live.read ++ live.unread ≡ CarriesInput live.start.new ∷ (live.start.journal ++ later)

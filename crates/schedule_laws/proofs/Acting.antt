@@ -18,7 +18,7 @@ use Rattle.input_laws.proofs.LiveAttempts.{live_now, closed_now}
 use Rattle.live_laws.specs.RequestsInFlight.{FollowsSo}
 use Rattle.live_laws.proofs.Keeping.{one_event}
 use Rattle.live_laws.specs.StartFrame.{AttemptStart}
-use Rattle.live_laws.specs.AttemptWithMachine.{LiveAttempt, handed_bytes, after_reading}
+use Rattle.live_laws.specs.AttemptWithMachine.{AttemptInRun, handed_bytes, after_reading}
 use Rattle.vm_types.specs.Options.{run_options}
 use Rattle.vm_types.specs.declared.options.VMOptions.{VMOptions}
 use Rattle.vm_attempt_laws.specs.Attempts.{Feeds, ClosesInput, output_of, Attempt}
@@ -215,7 +215,7 @@ module _ {H : Type 0} (function : H → Handler) (next : Handler) (options : VMO
           let went : HasBodies next s.live s.proposed changed = c.bodies s.live s.proposed s.bodies in
           let again = (laws.lives next (run_options options) options.fallback_random_seed id events s.live s.proposed s.bodies.executor accepted.1 s.lives).again went.executor went.lives in
           let some = (laws.stays next (run_options options) options.fallback_random_seed id events s.live s.proposed went.executor accepted.1 again).brings closing s.live.coming accepted refl refl refl refl in
-          let after : LiveAttempt = record s.live { unread = s.live.unread ++ some.0; coming = s.live.coming } in
+          let after : AttemptInRun = record s.live { unread = s.live.unread ++ some.0; coming = s.live.coming } in
           record {
             live = after;
             proposed = s.proposed;

@@ -11,7 +11,7 @@ use Rattle.vm_attempt_laws.specs.OutputOfAttempt.{Sent, frame_meant}
 use Rattle.vm_attempt_laws.specs.AttemptSimulation.{AnswersKept, HasNotRead, HasRead, IsOver, Serves}
 use Rattle.vm_attempt_laws.specs.TurnReports.{Told, HasCome, TurnTells, IsAttemptTold, GoesOnTold, TellsOne}
 use Rattle.vm_attempt_laws.specs.TurnsInRun.{turns_answered, TurnsBehind}
-use Rattle.vm_attempt_laws.specs.Words.{after_turn, arrivals_carried, Bytes, Handler, Input, input_bytes, InputMessage, item_at, LiveAttempt, piece_of, Request, requests_carried, Version, VMOptions}
+use Rattle.vm_attempt_laws.specs.Words.{after_turn, arrivals_carried, Bytes, Handler, Input, input_bytes, InputMessage, item_at, AttemptInRun, piece_of, Request, requests_carried, Version, VMOptions}
 
 -- ---- bytes
 
@@ -35,7 +35,7 @@ told_more before frame held given kept read some was are =
 
 -- ---- turns
 
-module _ {H : Type 0} (function : H → Handler) (next : Handler) (version : Version) (options : VMOptions) (is_closed : Bool) (live : LiveAttempt) (before : Attempt H) (proposed : List (ℕ × NonEmptyValue)) (ran : RunOutcome)
+module _ {H : Type 0} (function : H → Handler) (next : Handler) (version : Version) (options : VMOptions) (is_closed : Bool) (live : AttemptInRun) (before : Attempt H) (proposed : List (ℕ × NonEmptyValue)) (ran : RunOutcome)
     (told : Told) (s : Serves function next version options live is_closed before) (t : IsAttemptTold live before is_closed proposed told) where
   abbrev pub come : HasCome live.start told.bytes
   come = record { read = live.read; kept = live.held; parts = t.bytes; whole = ap item_at (sym s.bytes) ∙ s.whole }

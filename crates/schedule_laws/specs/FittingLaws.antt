@@ -10,14 +10,14 @@ use Rattle.journal_model.specs.Cause.{IsAccepted}
 use Rattle.journal_model.specs.Run.{Handler}
 use Rattle.input_laws.specs.Message.{InputMessage, CarriesInput, IsBroughtBy}
 use Rattle.live_laws.specs.StartFrame.{AttemptStart, ShowsStart, IsBegunAs, start_after}
-use Rattle.live_laws.specs.AttemptWithMachine.{LiveAttempt, IsLiveMachine}
+use Rattle.live_laws.specs.AttemptWithMachine.{AttemptInRun, IsLiveMachine}
 use Rattle.vm_input_laws.specs.MessagesBehindJournal.{MayCome}
 use Rattle.vm_input_laws.specs.InputPhases.{IsInputOf, CanBegin}
 use Rattle.schedule_laws.specs.EventBounds.{AllFit}
 
 -- what an event brings to the live attempt may come behind its journal
 abbrev pub MessagesMayCome : Type 0
-MessagesMayCome = (next : Handler) (options : RunOptions) (fallback_seed : ℕ) (id : Text) (event : Event) (events : List Event) (live : LiveAttempt) (unread more : List InputMessage)
+MessagesMayCome = (next : Handler) (options : RunOptions) (fallback_seed : ℕ) (id : Text) (event : Event) (events : List Event) (live : AttemptInRun) (unread more : List InputMessage)
     → live.unread ≡ unread ++ more → IsAccepted (event ∷ events) → AllFit id (event ∷ events) → IsLiveMachine next options fallback_seed id (event ∷ events) live
     → AllByRecursion (IsBroughtBy (entries_of (event ∷ events) id) id event) more → AllByRecursion MayCome more
 

@@ -10,7 +10,7 @@ use Rattle.protocol_types.specs.declared.version.Version.{Version}
 use Rattle.protocol_errors.specs.Code.{internal}
 use Rattle.protocol_errors.specs.declared.error.Error.{Error}
 use Rattle.live_laws.specs.StartFrame.{AttemptStart}
-use Rattle.live_laws.specs.AttemptWithMachine.{LiveAttempt}
+use Rattle.live_laws.specs.AttemptWithMachine.{AttemptInRun}
 use Rattle.replay_laws.specs.AttemptWithBodies.{IsLiveExecutor}
 use Rattle.vm_types.specs.Options.{run_options}
 use Rattle.vm_types.specs.declared.options.VMOptions.{VMOptions}
@@ -49,7 +49,7 @@ module _ {H : Type 0} (function : H → Handler) (next : Handler) (options : VMO
 
   -- the attempt is the live one, with the bodies of its runs, these are its frames on their way, and what was told of it is so
   pub record IsServed (events : List Event) (new : NewInvocation) (version : Version) (coming : List Sent) (t : Tracked) (attempt : Attempt H) : Type 0 where
-    pub live : LiveAttempt
+    pub live : AttemptInRun
     pub proposed : List (ℕ × NonEmptyValue)
     pub new_is : live.start.new ≡ new
     pub start_is : live.start ≡ t.start

@@ -7,7 +7,7 @@ use Rattle.vm_attempt_laws.specs.Attempts.{Attempt}
 use Rattle.vm_attempt_laws.specs.Bodies.{ReplaysStay, NonEmptyValue, Executor, bodies_of, Among, BodiesStand, IsReplayed, KeepsBodies, IsNew, Runs}
 use Rattle.vm_attempt_laws.specs.AttemptInvariants.{BodiesStay, InputsCome}
 use Rattle.vm_attempt_laws.specs.InputOfAttempt.{IsArrival}
-use Rattle.vm_attempt_laws.specs.Words.{Arrival, completion, arrivals_carried, CarriesArrival, CarriesInput, CarriesOutcome, CarriesRequest, Handler, InputMessage, IsInRun, LiveAttempt, Machine, next_slot, Progress, run, Step, Version, VMOptions, with_arrival, with_messages}
+use Rattle.vm_attempt_laws.specs.Words.{Arrival, completion, arrivals_carried, CarriesArrival, CarriesInput, CarriesOutcome, CarriesRequest, Handler, InputMessage, IsInRun, AttemptInRun, Machine, next_slot, Progress, run, Step, Version, VMOptions, with_arrival, with_messages}
 
 -- what is kept says nothing of the machine
 pub keeps_with : (runs : Runs) (e : Executor) (m : Machine) → KeepsBodies runs e → KeepsBodies runs (record e { machine = m })
@@ -22,7 +22,7 @@ none_before version steps arrivals (one ∷ more) e b is =
 none_of : (A : Type 0) (proposed : List A) (x : A) → proposed ≡ [] → Among x proposed → ⊥
 none_of A proposed x none a = subst (Among x) none a
 
-module _ (next : Handler) (live : LiveAttempt) (proposed : List (ℕ × NonEmptyValue)) (e : Executor) (x : IsReplayed next live proposed e) where
+module _ (next : Handler) (live : AttemptInRun) (proposed : List (ℕ × NonEmptyValue)) (e : Executor) (x : IsReplayed next live proposed e) where
   pub none_asked : live.calls ≡ 0 → proposed ≡ []
   none_asked none =
       none_before live.start.given.version (run next live.start.given (arrivals_carried live.read) live.calls).steps (arrivals_carried live.read) proposed e x.bodies

@@ -41,7 +41,7 @@ use Rattle.vm_attempt_laws.specs.BodyExecution.{BodyCause, Lacks, TriedAgain, Pa
 use Rattle.vm_attempt_laws.specs.OutputOfAttempt.{AllFit, Fails, frame_meant, Proposes, Sent, sent_stream}
 use Rattle.vm_attempt_laws.specs.AttemptSimulation.{HasRead, HasBodies, kind_where, machine_failed, Serves}
 use Rattle.vm_attempt_laws.specs.TurnsInRun.{OutcomeIs, tried_by, FailsForBody, RunsOne, TurnKeeps}
-use Rattle.vm_attempt_laws.specs.Words.{after_turn, Error, Handler, internal, Invocation, journal_mismatch, LiveAttempt, Machine, NotificationId, unsupported_feature, Version, version_number, VMOptions}
+use Rattle.vm_attempt_laws.specs.Words.{after_turn, Error, Handler, internal, Invocation, journal_mismatch, AttemptInRun, Machine, NotificationId, unsupported_feature, Version, version_number, VMOptions}
 use Rattle.vm_attempt_laws.proofs.Alone.{FailsAlone, failed_same, fails_alone, ToldBy}
 use Rattle.vm_attempt_laws.proofs.Executing.{WithBodies, ExecutesSo, executes_so}
 use Rattle.vm_attempt_laws.proofs.Going.{OnlyTurns, serves_on}
@@ -78,7 +78,7 @@ outcome_same policy tried (RunExitResult.Success bytes) value e = e
 outcome_same policy tried (RunExitResult.TerminalFailure failure) value e = e
 outcome_same policy tried (RunExitResult.RetryableFailure duration error) value e = outcome_of_failure error (after_failure policy (one_more (as_nanos duration) tried)) value e
 
-module _ {H : Type 0} (function : H → Handler) (next : Handler) (version : Version) (options : VMOptions) (is_closed : Bool) (live : LiveAttempt) (before : Attempt H)
+module _ {H : Type 0} (function : H → Handler) (next : Handler) (version : Version) (options : VMOptions) (is_closed : Bool) (live : AttemptInRun) (before : Attempt H)
     (proposed : List (ℕ × NonEmptyValue)) (given : RunOutcome) (b : HasBodies next live proposed before)
     (s : Serves function next version options live is_closed before) (r : HasRead function next version options live before)
     (n : Now next version options is_closed live before.vm.state) (w : WithBodies next version options is_closed live before.vm.state n proposed b.executor)

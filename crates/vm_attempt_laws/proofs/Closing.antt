@@ -13,7 +13,7 @@ use Rattle.vm_attempt_laws.specs.Machine.phases
 use Rattle.vm_attempt_laws.specs.Machine.{Written, FailsNow, FailsAs, MachineState, is_waiting, input_closed, ClosesWhere, ClosesInput, HasFailed, IsDriven}
 use Rattle.vm_attempt_laws.specs.InputOfAttempt.{start_told, Kind, phase_kind, HasStarted}
 use Rattle.vm_attempt_laws.specs.OutputOfAttempt.{sent_stream, AllFit, frame_meant}
-use Rattle.vm_attempt_laws.specs.Words.{Error, Version, Handler, Invocation, Machine, LiveAttempt, HasReadJournal, VMOptions, item_at, IsNote}
+use Rattle.vm_attempt_laws.specs.Words.{Error, Version, Handler, Invocation, Machine, AttemptInRun, HasReadJournal, VMOptions, item_at, IsNote}
 
 closes_new : {H : Type 0} (over : Option Finish) (before after : Attempt H) → before.over ≡ over → before.over ≡ None → ClosesUnless over before after
     → ClosesInput before.vm.state after.vm.state × (after ≡ record before { vm = after.vm })
@@ -31,7 +31,7 @@ closed_driven given m vm d = record {
   reads = d.reads;
 }
 
-module _ {H : Type 0} (function : H → Handler) (next : Handler) (version : Version) (options : VMOptions) (live : LiveAttempt) (is_closed : Bool) (before after : Attempt H)
+module _ {H : Type 0} (function : H → Handler) (next : Handler) (version : Version) (options : VMOptions) (live : AttemptInRun) (is_closed : Bool) (before after : Attempt H)
     (s : Serves function next version options live is_closed before) (does : ClosesInput before.vm.state after.vm.state × (after ≡ record before { vm = after.vm })) where
   abbrev Outcome : Type 0
   Outcome = StaysClosed function next version options live before after ⊎ ClosesEarly function next version options live before after

@@ -31,7 +31,7 @@ use Rattle.vm_waiting.specs.declared.waits_for.WaitsFor.TheVariants.{Future, Chi
 use Rattle.vm_attempt_laws.specs.Bodies.{NonEmptyValue, Body, Executor, has_handle, bodies_of, Among, has_arrived, IsReplayed, outcome_frame, TurnsReplayed, ReplaysTurn, KeepsBodies, IsNew, Runs, run_at, Run}
 use Rattle.vm_attempt_laws.specs.Machine.{checks_off, MachineState}
 use Rattle.vm_attempt_laws.specs.BodyExecution.{IsToExecute, WaitsForOthers, ExecutesFirst}
-use Rattle.vm_attempt_laws.specs.Words.{Version, Answer, Call, Request, Handler, Progress, Step, next_completion, run, keys_of, arrivals_carried, requests_carried, are_by_text, Frame, Machine, next_slot, Reply, Answered, LiveAttempt, HasReadJournal, after_turn, VMOptions, Queued, SendsReply}
+use Rattle.vm_attempt_laws.specs.Words.{Version, Answer, Call, Request, Handler, Progress, Step, next_completion, run, keys_of, arrivals_carried, requests_carried, are_by_text, Frame, Machine, next_slot, Reply, Answered, AttemptInRun, HasReadJournal, after_turn, VMOptions, Queued, SendsReply}
 use Rattle.vm_attempt_laws.proofs.Bodies.{keeps_with, next_is_new}
 use Rattle.vm_attempt_laws.proofs.Now.{Now, compares, call_of, reply_at}
 
@@ -77,7 +77,7 @@ no_body None e = refl
 no_body (Some body) e = cc
 
 -- what is to be known of the bodies at a turn
-pub record WithBodies (next : Handler) (version : Version) (options : VMOptions) (is_closed : Bool) (live : LiveAttempt) (vm : MachineState) (n : Now next version options is_closed live vm)
+pub record WithBodies (next : Handler) (version : Version) (options : VMOptions) (is_closed : Bool) (live : AttemptInRun) (vm : MachineState) (n : Now next version options is_closed live vm)
     (proposed : List (ℕ × NonEmptyValue)) (e : Executor) : Type 0 where
   pub says : RepliesWithBodies next live.start.given (requests_carried live.read) (arrivals_carried live.read) live.calls proposed
       (reply_after (record e { machine = live.machine }) (call_of next live n.at) (reply_at next live vm n.at))
@@ -88,7 +88,7 @@ pub record WithBodies (next : Handler) (version : Version) (options : VMOptions)
   pub behind : (proposed ≡ []) ⊎ (live.machine.left ≡ [])
 
 -- a body that is executed: it is the first that is, and its outcome keeps the attempt live
-pub record ExecutesSo (next : Handler) (version : Version) (options : VMOptions) (is_closed : Bool) (live : LiveAttempt) (vm : MachineState) (proposed : List (ℕ × NonEmptyValue)) (handle : ℕ) (whole : Machine)
+pub record ExecutesSo (next : Handler) (version : Version) (options : VMOptions) (is_closed : Bool) (live : AttemptInRun) (vm : MachineState) (proposed : List (ℕ × NonEmptyValue)) (handle : ℕ) (whole : Machine)
     (new : Runs) : Type 0 where
   pub body : Body
   pub handle_is : body.handle ≡ handle
@@ -106,7 +106,7 @@ pub record ExecutesSo (next : Handler) (version : Version) (options : VMOptions)
   pub found : run_at new.table handle ≡ Some (running run)
   pub completion : run.completion ≡ body.completion
 
-module _ (next : Handler) (version : Version) (options : VMOptions) (is_closed : Bool) (live : LiveAttempt) (vm : MachineState) (n : Now next version options is_closed live vm)
+module _ (next : Handler) (version : Version) (options : VMOptions) (is_closed : Bool) (live : AttemptInRun) (vm : MachineState) (n : Now next version options is_closed live vm)
     (proposed : List (ℕ × NonEmptyValue)) (e : Executor) where
   abbrev own : Executor
   own = record e { machine = live.machine }
@@ -120,7 +120,7 @@ module _ (next : Handler) (version : Version) (options : VMOptions) (is_closed :
   abbrev Lives : ExecutorReply → Type 0
   Lives = TurnsReplayed next live proposed
 
-  abbrev IsLive : LiveAttempt → List (ℕ × NonEmptyValue) → Executor → Type 0
+  abbrev IsLive : AttemptInRun → List (ℕ × NonEmptyValue) → Executor → Type 0
   IsLive = IsReplayed next
 
   -- ---- the bodies stand

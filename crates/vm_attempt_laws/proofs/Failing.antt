@@ -27,7 +27,7 @@ use Rattle.vm_attempt_laws.specs.AttemptInvariants.{FailsWith, TellsBy}
 use Rattle.vm_attempt_laws.specs.Machine.{IsCopy, writes_frames, MachineState, Written, TellsFailureCause, out_of_memory, told_error, Fails, Cause, ByFault, NoNumber, TooLong, TooDeep, NoReplay, NoMemory, HasPut, requests_passed_on, FailsWhen}
 use Rattle.vm_attempt_laws.specs.InputOfAttempt.{Kind}
 use Rattle.vm_attempt_laws.specs.OutputOfAttempt.{Sent, Asks, Fails as SentFails, sent_stream, AllFit, frame_meant, IsOfStore}
-use Rattle.vm_attempt_laws.specs.Words.{internal, unsupported_feature, journal_mismatch, Error, Version, Answer, Call, Frame, answers_of, Request, Handler, arrivals_carried, requests_carried, IsNote, LiveAttempt, Machine, VMOptions, Refusal, Commands, RepliesAsRun}
+use Rattle.vm_attempt_laws.specs.Words.{internal, unsupported_feature, journal_mismatch, Error, Version, Answer, Call, Frame, answers_of, Request, Handler, arrivals_carried, requests_carried, IsNote, AttemptInRun, Machine, VMOptions, Refusal, Commands, RepliesAsRun}
 use Rattle.vm_attempt_laws.specs.TurnsInRun.{IsTurnOf, RunWaitsFor, IsOwnCause, IsToldAs, FailsBy}
 use Rattle.vm_attempt_laws.proofs.Now.{Now, compares, call_of, reply_at}
 use Rattle.vm_attempt_laws.proofs.Midway.{PassesOn, passes_on, no_front, none_written}
@@ -35,7 +35,7 @@ use Rattle.vm_attempt_laws.proofs.Stored.{notes_of_store}
 use Rattle.vm_attempt_laws.proofs.TurnOutput.{passed_of_store, of_output, opened, passed_may, passed_fit, passed_recorded}
 
 -- what a failing turn has told, and why
-pub record FailsSo (next : Handler) (version : Version) (is_closed : Bool) (live : LiveAttempt) (answers : List Answer) (vm new : MachineState) (error : Error) : Type 0 where
+pub record FailsSo (next : Handler) (version : Version) (is_closed : Bool) (live : AttemptInRun) (answers : List Answer) (vm new : MachineState) (error : Error) : Type 0 where
   pub coming : List Sent
   pub fit : AllFit version coming
   pub of_store : AllByRecursion IsOfStore coming
@@ -68,7 +68,7 @@ no_mismatch code (inl is) = ap (λ (n : ℕ). n == journal_mismatch) is
 no_mismatch code (inr is) = ap (λ (n : ℕ). n == journal_mismatch) is
 
 -- the machine fails with what tells such a cause, or for want of memory, behind requests of the call that were written by then
-module _ (next : Handler) (version : Version) (asked : JournalMismatchRetryBehavior) (live : LiveAttempt) (call : Call) (old new : MachineState) (left : Commands) (invocation : Bytes) (error kept : Error)
+module _ (next : Handler) (version : Version) (asked : JournalMismatchRetryBehavior) (live : AttemptInRun) (call : Call) (old new : MachineState) (left : Commands) (invocation : Bytes) (error kept : Error)
     (more : List Request) (between : Written) (notes : List Sent) (tells : TellsFailureCause version asked (Ok error) (writes_frames more old.active.output) kept between) (sends : TellsBy kept notes) where
   abbrev Told : Cause → Type 0
   Told cause = IsToldAs version live call old new more cause kept (map Asks more ++ notes) ⊎ (kept ≡ out_of_memory)
@@ -131,7 +131,7 @@ module _ (next : Handler) (version : Version) (asked : JournalMismatchRetryBehav
 never_replayed : (replay : JournalReplay) → replay ≡ Enabled → replay ≡ Disabled → ⊥
 never_replayed replay on off = cc
 
-module _ (next : Handler) (version : Version) (options : VMOptions) (is_closed : Bool) (live : LiveAttempt) (vm : MachineState) (n : Now next version options is_closed live vm)
+module _ (next : Handler) (version : Version) (options : VMOptions) (is_closed : Bool) (live : AttemptInRun) (vm : MachineState) (n : Now next version options is_closed live vm)
     (replays : options.journal_replay ≡ Enabled) where
   own_fault : (fault : Fault) → RepliesAsRun next live.start.given (requests_carried live.read) (arrivals_carried live.read) live.calls (FailedBy fault)
       → IsOwnCause next live.start.given (arrivals_carried live.read) live.calls (ByFault fault)

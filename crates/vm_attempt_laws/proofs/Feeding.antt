@@ -18,19 +18,19 @@ use Rattle.vm_attempt_laws.proofs.Over.{serves_by, waits_same}
 use Rattle.vm_attempt_laws.specs.Attempts.{Attempt}
 use Rattle.vm_attempt_laws.specs.Machine.{Sees, are_any, Written, Phase, MachineState, has_failed, IsFed, IsDriven}
 use Rattle.vm_attempt_laws.specs.InputOfAttempt.{bytes_of, IsFedEach, AreWaitedFor, phase_behind, KnowsRuns, TakesFirstMessages, InputsAreKept, FailsForMemory, IsInputOf, start_told, Kind, phase_kind, ReadsOn, JournalsAreRead, IsArrival}
-use Rattle.vm_attempt_laws.specs.Words.{item_at, version_number, Version, AwaitTree, NotificationId, input_bytes, answers_of, Bytes, Arrival, Handler, Invocation, Progress, Ending, GoesOn, Waits, run, InputMessage, piece_of, arrivals_carried, Machine, machine_at_start, with_messages, IsMachineAt, LiveAttempt, handed_bytes, after_reading, id_of, VMOptions}
+use Rattle.vm_attempt_laws.specs.Words.{item_at, version_number, Version, AwaitTree, NotificationId, input_bytes, answers_of, Bytes, Arrival, Handler, Invocation, Progress, Ending, GoesOn, Waits, run, InputMessage, piece_of, arrivals_carried, Machine, machine_at_start, with_messages, IsMachineAt, AttemptInRun, handed_bytes, after_reading, id_of, VMOptions}
 
 -- a run that goes on does not wait
 goes_on : (ending : Ending) (tree : AwaitTree (Option NotificationId)) → ending ≡ GoesOn → ending ≡ Waits tree → ⊥
 goes_on ending tree going waits = cc
 
 -- the run of a live attempt goes on
-pub going_of : (next : Handler) (given : Invocation) (live : LiveAttempt) → IsMachineAt next live.start.given live.start.shown live.read live.unread live.calls live.machine
+pub going_of : (next : Handler) (given : Invocation) (live : AttemptInRun) → IsMachineAt next live.start.given live.start.shown live.read live.unread live.calls live.machine
     → (run next live.start.given (arrivals_carried live.read) live.calls).ending ≡ GoesOn
 going_of next given live (inl only) = ap (λ (calls : ℕ). (run next live.start.given (arrivals_carried live.read) calls).ending) only.none_asked
 going_of next given live (inr at) = ap (λ (p : Progress). p.ending) at.stands.going
 
-module _ {H : Type 0} (function : H → Handler) (next : Handler) (version : Version) (options : VMOptions) (stays : ReplaysStay) (live : LiveAttempt) (proposed : List (ℕ × NonEmptyValue)) (is_closed : Bool)
+module _ {H : Type 0} (function : H → Handler) (next : Handler) (version : Version) (options : VMOptions) (stays : ReplaysStay) (live : AttemptInRun) (proposed : List (ℕ × NonEmptyValue)) (is_closed : Bool)
     (bytes : Bytes) (before after : Attempt H) (b : HasBodies next (handed_bytes live bytes) proposed before) (s : Serves function next version options live is_closed before)
     (does : IsFed bytes before.vm.state after.vm.state × (after ≡ record before { vm = after.vm })) where
   abbrev Outcome : Type 0
@@ -52,7 +52,7 @@ module _ {H : Type 0} (function : H → Handler) (next : Handler) (version : Ver
 
   -- the first of these messages have come whole
   module _ (some still : List InputMessage) (parts : live.unread ≡ some ++ still) (rest : after.vm.state.decoder ++ b.lives.rest ≡ input_bytes (map piece_of still)) where
-    now : LiveAttempt
+    now : AttemptInRun
     now = after_reading (handed_bytes live bytes) some still after.vm.state.decoder
 
     held_is : live.held ++ bytes ≡ input_bytes (map piece_of some) ++ after.vm.state.decoder

@@ -4,7 +4,7 @@ use Rattle.vm_attempt_laws.specs.Attempts.{Attempt}
 use Rattle.vm_attempt_laws.specs.Machine.{IsDriven, MachineState}
 use Rattle.vm_attempt_laws.specs.InputOfAttempt.{phase_kind}
 use Rattle.vm_attempt_laws.specs.AttemptSimulation.{HasNumbers, HasRead, Serves}
-use Rattle.vm_attempt_laws.specs.Words.{after_turn, answers_of, arrivals_carried, Frame, Handler, item_at, LiveAttempt, Machine, run, Version, VMOptions}
+use Rattle.vm_attempt_laws.specs.Words.{after_turn, answers_of, arrivals_carried, Frame, Handler, item_at, AttemptInRun, Machine, run, Version, VMOptions}
 
 -- nothing of the attempt but its machine and its answers, and nothing of the machine but what is kept for calls, and of runs
 pub record OnlyTurns {H : Type 0} (before after : Attempt H) : Type 0 where
@@ -13,7 +13,7 @@ pub record OnlyTurns {H : Type 0} (before after : Attempt H) : Type 0 where
   pub input : after.input ≡ before.input
   pub machine : after.vm.state ≡ record before.vm.state { active = after.vm.state.active; runs = after.vm.state.runs }
 
-module _ {H : Type 0} (function : H → Handler) (next : Handler) (version : Version) (options : VMOptions) (is_closed : Bool) (live : LiveAttempt) (before after : Attempt H)
+module _ {H : Type 0} (function : H → Handler) (next : Handler) (version : Version) (options : VMOptions) (is_closed : Bool) (live : AttemptInRun) (before after : Attempt H)
     (s : Serves function next version options live is_closed before) (r : HasRead function next version options live before) (t : OnlyTurns before after) where
   pub serves_on : (frames : List Frame) (calls : ℕ) (whole : Machine) → IsDriven live.start.given whole after.vm.state → HasNumbers whole
       → after.answers ≡ answers_of (run next live.start.given (arrivals_carried live.read) calls).steps → Serves function next version options (after_turn live frames calls whole) is_closed after

@@ -16,7 +16,7 @@ use Rattle.vm_attempt_laws.specs.AttemptInvariants.{FailsWith}
 use Rattle.vm_attempt_laws.specs.Machine.{MachineState, Written, Cause, ByFault, NoNumber, TooLong, TooDeep, NoReplay, NoMemory}
 use Rattle.vm_attempt_laws.specs.BodyExecution.{BodyCause, BodyFailsWhen, BodyToldAs, IsLong, Lacks, LacksMemory, Pauses, TriedAgain}
 use Rattle.vm_attempt_laws.specs.OutputOfAttempt.{Sent}
-use Rattle.vm_attempt_laws.specs.Words.{internal, unsupported_feature, journal_mismatch, Error, Version, version_number, Call, Request, Handler, arrivals_carried, LiveAttempt, VMOptions}
+use Rattle.vm_attempt_laws.specs.Words.{internal, unsupported_feature, journal_mismatch, Error, Version, version_number, Call, Request, Handler, arrivals_carried, AttemptInRun, VMOptions}
 use Rattle.vm_attempt_laws.specs.TurnsInRun.{FailsByBody, tried_by, IsBodyCode, IsOwnCause, IsToldAs, FailsBy, TurnServes, TurnsMatch}
 use Rattle.vm_attempt_laws.proofs.Failing.{refused_code, either_code}
 
@@ -72,7 +72,7 @@ any_code TooLong error is = inl is
 any_code NoReplay error is = inl is
 any_code NoMemory error is = inl is
 
-module _ (next : Handler) (version : Version) (live : LiveAttempt) (call : Call) (old new : MachineState) (more : List Request) (error : Error) (sent : List Sent) where
+module _ (next : Handler) (version : Version) (live : AttemptInRun) (call : Call) (old new : MachineState) (more : List Request) (error : Error) (sent : List Sent) where
   by_cause : (cause : Cause) → IsOwnCause next live.start.given (arrivals_carried live.read) live.calls cause → IsToldAs version live call old new more cause error sent → IsCodeOf cause error
   by_cause (ByFault (Refused refusal)) own tells =
       let code : tells.0.code.0 ≡ refusal_code tells.1.0 = ap (λ (e : Error). e.code.0) tells.1.1.1.plain in
@@ -89,10 +89,10 @@ module _ (next : Handler) (version : Version) (live : LiveAttempt) (call : Call)
   by_cause NoMemory own tells = ap (λ (e : Error). e.code.0) tells
 
 -- what a cause that is the call's own is told as
-pub code_of_cause : (next : Handler) (version : Version) (live : LiveAttempt) (call : Call) (old new : MachineState) (error : Error) (sent : List Sent) (by : FailsBy next version live call old new error sent) → IsCodeOf by.cause error
+pub code_of_cause : (next : Handler) (version : Version) (live : AttemptInRun) (call : Call) (old new : MachineState) (error : Error) (sent : List Sent) (by : FailsBy next version live call old new error sent) → IsCodeOf by.cause error
 code_of_cause next version live call old new error sent by = by_cause next version live call old new by.far.more error sent by.cause by.own by.told
 
-pub own_code : (next : Handler) (version : Version) (live : LiveAttempt) (call : Call) (old new : MachineState) (error : Error) (sent : List Sent) → FailsBy next version live call old new error sent → IsOwnCode error
+pub own_code : (next : Handler) (version : Version) (live : AttemptInRun) (call : Call) (old new : MachineState) (error : Error) (sent : List Sent) → FailsBy next version live call old new error sent → IsOwnCode error
 own_code next version live call old new error sent by = any_code by.cause error (code_of_cause next version live call old new error sent by)
 
 -- what becomes of the invocation changes no code
@@ -106,7 +106,7 @@ abbrev pub IsCode : RunOutcome → ℕ → Type 0
 IsCode ran code = (code ≡ internal) ⊎ ((code ≡ unsupported_feature) ⊎ IsBodyCode ran.result code)
 
 -- a body that fails its attempt tells its own code, what is not supported, or an internal error
-pub body_code : (next : Handler) (live : LiveAttempt) (proposed : List (ℕ × NonEmptyValue)) (version : Version) (options : VMOptions) (ran : RunOutcome) (vm : MachineState) (error : Error) (sent : List Sent)
+pub body_code : (next : Handler) (live : AttemptInRun) (proposed : List (ℕ × NonEmptyValue)) (version : Version) (options : VMOptions) (ran : RunOutcome) (vm : MachineState) (error : Error) (sent : List Sent)
     → FailsByBody next live proposed version options ran vm error sent → IsCode ran error.code.0
 body_code next live proposed version options ran vm error sent by = by_why by.cause by.when by.told
   where

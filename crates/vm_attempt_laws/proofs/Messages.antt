@@ -8,7 +8,7 @@ use Rattle.vm_request_laws.proofs.RequestBounds.{all_append}
 use Rattle.vm_attempt_laws.specs.AttemptSimulation.{IsFedBy}
 use Rattle.vm_attempt_laws.specs.AttemptInvariants.{MayCome}
 use Rattle.vm_attempt_laws.specs.InputOfAttempt.{MessageFits, IsArrival, IsInputOf}
-use Rattle.vm_attempt_laws.specs.Words.{Recorded, completion, InputMessage, CarriesInput, CarriesRequest, CarriesArrival, CarriesOutcome, Machine, with_arrival, with_entry, with_messages, LiveAttempt, HasReadJournal}
+use Rattle.vm_attempt_laws.specs.Words.{Recorded, completion, InputMessage, CarriesInput, CarriesRequest, CarriesArrival, CarriesOutcome, Machine, with_arrival, with_entry, with_messages, AttemptInRun, HasReadJournal}
 
 pub messages_append : (m : Machine) (some more : List InputMessage) → with_messages m (some ++ more) ≡ with_messages (with_messages m some) more
 messages_append m [] more = refl
@@ -19,7 +19,7 @@ messages_append m (CarriesOutcome number value ∷ some) more = messages_append 
 
 -- ---- behind the journal
 
-module _ (live : LiveAttempt) (r : HasReadJournal live) where
+module _ (live : AttemptInRun) (r : HasReadJournal live) where
   -- what is not read are arrivals, as notifications or as acknowledgements
   module _ (is : IsInputOf live.start (live.read ++ live.unread)) where
     later_is : r.later ++ live.unread ≡ is.later
@@ -51,7 +51,7 @@ module _ (live : LiveAttempt) (r : HasReadJournal live) where
 -- ---- what the attempt is fed by
 
 -- the same messages, wherever those end that were read
-pub fed_same : (live : LiveAttempt) (some still : List InputMessage) → live.unread ≡ some ++ still → live.read ++ live.unread ≡ (live.read ++ some) ++ still
+pub fed_same : (live : AttemptInRun) (some still : List InputMessage) → live.unread ≡ some ++ still → live.read ++ live.unread ≡ (live.read ++ some) ++ still
 fed_same live some still parts = ap (λ (rest : List InputMessage). live.read ++ rest) parts ∙ sym (append_assoc live.read some still)
 
 some_may : (more : List InputMessage) → AllByRecursion MayCome more → AllByRecursion IsArrival more × AllByRecursion MessageFits more
@@ -61,7 +61,7 @@ some_may (CarriesOutcome number value ∷ more) all = let rest = some_may more a
 some_may (_ ∷ more) all = absurd all.0
 
 -- more messages are on their way
-pub fed_more : (live : LiveAttempt) (more : List InputMessage) → AllByRecursion MayCome more → IsFedBy live → IsFedBy (record live { unread = live.unread ++ more })
+pub fed_more : (live : AttemptInRun) (more : List InputMessage) → AllByRecursion MayCome more → IsFedBy live → IsFedBy (record live { unread = live.unread ++ more })
 fed_more live more may by =
     let come = some_may more may in
     let same : (live.read ++ live.unread) ++ more ≡ live.read ++ (live.unread ++ more) = append_assoc live.read live.unread more in

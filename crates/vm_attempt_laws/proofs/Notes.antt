@@ -18,14 +18,14 @@ use Rattle.vm_attempt_laws.specs.Machine.{Written, FailsNow, FailsAs, TellsFailu
 use Rattle.vm_attempt_laws.specs.AttemptSimulation.{AnswersKept}
 use Rattle.vm_attempt_laws.specs.TurnsInRun.{IsTurnOf}
 use Rattle.vm_attempt_laws.specs.OutputOfAttempt.{Sent, Fails, sent_stream, AllFit, frame_meant}
-use Rattle.vm_attempt_laws.specs.Words.{journal_mismatch, Error, version_number, Version, Frame, Handler, IsNote, LiveAttempt, notes}
+use Rattle.vm_attempt_laws.specs.Words.{journal_mismatch, Error, version_number, Version, Frame, Handler, IsNote, AttemptInRun, notes}
 
 -- a turn that sends nothing
-pub no_turn : (next : Handler) (is_closed : Bool) (live : LiveAttempt) → IsTurnOf next is_closed live []
+pub no_turn : (next : Handler) (is_closed : Bool) (live : AttemptInRun) → IsTurnOf next is_closed live []
 no_turn next is_closed live = record { some = []; still = live.unread; parts = refl; bytes = refl; whole = λ suspension e. cc; writes = nothing }
 
 -- and one that sends notes alone
-pub note_turn : (next : Handler) (is_closed : Bool) (live : LiveAttempt) (frames : List Frame) → AllByRecursion IsNote frames → IsTurnOf next is_closed live frames
+pub note_turn : (next : Handler) (is_closed : Bool) (live : AttemptInRun) (frames : List Frame) → AllByRecursion IsNote frames → IsTurnOf next is_closed live frames
 note_turn next is_closed live frames all = record {
   some = [];
   still = live.unread;

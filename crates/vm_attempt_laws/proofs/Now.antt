@@ -12,7 +12,7 @@ use Rattle.vm_attempt_laws.proofs.InputAndOutput.{no_arrival_is_held}
 use Rattle.vm_attempt_laws.specs.Attempts.{Attempt}
 use Rattle.vm_attempt_laws.specs.Machine.{checks_off, MachineState, IsDriven}
 use Rattle.vm_attempt_laws.specs.InputOfAttempt.{phase_kind}
-use Rattle.vm_attempt_laws.specs.Words.{version_number, Version, Answer, Call, item_at, arrivals_within, answers_of, Request, Handler, Invocation, Progress, piece_of, arrivals_carried, requests_carried, Reply, reply_to, IsInRun, LiveAttempt, VMOptions, Queued, AreOfKind, Fits, next_call, RepliesAsRun, AsksByText, MakesTurns, IsTypedCall}
+use Rattle.vm_attempt_laws.specs.Words.{version_number, Version, Answer, Call, item_at, arrivals_within, answers_of, Request, Handler, Invocation, Progress, piece_of, arrivals_carried, requests_carried, Reply, reply_to, IsInRun, AttemptInRun, VMOptions, Queued, AreOfKind, Fits, next_call, RepliesAsRun, AsksByText, MakesTurns, IsTypedCall}
 use Rattle.vm_attempt_laws.proofs.Texts.{HasTextKey, typed_key, asks_on}
 
 -- what its requests are compared by
@@ -20,13 +20,13 @@ abbrev pub compares : MachineState → Call → Request → Request → Bool
 compares vm = same_header (checks_off vm.options.non_determinism_checks)
 
 -- the call that the handler makes next, and what the abstract machine replies
-abbrev pub call_of : (next : Handler) (live : LiveAttempt) → IsInRun next live.start.given live.read live.unread live.calls live.machine → Call
+abbrev pub call_of : (next : Handler) (live : AttemptInRun) → IsInRun next live.start.given live.read live.unread live.calls live.machine → Call
 call_of next live at = next_call next live.start.given at.stands.steps
 
-abbrev pub reply_at : (next : Handler) (live : LiveAttempt) (vm : MachineState) → IsInRun next live.start.given live.read live.unread live.calls live.machine → Reply
+abbrev pub reply_at : (next : Handler) (live : AttemptInRun) (vm : MachineState) → IsInRun next live.start.given live.read live.unread live.calls live.machine → Reply
 reply_at next live vm at = reply_to (compares vm) live.start.given live.machine (call_of next live at)
 
-pub record Now (next : Handler) (version : Version) (options : VMOptions) (is_closed : Bool) (live : LiveAttempt) (vm : MachineState) : Type 0 where
+pub record Now (next : Handler) (version : Version) (options : VMOptions) (is_closed : Bool) (live : AttemptInRun) (vm : MachineState) : Type 0 where
   pub at : IsInRun next live.start.given live.read live.unread live.calls live.machine
   pub makes : MakesTurns (compares vm) next live.start.given is_closed live.held live.read live.unread live.calls live.machine at
   pub whole : arrivals_within (map piece_of live.unread) (length live.held) ≡ 0
@@ -46,7 +46,7 @@ pub record Now (next : Handler) (version : Version) (options : VMOptions) (is_cl
 
 -- ---- where the input was read
 
-module _ {H : Type 0} (function : H → Handler) (next : Handler) (version : Version) (options : VMOptions) (stand : ReplaysStand) (is_closed : Bool) (live : LiveAttempt) (before : Attempt H)
+module _ {H : Type 0} (function : H → Handler) (next : Handler) (version : Version) (options : VMOptions) (stand : ReplaysStand) (is_closed : Bool) (live : AttemptInRun) (before : Attempt H)
     (queued : options.signal_delivery ≡ Queued) (proposed : List (ℕ × NonEmptyValue)) (e : Executor) (l : IsReplayed next live proposed e)
     (s : Serves function next version options live is_closed before)
     (r : HasRead function next version options live before) where

@@ -10,7 +10,7 @@ use Rattle.vm_attempt_laws.specs.AttemptSimulation.{IsOver, finished, machine_fa
 use Rattle.vm_attempt_laws.specs.AttemptInvariants.{IsLast, WritesNothing, OversStay}
 use Rattle.vm_attempt_laws.specs.Machine.phases
 use Rattle.vm_attempt_laws.specs.Machine.{Phase, MachineState, TellsReady, is_waiting, input_closed, ClosesWhere, with_input, CoreVM}
-use Rattle.vm_attempt_laws.specs.Words.{Error, Bytes, Handler, LiveAttempt, Version, VMOptions, item_at}
+use Rattle.vm_attempt_laws.specs.Words.{Error, Bytes, Handler, AttemptInRun, Version, VMOptions, item_at}
 
 again_last : (finish : Finish) → IsLast (again finish)
 again_last finishes.Suspended = tt
@@ -25,7 +25,7 @@ module _ {H : Type 0} where
 
   -- and that machine tells what it serves
   module _ (function : H → Handler) (next : Handler) (version : Version) (options : VMOptions) where
-    pub serves_by : (live now : LiveAttempt) (is_closed closed_now : Bool) (before after : Attempt H) → after ≡ record before { vm = after.vm } → Serves function next version options live is_closed before
+    pub serves_by : (live now : AttemptInRun) (is_closed closed_now : Bool) (before after : Attempt H) → after ≡ record before { vm = after.vm } → Serves function next version options live is_closed before
         → phase_kind after.vm.state ≡ kind_where version options closed_now → IsRunOf now.start version options → IsFedBy now → now.bytes ≡ now.held → after.vm.state.decoder ≡ now.held
         → item_at after.vm.state.decoder ≡ None → HasNotRead function next version options now closed_now after ⊎ HasRead function next version options now after
         → Serves function next version options now closed_now after

@@ -7,7 +7,7 @@ use Rattle.vm_attempt_laws.proofs.Messages.{read_input}
 use Rattle.vm_attempt_laws.specs.Machine.phases
 use Rattle.vm_attempt_laws.specs.Machine.{Phase}
 use Rattle.vm_attempt_laws.specs.InputOfAttempt.{phase_then, phase_behind, IsInputOf}
-use Rattle.vm_attempt_laws.specs.Words.{InputMessage, CarriesInput, LiveAttempt, HasReadJournal}
+use Rattle.vm_attempt_laws.specs.Words.{InputMessage, CarriesInput, AttemptInRun, HasReadJournal}
 
 -- one entry fewer is waited for, and not the last
 one_less : (left : ℕ) → 0 < left → phase_then (phases.WaitingReplayEntries (suc left)) ≡ phases.WaitingReplayEntries left
@@ -50,7 +50,7 @@ split (x ∷ some) more (one ∷ first) later e = go (split some more first late
 one_more : (n : ℕ) → suc n ≡ 1 + n
 one_more n = omega arith
 
-module _ (live : LiveAttempt) (phase : Phase) (is : IsInputOf live.start (live.read ++ live.unread)) (waits : phase ≡ phase_behind live.read (phases.WaitingReplayEntries (1 + length live.start.journal))) where
+module _ (live : AttemptInRun) (phase : Phase) (is : IsInputOf live.start (live.read ++ live.unread)) (waits : phase ≡ phase_behind live.read (phases.WaitingReplayEntries (1 + length live.start.journal))) where
   abbrev entries : List InputMessage
   entries = CarriesInput live.start.new ∷ live.start.journal
 

@@ -6,7 +6,7 @@ use Rattle.vm_attempt_laws.proofs.Over.{overs_stay}
 use Rattle.vm_attempt_laws.specs.Attempts.turns
 use Rattle.vm_attempt_laws.specs.Attempts.{Attempt, Turn}
 use Rattle.vm_attempt_laws.specs.OutputOfAttempt.{Sent, frame_meant}
-use Rattle.vm_attempt_laws.specs.Words.{Version, Input, Handler, LiveAttempt, HasReadJournal, after_turn, VMOptions, Queued}
+use Rattle.vm_attempt_laws.specs.Words.{Version, Input, Handler, AttemptInRun, HasReadJournal, after_turn, VMOptions, Queued}
 use Rattle.vm_attempt_laws.specs.TurnsInRun.{turns_answered, GoesOnWith, TurnsBehind, TurnKeeps, TurnServes, TurnsEach, AnswersEach, TurnsAnswer}
 
 module _ {H : Type 0} (function : H → Handler) (next : Handler) (version : Version) (options : VMOptions) where
@@ -17,7 +17,7 @@ module _ {H : Type 0} (function : H → Handler) (next : Handler) (version : Ver
       over_each more each.1 after (subst IsOver (sym ((overs_stay function before over).turned each.0 turn each.1 each.2).1) over) each.3
 
   -- where it was the live attempt that waits, its journal was not read or more could come
-  never_waits : (live : LiveAttempt) (before : Attempt H) → HasReadJournal live → {A : Type 0} → {B : Type 0}
+  never_waits : (live : AttemptInRun) (before : Attempt H) → HasReadJournal live → {A : Type 0} → {B : Type 0}
       → (HasReadJournal live → ⊥) ⊎ ((true ≡ false) × B) → A
   never_waits live before journal (inl unread) = absurd (unread journal)
   never_waits live before journal (inr waits) = absurd (true≢false waits.0)
@@ -33,7 +33,7 @@ module _ {H : Type 0} (function : H → Handler) (next : Handler) (version : Ver
   one_longer proposed one = length-append proposed (one ∷ [])
 
   module _ (keeps : TurnServes function next version options) (queued : options.signal_delivery ≡ Queued) where
-    progress : (some : List Turn) (live : LiveAttempt) (before : Attempt H) (proposed : List (ℕ × NonEmptyValue)) (after : Attempt H) → HasBodies next live proposed before → HasReadJournal live → Serves function next version options live true before
+    progress : (some : List Turn) (live : AttemptInRun) (before : Attempt H) (proposed : List (ℕ × NonEmptyValue)) (after : Attempt H) → HasBodies next live proposed before → HasReadJournal live → Serves function next version options live true before
         → TurnsEach function next version options some before after → IsOver after ⊎ AnswersEach function next version options true live before proposed some after
     progress [] live before proposed after b journal s same = inr (record {
       now = live;
@@ -51,7 +51,7 @@ module _ {H : Type 0} (function : H → Handler) (next : Handler) (version : Ver
         kept = keeps true live before proposed each.0 turn each.1 queued b s each.2
 
         by_turn : (turn' : Turn) (sent : List Sent) → TurnsBehind function next version options true live before proposed each.0 sent turn' each.1
-            → ((now : LiveAttempt) (now_proposed : List (ℕ × NonEmptyValue)) (after' : Attempt H) → HasBodies next now now_proposed each.1 → HasReadJournal now
+            → ((now : AttemptInRun) (now_proposed : List (ℕ × NonEmptyValue)) (after' : Attempt H) → HasBodies next now now_proposed each.1 → HasReadJournal now
             → Serves function next version options now true each.1 → TurnsEach function next version options more each.1 after'
             → IsOver after' ⊎ AnswersEach function next version options true now each.1 now_proposed more after')
             → IsOver after ⊎ AnswersEach function next version options true live before proposed (turn ∷ more) after

@@ -11,7 +11,7 @@ use Rattle.vm_attempt_laws.proofs.Over.{moves_of, shown_moves, let_go_moves}
 use Rattle.vm_attempt_laws.specs.Attempts.{taken_of, output_of, OnlyMoves, Shows, LetsGo, TakesOutput, Attempt}
 use Rattle.vm_attempt_laws.specs.Machine.{Sees, Active, MachineState, CoreVM, IsDriven}
 use Rattle.vm_attempt_laws.specs.InputOfAttempt.{start_told, Kind, phase_kind, HasStarted, gathered_all}
-use Rattle.vm_attempt_laws.specs.Words.{item_at, Version, Bytes, Handler, Invocation, InputMessage, Machine, machine_at_start, AttemptStart, LiveAttempt, VMOptions}
+use Rattle.vm_attempt_laws.specs.Words.{item_at, Version, Bytes, Handler, Invocation, InputMessage, Machine, machine_at_start, AttemptStart, AttemptInRun, VMOptions}
 
 -- with these bytes written
 abbrev with_written : Bytes → MachineState → MachineState
@@ -54,7 +54,7 @@ none_left zero bytes e = e
 none_left (suc max) bytes e = ap (drop (suc max)) e
 
 module _ {H : Type 0} (function : H → Handler) (next : Handler) (version : Version) (options : VMOptions) where
-  module _ (live : LiveAttempt) (is_closed : Bool) (before after : Attempt H) (moves : OnlyMoves before after) where
+  module _ (live : AttemptInRun) (is_closed : Bool) (before after : Attempt H) (moves : OnlyMoves before after) where
     not_read : output_of after ≡ [] → HasNotRead function next version options live is_closed before → HasNotRead function next version options live is_closed after
     not_read none n = record {
       input = ap (λ (a : Attempt H). a.input) moves.others ∙ n.input;
@@ -79,7 +79,7 @@ module _ {H : Type 0} (function : H → Handler) (next : Handler) (version : Ver
       numbers = r.numbers;
     }
 
-  moved : (live : LiveAttempt) (is_closed : Bool) (before after : Attempt H) → OnlyMoves before after → (output_of before ≡ [] → output_of after ≡ []) → Serves function next version options live is_closed before
+  moved : (live : AttemptInRun) (is_closed : Bool) (before after : Attempt H) → OnlyMoves before after → (output_of before ≡ [] → output_of after ≡ []) → Serves function next version options live is_closed before
       → Serves function next version options live is_closed after
   moved live is_closed before after moves none s = record {
     handler = ap (λ (a : Attempt H). function a.handler) moves.others ∙ s.handler;

@@ -31,7 +31,7 @@ use Rattle.vm_attempt_laws.specs.Machine.{MachineState, Fits, Active, Written, w
 use Rattle.vm_attempt_laws.specs.InputOfAttempt.{Kind, MessageFits}
 use Rattle.vm_attempt_laws.specs.OutputOfAttempt.{Sent, Asks, sent_stream, AllFit, is_recorded, frame_meant, IsOfStore, TurnSends}
 use Rattle.vm_attempt_laws.specs.AttemptSimulation.{HasNumbers}
-use Rattle.vm_attempt_laws.specs.Words.{version_number, Version, IsTypedCall, Answer, Call, AwaitTree, NotificationId, keys_of, completions_of, signals_of, Request, Handler, Invocation, Machine, Reply, Answered, Finished, reply_to, LiveAttempt, VMOptions, SlotsFit, refusal_of, Slots, slot_of, requests_by, SendsReply, AnswersNext, RepliesAsRun, requests_carried, arrivals_carried, are_by_text}
+use Rattle.vm_attempt_laws.specs.Words.{version_number, Version, IsTypedCall, Answer, Call, AwaitTree, NotificationId, keys_of, completions_of, signals_of, Request, Handler, Invocation, Machine, Reply, Answered, Finished, reply_to, AttemptInRun, VMOptions, SlotsFit, refusal_of, Slots, slot_of, requests_by, SendsReply, AnswersNext, RepliesAsRun, requests_carried, arrivals_carried, are_by_text}
 use Rattle.vm_attempt_laws.proofs.Now.{Now, compares, call_of, reply_at}
 use Rattle.vm_attempt_laws.proofs.Texts.{reply_text}
 use Rattle.vm_attempt_laws.proofs.Ids.{AreText, AreReadyText, AreTaken, messages_text, line_text, ready_text, values_text}
@@ -108,7 +108,7 @@ tells_results : (told : Bool) (ids : AwaitTree NotificationId) (old new : Active
 tells_results true ids old new tells = ap (λ (active : Active). active.results) tells.1.1
 tells_results false ids old new same = ap (λ (active : Active). active.results) same
 
-module _ (next : Handler) (version : Version) (options : VMOptions) (is_closed : Bool) (live : LiveAttempt) (vm : MachineState) (n : Now next version options is_closed live vm) where
+module _ (next : Handler) (version : Version) (options : VMOptions) (is_closed : Bool) (live : AttemptInRun) (vm : MachineState) (n : Now next version options is_closed live vm) where
   abbrev call : Call
   call = call_of next live n.at
 

@@ -11,10 +11,10 @@ use Rattle.vm_attempt_laws.specs.OutputOfAttempt.{Sent, frame_meant}
 use Rattle.vm_attempt_laws.specs.AttemptSimulation.{HasNotRead, HasRead, Serves}
 use Rattle.vm_attempt_laws.specs.TurnReports.{Told, HasCome, HasJournal, FailsSo, refused, of_body, lacks, too_deep, TurnTells, IsAttemptTold, TellsOne, TurnsTell}
 use Rattle.vm_attempt_laws.specs.TurnsInRun.{turns_answered, IsOwnCause, FailsBy, FailsFor, FailsForBody, TurnsBehind, TurnServes}
-use Rattle.vm_attempt_laws.specs.Words.{Arrival, arrivals_carried, after_turn, Error, Handler, HasReadJournal, Input, item_at, LiveAttempt, Request, requests_carried, Version, VMOptions}
+use Rattle.vm_attempt_laws.specs.Words.{Arrival, arrivals_carried, after_turn, Error, Handler, HasReadJournal, Input, item_at, AttemptInRun, Request, requests_carried, Version, VMOptions}
 use Rattle.vm_attempt_laws.proofs.Matching.{code_of_cause, body_code, IsCodeOf, IsOwnCode, IsCode}
 
-module _ (next : Handler) (live : LiveAttempt) (told : Told) (proposed : List (ℕ × NonEmptyValue)) (calls_are : pred told.answered ≡ live.calls) (proposed_are : told.proposed ≡ proposed) where
+module _ (next : Handler) (live : AttemptInRun) (told : Told) (proposed : List (ℕ × NonEmptyValue)) (calls_are : pred told.answered ≡ live.calls) (proposed_are : told.proposed ≡ proposed) where
   abbrev own_requests : List Request
   own_requests = requests_carried live.read ++ live.machine.written
 
@@ -36,7 +36,7 @@ module _ (next : Handler) (live : LiveAttempt) (told : Told) (proposed : List (�
       (subst (λ (requests : List Request). ExecutesFirst next live.start.given arrivals live.calls requests told.proposed body) (sym w.waits.exactly)
       (subst (λ (some : List (ℕ × NonEmptyValue)). ExecutesFirst next live.start.given arrivals live.calls own_requests some body) (sym proposed_are) w))
 
-module _ {H : Type 0} (function : H → Handler) (next : Handler) (version : Version) (options : VMOptions) (is_closed : Bool) (live : LiveAttempt) (before : Attempt H) (proposed : List (ℕ × NonEmptyValue)) (ran : RunOutcome)
+module _ {H : Type 0} (function : H → Handler) (next : Handler) (version : Version) (options : VMOptions) (is_closed : Bool) (live : AttemptInRun) (before : Attempt H) (proposed : List (ℕ × NonEmptyValue)) (ran : RunOutcome)
     (told : Told) (s : Serves function next version options live is_closed before) (t : IsAttemptTold live before is_closed proposed told) where
   abbrev come : HasCome live.start told.bytes
   come = record { read = live.read; kept = live.held; parts = t.bytes; whole = ap item_at (sym s.bytes) ∙ s.whole }
@@ -67,7 +67,7 @@ module _ {H : Type 0} (function : H → Handler) (next : Handler) (version : Ver
       let same : calls ≡ told.answered = of_pred calls told.answered (sym (ap (λ (i : Option Input). turns_answered i calls) is) ∙ counted) in
       inr (subst (λ (n : ℕ). (run next live.start.given (arrivals_carried live.read) n).ending ≡ GoesOn) same going)
 
-  unread_calls : (now : LiveAttempt) (a : Attempt H) → HasNotRead function next version options now is_closed a ⊎ HasRead function next version options now a → a.input ≡ None → now.calls ≡ 0
+  unread_calls : (now : AttemptInRun) (a : Attempt H) → HasNotRead function next version options now is_closed a ⊎ HasRead function next version options now a → a.input ≡ None → now.calls ≡ 0
   unread_calls now a (inl n) none = n.calls
   unread_calls now a (inr r) none = absurd (some_none (sym r.input ∙ none))
     where

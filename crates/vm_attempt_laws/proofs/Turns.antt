@@ -17,7 +17,7 @@ use Rattle.vm_attempt_laws.specs.Machine.phases
 use Rattle.vm_attempt_laws.specs.Machine.outcomes
 use Rattle.vm_attempt_laws.specs.Machine.{CoreVM, MachineState, Written, out_of_memory, Phase, Comes, NoMemory, IsDriven, CallOutcome, TellsReady}
 use Rattle.vm_attempt_laws.specs.InputOfAttempt.{AnswersInput, RefusesInput, InputsAreAnswered}
-use Rattle.vm_attempt_laws.specs.Words.{item_at, Error, Version, Call, Input, answers_of, Handler, run, arrivals_carried, Machine, machine_at_start, with_messages, LiveAttempt, HasReadJournal, after_turn, VMOptions, Queued, Invocation}
+use Rattle.vm_attempt_laws.specs.Words.{item_at, Error, Version, Call, Input, answers_of, Handler, run, arrivals_carried, Machine, machine_at_start, with_messages, AttemptInRun, HasReadJournal, after_turn, VMOptions, Queued, Invocation}
 use Rattle.vm_attempt_laws.specs.TurnsInRun.{turns_answered, GoesOnBehind, GoesOnWith, FailsFor, ProposesAs, TurnsBehind, TurnKeeps, TurnServes}
 use Rattle.vm_attempt_laws.proofs.Now.{Now, call_of, now, called}
 use Rattle.vm_attempt_laws.proofs.TurnsInRun.{answered, waiting, suspended, ended, failed}
@@ -36,10 +36,10 @@ turns_new function ran (Some finish) before turn after is none turns = cc
 turns_new function ran None before turn after is none turns = turns
 
 -- a turn that sends nothing leaves the live attempt as it is
-nothing_sent : (live : LiveAttempt) → after_turn live [] live.calls live.machine ≡ live
+nothing_sent : (live : AttemptInRun) → after_turn live [] live.calls live.machine ≡ live
 nothing_sent live = λ i. record live { coming = append-nil live.coming i; proposed = append-nil live.proposed i }
 
-module _ {H : Type 0} (function : H → Handler) (next : Handler) (version : Version) (options : VMOptions) (is_closed : Bool) (live : LiveAttempt) (before : Attempt H) (proposed : List (ℕ × NonEmptyValue)) (ran : RunOutcome) (turn : Turn) (after : Attempt H)
+module _ {H : Type 0} (function : H → Handler) (next : Handler) (version : Version) (options : VMOptions) (is_closed : Bool) (live : AttemptInRun) (before : Attempt H) (proposed : List (ℕ × NonEmptyValue)) (ran : RunOutcome) (turn : Turn) (after : Attempt H)
     (b : HasBodies next live proposed before)
     (s : Serves function next version options live is_closed before) where
   abbrev Keeps : Turn → Type 0
@@ -64,7 +64,7 @@ module _ {H : Type 0} (function : H → Handler) (next : Handler) (version : Ver
   stays_live : after.vm.state.runs ≡ before.vm.state.runs → Serves function next version options live is_closed after
       → GoesOnBehind function next version options is_closed live [] live.calls live.machine proposed after
   stays_live same serves =
-      behind_nothing (subst (λ (some : LiveAttempt). GoesOnWith function next version options is_closed some proposed after) (sym (nothing_sent live))
+      behind_nothing (subst (λ (some : AttemptInRun). GoesOnWith function next version options is_closed some proposed after) (sym (nothing_sent live))
       (record { bodies = bodies_stay function next version options before after same live proposed b; serves = serves }))
     where
       behind_nothing : GoesOnWith function next version options is_closed (after_turn live [] live.calls live.machine) proposed after

@@ -23,7 +23,7 @@ use Rattle.vm_attempt_laws.specs.Attempts.{output_of, FinishesBy, TakesAnswer, A
 use Rattle.vm_attempt_laws.specs.Machine.{MachineState, Written, out_of_memory, CoreVM, Answers, Waits, Suspends, Ends, Fails, NoMemory, IsDriven}
 use Rattle.vm_attempt_laws.specs.InputOfAttempt.{Kind}
 use Rattle.vm_attempt_laws.specs.OutputOfAttempt.{Sent, sent_stream, frame_meant}
-use Rattle.vm_attempt_laws.specs.Words.{are_by_text, Error, Version, Answer, Answered, Input, NotificationId, Frame, answers_of, Request, Handler, Progress, run, arrivals_carried, requests_carried, Machine, Reply, LiveAttempt, after_turn, VMOptions, slot_of, AnswersNext, RepliesAsRun, SendsReply, goes_on}
+use Rattle.vm_attempt_laws.specs.Words.{are_by_text, Error, Version, Answer, Answered, Input, NotificationId, Frame, answers_of, Request, Handler, Progress, run, arrivals_carried, requests_carried, Machine, Reply, AttemptInRun, after_turn, VMOptions, slot_of, AnswersNext, RepliesAsRun, SendsReply, goes_on}
 use Rattle.vm_attempt_laws.specs.TurnsInRun.{turns_answered, GoesOnBehind, FailsBy, FailsFor, SuspendsWith, ProposesAs, TurnsBehind, TurnKeeps}
 use Rattle.vm_attempt_laws.proofs.Failing.{fails_so}
 use Rattle.vm_attempt_laws.proofs.Now.{Now, call_of, reply_at}
@@ -36,7 +36,7 @@ waits_on : {calls : ℕ} (waits : WaitsFor) (whole : Machine) → goes_on calls 
 waits_on (Future left) whole = refl
 waits_on (Child child) whole = refl
 
-module _ {H : Type 0} (function : H → Handler) (next : Handler) (version : Version) (options : VMOptions) (is_closed : Bool) (live : LiveAttempt) (before : Attempt H)
+module _ {H : Type 0} (function : H → Handler) (next : Handler) (version : Version) (options : VMOptions) (is_closed : Bool) (live : AttemptInRun) (before : Attempt H)
     (proposed : List (ℕ × NonEmptyValue)) (ran : RunOutcome) (b : HasBodies next live proposed before)
     (s : Serves function next version options live is_closed before) (r : HasRead function next version options live before)
     (n : Now next version options is_closed live before.vm.state) (w : WithBodies next version options is_closed live before.vm.state n proposed b.executor) where

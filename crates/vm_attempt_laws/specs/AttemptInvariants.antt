@@ -12,11 +12,11 @@ use Rattle.vm_attempt_laws.specs.Machine.{Written, IsErrorTooLong, out_of_memory
 use Rattle.vm_attempt_laws.specs.InputOfAttempt.{CanBegin, IsRunOf}
 use Rattle.vm_attempt_laws.specs.OutputOfAttempt.{Sent, Fails, sent_stream, AllFit, frame_meant}
 use Rattle.vm_attempt_laws.specs.AttemptSimulation.{IsFedBy, Serves, HasBodies, IsOver}
-use Rattle.vm_attempt_laws.specs.Words.{arrivals_carried, input_bytes, piece_of, plain_error, internal, Error, Version, Bytes, Handler, Frame, InputMessage, IsNote, AttemptStart, ShowsStart, LiveAttempt, machine_at_start, HasReadJournal, attempt_begun, handed_bytes, after_reading, VMOptions}
+use Rattle.vm_attempt_laws.specs.Words.{arrivals_carried, input_bytes, piece_of, plain_error, internal, Error, Version, Bytes, Handler, Frame, InputMessage, IsNote, AttemptStart, ShowsStart, AttemptInRun, machine_at_start, HasReadJournal, attempt_begun, handed_bytes, after_reading, VMOptions}
 pub use Rattle.vm_input_laws.specs.MessagesBehindJournal.{MayCome}
 
 -- as it is begun, once it has read its start frame
-abbrev pub attempt_started : AttemptStart → LiveAttempt
+abbrev pub attempt_started : AttemptStart → AttemptInRun
 attempt_started start = record (attempt_begun start) { bytes = [] }
 
 -- what a machine fails with by an error, behind what it has written: that error, or, where its frame would be too long, one that says so
@@ -50,11 +50,11 @@ module _ {H : Type 0} where
 module _ {H : Type 0} (function : H → Handler) (next : Handler) (version : Version) (options : VMOptions) where
   -- its bodies are those of another attempt
   abbrev pub BodiesStay : (before after : Attempt H) → Type 0
-  BodiesStay before after = (live : LiveAttempt) (proposed : List (ℕ × NonEmptyValue)) → HasBodies next live proposed before → HasBodies next live proposed after
+  BodiesStay before after = (live : AttemptInRun) (proposed : List (ℕ × NonEmptyValue)) → HasBodies next live proposed before → HasBodies next live proposed after
 
   -- no attempt executes a run twice: of no completion it proposes two outcomes
   abbrev pub ProposesOnce : Type 0
-  ProposesOnce = (live : LiveAttempt) (proposed : List (ℕ × NonEmptyValue)) (a : Attempt H) → HasBodies next live proposed a
+  ProposesOnce = (live : AttemptInRun) (proposed : List (ℕ × NonEmptyValue)) (a : Attempt H) → HasBodies next live proposed a
       → (n : ℕ) → count_proposed n proposed ≤ 1
 
   -- ---- its begin
@@ -73,26 +73,26 @@ module _ {H : Type 0} (function : H → Handler) (next : Handler) (version : Ver
   -- ---- what is to come to it
 
   -- more that it has asked for may be to come, whatever is on its way from it, and it may be handed the next bytes of what is
-  pub record TakesIn (live : LiveAttempt) (proposed : List (ℕ × NonEmptyValue)) (a : Attempt H) : Type 0 where
+  pub record TakesIn (live : AttemptInRun) (proposed : List (ℕ × NonEmptyValue)) (a : Attempt H) : Type 0 where
     pub brings : (more : List InputMessage) (coming : List Frame) → AllByRecursion (IsBehind live.start.given.version proposed) more
         → ComesAsAsked (arrivals_carried live.start.journal) proposed (requests_asked_by live) (arrivals_carried (live.read ++ (live.unread ++ more)))
         → HasBodies next (record live { unread = live.unread ++ more; coming = coming }) proposed a
     pub is_handed : (bytes rest : Bytes) → (live.held ++ bytes) ++ rest ≡ input_bytes (map piece_of live.unread) → HasBodies next (handed_bytes live bytes) proposed a
 
   abbrev pub InputsCome : Type 0
-  InputsCome = (live : LiveAttempt) (proposed : List (ℕ × NonEmptyValue)) (a : Attempt H) → HasBodies next live proposed a → TakesIn live proposed a
+  InputsCome = (live : AttemptInRun) (proposed : List (ℕ × NonEmptyValue)) (a : Attempt H) → HasBodies next live proposed a → TakesIn live proposed a
 
   -- ---- events that do nothing to it
 
   -- more messages are on their way to it, and its frames pass on
   abbrev pub StaysServing : Type 0
-  StaysServing = (live : LiveAttempt) (is_closed : Bool) (a : Attempt H) (more : List InputMessage) (coming : List Frame) → Serves function next version options live is_closed a → AllByRecursion MayCome more
+  StaysServing = (live : AttemptInRun) (is_closed : Bool) (a : Attempt H) (more : List InputMessage) (coming : List Frame) → Serves function next version options live is_closed a → AllByRecursion MayCome more
       → Serves function next version options (record live { unread = live.unread ++ more; coming = coming }) is_closed a
 
   -- ---- its input
 
   -- it has read messages of which it holds all bytes, and is live with those
-  pub record ServesOn (live : LiveAttempt) (proposed : List (ℕ × NonEmptyValue)) (is_closed : Bool) (bytes : Bytes) (after : Attempt H) : Type 0 where
+  pub record ServesOn (live : AttemptInRun) (proposed : List (ℕ × NonEmptyValue)) (is_closed : Bool) (bytes : Bytes) (after : Attempt H) : Type 0 where
     pub some : List InputMessage
     pub still : List InputMessage
     pub kept : Bytes
@@ -102,19 +102,19 @@ module _ {H : Type 0} (function : H → Handler) (next : Handler) (version : Ver
     pub serves : Serves function next version options (after_reading (handed_bytes live bytes) some still kept) is_closed after
 
   abbrev pub FeedsServing : Type 0
-  FeedsServing = (live : LiveAttempt) (proposed : List (ℕ × NonEmptyValue)) (is_closed : Bool) (bytes : Bytes) (before after : Attempt H) → HasBodies next (handed_bytes live bytes) proposed before
+  FeedsServing = (live : AttemptInRun) (proposed : List (ℕ × NonEmptyValue)) (is_closed : Bool) (bytes : Bytes) (before after : Attempt H) → HasBodies next (handed_bytes live bytes) proposed before
       → Serves function next version options live is_closed before → Feeds bytes before after
       → WritesNothing before after × (ServesOn live proposed is_closed bytes after ⊎ LacksMemory after)
 
   -- it goes on with its journal read
-  pub record StaysClosed (live : LiveAttempt) (before after : Attempt H) : Type 0 where
+  pub record StaysClosed (live : AttemptInRun) (before after : Attempt H) : Type 0 where
     pub journal : HasReadJournal live
     pub serves : Serves function next version options live true after
     pub bodies : BodiesStay before after
     pub nothing : WritesNothing before after
 
   -- its journal was not read: it fails with that, or for want of memory, and tells so where there is memory for it
-  pub record ClosesEarly (live : LiveAttempt) (before after : Attempt H) : Type 0 where
+  pub record ClosesEarly (live : AttemptInRun) (before after : Attempt H) : Type 0 where
     pub unread : HasReadJournal live → ⊥
     pub error : Error
     pub failed : after.vm.state.phase ≡ phases.Failed error
@@ -126,19 +126,19 @@ module _ {H : Type 0} (function : H → Handler) (next : Handler) (version : Ver
     pub tells : TellsBy error sent
 
   abbrev pub ClosesServing : Type 0
-  ClosesServing = (live : LiveAttempt) (is_closed : Bool) (before after : Attempt H) → Serves function next version options live is_closed before → ClosesInput before after
+  ClosesServing = (live : AttemptInRun) (is_closed : Bool) (before after : Attempt H) → Serves function next version options live is_closed before → ClosesInput before after
       → StaysClosed live before after ⊎ ClosesEarly live before after
 
   -- ---- its output
 
   -- handed out, shown, or let go
-  pub record StaysBehind (live : LiveAttempt) (is_closed : Bool) (before after : Attempt H) : Type 0 where
+  pub record StaysBehind (live : AttemptInRun) (is_closed : Bool) (before after : Attempt H) : Type 0 where
     pub taken : (max : ℕ) (result : Result Bytes AllocError) → TakesOutput max before result after → Serves function next version options live is_closed after × BodiesStay before after
     pub shown : (max : ℕ) (result : Result Bytes AllocError) → Shows max before result after → Serves function next version options live is_closed after × BodiesStay before after
     pub let_go : (count : ℕ) → LetsGo count before after → Serves function next version options live is_closed after × BodiesStay before after
 
   abbrev pub TakesServing : Type 0
-  TakesServing = (live : LiveAttempt) (is_closed : Bool) (before after : Attempt H) → Serves function next version options live is_closed before → StaysBehind live is_closed before after
+  TakesServing = (live : AttemptInRun) (is_closed : Bool) (before after : Attempt H) → Serves function next version options live is_closed before → StaysBehind live is_closed before after
 
 module _ {H : Type 0} (function : H → Handler) where
   -- ---- behind its end

@@ -10,7 +10,7 @@ use Rattle.vm_attempt_laws.specs.Machine.phases
 use Rattle.vm_attempt_laws.specs.Machine.{IsCopy, IsDriven}
 use Rattle.vm_attempt_laws.specs.InputOfAttempt.{IsInputOf, IsRunOf, Kind, phase_kind, start_told, HasStarted}
 use Rattle.vm_attempt_laws.specs.OutputOfAttempt.{is_recorded}
-use Rattle.vm_attempt_laws.specs.Words.{item_at, Version, Error, Call, answers_of, Request, StartState, Handler, run, arrivals_carried, are_by_text, Machine, machine_at_start, ShowsStart, with_messages, LiveAttempt, HasReadJournal, VMOptions, SlotsFit, IsTextId}
+use Rattle.vm_attempt_laws.specs.Words.{item_at, Version, Error, Call, answers_of, Request, StartState, Handler, run, arrivals_carried, are_by_text, Machine, machine_at_start, ShowsStart, with_messages, AttemptInRun, HasReadJournal, VMOptions, SlotsFit, IsTextId}
 
 -- ---- its handler
 
@@ -22,7 +22,7 @@ IsOfStore call = (start : StartState) (done : List Request) (left : Commands) (c
 -- ---- its input
 
 -- its messages are the input, the journal and later arrivals, as the protocol can carry them
-abbrev pub IsFedBy : LiveAttempt → Type 0
+abbrev pub IsFedBy : AttemptInRun → Type 0
 IsFedBy live = IsInputOf live.start (live.read ++ live.unread)
 
 -- ---- its machine
@@ -42,7 +42,7 @@ pub record HasNumbers (m : Machine) : Type 0 where
 
 module _ {H : Type 0} (function : H → Handler) (next : Handler) (version : Version) (options : VMOptions) where
   -- its input was not read, so its handler was asked nothing: its machine keeps the messages that have come
-  pub record HasNotRead (live : LiveAttempt) (is_closed : Bool) (a : Attempt H) : Type 0 where
+  pub record HasNotRead (live : AttemptInRun) (is_closed : Bool) (a : Attempt H) : Type 0 where
     pub input : a.input ≡ None
     pub answers : a.answers ≡ []
     pub calls : live.calls ≡ 0
@@ -52,7 +52,7 @@ module _ {H : Type 0} (function : H → Handler) (next : Handler) (version : Ver
     pub unwritten : output_of a ≡ []
 
   -- its input was read: calls see its machine, and what its handler was answered is what the run over the arrivals read has answered
-  pub record HasRead (live : LiveAttempt) (a : Attempt H) : Type 0 where
+  pub record HasRead (live : AttemptInRun) (a : Attempt H) : Type 0 where
     pub journal : HasReadJournal live
     pub input : a.input ≡ Some live.start.given.input
     pub answers : a.answers ≡ answers_of (run next live.start.given (arrivals_carried live.read) live.calls).steps
@@ -63,7 +63,7 @@ module _ {H : Type 0} (function : H → Handler) (next : Handler) (version : Ver
     pub numbers : HasNumbers live.machine
 
   -- the attempt is the live one, and not over: the run is that of its handler, it holds these bytes, and no whole message among them
-  pub record Serves (live : LiveAttempt) (is_closed : Bool) (a : Attempt H) : Type 0 where
+  pub record Serves (live : AttemptInRun) (is_closed : Bool) (a : Attempt H) : Type 0 where
     pub handler : function a.handler ≡ next
     pub going : a.over ≡ None
     pub kind : phase_kind a.vm.state ≡ kind_where version options is_closed
@@ -77,7 +77,7 @@ module _ {H : Type 0} (function : H → Handler) (next : Handler) (version : Ver
 module _ {H : Type 0} (next : Handler) where
   -- The attempt has proposed these outcomes, replays its journal with the bodies of its runs, and its machine keeps these. It has proposed
   -- behind its journal alone.
-  pub record HasBodies (live : LiveAttempt) (proposed : List (ℕ × NonEmptyValue)) (a : Attempt H) : Type 0 where
+  pub record HasBodies (live : AttemptInRun) (proposed : List (ℕ × NonEmptyValue)) (a : Attempt H) : Type 0 where
     pub executor : Executor
     pub lives : IsReplayed next live proposed executor
     pub keeps : KeepsBodies a.vm.state.runs executor

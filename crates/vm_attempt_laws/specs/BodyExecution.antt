@@ -18,7 +18,7 @@ use Rattle.vm_attempt_laws.specs.Bodies.{NonEmptyValue, Body, has_handle, bodies
 use Rattle.vm_attempt_laws.specs.AttemptInvariants.{FailsWith}
 use Rattle.vm_attempt_laws.specs.Machine.{are_any, MachineState, out_of_memory, told_error}
 use Rattle.vm_attempt_laws.specs.OutputOfAttempt.{Sent, Fails}
-use Rattle.vm_attempt_laws.specs.Words.{internal, unsupported_feature, Error, Version, version_number, NotificationId, AwaitTree, Arrival, arrivals_carried, Request, requests_carried, LiveAttempt, ShowsStart, VMOptions}
+use Rattle.vm_attempt_laws.specs.Words.{internal, unsupported_feature, Error, Version, version_number, NotificationId, AwaitTree, Arrival, arrivals_carried, Request, requests_carried, AttemptInRun, ShowsStart, VMOptions}
 
 -- with one more call the run over these arrivals waits
 abbrev pub RunWaitsFor : (next : Handler) (given : Invocation) (arrivals : List Arrival) (calls : ℕ) → Type 0
@@ -68,7 +68,7 @@ module _ (next : Handler) (given : Invocation) (arrivals : List Arrival) (calls 
 -- ---- what it ends as
 
 -- what was tried before: while the attempt has written no command, what the start frame tells of attempts since the last entry, in milliseconds
-abbrev pub tried_by : (live : LiveAttempt) → ShowsStart live.start → Tried
+abbrev pub tried_by : (live : AttemptInRun) → ShowsStart live.start → Tried
 tried_by live shows = inherits (are_any live.machine.written) (record { count = shows.shows.retry_count; nanos = shows.shows.duration * 1000000 })
 
 -- the outcome is this one, by the policy, and by what was tried before
@@ -115,7 +115,7 @@ module _ (version : Version) (options : VMOptions) (ran : RunOutcome) (tried : T
 
 -- a body is to be executed first, of which this is kept, and has no outcome that is written; what becomes of the invocation its policy alone
 -- says
-pub record FailsByBody (next : Handler) (live : LiveAttempt) (proposed : List (ℕ × NonEmptyValue)) (version : Version) (options : VMOptions) (ran : RunOutcome) (vm : MachineState) (error : Error) (sent : List Sent) : Type 0 where
+pub record FailsByBody (next : Handler) (live : AttemptInRun) (proposed : List (ℕ × NonEmptyValue)) (version : Version) (options : VMOptions) (ran : RunOutcome) (vm : MachineState) (error : Error) (sent : List Sent) : Type 0 where
   pub body : Body
   pub first : ExecutesFirst next live.start.given (arrivals_carried live.read) live.calls (requests_carried live.read ++ live.machine.written) proposed body
   pub run : Run

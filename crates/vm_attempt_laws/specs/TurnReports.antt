@@ -7,7 +7,7 @@ use Rattle.vm_attempt_laws.specs.AttemptInvariants.{early_error}
 use Rattle.vm_attempt_laws.specs.BodyExecution.{RunWaitsFor, WaitsForOthers, ExecutesFirst, IsBodyCode}
 use Rattle.vm_attempt_laws.specs.AttemptSimulation.{HasBodies, IsOver, Serves}
 use Rattle.vm_attempt_laws.specs.TurnsInRun.{turns_answered}
-use Rattle.vm_attempt_laws.specs.Words.{Arrival, arrivals_carried, AttemptStart, Bytes, CarriesInput, Error, Handler, input_bytes, InputMessage, internal, item_at, LiveAttempt, piece_of, Queued, Refusal, Request, unsupported_feature, Version, VMOptions}
+use Rattle.vm_attempt_laws.specs.Words.{Arrival, arrivals_carried, AttemptStart, Bytes, CarriesInput, Error, Handler, input_bytes, InputMessage, internal, item_at, AttemptInRun, piece_of, Queued, Refusal, Request, unsupported_feature, Version, VMOptions}
 
 -- What was told of one attempt by the replies so far: the bytes that it was handed, whether its input was closed, how many of its turns have
 -- answered, the first of which reads the input, which outcomes it has proposed, and the turn by which it is over.
@@ -75,7 +75,7 @@ module _ (next : Handler) (start : AttemptStart) (told : Told) (come : HasCome s
   TurnTells ran (Turn.Failed error) now = (now ≡ record told { over = Some (Turn.Failed error) }) × FailsSo ran error
 
 -- what was told of an attempt is so: it was handed its start frame, and the messages that it has read and the bytes that it holds
-pub record IsAttemptTold {H : Type 0} (live : LiveAttempt) (a : Attempt H) (is_closed : Bool) (proposed : List (ℕ × NonEmptyValue)) (told : Told) : Type 0 where
+pub record IsAttemptTold {H : Type 0} (live : AttemptInRun) (a : Attempt H) (is_closed : Bool) (proposed : List (ℕ × NonEmptyValue)) (told : Told) : Type 0 where
   pub bytes : told.bytes ≡ live.start.frame ++ (input_bytes (map piece_of live.read) ++ live.held)
   pub closed : told.is_closed ≡ is_closed
   pub answered : told.answered ≡ turns_answered a.input live.calls
@@ -84,7 +84,7 @@ pub record IsAttemptTold {H : Type 0} (live : LiveAttempt) (a : Attempt H) (is_c
 module _ {H : Type 0} (function : H → Handler) (next : Handler) (version : Version) (options : VMOptions) where
   -- an attempt that was begun so serves on, by what is told now
   pub record GoesOnTold (start : AttemptStart) (is_closed : Bool) (now : Told) (after : Attempt H) : Type 0 where
-    pub live : LiveAttempt
+    pub live : AttemptInRun
     pub proposed : List (ℕ × NonEmptyValue)
     pub start_is : live.start ≡ start
     pub bodies : HasBodies next live proposed after
@@ -99,6 +99,6 @@ module _ {H : Type 0} (function : H → Handler) (next : Handler) (version : Ver
     pub goes_on : IsOver after ⊎ GoesOnTold start is_closed now after
 
   abbrev pub TurnsTell : Type 0
-  TurnsTell = (is_closed : Bool) (live : LiveAttempt) (before : Attempt H) (proposed : List (ℕ × NonEmptyValue)) (ran : RunOutcome) (turn : Turn) (after : Attempt H) (told : Told) → options.signal_delivery ≡ Queued
+  TurnsTell = (is_closed : Bool) (live : AttemptInRun) (before : Attempt H) (proposed : List (ℕ × NonEmptyValue)) (ran : RunOutcome) (turn : Turn) (after : Attempt H) (told : Told) → options.signal_delivery ≡ Queued
       → HasBodies next live proposed before → Serves function next version options live is_closed before → IsAttemptTold live before is_closed proposed told → Turns function ran before turn after
       → TellsOne live.start is_closed told ran turn after

@@ -14,7 +14,7 @@ use Rattle.vm_attempt_laws.specs.AttemptInvariants.{FailsWith}
 use Rattle.vm_attempt_laws.specs.Machine.{MachineState, out_of_memory, told_error, Cause, ByFault, TooDeep, NoReplay, NoMemory, HasPut, FailsWhen}
 pub use Rattle.vm_attempt_laws.specs.BodyExecution.{RunWaitsFor, RunComesTo, WaitsForOthers, ExecutesFirst, tried_by, OutcomeIs, FailsByBody, IsBodyCode}
 use Rattle.vm_attempt_laws.specs.OutputOfAttempt.{Sent, Asks, Fails, sent_stream, AllFit, frame_meant, IsOfStore}
-use Rattle.vm_attempt_laws.specs.Words.{internal, unsupported_feature, Error, Version, version_number, Call, Input, Arrival, Request, arrivals_carried, requests_carried, Machine, Refused, ShowsStart, LiveAttempt, HasReadJournal, after_turn, VMOptions, Queued, TurnsOfRun, requests_sent}
+use Rattle.vm_attempt_laws.specs.Words.{internal, unsupported_feature, Error, Version, version_number, Call, Input, Arrival, Request, arrivals_carried, requests_carried, Machine, Refused, ShowsStart, AttemptInRun, HasReadJournal, after_turn, VMOptions, Queued, TurnsOfRun, requests_sent}
 
 -- of a handler that wrote the journal, over the arrivals that were asked for, the run itself refuses the call, or waits for what is nested too
 -- deep to be told, or there is no number or no room for what it makes, or no memory
@@ -27,14 +27,14 @@ IsOwnCause next given arrivals calls cause = Unit {0}
 
 -- what the machine fails with for this cause in a call, where it was the one before and is the other behind, and has written these requests of
 -- the call by then: want of memory is told as that, and each other cause by its error, of which the frame is sent behind theirs
-abbrev pub IsToldAs : Version → LiveAttempt → Call → (old new : MachineState) → (more : List Request) → Cause → Error → List Sent → Type 0
+abbrev pub IsToldAs : Version → AttemptInRun → Call → (old new : MachineState) → (more : List Request) → Cause → Error → List Sent → Type 0
 IsToldAs version live call old new more NoMemory error sent = error ≡ out_of_memory
 IsToldAs version live call old new more cause error sent =
     (told : Error) × CauseTells version live.start.given.input.invocation_id live.machine.left new.active.journal (slots_of new.active.results) old.runs call cause told
     × FailsWith told old.active.output error × (sent ≡ map Asks more ++ Fails (told_error error) ∷ [])
 
 -- there is a cause for which the machine fails in this call, and this error tells it
-pub record FailsBy (next : Handler) (version : Version) (live : LiveAttempt) (call : Call) (old new : MachineState) (error : Error) (sent : List Sent) : Type 0 where
+pub record FailsBy (next : Handler) (version : Version) (live : AttemptInRun) (call : Call) (old new : MachineState) (error : Error) (sent : List Sent) : Type 0 where
   -- how far it has come with its requests
   pub far : HasPut live.start.given live.machine call old
   pub cause : Cause
@@ -43,7 +43,7 @@ pub record FailsBy (next : Handler) (version : Version) (live : LiveAttempt) (ca
   pub told : IsToldAs version live call old new far.more cause error sent
 
 -- one frame is sent: a suspension, which tells what the run over the arrivals read still waits for
-pub record SuspendsWith (next : Handler) (live : LiveAttempt) (frames : List Frame) : Type 0 where
+pub record SuspendsWith (next : Handler) (live : AttemptInRun) (frames : List Frame) : Type 0 where
   pub suspension : Suspension
   pub frames_are : frames ≡ Frame.Suspend (Some suspension) ∷ []
   pub waits : WaitsAll next live.start.given (arrivals_carried live.read) (requests_carried live.read ++ live.machine.written) (Some suspension)
@@ -54,7 +54,7 @@ turns_answered None calls = calls
 turns_answered (Some input) calls = suc calls
 
 -- a turn that the attempt may make, where it holds no more whole messages than it has read: what it sends is of the run over these
-abbrev pub IsTurnOf : Handler → (is_closed : Bool) → LiveAttempt → List Frame → Type 0
+abbrev pub IsTurnOf : Handler → (is_closed : Bool) → AttemptInRun → List Frame → Type 0
 IsTurnOf next is_closed live sent = TurnsOfRun next live.start.given is_closed live.held live.read live.unread (requests_asked_by live) live.held sent
 
 -- but for the one that proposes how a body has ended, the frames of a turn propose no outcome
@@ -64,17 +64,17 @@ ProposesAs turn frames = outcomes_in frames ≡ []
 
 module _ {H : Type 0} (function : H → Handler) (next : Handler) (version : Version) (options : VMOptions) (is_closed : Bool) where
   -- the live attempt goes on, which has proposed these outcomes
-  pub record GoesOnWith (live : LiveAttempt) (proposed : List (ℕ × NonEmptyValue)) (after : Attempt H) : Type 0 where
+  pub record GoesOnWith (live : AttemptInRun) (proposed : List (ℕ × NonEmptyValue)) (after : Attempt H) : Type 0 where
     pub bodies : HasBodies next live proposed after
     pub serves : Serves function next version options live is_closed after
 
   -- it does so behind a turn that has sent these frames, answered so many calls by then, with this machine, which has written what was sent
-  pub record GoesOnBehind (live : LiveAttempt) (sent : List Frame) (calls : ℕ) (machine : Machine) (proposed : List (ℕ × NonEmptyValue)) (after : Attempt H) : Type 0 where
+  pub record GoesOnBehind (live : AttemptInRun) (sent : List Frame) (calls : ℕ) (machine : Machine) (proposed : List (ℕ × NonEmptyValue)) (after : Attempt H) : Type 0 where
     pub bodies : HasBodies next (after_turn live sent calls machine) proposed after
     pub serves : Serves function next version options (after_turn live sent calls machine) is_closed after
     pub written : machine.written ≡ live.machine.written ++ requests_sent sent
 
-  module _ (live : LiveAttempt) (before : Attempt H) where
+  module _ (live : AttemptInRun) (before : Attempt H) where
     abbrev pub RunComes : Ending → Type 0
     RunComes ending = RunComesTo next live.start.given (arrivals_carried live.read) live.calls (requests_carried live.read ++ live.machine.written) ending
 
@@ -135,7 +135,7 @@ module _ {H : Type 0} (function : H → Handler) (next : Handler) (version : Ver
 
 module _ {H : Type 0} (function : H → Handler) (next : Handler) (version : Version) (options : VMOptions) where
   abbrev pub TurnServes : Type 0
-  TurnServes = (is_closed : Bool) (live : LiveAttempt) (before : Attempt H) (proposed : List (ℕ × NonEmptyValue)) (ran : RunOutcome) (turn : Turn) (after : Attempt H)
+  TurnServes = (is_closed : Bool) (live : AttemptInRun) (before : Attempt H) (proposed : List (ℕ × NonEmptyValue)) (ran : RunOutcome) (turn : Turn) (after : Attempt H)
       → options.signal_delivery ≡ Queued → HasBodies next live proposed before
       → Serves function next version options live (is_closed) before → Turns function ran before turn after
       → TurnKeeps function next version options is_closed live before proposed ran turn after
@@ -143,7 +143,7 @@ module _ {H : Type 0} (function : H → Handler) (next : Handler) (version : Ver
   -- an attempt whose turn fails is told of an internal error, of what is not supported, or by the body that it has executed: so where the body
   -- does not say so, never that its journal does not match
   abbrev pub TurnsMatch : Type 0
-  TurnsMatch = (is_closed : Bool) (live : LiveAttempt) (before : Attempt H) (proposed : List (ℕ × NonEmptyValue)) (ran : RunOutcome) (error : Error) (after : Attempt H)
+  TurnsMatch = (is_closed : Bool) (live : AttemptInRun) (before : Attempt H) (proposed : List (ℕ × NonEmptyValue)) (ran : RunOutcome) (error : Error) (after : Attempt H)
       → options.signal_delivery ≡ Queued → HasBodies next live proposed before
       → Serves function next version options live (is_closed) before → Turns function ran before (Turn.Failed error) after
       → (error.code.0 ≡ internal) ⊎ ((error.code.0 ≡ unsupported_feature) ⊎ IsBodyCode ran.result error.code.0)
@@ -156,14 +156,14 @@ module _ {H : Type 0} (function : H → Handler) (next : Handler) (version : Ver
   TurnsEach (turn ∷ turns) before after = (ran : RunOutcome) × (between : Attempt H) × Turns function ran before turn between × TurnsEach turns between after
 
   -- the attempt is live after all of them, each of which has answered something, or has executed a body
-  pub record AnswersEach (is_closed : Bool) (live : LiveAttempt) (before : Attempt H) (proposed : List (ℕ × NonEmptyValue)) (turns : List Turn) (after : Attempt H) : Type 0 where
-    pub now : LiveAttempt
+  pub record AnswersEach (is_closed : Bool) (live : AttemptInRun) (before : Attempt H) (proposed : List (ℕ × NonEmptyValue)) (turns : List Turn) (after : Attempt H) : Type 0 where
+    pub now : AttemptInRun
     pub now_proposed : List (ℕ × NonEmptyValue)
     pub goes_on : GoesOnWith function next version options is_closed now now_proposed after
     pub answered : turns_answered after.input now.calls + length now_proposed ≡ (turns_answered before.input live.calls + length proposed) + length turns
 
   -- with the whole journal fed and the input closed each turn answers or executes a body, or the attempt is over
   abbrev pub TurnsAnswer : Type 0
-  TurnsAnswer = (live : LiveAttempt) (turns : List Turn) (before : Attempt H) (proposed : List (ℕ × NonEmptyValue)) (after : Attempt H) → options.signal_delivery ≡ Queued → HasBodies next live proposed before → HasReadJournal live
+  TurnsAnswer = (live : AttemptInRun) (turns : List Turn) (before : Attempt H) (proposed : List (ℕ × NonEmptyValue)) (after : Attempt H) → options.signal_delivery ≡ Queued → HasBodies next live proposed before → HasReadJournal live
       → Serves function next version options live true before → TurnsEach turns before after
       → IsOver after ⊎ AnswersEach true live before proposed turns after

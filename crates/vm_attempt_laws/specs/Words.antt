@@ -26,7 +26,7 @@ pub use Rattle.journal_model.specs.declared.options.ImplicitCancellationOption.{
 pub use Rattle.journal_model.specs.declared.options.RunOptions.{RunOptions}
 pub use Rattle.journal_model.specs.declared.options.SignalDelivery.TheVariants.{Queued}
 pub use Rattle.live_laws.specs.AskedArrivals.{are_by_text, AsksByText}
-pub use Rattle.live_laws.specs.AttemptWithMachine.{attempt_begun, LiveAttempt, HasReadJournal, handed_bytes, after_reading, after_turn}
+pub use Rattle.live_laws.specs.AttemptWithMachine.{attempt_begun, AttemptInRun, HasReadJournal, handed_bytes, after_reading, after_turn}
 pub use Rattle.live_laws.specs.StartFrame.{AttemptStart, ShowsStart}
 pub use Rattle.live_laws.specs.MachinePosition.{entries_carried, with_messages, IsMachineAt, IsInRun}
 pub use Rattle.live_laws.specs.Replies.{SendsReply, SendsWaiting, goes_on}
