@@ -29,7 +29,7 @@ fn bytes_at(bytes: &[u8], count: u64) -> Option<(&[u8], &[u8])>
     }
 }
 
-#[tactic(auto, unfolding(crate::specs::Wire::value_at))]
+#[tactic(auto, unfolding(crate::specs::Wire::wire_value))]
 fn value_at(bytes: &[u8], kind: u64) -> Option<(Scanned<'_>, &[u8])>
     ensures { option_map (λ x. (wire x.0, x.1.now)) result ≡ wire_value kind bytes.now }
 {

@@ -1,5 +1,5 @@
 //! The lines of a script.
-#![tactic(auto, unfolding(crate::specs::Reading::then_read, crate::specs::Reading::invoke_of, crate::specs::Reading::result_of, crate::specs::Reading::signal_of, crate::specs::Reading::cancel_of, crate::specs::Reading::tick_of, crate::specs::Reading::begin_of, crate::specs::Reading::feed_of, crate::specs::Reading::close_of, crate::specs::Reading::turns_of, crate::specs::Reading::turn_of, crate::specs::Reading::ending_turn_of, crate::specs::Reading::of_turn, crate::specs::Reading::move_of, crate::specs::Reading::stop_of, crate::specs::Reading::show_of, crate::specs::Reading::state_of, crate::specs::Reading::of_none, crate::specs::Reading::of_one, crate::specs::Reading::of_two, crate::specs::Reading::of_three, crate::specs::Reading::of_six))]
+#![tactic(auto, unfolding(crate::specs::LineReader::then_read, crate::specs::LineReader::invoke_of, crate::specs::LineReader::result_of, crate::specs::LineReader::signal_of, crate::specs::LineReader::cancel_of, crate::specs::LineReader::tick_of, crate::specs::LineReader::begin_of, crate::specs::LineReader::feed_of, crate::specs::LineReader::close_of, crate::specs::LineReader::turns_of, crate::specs::LineReader::turn_line, crate::specs::LineReader::ending_turn_of, crate::specs::LineReader::of_turn, crate::specs::LineReader::move_of, crate::specs::LineReader::stop_of, crate::specs::LineReader::show_of, crate::specs::LineReader::state_word, crate::specs::LineReader::of_none, crate::specs::LineReader::of_one, crate::specs::LineReader::of_two, crate::specs::LineReader::of_three, crate::specs::LineReader::of_six))]
 
 ghost use Rattle.std.specs.Prelude.{◌≡◌, ◌==◌, map, IfOk};
 ghost use Rattle.std.specs.List.{slice_split};
@@ -337,7 +337,7 @@ fn words_between<'a>(alloc: Global, bytes: &'a [u8]) -> Result<Vec<&'a [u8]>, Al
     bytes.split_str(b" ").collect(alloc)
 }
 
-#[tactic(auto, unfolding(crate::specs::Reading::line_of, crate::specs::Reading::arguments_of, crate::specs::Reading::then_read))]
+#[tactic(auto, unfolding(crate::specs::LineReader::line_of, crate::specs::LineReader::arguments_of, crate::specs::LineReader::then_read))]
 fn parse_words(alloc: Global, words: &[&[u8]]) -> Result<Line, LineError>
     ensures { Gives result (line_of (map (λ word. word.now) words.now)) }
 {

@@ -19,7 +19,7 @@ pub enum LineOutcome {
 }
 
 /// The outcome of a kind, spelled behind the colon.
-#[tactic(auto, unfolding(crate::specs::Reading::outcome_in, crate::specs::Reading::then_read))]
+#[tactic(auto, unfolding(crate::specs::LineReader::outcome_in, crate::specs::LineReader::then_read))]
 fn parse_kind(alloc: Global, kind: &[u8], text: &[u8]) -> Result<LineOutcome, LineError>
     ensures { Gives result (outcome_in kind.now text.now) }
 {
@@ -38,7 +38,7 @@ fn parse_kind(alloc: Global, kind: &[u8], text: &[u8]) -> Result<LineOutcome, Li
 }
 
 /// The outcome that a word spells.
-#[tactic(auto, unfolding(crate::specs::Reading::outcome_of, crate::specs::Reading::then_read))]
+#[tactic(auto, unfolding(crate::specs::LineReader::outcome_of, crate::specs::LineReader::then_read))]
 pub fn parse_outcome(alloc: Global, word: &[u8]) -> Result<LineOutcome, LineError>
     ensures { Gives result (outcome_of word.now) }
 {

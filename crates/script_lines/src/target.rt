@@ -8,7 +8,7 @@ use journal_model::SignalKey;
 use std::alloc::Global;
 
 /// The number behind a `#`.
-#[tactic(auto, unfolding(crate::specs::Reading::signal_number_of))]
+#[tactic(auto, unfolding(crate::specs::LineReader::signal_number_of))]
 fn signal_number(word: &[u8]) -> Option<u32>
     ensures { result ≡ signal_number_of word.now }
 {
@@ -18,7 +18,7 @@ fn signal_number(word: &[u8]) -> Option<u32>
     }
 }
 
-#[tactic(auto, unfolding(crate::specs::Reading::named_target_of, crate::specs::Reading::then_read))]
+#[tactic(auto, unfolding(crate::specs::LineReader::named_target_of, crate::specs::LineReader::then_read))]
 fn parse_name(alloc: Global, word: &[u8]) -> Result<SignalKey, LineError>
     ensures { Gives result (named_target_of word.now) }
 {
@@ -27,7 +27,7 @@ fn parse_name(alloc: Global, word: &[u8]) -> Result<SignalKey, LineError>
 }
 
 /// The signal that a word spells.
-#[tactic(auto, unfolding(crate::specs::Reading::target_of, crate::specs::Reading::target_from))]
+#[tactic(auto, unfolding(crate::specs::LineReader::target_of, crate::specs::LineReader::target_from))]
 pub fn parse_target(alloc: Global, word: &[u8]) -> Result<SignalKey, LineError>
     ensures { Gives result (target_of word.now) }
 {

@@ -38,7 +38,7 @@ pub(crate) fn split_at_colon(bytes: &[u8]) -> Option<(&[u8], &[u8])>
 }
 
 /// A code, and the text behind the colon.
-#[tactic(auto, unfolding(crate::specs::Reading::coded_of, crate::specs::Reading::then_read))]
+#[tactic(auto, unfolding(crate::specs::LineReader::coded_of, crate::specs::LineReader::then_read))]
 pub(crate) fn parse_coded(alloc: Global, bytes: &[u8]) -> Result<(u16, ByteStr), LineError>
     ensures { Gives result (coded_of bytes.now) }
 {
@@ -51,7 +51,7 @@ pub(crate) fn parse_coded(alloc: Global, bytes: &[u8]) -> Result<(u16, ByteStr),
 }
 
 /// The value of a kind, spelled behind the colon.
-#[tactic(auto, unfolding(crate::specs::Reading::value_in, crate::specs::Reading::then_read))]
+#[tactic(auto, unfolding(crate::specs::LineReader::value_in, crate::specs::LineReader::then_read))]
 fn parse_kind(alloc: Global, kind: &[u8], text: &[u8]) -> Result<LineValue, LineError>
     ensures { Gives result (value_in kind.now text.now) }
 {
@@ -70,7 +70,7 @@ fn parse_kind(alloc: Global, kind: &[u8], text: &[u8]) -> Result<LineValue, Line
 }
 
 /// The value that a word spells.
-#[tactic(auto, unfolding(crate::specs::Reading::value_of, crate::specs::Reading::then_read))]
+#[tactic(auto, unfolding(crate::specs::LineReader::value_of, crate::specs::LineReader::then_read))]
 pub fn parse_value(alloc: Global, word: &[u8]) -> Result<LineValue, LineError>
     ensures { Gives result (value_of word.now) }
 {

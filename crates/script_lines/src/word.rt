@@ -141,7 +141,7 @@ fn is_printable(bytes: &[u8]) -> bool
 }
 
 /// The text of these bytes, which may be none.
-#[tactic(auto, unfolding(crate::specs::Reading::printable_of))]
+#[tactic(auto, unfolding(crate::specs::LineReader::printable_of))]
 pub fn parse_printable(alloc: Global, bytes: &[u8]) -> Result<ByteStr, LineError>
     ensures { Gives result (printable_of bytes.now) }
 {
@@ -153,7 +153,7 @@ pub fn parse_printable(alloc: Global, bytes: &[u8]) -> Result<ByteStr, LineError
 }
 
 /// The text that a word spells.
-#[tactic(auto, unfolding(crate::specs::Reading::text_read))]
+#[tactic(auto, unfolding(crate::specs::LineReader::text_read))]
 pub fn parse_text(alloc: Global, word: &[u8]) -> Result<ByteStr, LineError>
     ensures { Gives result (text_read word.now) }
 {
@@ -167,7 +167,7 @@ pub fn parse_text(alloc: Global, word: &[u8]) -> Result<ByteStr, LineError>
 }
 
 /// The mode that a word names.
-#[tactic(auto, unfolding(crate::specs::Reading::mode_of))]
+#[tactic(auto, unfolding(crate::specs::LineReader::mode_of))]
 pub fn parse_mode(word: &[u8]) -> Option<StateMode>
     ensures { result ≡ mode_of word.now }
 {
@@ -179,7 +179,7 @@ pub fn parse_mode(word: &[u8]) -> Option<StateMode>
 }
 
 /// The handler that a word names.
-#[tactic(auto, unfolding(crate::specs::Reading::handler_of))]
+#[tactic(auto, unfolding(crate::specs::LineReader::handler_of))]
 pub fn parse_handler(word: &[u8]) -> Option<HandlerName>
     ensures { result ≡ handler_of word.now }
 {
@@ -215,7 +215,7 @@ pub fn parse_handler(word: &[u8]) -> Option<HandlerName>
 }
 
 /// The command that a word names.
-#[tactic(auto, unfolding(crate::specs::Reading::command_of))]
+#[tactic(auto, unfolding(crate::specs::LineReader::command_of))]
 pub fn parse_command(word: &[u8]) -> Option<Command>
     ensures { result ≡ command_of word.now }
 {

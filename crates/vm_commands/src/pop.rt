@@ -46,7 +46,7 @@ pub(crate) fn compare<M: Command>(
 }
 
 // The message as the command that a call makes.
-#[tactic(auto, using(crate::proofs::Popping::compares_next))]
+#[tactic(auto, using(crate::proofs::NextCommand::compares_next))]
 pub(crate) fn take_next<M: Command>(
     alloc: Global,
     next: Option<RawMessage>,
