@@ -2,6 +2,7 @@ use Rattle.std.proofs.Common.{rules, ◌≡◌, ◌∙◌, sym, ap, subst, true,
 use Rattle.sqlite.specs.Held.{state}
 use Rattle.journal_model.specs.Notification.{Bytes}
 use Rattle.journal_model.specs.Event.{Event}
+use Rattle.journal_model.specs.declared.cause.Cause.{Cause}
 use Rattle.store_refusals.specs.declared.refusal.Refusal.{Refusal}
 use Rattle.store_refusals.specs.Refused.{IsRefused}
 use Rattle.store_refusals.proofs.Causes.{cause_by, memory_tells}
@@ -37,7 +38,7 @@ returns-then-is_closed-clause-does g c =
 pub returns-then-is_closed-clause-frame : goal.returns-then-is_closed-clause-frame
 returns-then-is_closed-clause-frame g c =
     rw (← c.self.view_is) (gives_none g.S.Store c.args.id.now (stored c.self.inside.tables c.self.inside.live) c.self.inside.tables c.self.inside.live
-    (λ clean s is. is.stands.live c.args.id.now) (Err Refusal.InputAlreadyClosed) c.self.inside.live refl refl)
+    (λ clean s is. is.stands.live c.args.id.now) (Err (Refusal.Cause Cause.InputAlreadyClosed)) c.self.inside.live refl refl)
 
 -- ---- the next frame is not read
 
