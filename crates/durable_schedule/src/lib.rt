@@ -30,9 +30,9 @@ pub use schedule_laws::{
     schedules_keep, schedules_leave,
 };
 pub use scheduler::{
-    Answer, AttachInvocationTarget, AwaitedFuture, Call, EntryKind, Event, EventRefusal, Failure,
-    Handler, Header, HeldAttempt, Input, LastError, Moment, NewInvocation, NonEmptyValue,
-    NotificationHandle, NotificationResult, Outcome, PayloadOptions, RecordedEntry, Reply,
+    Answer, AttachInvocationTarget, AwaitedFuture, Call, Cause, EntryKind, Event, EventRefusal,
+    Failure, Handler, Header, HeldAttempt, Input, LastError, Moment, NewInvocation, NonEmptyValue,
+    NotificationHandle, NotificationResult, Outcome, PayloadOptions, RecordedEntry, Refusal, Reply,
     RetryPolicy, RunExitResult, RunOutcome, Scheduler, Sequence, SignalKey, StateMode, StateRow,
     Target, TerminalFailure, Turn, UnresolvedFuture, VMOptions, Value,
 };

@@ -25,6 +25,7 @@ use script_lines::word::{HandlerName, StateMode};
 use sequence::Sequence;
 use sqlite::Alter;
 use std::alloc::{AllocError, Global};
+use store_refusals::Refusal;
 use vm_types::VMOptions;
 
 /// A scheduler that the lines of a script are done on.
@@ -118,7 +119,7 @@ fn take_turn<S: Alter + Drop>(
 {
     match run_outcome(scheduler.alloc, outcome) {
         Ok(given) => scheduler.take_turn(id, attempt, given),
-        Err(_) => Reply::Refused(EventRefusal::Store(store_refusals::Refusal::OutOfMemory)),
+        Err(_) => Reply::Refused(EventRefusal::Store(Refusal::OutOfMemory)),
     }
 }
 

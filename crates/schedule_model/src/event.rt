@@ -4,6 +4,7 @@ ghost use Rattle.schedule_model.specs.Names.{event_refusal_name_of};
 
 use bytes::ByteStr;
 use journal_model::{NewInvocation, NotificationResult, SignalKey};
+use store_refusals::Refusal;
 use vm_attempt::{RunOutcome, Turn};
 
 /// What may happen next.
@@ -69,7 +70,7 @@ pub enum Event<H> {
 #[derive(Clone, Copy, Debug, PartialEq, Eq)]
 pub enum EventRefusal {
     /// The store refuses it.
-    Store(store_refusals::Refusal),
+    Store(Refusal),
     /// X1: a turn's outcome is a failure that is tried again, and its code is that of a journal that does not match.
     ///
     /// A machine fails with that code where its handler does not do what the journal says, and may be told to close the invocation for it.
@@ -106,14 +107,14 @@ pub enum Reply {
     /// So many bytes were handed out, and why no further one was, where it was refused. A refusal of the first is `Refused`.
     Fed {
         bytes: usize,
-        refusal: Option<store_refusals::Refusal>,
+        refusal: Option<Refusal>,
     },
     Turned(Turn),
     /// So many bytes were moved, so many frames taken, and why no further one was, where it was refused.
     Moved {
         bytes: usize,
         frames: usize,
-        refusal: Option<store_refusals::Refusal>,
+        refusal: Option<Refusal>,
     },
     Refused(EventRefusal),
 }

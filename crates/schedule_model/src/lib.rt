@@ -19,4 +19,5 @@ pub use journal_model::SignalKey;
 pub use kept::KeptAttempt;
 pub use laws::{attempts_are_held, schedules_grow};
 pub use outcome::tells_mismatch;
+pub use store_refusals::{Cause, Refusal};
 pub use vm_attempt::{Attempt, RetryPolicy, RunExitResult, RunOutcome, Turn};

@@ -11,6 +11,7 @@ use journal_model::Handler;
 use journal_store::Store;
 use schedule_model::{EventRefusal, KeptAttempt, Reply};
 use sqlite::Alter;
+use store_refusals::Refusal;
 
 /// Hands an attempt the next part of its input, at most so many bytes, and tells how many they were.
 fn feed_part<H: Handler, S: Alter + Drop>(
@@ -19,7 +20,7 @@ fn feed_part<H: Handler, S: Alter + Drop>(
     number: u32,
     attempt: &mut KeptAttempt<H>,
     most: usize,
-) -> Result<usize, store_refusals::Refusal>
+) -> Result<usize, Refusal>
     ensures does { Leads S.Store (λ s t. FeedsPart most (held_as invocation.now number attempt.old) result s t attempt.new) store.old store.new }
     ensures few { IfOk result (λ len. len ≤ most) }
     ensures cause { IfErr result (TellsWhy S.Store store.old store.new) }
@@ -43,7 +44,7 @@ fn is_last(len: usize, fed: usize, count: usize) -> bool
 }
 
 /// What is answered where the store refuses a part behind so many bytes.
-fn stopped(fed: usize, refusal: store_refusals::Refusal) -> Reply
+fn stopped(fed: usize, refusal: Refusal) -> Reply
     ensures { result ≡ refused_behind fed refusal }
 {
     if fed == 0 {

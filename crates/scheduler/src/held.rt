@@ -13,6 +13,7 @@ use protocol_types::Version;
 use schedule_model::{Attempt, EventRefusal, KeptAttempt, Reply};
 use sqlite::Alter;
 use std::alloc::Global;
+use store_refusals::Refusal;
 use vm_types::VMOptions;
 
 /// An attempt, if it goes on, and there is memory for keeping it.
@@ -74,7 +75,7 @@ pub(crate) fn move_output<H: Handler + Drop, S: Alter + Drop>(
 {
     let bytes = match attempt.first_output(count) {
         Ok(bytes) => bytes,
-        Err(_) => return Reply::Refused(EventRefusal::Store(store_refusals::Refusal::OutOfMemory)),
+        Err(_) => return Reply::Refused(EventRefusal::Store(Refusal::OutOfMemory)),
     };
     let len = bytes.len();
     let accepted = store.accept(invocation, number, bytes.as_slice());

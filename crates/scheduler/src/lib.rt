@@ -11,8 +11,8 @@ mod scheduler;
 
 pub use outcome::Outcome;
 pub use schedule_model::{
-    Attempt, Event, EventRefusal, HeldAttempt, HeldAttempts, Reply, RetryPolicy, RunExitResult,
-    RunOutcome, Turn, attempts_are_held, schedules_grow,
+    Attempt, Cause, Event, EventRefusal, HeldAttempt, HeldAttempts, Refusal, Reply, RetryPolicy,
+    RunExitResult, RunOutcome, Turn, attempts_are_held, schedules_grow,
 };
 pub use scheduler::Scheduler;
 

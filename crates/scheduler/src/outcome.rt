@@ -5,6 +5,7 @@ ghost use Rattle.scheduler.specs.Outcomes.{last_told, last_turn, outcome_where, 
 
 use protocol_errors::Error;
 use schedule_model::{EventRefusal, Reply, RunOutcome, Turn};
+use store_refusals::Refusal;
 
 /// What going on with an invocation came to.
 #[derive(Debug, Drop)]
@@ -25,7 +26,7 @@ pub enum Outcome {
 pub(crate) fn no_memory() -> EventRefusal
     ensures { result ≡ EventRefusal.Store OutOfMemory }
 {
-    EventRefusal::Store(store_refusals::Refusal::OutOfMemory)
+    EventRefusal::Store(Refusal::OutOfMemory)
 }
 
 /// What was refused of an event, if anything.

@@ -3,9 +3,10 @@ ghost use Rattle.std.specs.Prelude.{◌≡◌};
 ghost use Rattle.scheduler.specs.Scheduled.{reply_to};
 
 use schedule_model::{EventRefusal, Reply};
+use store_refusals::Refusal;
 
 /// It was done.
-pub(crate) fn done(told: Result<(), store_refusals::Refusal>) -> Reply
+pub(crate) fn done(told: Result<(), Refusal>) -> Reply
     ensures { result ≡ reply_to (λ _. Reply.Done) told }
 {
     match told {
@@ -15,7 +16,7 @@ pub(crate) fn done(told: Result<(), store_refusals::Refusal>) -> Reply
 }
 
 /// It has this place in the journal.
-pub(crate) fn placed(told: Result<u32, store_refusals::Refusal>) -> Reply
+pub(crate) fn placed(told: Result<u32, Refusal>) -> Reply
     ensures { result ≡ reply_to (λ place. Reply.Placed place) told }
 {
     match told {
@@ -25,7 +26,7 @@ pub(crate) fn placed(told: Result<u32, store_refusals::Refusal>) -> Reply
 }
 
 /// So many sleeps are over.
-pub(crate) fn ticked(told: Result<u64, store_refusals::Refusal>) -> Reply
+pub(crate) fn ticked(told: Result<u64, Refusal>) -> Reply
     ensures { result ≡ reply_to (λ sleeps. Reply.Ticked sleeps) told }
 {
     match told {

@@ -31,6 +31,7 @@ use sqlite::Alter;
 use std::alloc::Global;
 use store_calls::BegunAttempt;
 use store_invocations::RecordedEntry;
+use store_refusals::Refusal;
 use store_tables::{LastError, StateRow};
 use vm_types::VMOptions;
 
@@ -130,7 +131,7 @@ impl<H: Handler + Drop, S: Alter + Drop> Scheduler<H, S> {
             start,
         } = begun;
         let Some(attempt) = make(self.alloc, version, self.options, handler, start) else {
-            return Reply::Refused(EventRefusal::Store(store_refusals::Refusal::OutOfMemory));
+            return Reply::Refused(EventRefusal::Store(Refusal::OutOfMemory));
         };
         match self.held.push(HeldAttempt {
             invocation,
@@ -140,7 +141,7 @@ impl<H: Handler + Drop, S: Alter + Drop> Scheduler<H, S> {
             Ok(()) => Reply::Begun(number),
             Err(refused) => {
                 drop(refused);
-                Reply::Refused(EventRefusal::Store(store_refusals::Refusal::OutOfMemory))
+                Reply::Refused(EventRefusal::Store(Refusal::OutOfMemory))
             }
         }
     }
@@ -278,7 +279,7 @@ impl<H: Handler + Drop, S: Alter + Drop> Scheduler<H, S> {
     }
 
     /// The recorded requests and arrivals of an invocation, by place.
-    pub fn entries(&mut self, id: &ByteStr) -> Result<Vec<RecordedEntry>, store_refusals::Refusal>
+    pub fn entries(&mut self, id: &ByteStr) -> Result<Vec<RecordedEntry>, Refusal>
         ensures told { TellsOf S.Store id.now (λ events entries. entries.items ≡ entries_told events id.now) result self.old self.new }
         ensures kept { self.new ≡ record self.old { store = self.new.store } }
         ensures cause { IfErr result (TellsWhy S.Store self.old.store self.new.store) }
@@ -288,7 +289,7 @@ impl<H: Handler + Drop, S: Alter + Drop> Scheduler<H, S> {
     }
 
     /// What a closed invocation answers.
-    pub fn answer(&mut self, id: &ByteStr) -> Result<Option<NonEmptyValue>, store_refusals::Refusal>
+    pub fn answer(&mut self, id: &ByteStr) -> Result<Option<NonEmptyValue>, Refusal>
         ensures told { TellsOf S.Store id.now (λ events answer. answer ≡ answer_told events id.now) result self.old self.new }
         ensures kept { self.new ≡ record self.old { store = self.new.store } }
         ensures cause { IfErr result (TellsWhy S.Store self.old.store self.new.store) }
@@ -298,7 +299,7 @@ impl<H: Handler + Drop, S: Alter + Drop> Scheduler<H, S> {
     }
 
     /// The last error that an attempt of an invocation told.
-    pub fn failure(&mut self, id: &ByteStr) -> Result<Option<LastError>, store_refusals::Refusal>
+    pub fn failure(&mut self, id: &ByteStr) -> Result<Option<LastError>, Refusal>
         ensures told { TellsOf S.Store id.now (λ events error. error ≡ last_error_of events id.now) result self.old self.new }
         ensures kept { self.new ≡ record self.old { store = self.new.store } }
         ensures cause { IfErr result (TellsWhy S.Store self.old.store self.new.store) }
@@ -308,7 +309,7 @@ impl<H: Handler + Drop, S: Alter + Drop> Scheduler<H, S> {
     }
 
     /// Whether an invocation is open.
-    pub fn is_open(&mut self, id: &ByteStr) -> Result<bool, store_refusals::Refusal>
+    pub fn is_open(&mut self, id: &ByteStr) -> Result<bool, Refusal>
         ensures told { TellsOf S.Store id.now (λ events is_open. is_open ≡ is_open_after events id.now) result self.old self.new }
         ensures kept { self.new ≡ record self.old { store = self.new.store } }
         ensures cause { IfErr result (TellsWhy S.Store self.old.store self.new.store) }
@@ -318,7 +319,7 @@ impl<H: Handler + Drop, S: Alter + Drop> Scheduler<H, S> {
     }
 
     /// The values of an object's state, by ascending keys: what the requests of its invocations, closed ones too, have made of it.
-    pub fn state(&mut self, object: &ByteStr) -> Result<Vec<StateRow>, store_refusals::Refusal>
+    pub fn state(&mut self, object: &ByteStr) -> Result<Vec<StateRow>, Refusal>
         ensures told { TellsAlways S.Store (λ events states. states.items ≡ map (state_row object.now) (object_state events object.now)) result self.old self.new }
         ensures kept { self.new ≡ record self.old { store = self.new.store } }
         ensures cause { IfErr result (TellsWhy S.Store self.old.store self.new.store) }
@@ -329,7 +330,7 @@ impl<H: Handler + Drop, S: Alter + Drop> Scheduler<H, S> {
 
     /// The invocations that are due, by id: of each an attempt that is begun now may go on. After a store was opened these are also those
     /// whose attempts were live when it was left.
-    pub fn due(&mut self) -> Result<Vec<ByteStr>, store_refusals::Refusal>
+    pub fn due(&mut self) -> Result<Vec<ByteStr>, Refusal>
         ensures told { TellsAlways S.Store (λ events ids. ids.items ≡ due_after events) result self.old self.new }
         ensures kept { self.new ≡ record self.old { store = self.new.store } }
         ensures cause { IfErr result (TellsWhy S.Store self.old.store self.new.store) }
@@ -339,7 +340,7 @@ impl<H: Handler + Drop, S: Alter + Drop> Scheduler<H, S> {
     }
 
     /// The first moment, in milliseconds, at which a tick ends a sleep, if there is one: until then no tick brings anything.
-    pub fn next_moment(&mut self) -> Result<Option<u64>, store_refusals::Refusal>
+    pub fn next_moment(&mut self) -> Result<Option<u64>, Refusal>
         ensures told { TellsAlways S.Store IsNextMoment result self.old self.new }
         ensures kept { self.new ≡ record self.old { store = self.new.store } }
         ensures cause { IfErr result (TellsWhy S.Store self.old.store self.new.store) }

@@ -1,8 +1,8 @@
 //! The items of the specification that `journal_store` passes on, each under its own name. What stands here names them and calls none:
 //! where this crate is checked, they are there.
 pub use journal_store::{
-    Accepted, BegunAttempt, EntryKind, FrameReply, LastError, NewInvocation, NotOpened,
-    NotificationResult, RecordedEntry, Refusal, StateMode, Store,
+    Accepted, BegunAttempt, Cause, EntryKind, FrameReply, LastError, NewInvocation, NotOpened,
+    NotificationResult, RecordedEntry, Refusal, SignalKey, StateMode, Store,
 };
 use sqlite::Alter;
 use test_rows::named;
