@@ -24,7 +24,7 @@ abbrev pub record_at : {A : Type 0} → (ℕ → List Field → A) → (A → Li
 record_at of parts fits number = record { number = number; read = λ levels fs. optional_record (of levels) number fs; spelled = λ a. payload_of (parts a); fits = fits }
 
 abbrev pub value_alternative : ℕ → Alternative Value
-value_at = record_at value_of value_parts ValueFits
+value_alternative = record_at value_of value_parts ValueFits
 
 abbrev pub failure_at : ℕ → Alternative Failure
 failure_at = record_at failure_of failure_parts FailureFits
