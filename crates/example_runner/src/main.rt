@@ -4,24 +4,19 @@
 
 mod fault;
 mod rounds;
-mod work;
 
 use anyhow::{Error, Result, anyhow, bail};
-use bytes::{ByteStr, Bytes};
 use durable_schedule::{
-    Event, NewInvocation, Reply, Scheduler, Sequence, StateMode, Store, VMOptions,
+    Alter, ByteStr, Bytes, Event, File, FileStore, NewInvocation, Outcome, Reason, Reply,
+    RunOutcome, Scheduler, Sequence, StateMode, Store, VMOptions, close_file, open,
 };
 use fault::Fault;
 use rounds::Rounds;
-use sqlite::{Alter, File, FileStore, Unknown};
-use sqlite_disk::Disk;
 use std::alloc::{AllocError, Global};
 use std::process::ExitCode;
 use std::rt::{Clock, Env, HostRuntime};
 use std::time::{SystemTime, UNIX_EPOCH};
 use std::{env, io};
-use store_files::{Reason, close_file, let_go, open_file, reason_of};
-use work::{Outcome, go_on};
 
 /// The words of the call.
 #[derive(Drop)]
@@ -78,13 +73,17 @@ fn go_on_with_all<S: Alter + Drop>(
     scheduler: &mut Scheduler<Rounds, S>,
     now: u64,
 ) -> Result<bool> {
-    let mut all_went_on = !matches!(scheduler.apply(Event::Tick(now)), Reply::Refused(_));
-    let ids = match scheduler.due() {
-        Ok(ids) => ids,
-        Err(why) => bail!("the file cannot be read: {why:?}"),
+    let alloc = rt.alloc();
+    let outcomes = match scheduler.run_due(
+        now,
+        1000,
+        |_id| (Rounds { alloc }, RunOutcome::default()),
+    ) {
+        Ok(outcomes) => outcomes,
+        Err(why) => bail!("nothing went on: {why:?}"),
     };
-    for id in ids {
-        let outcome = go_on(scheduler, rt.alloc(), &id, now)?;
+    let mut all_went_on = true;
+    for (id, outcome) in outcomes {
         println!(rt; "{id}: {outcome:?}")?;
         all_went_on &= matches!(&outcome, Outcome::Suspended | Outcome::Ended);
     }
@@ -142,23 +141,15 @@ fn run_over<S: Alter + Drop>(
 }
 
 /// The store in a file, or why it is not taken.
-fn open(rt: &HostRuntime, file: &str) -> Result<Store<FileStore<File>>, Fault> {
-    match open_file(rt, file, Unknown) {
+fn open_store(rt: &HostRuntime, file: &str) -> Result<Store<FileStore<File>>, Fault> {
+    match open(rt, file) {
         Ok(store) => Ok(store),
-        Err(mut why) => {
-            let reason = reason_of(rt, file, &mut why);
-            let_go(rt, file, why);
-            let told = anyhow!("{file}: {reason}");
-            if reason == Reason::Held {
-                Err(Fault::InUse(told))
-            } else {
-                Err(Fault::Failed(told))
-            }
-        }
+        Err(Reason::Held) => Err(Fault::InUse(anyhow!("{file}: {}", Reason::Held))),
+        Err(reason) => Err(Fault::Failed(anyhow!("{file}: {reason}"))),
     }
 }
 
-fn close<D: Disk + Drop>(store: Store<FileStore<D>>) -> Result<()> {
+fn close(store: Store<FileStore<File>>) -> Result<()> {
     match close_file(store) {
         Ok(files) => {
             drop(files);
@@ -173,7 +164,7 @@ fn close<D: Disk + Drop>(store: Store<FileStore<D>>) -> Result<()> {
 
 fn run(rt: &HostRuntime) -> Result<(), Fault> {
     let Words { file, name } = read_words(rt)?;
-    let store = open(rt, &file)?;
+    let store = open_store(rt, &file)?;
     let mut scheduler = Scheduler::new(rt.alloc(), store, VMOptions::default());
     let done = run_over(rt, &mut scheduler, name);
     let closed = close(scheduler.into_store());

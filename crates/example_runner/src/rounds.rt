@@ -2,10 +2,9 @@
 ghost use Rattle.std.specs.Prelude.{◌≡◌, ◌<◌, length, IfOk};
 ghost use Rattle.example_runner.specs.Rounds as rounding;
 
-use bytes::{ByteStr, Bytes};
 use durable_schedule::{
-    Answer, AwaitedFuture, Call, Handler, Input, Moment, NonEmptyValue, NotificationHandle,
-    PayloadOptions,
+    Answer, AwaitedFuture, ByteStr, Bytes, Call, Handler, Input, Moment, NonEmptyValue,
+    NotificationHandle, PayloadOptions,
 };
 use std::alloc::{AllocError, Global};
 
