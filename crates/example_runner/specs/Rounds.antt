@@ -1,13 +1,7 @@
 -- A handler as a function: its next call, by what the calls before were answered.
 use Rattle.std.specs.Prelude.{◌≡◌, ℕ, zero, suc, ◌+◌, ◌*◌, ◌-◌, ◌^◌, ◌/◌, ◌%◌, nat_lt, min, false, if◌then◌else◌, List, [], ◌∷◌, length, None, codes, slice_get, unwrap_or, take}
 use Rattle.std.specs.Int.{from_be_bytes, w64}
-use Rattle.journal_model.specs.Notification.{Bytes}
-use Rattle.journal_model.specs.declared.value.NonEmptyValue.{NonEmptyValue}
-use Rattle.journal_model.specs.AwaitTree.{Single}
-use Rattle.journal_model.specs.declared.call.Call.{Call}
-use Rattle.journal_model.specs.declared.call.Answer.{Answer}
-use Rattle.journal_model.specs.declared.call.PayloadOptions.{PayloadOptions}
-use Rattle.journal_model.specs.Run.{Handler}
+use Rattle.durable_schedule.specs.Handlers.{Answer, Bytes, Call, Handler, NonEmptyValue, PayloadOptions, Single}
 
 abbrev pub options : PayloadOptions
 options = record { unstable_serialization = false }

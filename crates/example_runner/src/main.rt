@@ -67,6 +67,16 @@ fn named(alloc: Global, name: &str, now: u64) -> Result<NewInvocation, AllocErro
     })
 }
 
+/// Tells what going on with an invocation came to: in a line, and why it failed on standard error.
+fn print_outcome(rt: &HostRuntime, id: &ByteStr, outcome: &Outcome) -> Result<()> {
+    if let Outcome::Failed(error) = outcome {
+        println!(rt; "{id}: Failed")?;
+        eprintln!(rt; "{id}: {error}")?;
+        return Ok(());
+    }
+    Ok(println!(rt; "{id}: {outcome:?}")?)
+}
+
 /// Goes on with each invocation that is due, prints a line for each, and answers whether each came as far as it could.
 fn go_on_with_all<S: Alter + Drop>(
     rt: &HostRuntime,
@@ -80,11 +90,11 @@ fn go_on_with_all<S: Alter + Drop>(
         |_id| (Rounds { alloc }, RunOutcome::default()),
     ) {
         Ok(outcomes) => outcomes,
-        Err(why) => bail!("nothing went on: {why:?}"),
+        Err(why) => bail!("nothing went on: refused {}, {why:?}", why.name()),
     };
     let mut all_went_on = true;
     for (id, outcome) in outcomes {
-        println!(rt; "{id}: {outcome:?}")?;
+        print_outcome(rt, &id, &outcome)?;
         all_went_on &= matches!(&outcome, Outcome::Suspended | Outcome::Ended);
     }
     Ok(all_went_on)
