@@ -5,3 +5,4 @@ pub mod Runs
 pub mod Schedules
 pub mod Attempts
 pub mod Handlers
+pub mod Straight

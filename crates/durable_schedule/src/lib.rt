@@ -38,6 +38,14 @@ pub use scheduler::{
 };
 pub use sqlite::Alter;
 use std::alloc::Global;
+pub use straight_line::laws::{
+    answers_are_of_kind, calls_come_in_order, calls_stay_on, takes_are_of_kind,
+    takes_bring_something, takes_stay_on,
+};
+pub use straight_line::{
+    Awakeable, Called, Calls, Combinator, DurableFuture, IdAsked, KeysRead, Peeked, StateRead,
+    Stop, Straight, StraightLine, Timer, Told, future_over,
+};
 
 /// Puts a reply behind the others, for which there is room.
 fn put(replies: &mut Vec<Reply>, reply: Reply)

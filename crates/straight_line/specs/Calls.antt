@@ -12,7 +12,7 @@ use Rattle.journal_model.specs.declared.call.Call.{Call}
 use Rattle.journal_model.specs.declared.call.Answer.{Answer}
 use Rattle.journal_model.specs.declared.call.PayloadOptions.{PayloadOptions}
 use Rattle.straight_line.specs.declared.handles.Timer.{Timer}
-use Rattle.straight_line.specs.declared.handles.Outcome.{Outcome}
+use Rattle.straight_line.specs.declared.handles.DurableFuture.{DurableFuture}
 use Rattle.straight_line.specs.declared.handles.Peeked.{Peeked}
 use Rattle.straight_line.specs.declared.handles.StateRead.{StateRead}
 use Rattle.straight_line.specs.declared.handles.KeysRead.{KeysRead}
@@ -61,7 +61,7 @@ begin_sleep wake_up name = do
   handle ← handle_for (Call.Sleep name wake_up None)
   done (record { handle = handle })
 
-unfoldable pub begin_run : Text → Steps Outcome
+unfoldable pub begin_run : Text → Steps DurableFuture
 begin_run name = do
   handle ← handle_for (Call.Run name)
   done (record { handle = handle })
@@ -85,7 +85,7 @@ send_with target parameter execution_time name options = do
 unfoldable pub cancel : Text → Steps Unit
 cancel target_id = done_by (Call.Cancel target_id)
 
-unfoldable pub begin_attach : AttachInvocationTarget → Steps Outcome
+unfoldable pub begin_attach : AttachInvocationTarget → Steps DurableFuture
 begin_attach target = do
   handle ← handle_for (Call.Attach target)
   done (record { handle = handle })
@@ -108,7 +108,7 @@ awakeable = do
 unfoldable pub complete_awakeable : Text → NonEmptyValue → PayloadOptions → Steps Unit
 complete_awakeable id value options = done_by (Call.CompleteAwakeable id value options)
 
-unfoldable pub begin_signal : Text → Steps Outcome
+unfoldable pub begin_signal : Text → Steps DurableFuture
 begin_signal name = do
   handle ← handle_for (Call.Signal name)
   done (record { handle = handle })
@@ -116,7 +116,7 @@ begin_signal name = do
 unfoldable pub complete_signal : Text → Text → NonEmptyValue → Steps Unit
 complete_signal target_id name value = done_by (Call.CompleteSignal target_id name value)
 
-unfoldable pub begin_promise : Text → Steps Outcome
+unfoldable pub begin_promise : Text → Steps DurableFuture
 begin_promise key = do
   handle ← handle_for (Call.GetPromise key)
   done (record { handle = handle })
@@ -126,7 +126,7 @@ begin_peek_promise key = do
   handle ← handle_for (Call.PeekPromise key)
   done (record { handle = handle })
 
-unfoldable pub begin_complete_promise : Text → NonEmptyValue → PayloadOptions → Steps Outcome
+unfoldable pub begin_complete_promise : Text → NonEmptyValue → PayloadOptions → Steps DurableFuture
 begin_complete_promise key value options = do
   handle ← handle_for (Call.CompletePromise key value options)
   done (record { handle = handle })

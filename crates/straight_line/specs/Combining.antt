@@ -5,7 +5,7 @@ use Rattle.journal_model.specs.AwaitTree as Trees
 use Rattle.journal_model.specs.Future.{node}
 use Rattle.journal_model.specs.declared.call.Moment.{Moment}
 use Rattle.journal_model.specs.declared.value.TerminalFailure.{TerminalFailure}
-use Rattle.straight_line.specs.declared.handles.Outcome.{Outcome}
+use Rattle.straight_line.specs.declared.handles.DurableFuture.{DurableFuture}
 use Rattle.straight_line.specs.declared.combinators.Combinator.{Combinator}
 use Rattle.straight_line.specs.declared.gathered.Gathered.{Gathered}
 use Rattle.straight_line.specs.Steps.{Steps, ◌>>=◌, ◌>>◌, done, fail, or_fail}
@@ -42,7 +42,7 @@ race handles = do
 unfoldable pub timed_out : TerminalFailure
 timed_out = record { code = 408; message = codes "timed out"; metadata = [] }
 
-unfoldable pub or_timeout : Outcome → Moment → Steps Bytes
+unfoldable pub or_timeout : DurableFuture → Moment → Steps Bytes
 or_timeout outcome wake_up = do
   timer ← told.begin_sleep wake_up []
   place ← race (outcome.handle ∷ timer.handle ∷ [])
@@ -90,20 +90,20 @@ values_over combinator required handles = do
   gathered ← gather required nothing handles
   or_fail (enough required gathered)
 
-abbrev pub handles_of : List Outcome → List ℕ
+abbrev pub handles_of : List DurableFuture → List ℕ
 handles_of outcomes = map (λ outcome. outcome.handle) outcomes
 
-unfoldable pub all : List Outcome → Steps (List Bytes)
+unfoldable pub all : List DurableFuture → Steps (List Bytes)
 all outcomes = values_over Combinator.AllSucceededOrFirstFailed (length outcomes) (handles_of outcomes)
 
-unfoldable pub at_least : ℕ → List Outcome → Steps (List Bytes)
+unfoldable pub at_least : ℕ → List DurableFuture → Steps (List Bytes)
 at_least required outcomes = values_over (Combinator.AtLeast required) required (handles_of outcomes)
 
 abbrev pub first_of : List Bytes → Steps Bytes
 first_of [] = fail too_few
 first_of (value ∷ values) = done value
 
-unfoldable pub first_succeeded : List Outcome → Steps Bytes
+unfoldable pub first_succeeded : List DurableFuture → Steps Bytes
 first_succeeded outcomes = do
   values ← values_over Combinator.FirstSucceededOrAllFailed 1 (handles_of outcomes)
   first_of values

@@ -9,7 +9,7 @@ use Rattle.journal_model.specs.declared.call.PayloadOptions.{PayloadOptions}
 use Rattle.journal_model.specs.declared.value.NonEmptyValue.{NonEmptyValue}
 use Rattle.journal_model.specs.declared.value.TerminalFailure.{TerminalFailure}
 use Rattle.straight_line.specs.declared.handles.Timer.{Timer}
-use Rattle.straight_line.specs.declared.handles.Outcome.{Outcome}
+use Rattle.straight_line.specs.declared.handles.DurableFuture.{DurableFuture}
 use Rattle.straight_line.specs.declared.handles.Peeked.{Peeked}
 use Rattle.straight_line.specs.declared.handles.StateRead.{StateRead}
 use Rattle.straight_line.specs.declared.handles.KeysRead.{KeysRead}
@@ -28,12 +28,12 @@ wait handle = told.wait_for (Single handle)
 unfoldable pub slept : Timer → Steps Unit
 slept timer = wait timer.handle
 
-unfoldable pub result_of : Outcome → Steps (Result Bytes TerminalFailure)
+unfoldable pub result_of : DurableFuture → Steps (Result Bytes TerminalFailure)
 result_of outcome = do
   wait outcome.handle
   told.take_outcome outcome.handle
 
-unfoldable pub value_of : Outcome → Steps Bytes
+unfoldable pub value_of : DurableFuture → Steps Bytes
 value_of outcome = do
   result ← result_of outcome
   or_fail result

@@ -4,3 +4,4 @@ pub mod Everyday
 pub mod Combining
 pub mod Rounds
 pub mod Laws
+pub mod Takes

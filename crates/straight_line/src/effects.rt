@@ -5,7 +5,7 @@ ghost use Rattle.straight_line.specs.Calls as told;
 ghost use Rattle.straight_line.specs.Everyday as everyday;
 
 use crate::calls::Calls;
-use crate::handles::{Awakeable, Outcome, Timer};
+use crate::handles::{Awakeable, DurableFuture, Timer};
 use crate::stop::{Stop, Told, astray, stable};
 use bytes::{ByteStr, Bytes};
 use journal_model::{Answer, Call, Moment, NonEmptyValue, PayloadOptions, TerminalFailure};
@@ -38,11 +38,11 @@ impl<'a> Calls<'a> {
 
     /// Begins an effect outside, which is executed once.
     #[tactic(auto, unfolding(crate::specs::Calls::begin_run))]
-    pub fn begin_run(&mut self, name: ByteStr) -> Told<Outcome>
+    pub fn begin_run(&mut self, name: ByteStr) -> Told<DurableFuture>
         ensures { steps.Makes (told.begin_run name) self.old result self.new }
     {
         match self.next_answer() {
-            Some(Answer::Handle(handle)) => Ok(Outcome { handle: *handle }),
+            Some(Answer::Handle(handle)) => Ok(DurableFuture { handle: *handle }),
             Some(_) => Err(astray()),
             None => Err(Stop::Call(Call::Run { name })),
         }
@@ -67,7 +67,7 @@ impl<'a> Calls<'a> {
                 let id = id.clone()?;
                 Ok(Awakeable {
                     id,
-                    outcome: Outcome { handle: *handle },
+                    outcome: DurableFuture { handle: *handle },
                 })
             }
             Some(_) => Err(astray()),
@@ -109,11 +109,11 @@ impl<'a> Calls<'a> {
 
     /// The next signal of a name.
     #[tactic(auto, unfolding(crate::specs::Calls::begin_signal))]
-    pub fn begin_signal(&mut self, name: ByteStr) -> Told<Outcome>
+    pub fn begin_signal(&mut self, name: ByteStr) -> Told<DurableFuture>
         ensures { steps.Makes (told.begin_signal name) self.old result self.new }
     {
         match self.next_answer() {
-            Some(Answer::Handle(handle)) => Ok(Outcome { handle: *handle }),
+            Some(Answer::Handle(handle)) => Ok(DurableFuture { handle: *handle }),
             Some(_) => Err(astray()),
             None => Err(Stop::Call(Call::Signal { name })),
         }

@@ -14,7 +14,7 @@ pub struct Timer {
 
 /// What brings a success or a failure: a run, a call, a signal, an awakeable, a promise, another invocation.
 #[derive(Drop)]
-pub struct Outcome {
+pub struct DurableFuture {
     pub(crate) handle: NotificationHandle,
 }
 
@@ -46,14 +46,14 @@ pub struct IdAsked {
 #[derive(Drop)]
 pub struct Called {
     pub invocation_id: IdAsked,
-    pub outcome: Outcome,
+    pub outcome: DurableFuture,
 }
 
 /// An awakeable: the text by which the outside completes it, and its outcome.
 #[derive(Drop)]
 pub struct Awakeable {
     pub id: ByteStr,
-    pub outcome: Outcome,
+    pub outcome: DurableFuture,
 }
 
 impl Timer {
@@ -65,7 +65,7 @@ impl Timer {
     }
 }
 
-impl Outcome {
+impl DurableFuture {
     /// By which it is waited for beside others.
     pub fn handle(&self) -> NotificationHandle
         ensures { result ≡ self.now.handle }

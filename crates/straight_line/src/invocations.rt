@@ -5,7 +5,7 @@ ghost use Rattle.straight_line.specs.Calls as told;
 ghost use Rattle.straight_line.specs.Everyday as everyday;
 
 use crate::calls::Calls;
-use crate::handles::{Called, IdAsked, Outcome, Peeked};
+use crate::handles::{Called, DurableFuture, IdAsked, Peeked};
 use crate::stop::{Stop, Told, astray, stable};
 use bytes::{ByteStr, Bytes};
 use journal_model::{
@@ -34,7 +34,7 @@ impl<'a> Calls<'a> {
                 invocation_id: IdAsked {
                     handle: *invocation_id_handle,
                 },
-                outcome: Outcome {
+                outcome: DurableFuture {
                     handle: *result_handle,
                 },
             }),
@@ -103,11 +103,11 @@ impl<'a> Calls<'a> {
 
     /// The result of another invocation, once it has one.
     #[tactic(auto, unfolding(crate::specs::Calls::begin_attach))]
-    pub fn begin_attach(&mut self, target: AttachInvocationTarget) -> Told<Outcome>
+    pub fn begin_attach(&mut self, target: AttachInvocationTarget) -> Told<DurableFuture>
         ensures { steps.Makes (told.begin_attach target) self.old result self.new }
     {
         match self.next_answer() {
-            Some(Answer::Handle(handle)) => Ok(Outcome { handle: *handle }),
+            Some(Answer::Handle(handle)) => Ok(DurableFuture { handle: *handle }),
             Some(_) => Err(astray()),
             None => Err(Stop::Call(Call::Attach(target))),
         }

@@ -1,5 +1,6 @@
 //! What holds of every straight-line handler: each function does nothing, and its contract is the law.
 ghost use Rattle.straight_line.specs.Laws as laws;
+ghost use Rattle.straight_line.specs.Takes as takes;
 
 /// The next call of a handler that makes a call first is that call, until it has an answer, and then the next call of what follows.
 pub fn calls_come_in_order()
@@ -14,4 +15,19 @@ pub fn answers_are_of_kind()
 /// No call goes astray on an answer of its kind, but a take by what has come.
 pub fn calls_stay_on()
     ensures { laws.CallsStayOn }
+{}
+
+/// What a take brings is of the kind of the call that has made its handle, where all that came was of the kind that was asked for.
+pub fn takes_are_of_kind()
+    ensures { takes.TakesAreOfKind }
+{}
+
+/// A take brings something behind an await of its handle alone, and behind a look that has found it.
+pub fn takes_bring_something()
+    ensures { takes.TakesBring }
+{}
+
+/// No take goes astray on a value of its kind.
+pub fn takes_stay_on()
+    ensures { takes.TakesStayOn }
 {}

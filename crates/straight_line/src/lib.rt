@@ -21,5 +21,5 @@ pub mod waits;
 pub use calls::Calls;
 pub use combinators::{Combinator, future_over};
 pub use handler::{Straight, StraightLine};
-pub use handles::{Awakeable, Called, IdAsked, KeysRead, Outcome, Peeked, StateRead, Timer};
+pub use handles::{Awakeable, Called, DurableFuture, IdAsked, KeysRead, Peeked, StateRead, Timer};
 pub use stop::{Stop, Told, astray, cancelled};

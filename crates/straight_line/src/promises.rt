@@ -5,7 +5,7 @@ ghost use Rattle.straight_line.specs.Calls as told;
 ghost use Rattle.straight_line.specs.Everyday as everyday;
 
 use crate::calls::Calls;
-use crate::handles::{Outcome, Peeked};
+use crate::handles::{DurableFuture, Peeked};
 use crate::stop::{Stop, Told, astray, stable};
 use bytes::{ByteStr, Bytes};
 use journal_model::{Answer, Call, NonEmptyValue, PayloadOptions, TerminalFailure};
@@ -13,11 +13,11 @@ use journal_model::{Answer, Call, NonEmptyValue, PayloadOptions, TerminalFailure
 impl<'a> Calls<'a> {
     /// The result of a promise, once it has one.
     #[tactic(auto, unfolding(crate::specs::Calls::begin_promise))]
-    pub fn begin_promise(&mut self, key: ByteStr) -> Told<Outcome>
+    pub fn begin_promise(&mut self, key: ByteStr) -> Told<DurableFuture>
         ensures { steps.Makes (told.begin_promise key) self.old result self.new }
     {
         match self.next_answer() {
-            Some(Answer::Handle(handle)) => Ok(Outcome { handle: *handle }),
+            Some(Answer::Handle(handle)) => Ok(DurableFuture { handle: *handle }),
             Some(_) => Err(astray()),
             None => Err(Stop::Call(Call::GetPromise { key })),
         }
@@ -60,11 +60,11 @@ impl<'a> Calls<'a> {
         key: ByteStr,
         value: NonEmptyValue,
         options: PayloadOptions,
-    ) -> Told<Outcome>
+    ) -> Told<DurableFuture>
         ensures { steps.Makes (told.begin_complete_promise key value options) self.old result self.new }
     {
         match self.next_answer() {
-            Some(Answer::Handle(handle)) => Ok(Outcome { handle: *handle }),
+            Some(Answer::Handle(handle)) => Ok(DurableFuture { handle: *handle }),
             Some(_) => Err(astray()),
             None => Err(Stop::Call(Call::CompletePromise {
                 key,

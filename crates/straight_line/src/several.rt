@@ -6,7 +6,7 @@ ghost use Rattle.straight_line.specs.Combining as combining;
 use crate::calls::Calls;
 use crate::combinators::{Combinator, future_over};
 use crate::gathered::{Gathered, enough, noted, nothing, too_few};
-use crate::handles::Outcome;
+use crate::handles::DurableFuture;
 use crate::stop::{Stop, Told};
 use bytes::{ByteStr, Bytes};
 use journal_model::{Moment, NotificationHandle, TerminalFailure};
@@ -24,7 +24,10 @@ fn timed_out(alloc: Global) -> TerminalFailure
     }
 }
 
-fn handles_of(alloc: Global, outcomes: &[Outcome]) -> Result<Vec<NotificationHandle>, AllocError>
+fn handles_of(
+    alloc: Global,
+    outcomes: &[DurableFuture],
+) -> Result<Vec<NotificationHandle>, AllocError>
     ensures { IfOk result (λ handles. handles.items ≡ combining.handles_of outcomes.now) }
 {
     let mut handles = Vec::new(alloc);
@@ -67,7 +70,7 @@ impl<'a> Calls<'a> {
 
     /// The value that an outcome brings. It fails with 408 where a moment comes first.
     #[tactic(auto, unfolding(crate::specs::Combining::or_timeout))]
-    pub fn or_timeout(&mut self, outcome: Outcome, wake_up: Moment) -> Told<Bytes>
+    pub fn or_timeout(&mut self, outcome: DurableFuture, wake_up: Moment) -> Told<Bytes>
         ensures { steps.Makes (combining.or_timeout outcome wake_up) self.old result self.new }
     {
         let timer = self.begin_sleep(wake_up, ByteStr::new())?;
@@ -125,7 +128,7 @@ impl<'a> Calls<'a> {
 
     /// The values of all of them. It fails as soon as one of them has failed.
     #[tactic(auto, unfolding(crate::specs::Combining::all))]
-    pub fn all(&mut self, outcomes: Vec<Outcome>) -> Told<Sequence<Bytes>>
+    pub fn all(&mut self, outcomes: Vec<DurableFuture>) -> Told<Sequence<Bytes>>
         ensures { steps.Makes (combining.all outcomes.items) self.old result self.new }
     {
         let handles = handles_of(self.alloc(), outcomes.as_slice())?;
@@ -138,7 +141,7 @@ impl<'a> Calls<'a> {
 
     /// The values of so many of them. It fails as soon as fewer than that can still succeed.
     #[tactic(auto, unfolding(crate::specs::Combining::at_least))]
-    pub fn at_least(&mut self, required: u32, outcomes: Vec<Outcome>) -> Told<Sequence<Bytes>>
+    pub fn at_least(&mut self, required: u32, outcomes: Vec<DurableFuture>) -> Told<Sequence<Bytes>>
         ensures { steps.Makes (combining.at_least required outcomes.items) self.old result self.new }
     {
         let handles = handles_of(self.alloc(), outcomes.as_slice())?;
@@ -160,7 +163,7 @@ impl<'a> Calls<'a> {
 
     /// The value of the first of them that has succeeded. It fails when all have failed.
     #[tactic(auto, unfolding(crate::specs::Combining::first_succeeded))]
-    pub fn first_succeeded(&mut self, outcomes: Vec<Outcome>) -> Told<Bytes>
+    pub fn first_succeeded(&mut self, outcomes: Vec<DurableFuture>) -> Told<Bytes>
         ensures { steps.Makes (combining.first_succeeded outcomes.items) self.old result self.new }
     {
         let handles = handles_of(self.alloc(), outcomes.as_slice())?;

@@ -7,7 +7,7 @@ ghost use Rattle.straight_line.specs.Calls as told;
 ghost use Rattle.straight_line.specs.Everyday as everyday;
 
 use crate::calls::Calls;
-use crate::handles::{IdAsked, KeysRead, Outcome, Peeked, StateRead, Timer};
+use crate::handles::{DurableFuture, IdAsked, KeysRead, Peeked, StateRead, Timer};
 use crate::stop::{Stop, Told, astray, cancelled};
 use bytes::{ByteStr, Bytes};
 use journal_model::{Answer, AwaitedFuture, Call, NotificationHandle, TerminalFailure, Value};
@@ -123,7 +123,7 @@ impl<'a> Calls<'a> {
 
     /// What a run, a call, a signal and the like come to.
     #[tactic(auto, unfolding(crate::specs::Everyday::result_of))]
-    pub fn result_of(&mut self, outcome: Outcome) -> Told<Result<Bytes, TerminalFailure>>
+    pub fn result_of(&mut self, outcome: DurableFuture) -> Told<Result<Bytes, TerminalFailure>>
         ensures { steps.Makes (everyday.result_of outcome) self.old result self.new }
     {
         self.wait(outcome.handle)?;
@@ -132,7 +132,7 @@ impl<'a> Calls<'a> {
 
     /// The value that they bring, or the failure.
     #[tactic(auto, unfolding(crate::specs::Everyday::value_of))]
-    pub fn value_of(&mut self, outcome: Outcome) -> Told<Bytes>
+    pub fn value_of(&mut self, outcome: DurableFuture) -> Told<Bytes>
         ensures { steps.Makes (everyday.value_of outcome) self.old result self.new }
     {
         Ok(self.result_of(outcome)??)

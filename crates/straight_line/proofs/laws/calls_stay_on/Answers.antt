@@ -2,7 +2,7 @@ use Rattle.std.proofs.Common.{refl, ℕ, None}
 use Rattle.journal_model.specs.declared.call.Call.{Call}
 use Rattle.straight_line.specs.Calls.{begin_get, begin_get_keys, set_with, clear_with, clear_all_with, begin_sleep, begin_run, begin_call, send_with, cancel, begin_attach, begin_get_output, awakeable, complete_awakeable, begin_signal, complete_signal, begin_promise, begin_peek_promise, begin_complete_promise, is_completed, wait_for, output}
 use Rattle.straight_line.specs.declared.handles.Timer.{Timer}
-use Rattle.straight_line.specs.declared.handles.Outcome.{Outcome}
+use Rattle.straight_line.specs.declared.handles.DurableFuture.{DurableFuture}
 use Rattle.straight_line.specs.declared.handles.Peeked.{Peeked}
 use Rattle.straight_line.specs.declared.handles.StateRead.{StateRead}
 use Rattle.straight_line.specs.declared.handles.KeysRead.{KeysRead}
@@ -16,7 +16,7 @@ returns c =
     let read = λ (handle : ℕ). let it : StateRead = record { handle = handle } in it in
     let keys = λ (handle : ℕ). let it : KeysRead = record { handle = handle } in it in
     let timer = λ (handle : ℕ). let it : Timer = record { handle = handle } in it in
-    let outcome = λ (handle : ℕ). let it : Outcome = record { handle = handle } in it in
+    let outcome = λ (handle : ℕ). let it : DurableFuture = record { handle = handle } in it in
     let asked = λ (handle : ℕ). let it : IdAsked = record { handle = handle } in it in
     let peeked = λ (handle : ℕ). let it : Peeked = record { handle = handle } in it in
     record {
