@@ -90,7 +90,7 @@ pub fn result_fits(completion: u32, value: &NotificationResult)
 }
 
 fn key_fits(key: &SignalKey)
-    ensures { NotificationMessageIdFits 99 (Some (id_record (id_of_signal key.now))) }
+    ensures { NotificationMessageIdFits 100 (Some (id_record (id_of_signal key.now))) }
 {
     match key {
         SignalKey::ByIndex(number) => short_fits(*number),
