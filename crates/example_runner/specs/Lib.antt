@@ -1,1 +1,4 @@
+pub mod Values
 pub mod Rounds
+pub mod Order
+pub mod Job

@@ -30,7 +30,7 @@ impl Fault {
 impl fmt::Display for Fault {
     fn fmt<W: fmt::Write>(&self, f: &mut fmt::Formatter<W>) -> fmt::Result {
         match self {
-            Fault::Usage => write!(f, "usage: example_runner FILE [NAME]"),
+            Fault::Usage => write!(f, "usage: example_runner FILE [NAME [order|confirm]]"),
             Fault::InUse(why) | Fault::Refused(why) | Fault::Failed(why) => write!(f, "{why}"),
         }
     }

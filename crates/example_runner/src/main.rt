@@ -1,33 +1,68 @@
 //! `example_runner FILE` goes on with each invocation of the file that is due, and tells when the next sleep ends.
-//! `example_runner FILE NAME` adds an invocation of this name, which begins now.
+//! `example_runner FILE NAME` adds a job of this name, which begins now; `example_runner FILE NAME order` an order.
+//! `example_runner FILE NAME confirm` confirms the order of this name.
 #![tactic(auto)]
 
 mod fault;
+mod job;
+mod order;
+mod outside;
 mod rounds;
+mod values;
 
 use anyhow::{Error, Result, anyhow, bail};
 use durable_schedule::{
-    Alter, ByteStr, Bytes, Event, File, FileStore, NewInvocation, Outcome, Reason, Reply,
-    RunOutcome, Scheduler, Sequence, StateMode, Store, VMOptions, close_file, open,
+    Alter, ByteStr, Bytes, Event, File, FileStore, NewInvocation, NotificationResult, Outcome,
+    Reason, Reply, Scheduler, Sequence, SignalKey, StateMode, Store, Straight, VMOptions,
+    close_file, open,
 };
 use fault::Fault;
-use rounds::Rounds;
+use job::Job;
+use outside::outcome_for;
 use std::alloc::{AllocError, Global};
 use std::process::ExitCode;
 use std::rt::{Clock, Env, HostRuntime};
 use std::time::{SystemTime, UNIX_EPOCH};
 use std::{env, io};
 
+/// How many attempts a job may have in one call: each executes one effect at most.
+const ATTEMPTS: u32 = 100;
+
+/// What a call does.
+#[derive(Drop)]
+enum Task {
+    GoOn,
+    Add(String),
+    AddOrder(String),
+    Confirm(String),
+}
+
 /// The words of the call.
 #[derive(Drop)]
 struct Words {
     file: String,
-    name: Option<String>,
+    task: Task,
 }
 
 /// Whether a word is asked for as a flag is, such as `--help`. There is none.
 fn is_flag(word: &str) -> bool {
     word.starts_with('-')
+}
+
+/// The task that the words behind the file name.
+fn read_task(name: Option<String>, what: Option<String>) -> Result<Task, Fault> {
+    let Some(name) = name else {
+        return Ok(Task::GoOn);
+    };
+    if is_flag(&name) {
+        return Err(Fault::Usage);
+    }
+    match what.as_deref() {
+        None => Ok(Task::Add(name)),
+        Some("order") => Ok(Task::AddOrder(name)),
+        Some("confirm") => Ok(Task::Confirm(name)),
+        Some(_) => Err(Fault::Usage),
+    }
 }
 
 fn read_words<R: Env + AllocGlobal>(rt: &R) -> Result<Words, Fault> {
@@ -39,11 +74,12 @@ fn read_words<R: Env + AllocGlobal>(rt: &R) -> Result<Words, Fault> {
         return Err(Fault::Usage);
     };
     let name = words.next();
-    let has_more = words.next().is_some();
-    if has_more || is_flag(&file) || name.as_deref().is_some_and(is_flag) {
+    let what = words.next();
+    if words.next().is_some() || is_flag(&file) {
         return Err(Fault::Usage);
     }
-    Ok(Words { file, name })
+    let task = read_task(name, what)?;
+    Ok(Words { file, task })
 }
 
 /// The clock's moment, in milliseconds.
@@ -54,12 +90,22 @@ fn now_ms<R: Clock>(rt: &R) -> io::Result<u64> {
     }
 }
 
-/// An invocation of this name, for an object of the same name, that begins now.
-fn named(alloc: Global, name: &str, now: u64) -> Result<NewInvocation, AllocError> {
+/// The input of a job, or of an order, that begins now.
+fn input(alloc: Global, now: u64, is_order: bool) -> Result<Bytes, AllocError> {
+    let mut input = Vec::new(alloc);
+    input.extend_from_slice(&now.to_be_bytes())?;
+    if is_order {
+        input.push(1)?;
+    }
+    Ok(Bytes::from_vec(input)?)
+}
+
+/// An invocation of this name, for an object of the same name.
+fn named(alloc: Global, name: &str, input: Bytes) -> Result<NewInvocation, AllocError> {
     Ok(NewInvocation {
         id: ByteStr::copy_from_str(alloc, name)?,
         object: ByteStr::copy_from_str(alloc, name)?,
-        input: Bytes::copy_from_slice(alloc, &now.to_be_bytes())?,
+        input,
         headers: Sequence::new(alloc),
         version: 7,
         seed: 1,
@@ -77,21 +123,8 @@ fn print_outcome(rt: &HostRuntime, id: &ByteStr, outcome: &Outcome) -> Result<()
     Ok(println!(rt; "{id}: {outcome:?}")?)
 }
 
-/// Goes on with each invocation that is due, prints a line for each, and answers whether each came as far as it could.
-fn go_on_with_all<S: Alter + Drop>(
-    rt: &HostRuntime,
-    scheduler: &mut Scheduler<Rounds, S>,
-    now: u64,
-) -> Result<bool> {
-    let alloc = rt.alloc();
-    let outcomes = match scheduler.run_due(
-        now,
-        1000,
-        |_id| (Rounds { alloc }, RunOutcome::default()),
-    ) {
-        Ok(outcomes) => outcomes,
-        Err(why) => bail!("nothing went on: refused {}, {why:?}", why.name()),
-    };
+/// Tells each, and answers whether each came as far as it could.
+fn print_outcomes(rt: &HostRuntime, outcomes: Vec<(ByteStr, Outcome)>) -> Result<bool> {
     let mut all_went_on = true;
     for (id, outcome) in outcomes {
         print_outcome(rt, &id, &outcome)?;
@@ -100,10 +133,47 @@ fn go_on_with_all<S: Alter + Drop>(
     Ok(all_went_on)
 }
 
+/// Goes on with each invocation that is due.
+fn go_on_once<S: Alter + Drop>(
+    alloc: Global,
+    scheduler: &mut Scheduler<Straight<Job>, S>,
+    now: u64,
+) -> Result<Vec<(ByteStr, Outcome)>> {
+    let given = |id: &ByteStr| {
+        let handler = Straight {
+            alloc,
+            handler: Job,
+        };
+        (handler, outcome_for(alloc, id))
+    };
+    match scheduler.run_due(now, 1000, given) {
+        Ok(outcomes) => Ok(outcomes),
+        Err(why) => bail!("nothing went on: refused {}, {why:?}", why.name()),
+    }
+}
+
+/// Goes on until nothing is due, and answers whether each came as far as it could.
+fn go_on_with_all<S: Alter + Drop>(
+    rt: &HostRuntime,
+    scheduler: &mut Scheduler<Straight<Job>, S>,
+    now: u64,
+) -> Result<bool> {
+    for _ in 0..ATTEMPTS {
+        let outcomes = go_on_once(rt.alloc(), scheduler, now)?;
+        if outcomes.is_empty() {
+            return Ok(true);
+        }
+        if !print_outcomes(rt, outcomes)? {
+            return Ok(false);
+        }
+    }
+    Ok(false)
+}
+
 /// Tells when the next sleep ends, in milliseconds.
 fn print_next<S: Alter + Drop>(
     rt: &HostRuntime,
-    scheduler: &mut Scheduler<Rounds, S>,
+    scheduler: &mut Scheduler<Straight<Job>, S>,
 ) -> Result<()> {
     match scheduler.next_moment() {
         Ok(Some(moment)) => println!(rt; "next {moment}")?,
@@ -113,40 +183,74 @@ fn print_next<S: Alter + Drop>(
     Ok(())
 }
 
-/// Adds an invocation that begins now.
-fn add<S: Alter + Drop>(
-    rt: &HostRuntime,
-    scheduler: &mut Scheduler<Rounds, S>,
-    name: &str,
-    now: u64,
-) -> Result<(), Fault> {
-    let new = named(rt.alloc(), name, now).map_err(Error::from)?;
-    match scheduler.apply(Event::Invoke(new)) {
-        Reply::Done => Ok(println!(rt; "{name}: added").map_err(Error::from)?),
+/// Tells that an event was done, or why it is refused.
+fn print_done(rt: &HostRuntime, name: &str, done: &str, reply: Reply) -> Result<(), Fault> {
+    match reply {
+        Reply::Done => Ok(println!(rt; "{name}: {done}").map_err(Error::from)?),
         Reply::Refused(refusal) => Err(Fault::Refused(anyhow!(
             "{name}: refused {}, {refusal:?}",
             refusal.name()
         ))),
-        _ => Err(Fault::Refused(anyhow!("{name}: not added"))),
+        _ => Err(Fault::Refused(anyhow!("{name}: not {done}"))),
     }
 }
 
-/// What a call does over an opened file.
-fn run_over<S: Alter + Drop>(
+/// Adds a job, or an order, that begins now.
+fn add<S: Alter + Drop>(
     rt: &HostRuntime,
-    scheduler: &mut Scheduler<Rounds, S>,
-    name: Option<String>,
+    scheduler: &mut Scheduler<Straight<Job>, S>,
+    name: &str,
+    now: u64,
+    is_order: bool,
 ) -> Result<(), Fault> {
-    let now = now_ms(rt).map_err(Error::from)?;
-    if let Some(name) = name {
-        return add(rt, scheduler, name.as_str(), now);
-    }
+    let input = input(rt.alloc(), now, is_order).map_err(Error::from)?;
+    let new = named(rt.alloc(), name, input).map_err(Error::from)?;
+    let reply = scheduler.apply(Event::Invoke(new));
+    print_done(rt, name, "added", reply)
+}
+
+/// Confirms an order.
+fn confirm<S: Alter + Drop>(
+    rt: &HostRuntime,
+    scheduler: &mut Scheduler<Straight<Job>, S>,
+    name: &str,
+) -> Result<(), Fault> {
+    let invocation = ByteStr::copy_from_str(rt.alloc(), name).map_err(Error::from)?;
+    let reply = scheduler.apply(Event::Signal {
+        invocation,
+        signal: SignalKey::ByName(ByteStr::from_static("confirmed")),
+        value: NotificationResult::Void,
+    });
+    print_done(rt, name, "confirmed", reply)
+}
+
+/// Goes on with all that is due, and tells when to call again.
+fn go_on<S: Alter + Drop>(
+    rt: &HostRuntime,
+    scheduler: &mut Scheduler<Straight<Job>, S>,
+    now: u64,
+) -> Result<(), Fault> {
     let all_went_on = go_on_with_all(rt, scheduler, now)?;
     print_next(rt, scheduler)?;
     if all_went_on {
         Ok(())
     } else {
         Err(Fault::Refused(anyhow!("not all jobs went on")))
+    }
+}
+
+/// What a call does over an opened file.
+fn run_over<S: Alter + Drop>(
+    rt: &HostRuntime,
+    scheduler: &mut Scheduler<Straight<Job>, S>,
+    task: Task,
+) -> Result<(), Fault> {
+    let now = now_ms(rt).map_err(Error::from)?;
+    match task {
+        Task::GoOn => go_on(rt, scheduler, now),
+        Task::Add(name) => add(rt, scheduler, name.as_str(), now, false),
+        Task::AddOrder(name) => add(rt, scheduler, name.as_str(), now, true),
+        Task::Confirm(name) => confirm(rt, scheduler, name.as_str()),
     }
 }
 
@@ -173,10 +277,10 @@ fn close(store: Store<FileStore<File>>) -> Result<()> {
 }
 
 fn run(rt: &HostRuntime) -> Result<(), Fault> {
-    let Words { file, name } = read_words(rt)?;
+    let Words { file, task } = read_words(rt)?;
     let store = open_store(rt, &file)?;
     let mut scheduler = Scheduler::new(rt.alloc(), store, VMOptions::default());
-    let done = run_over(rt, &mut scheduler, name);
+    let done = run_over(rt, &mut scheduler, task);
     let closed = close(scheduler.into_store());
     done?;
     Ok(closed?)

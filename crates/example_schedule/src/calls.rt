@@ -1,43 +1,12 @@
 //! Every call that asks for something and waits for nothing, made in one attempt, and what is recorded of it.
+use crate::every_call::EveryCall;
 use crate::invocation;
-use crate::work::Work;
-use durable_schedule::{Alter, ByteStr, Event, RecordedEntry, RunOutcome, Scheduler, Sequence};
-use std::alloc::{AllocError, Global};
+use crate::work::{Work, straight};
+use durable_schedule::{Alter, ByteStr, Event, RecordedEntry, RunOutcome, Scheduler, Straight};
 use std::io;
-use test_steps::{Step, Steps};
-
-const CALLS: [Step; 16] = [
-    Step::Get,
-    Step::GetKeys,
-    Step::Set,
-    Step::Clear,
-    Step::ClearAll,
-    Step::Run,
-    Step::Send,
-    Step::CompleteAwakeable,
-    Step::CompleteSignal,
-    Step::GetPromise,
-    Step::PeekPromise,
-    Step::CompletePromise,
-    Step::Cancel,
-    Step::Attach,
-    Step::GetOutput,
-    Step::Output,
-];
 
 fn order() -> ByteStr {
     ByteStr::from_static("order-11")
-}
-
-fn handler(alloc: Global) -> Result<Steps, AllocError> {
-    let mut steps = Vec::new(alloc);
-    for step in CALLS {
-        steps.push(step)?;
-    }
-    Ok(Steps {
-        alloc,
-        steps: Sequence::from_vec(steps),
-    })
 }
 
 /// The commands that are recorded, in their order.
@@ -50,7 +19,7 @@ fn print_types<R: Print>(rt: &R, entries: &[RecordedEntry]) -> io::Result<()> {
 
 fn print_commands<R: Print, S: Alter + Drop>(
     rt: &R,
-    scheduler: &mut Scheduler<Work, S>,
+    scheduler: &mut Scheduler<Straight<Work>, S>,
 ) -> io::Result<()> {
     match scheduler.entries(&order()) {
         Ok(entries) => {
@@ -65,15 +34,13 @@ fn print_commands<R: Print, S: Alter + Drop>(
 /// Makes all these calls in the first attempt of an invocation.
 pub fn make_calls<R: Print, S: Alter + Drop>(
     rt: &R,
-    scheduler: &mut Scheduler<Work, S>,
+    scheduler: &mut Scheduler<Straight<Work>, S>,
 ) -> io::Result<()> {
     let alloc = scheduler.alloc;
-    let Ok(handler) = handler(alloc) else {
-        return println!(rt; "memory was refused");
-    };
+    let handler = straight(alloc, Work::EveryCall(EveryCall));
     scheduler.apply(Event::Invoke(invocation(alloc, order())));
     let ran = RunOutcome::default();
-    let outcome = scheduler.go_on(&order(), Work::Steps(handler), 10, 100, &ran);
+    let outcome = scheduler.go_on(&order(), handler, 10, 100, &ran);
     println!(rt; "{outcome:?}")?;
     print_commands(rt, scheduler)
 }

@@ -5,10 +5,12 @@
 
 mod attempt;
 mod calls;
+mod every_call;
 mod orders;
 mod payment;
 mod reminder;
 mod stamp;
+mod values;
 mod work;
 
 use anyhow::{Result, bail};
@@ -16,14 +18,14 @@ use attempt::go_on;
 use calls::make_calls;
 use durable_schedule::{
     Alter, ByteStr, Bytes, Event, NewInvocation, NoRoom, Reply, RunOutcome, Scheduler, Sequence,
-    StateMode, Store, VMOptions, open_in_memory, run_new_schedule,
+    StateMode, Store, Straight, VMOptions, open_in_memory, run_new_schedule,
 };
 use orders::take_orders;
 use payment::pay;
 use reminder::Reminder;
 use std::alloc::{AllocError, Global};
 use std::io;
-use work::Work;
+use work::{Work, straight};
 
 fn id() -> ByteStr {
     ByteStr::from_static("order-7")
@@ -45,15 +47,15 @@ fn invocation(alloc: Global, id: ByteStr) -> NewInvocation {
     }
 }
 
-fn begin() -> Event<Work> {
+fn begin(alloc: Global) -> Event<Straight<Work>> {
     Event::Begin {
         invocation: id(),
-        handler: Work::Reminder(Reminder),
+        handler: straight(alloc, Work::Reminder(Reminder)),
         now: 0,
     }
 }
 
-fn feed(attempt: u32) -> Event<Work> {
+fn feed(attempt: u32) -> Event<Straight<Work>> {
     Event::Feed {
         invocation: id(),
         attempt,
@@ -61,7 +63,7 @@ fn feed(attempt: u32) -> Event<Work> {
     }
 }
 
-fn turn(attempt: u32) -> Event<Work> {
+fn turn(attempt: u32) -> Event<Straight<Work>> {
     Event::Turn {
         invocation: id(),
         attempt,
@@ -69,7 +71,7 @@ fn turn(attempt: u32) -> Event<Work> {
     }
 }
 
-fn move_output(attempt: u32) -> Event<Work> {
+fn move_output(attempt: u32) -> Event<Straight<Work>> {
     Event::Move {
         invocation: id(),
         attempt,
@@ -77,7 +79,7 @@ fn move_output(attempt: u32) -> Event<Work> {
     }
 }
 
-fn stop(attempt: u32) -> Event<Work> {
+fn stop(attempt: u32) -> Event<Straight<Work>> {
     Event::Stop {
         invocation: id(),
         attempt,
@@ -85,10 +87,10 @@ fn stop(attempt: u32) -> Event<Work> {
 }
 
 // The first attempt is stopped where it sleeps. A second one makes no turn before it is begun.
-fn events(alloc: Global) -> Result<Vec<Event<Work>>, AllocError> {
+fn events(alloc: Global) -> Result<Vec<Event<Straight<Work>>>, AllocError> {
     Ok(vec![in alloc;
         Event::Invoke(invocation(alloc, id())),
-        begin(),
+        begin(alloc),
         feed(1),
         turn(1),
         turn(1),
@@ -109,7 +111,7 @@ fn print_replies<R: Print>(rt: &R, replies: &[Reply]) -> io::Result<()> {
 // Whether the invocation is open, what it has answered, which error it was told last, and what is recorded of it behind its input.
 fn print_told<R: Print, S: Alter + Drop>(
     rt: &R,
-    scheduler: &mut Scheduler<Work, S>,
+    scheduler: &mut Scheduler<Straight<Work>, S>,
 ) -> io::Result<()> {
     println!(rt; "{:?}", scheduler.is_open(&id()))?;
     println!(rt; "{:?}", scheduler.answer(&id()))?;
@@ -118,7 +120,10 @@ fn print_told<R: Print, S: Alter + Drop>(
 }
 
 // Goes on with each invocation that is due ten milliseconds later: with the one that sleeps.
-fn wake<R: Print, S: Alter + Drop>(rt: &R, scheduler: &mut Scheduler<Work, S>) -> io::Result<()> {
+fn wake<R: Print, S: Alter + Drop>(
+    rt: &R,
+    scheduler: &mut Scheduler<Straight<Work>, S>,
+) -> io::Result<()> {
     let outcomes = go_on(scheduler, 10);
     println!(rt; "{outcomes:?}")?;
     print_told(rt, scheduler)
@@ -130,7 +135,10 @@ fn close<S: Alter + Drop>(store: Store<S>) {
 }
 
 // All that is done behind the schedule.
-fn do_all<R: Print, S: Alter + Drop>(rt: &R, scheduler: &mut Scheduler<Work, S>) -> io::Result<()> {
+fn do_all<R: Print, S: Alter + Drop>(
+    rt: &R,
+    scheduler: &mut Scheduler<Straight<Work>, S>,
+) -> io::Result<()> {
     wake(rt, scheduler)?;
     take_orders(rt, scheduler)?;
     pay(rt, scheduler)?;

@@ -1,27 +1,25 @@
 //! Orders of one customer, which share her state.
 use crate::stamp::Stamp;
-use crate::work::Work;
+use crate::work::{Work, straight};
 use crate::{customer, invocation};
-use durable_schedule::{Alter, ByteStr, Event, Outcome, RunOutcome, Scheduler};
+use durable_schedule::{Alter, ByteStr, Event, Outcome, RunOutcome, Scheduler, Straight};
 use std::io;
 
-fn invoke<S: Alter + Drop>(scheduler: &mut Scheduler<Work, S>, order: &'static str) {
+fn invoke<S: Alter + Drop>(scheduler: &mut Scheduler<Straight<Work>, S>, order: &'static str) {
     let new = invocation(scheduler.alloc, ByteStr::from_static(order));
     scheduler.apply(Event::Invoke(new));
 }
 
 /// An attempt of an order, which makes so many turns. What it asked for is recorded.
 fn attempt<S: Alter + Drop>(
-    scheduler: &mut Scheduler<Work, S>,
+    scheduler: &mut Scheduler<Straight<Work>, S>,
     order: &'static str,
     turns: u32,
 ) -> Outcome {
-    let stamp = Stamp {
-        alloc: scheduler.alloc,
-    };
+    let stamp = straight(scheduler.alloc, Work::Stamp(Stamp));
     scheduler.go_on(
         &ByteStr::from_static(order),
-        Work::Stamp(stamp),
+        stamp,
         10,
         turns,
         &RunOutcome::default(),
@@ -30,7 +28,7 @@ fn attempt<S: Alter + Drop>(
 
 fn print_card<R: Print, S: Alter + Drop>(
     rt: &R,
-    scheduler: &mut Scheduler<Work, S>,
+    scheduler: &mut Scheduler<Straight<Work>, S>,
 ) -> io::Result<()> {
     println!(rt; "{:?}", scheduler.state(&customer()))
 }
@@ -38,7 +36,7 @@ fn print_card<R: Print, S: Alter + Drop>(
 /// Takes two orders.
 pub fn take_orders<R: Print, S: Alter + Drop>(
     rt: &R,
-    scheduler: &mut Scheduler<Work, S>,
+    scheduler: &mut Scheduler<Straight<Work>, S>,
 ) -> io::Result<()> {
     invoke(scheduler, "order-8");
     // The first attempt comes as far as the stamp, and not to the answer.
