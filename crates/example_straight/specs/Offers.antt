@@ -4,7 +4,7 @@ use Rattle.journal_model.specs.Notification.{Bytes}
 use Rattle.journal_model.specs.declared.handler.Input.{Input}
 use Rattle.straight_line.specs.Steps.{Steps, ◌>>=◌, ◌>>◌, done}
 use Rattle.straight_line.specs.Calls.{begin_run}
-use Rattle.straight_line.specs.Combining.{first_succeeded}
+use Rattle.straight_line.specs.Combinators.{first_succeeded}
 use Rattle.straight_line.specs.Everyday.{set}
 use Rattle.straight_line.specs.Rounds.{for_rounds}
 use Rattle.example_straight.specs.Values.{bytes_of, number_in}

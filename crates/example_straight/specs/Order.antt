@@ -4,7 +4,7 @@ use Rattle.journal_model.specs.Notification.{Bytes}
 use Rattle.journal_model.specs.declared.handler.Input.{Input}
 use Rattle.straight_line.specs.Steps.{Steps, ◌>>=◌, ◌>>◌, done, fail, on_failure, by_result}
 use Rattle.straight_line.specs.Calls.{begin_run, begin_signal}
-use Rattle.straight_line.specs.Combining.{or_timeout}
+use Rattle.straight_line.specs.Combinators.{or_timeout}
 use Rattle.straight_line.specs.Everyday.{result_of, run, sleep_until}
 use Rattle.straight_line.specs.Rounds.{Flow, Leave, Next, for_until}
 use Rattle.example_straight.specs.Values.{later, not_paid}

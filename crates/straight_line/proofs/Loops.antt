@@ -5,7 +5,7 @@ use Rattle.journal_model.specs.declared.call.Answer.{Answer}
 use Rattle.straight_line.specs.declared.gathered.Gathered.{Gathered}
 use Rattle.straight_line.specs.Steps.{Steps, Goes, ◌>>=◌, done}
 use Rattle.straight_line.specs.Calls as told
-use Rattle.straight_line.specs.Combining.{first_come, one_more, gather}
+use Rattle.straight_line.specs.Combinators.{first_come, one_more, gather}
 
 pub first_come-step : (handles : List ℕ) (place : ℕ) (answers : List Answer)
     → place < length handles → first_come place (drop place handles) answers

@@ -1,7 +1,7 @@
 pub mod Steps
 pub mod Calls
 pub mod Everyday
-pub mod Combining
+pub mod Combinators
 pub mod Rounds
 pub mod Laws
 pub mod Takes

@@ -2,7 +2,7 @@
 ghost use Rattle.std.specs.Prelude.{◌≡◌, IfOk, map};
 ghost use Rattle.journal_model.specs.Future.{tree_of, node};
 ghost use Rattle.journal_model.specs.declared.future.UnresolvedFuture.{UnresolvedFuture};
-ghost use Rattle.straight_line.specs.Combining as combining;
+ghost use Rattle.straight_line.specs.Combinators as combining;
 
 use journal_model::{AwaitedFuture, NotificationHandle, UnresolvedFuture};
 use sequence::Sequence;

@@ -1,6 +1,6 @@
 //! What several outcomes have brought.
 ghost use Rattle.std.specs.Prelude.{◌≡◌, IfOk};
-ghost use Rattle.straight_line.specs.Combining as combining;
+ghost use Rattle.straight_line.specs.Combinators as combining;
 
 use bytes::{ByteStr, Bytes};
 use journal_model::TerminalFailure;
@@ -14,7 +14,7 @@ pub(crate) struct Gathered {
     pub failure: Option<TerminalFailure>,
 }
 
-#[tactic(auto, unfolding(crate::specs::Combining::too_few))]
+#[tactic(auto, unfolding(crate::specs::Combinators::too_few))]
 pub(crate) fn too_few(alloc: Global) -> TerminalFailure
     ensures { result ≡ combining.too_few }
 {

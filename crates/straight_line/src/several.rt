@@ -1,7 +1,7 @@
 //! Waiting for several at once.
 ghost use Rattle.std.specs.Prelude.{◌≡◌, IfOk};
 ghost use Rattle.straight_line.specs.Steps as steps;
-ghost use Rattle.straight_line.specs.Combining as combining;
+ghost use Rattle.straight_line.specs.Combinators as combining;
 
 use crate::calls::Calls;
 use crate::combinators::{Combinator, future_over};
@@ -13,7 +13,7 @@ use journal_model::{Moment, NotificationHandle, TerminalFailure};
 use sequence::Sequence;
 use std::alloc::{AllocError, Global};
 
-#[tactic(auto, unfolding(crate::specs::Combining::timed_out))]
+#[tactic(auto, unfolding(crate::specs::Combinators::timed_out))]
 fn timed_out(alloc: Global) -> TerminalFailure
     ensures { result ≡ combining.timed_out }
 {
@@ -39,7 +39,7 @@ fn handles_of(
 
 impl<'a> Calls<'a> {
     /// Waits until several have come.
-    #[tactic(auto, unfolding(crate::specs::Combining::wait_until))]
+    #[tactic(auto, unfolding(crate::specs::Combinators::wait_until))]
     pub fn wait_until(&mut self, combinator: Combinator, handles: &[NotificationHandle]) -> Told<()>
         ensures { steps.Makes (combining.wait_until combinator handles.now) self.old result self.new }
     {
@@ -60,7 +60,7 @@ impl<'a> Calls<'a> {
     }
 
     /// Waits until one of them has come, and gives the place of the first that has.
-    #[tactic(auto, unfolding(crate::specs::Combining::race))]
+    #[tactic(auto, unfolding(crate::specs::Combinators::race))]
     pub fn race(&mut self, handles: &[NotificationHandle]) -> Told<usize>
         ensures { steps.Makes (combining.race handles.now) self.old result self.new }
     {
@@ -69,7 +69,7 @@ impl<'a> Calls<'a> {
     }
 
     /// The value that an outcome brings. It fails with 408 where a moment comes first.
-    #[tactic(auto, unfolding(crate::specs::Combining::or_timeout))]
+    #[tactic(auto, unfolding(crate::specs::Combinators::or_timeout))]
     pub fn or_timeout(&mut self, outcome: DurableFuture, wake_up: Moment) -> Told<Bytes>
         ensures { steps.Makes (combining.or_timeout outcome wake_up) self.old result self.new }
     {
@@ -81,7 +81,7 @@ impl<'a> Calls<'a> {
         }
     }
 
-    #[tactic(auto, unfolding(crate::specs::Combining::one_more))]
+    #[tactic(auto, unfolding(crate::specs::Combinators::one_more))]
     fn one_more(
         &mut self,
         required: usize,
@@ -112,7 +112,7 @@ impl<'a> Calls<'a> {
         Ok(gathered)
     }
 
-    #[tactic(auto, unfolding(crate::specs::Combining::values_over))]
+    #[tactic(auto, unfolding(crate::specs::Combinators::values_over))]
     fn values_over(
         &mut self,
         combinator: Combinator,
@@ -127,7 +127,7 @@ impl<'a> Calls<'a> {
     }
 
     /// The values of all of them. It fails as soon as one of them has failed.
-    #[tactic(auto, unfolding(crate::specs::Combining::all))]
+    #[tactic(auto, unfolding(crate::specs::Combinators::all))]
     pub fn all(&mut self, outcomes: Vec<DurableFuture>) -> Told<Sequence<Bytes>>
         ensures { steps.Makes (combining.all outcomes.items) self.old result self.new }
     {
@@ -140,7 +140,7 @@ impl<'a> Calls<'a> {
     }
 
     /// The values of so many of them. It fails as soon as fewer than that can still succeed.
-    #[tactic(auto, unfolding(crate::specs::Combining::at_least))]
+    #[tactic(auto, unfolding(crate::specs::Combinators::at_least))]
     pub fn at_least(&mut self, required: u32, outcomes: Vec<DurableFuture>) -> Told<Sequence<Bytes>>
         ensures { steps.Makes (combining.at_least required outcomes.items) self.old result self.new }
     {
@@ -162,7 +162,7 @@ impl<'a> Calls<'a> {
     }
 
     /// The value of the first of them that has succeeded. It fails when all have failed.
-    #[tactic(auto, unfolding(crate::specs::Combining::first_succeeded))]
+    #[tactic(auto, unfolding(crate::specs::Combinators::first_succeeded))]
     pub fn first_succeeded(&mut self, outcomes: Vec<DurableFuture>) -> Told<Bytes>
         ensures { steps.Makes (combining.first_succeeded outcomes.items) self.old result self.new }
     {

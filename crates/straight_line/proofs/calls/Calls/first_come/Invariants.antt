@@ -1,6 +1,6 @@
 -- What is left to look at, on the answers that are left, comes to what all comes to.
 use Rattle.std.proofs.Common.{◌≡◌, drop}
-use Rattle.straight_line.specs.Combining.{first_come}
+use Rattle.straight_line.specs.Combinators.{first_come}
 use Rattle.straight_line.proofs.calls.Calls.first_come.Given as goal
 
 abbrev pub invariant-loop-place : goal.invariant-loop-place
