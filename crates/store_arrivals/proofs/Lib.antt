@@ -20,3 +20,4 @@ pub mod Lists
 pub mod Suspended
 pub mod Waking
 pub mod Unasked
+pub mod Naming

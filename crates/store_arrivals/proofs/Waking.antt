@@ -1,8 +1,8 @@
 -- The flag of the invocation that has this row.
-use Rattle.std.proofs.Common.{◌≡◌, ℕ, Bool, true, false, ◌||◌, List, ◌++◌, drop, Option, Some, None, unwrap_or, Result, Ok, Err, refl, sym, ap, subst, ◌∙◌}
+use Rattle.std.proofs.Common.{◌≡◌, ℕ, Bool, true, false, ◌&&◌, ◌||◌, List, ◌++◌, drop, Option, Some, None, unwrap_or, Result, Ok, Err, refl, sym, ap, subst, ◌∙◌}
 use Rattle.journal_model.specs.Notification.{Text, Arrival}
 use Rattle.journal_model.specs.Event.{Event, Suspension}
-use Rattle.journal_model.specs.Journal.{recorded_arrivals}
+use Rattle.journal_model.specs.Journal.{is_open, recorded_arrivals}
 use Rattle.journal_model.specs.Attempt.{is_woken, suspension_of}
 use Rattle.due_laws.specs.Noted.{heard_of, is_awake_kept, not_heard, or_zero}
 use Rattle.store_tables.specs.declared.row.InvocationRow.{InvocationRow}
@@ -33,11 +33,21 @@ module _ (events : List Event) (id : Text) (row : InvocationRow) (new : List Arr
   or_none None = refl
   or_none (Some n) = refl
 
+  heard_so : (heard : ℕ) → heard ≡ unwrap_or row.progress.heard 0 → heard ≡ or_zero (heard_of events id)
+  heard_so heard so = so ∙ ap (λ (o : Option ℕ). unwrap_or o 0) heard_is ∙ or_none (heard_of events id)
+
+  pub asleep_before : is_open events id ≡ true → row.progress.is_awake ≡ false → (heard : ℕ) → heard ≡ unwrap_or row.progress.heard 0 → (suspension : Suspension) → suspension_of events id ≡ Some suspension
+      → is_woken (drop heard (recorded_arrivals events row.id)) (Some suspension) ≡ false
+  asleep_before opened e heard so suspension is =
+      (λ i. is_woken (drop (heard_so heard so i) (recorded_arrivals events (named_is i))) (sym is i))
+      ∙ ap (λ (b : Bool). b && is_woken (not_heard events id) (suspension_of events id)) (sym opened)
+      ∙ sym flag_is ∙ e
+
   told_then : (woken : Bool) → row.progress.is_awake ≡ false → (heard : ℕ) → heard ≡ unwrap_or row.progress.heard 0 → (suspension : Suspension) → suspension_of events id ≡ Some suspension
       → woken ≡ is_woken (drop heard (recorded_arrivals events row.id) ++ new) (Some suspension) → woken ≡ awake_then events id new
   told_then woken e heard so suspension is told =
       told
-      ∙ (λ i. is_woken (drop ((so ∙ ap (λ (o : Option ℕ). unwrap_or o 0) heard_is ∙ or_none (heard_of events id)) i) (recorded_arrivals events (named_is i)) ++ new) (sym is i))
+      ∙ (λ i. is_woken (drop (heard_so heard so i) (recorded_arrivals events (named_is i)) ++ new) (sym is i))
       ∙ ap (λ (b : Bool). b || is_woken (not_heard events id ++ new) (suspension_of events id)) (sym e ∙ flag_is)
 
   pub woken_now : row.progress.is_awake ≡ false → (heard : ℕ) → heard ≡ unwrap_or row.progress.heard 0 → (suspension : Suspension) → suspension_of events id ≡ Some suspension

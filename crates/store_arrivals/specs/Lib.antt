@@ -6,3 +6,4 @@ pub mod Groups
 pub mod Grouped
 pub mod Made
 pub mod Woken
+pub mod Named

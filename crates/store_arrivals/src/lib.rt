@@ -8,6 +8,7 @@ mod asking;
 mod ended;
 mod groups;
 mod laws;
+mod named;
 mod outcome;
 mod payload;
 mod result;

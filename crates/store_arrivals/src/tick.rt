@@ -9,7 +9,7 @@ ghost use Rattle.store_tables.specs.Looks.{OnlyAsks};
 ghost use Rattle.store_model.specs.Sleeps.{due_until as the_last_due};
 ghost use Rattle.store_refusals.specs.Prepared.{Prepares};
 ghost use Rattle.store_arrivals.specs.Grouped.{as_group};
-ghost use Rattle.store_invocations.specs.Rows.{Decides, IsRowOf, IsStoreOf};
+ghost use Rattle.store_invocations.specs.Rows.{Decides, IsOpenRow, IsStoreOf};
 ghost use Rattle.store_arrivals.specs.Woken.{ends_of as the_ends_of, row_then};
 ghost use Rattle.store_arrivals.specs.Made.{AreEndsOf, AreGroupsEnded, AreOpen, IsEndedUntil, IsGroupEnded, IsTickReady, closed_until, group_tests, room_tests, tests_of};
 ghost use Rattle.store_refusals.specs.Causes.{TellsCause};
@@ -61,7 +61,7 @@ fn end_open<S: Alter>(
     completions: &[u32],
     writes: &mut Vec<Write>,
 ) -> Result<(), Refusal>
-    ensures decided { HasCleanDisk (state S.Store tables.new) → (events : List Event) → (id : List ℕ) → IsStoreOf events (state S.Store tables.old) → IsRowOf events id row
+    ensures decided { HasCleanDisk (state S.Store tables.new) → (events : List Event) → (id : List ℕ) → IsStoreOf events (state S.Store tables.old) → IsOpenRow events id row
         → Decides (room_tests row.progress.entries (length completions.now)) (λ _. AreEndsOf (row_then events id (the_ends_of completions.now) row) completions.now writes.old.items writes.new.items) result }
     ensures looks { OnlyAsks S.Store tables.old tables.new }
     ensures cause { IfErr result (TellsCause (state S.Store tables.old) (state S.Store tables.new)) }

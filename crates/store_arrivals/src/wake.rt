@@ -1,6 +1,6 @@
 //! Whether arrivals wake what a suspended attempt waits for.
 
-ghost use Rattle.std.specs.Prelude.{◌≡◌, ◌++◌, List, Some, Err, drop as without, IfErr};
+ghost use Rattle.std.specs.Prelude.{◌≡◌, ◌++◌, List, false, Some, Err, drop as without, IfErr};
 ghost use Rattle.sqlite.specs.Held.{state};
 ghost use Rattle.sqlite.specs.State.{HasCleanDisk};
 ghost use Rattle.journal_model.specs.Notification.{Arrival};
@@ -8,6 +8,7 @@ ghost use Rattle.journal_model.specs.Event.{Event, Frame, Suspension};
 ghost use Rattle.journal_model.specs.Journal.{recorded_arrivals};
 ghost use Rattle.journal_model.specs.Attempt.{is_woken as is_model_woken};
 ghost use Rattle.protocol_types.specs.Version.{version_number};
+ghost use Rattle.protocol_trees.specs.Future.{future_tree};
 ghost use Rattle.store_frames.specs.Answer.{KeepsSuspension};
 ghost use Rattle.store_frames.specs.Read.{IsFrameRead};
 ghost use Rattle.store_frames.specs.First.{AreFirst};
@@ -17,8 +18,10 @@ ghost use Rattle.store_tables.specs.Looks.{OnlyAsks};
 ghost use Rattle.store_refusals.specs.Prepared.{TellsOrRefuses};
 ghost use Rattle.store_invocations.specs.Rows.{IsStoreOf};
 ghost use Rattle.store_arrivals.specs.Woken.{AreRowsOf, fault_refusal};
+ghost use Rattle.store_arrivals.specs.Named.{names_any as tree_names_any};
 ghost use Rattle.store_refusals.specs.Causes.{IsUnasked, TellsCause};
 
+use crate::named::names_any;
 use bytes::ByteStr;
 use journal_model::Notification;
 use protocol_records::Future;
@@ -135,6 +138,74 @@ pub fn is_woken<S: Alter>(
             let heard = heard_after(tables, id, heard, new);
             woken_by(awaited, heard)
         }
+        Err(fault) => Err(refusal_of(fault)),
+    }
+}
+
+/// Whether a leaf of what is awaited is the id of one of these arrivals.
+fn is_named(alloc: Global, awaited: &Future, new: &[Notification]) -> Result<bool, Refusal>
+    ensures told { TellsOrRefuses (λ named. named ≡ tree_names_any new.now (future_tree awaited.now)) result }
+    ensures unasked { IfErr result IsUnasked }
+{
+    match with_new(Ok(FirstArrivals::new(alloc)), new) {
+        Ok(first) => {
+            let named = names_any(awaited, &first);
+            drop(first);
+            Ok(named)
+        }
+        Err(why) => Err(why),
+    }
+}
+
+/// Whether what is awaited, and not woken by the recorded arrivals behind so many, is woken by these behind them.
+fn woken_by_new<S: Alter>(
+    tables: &mut StoreTables<S>,
+    id: &ByteStr,
+    awaited: Future,
+    heard: u32,
+    new: &[Notification],
+) -> Result<bool, Refusal>
+    ensures told { HasCleanDisk (state S.Store tables.new) → (events : List Event) → IsStoreOf events (state S.Store tables.old)
+        → (waits : Suspension) → IsAwaited waits awaited → is_model_woken (without heard (recorded_arrivals events id.now)) (Some waits) ≡ false
+        → TellsOrRefuses (λ woken. woken ≡ is_model_woken (without heard (recorded_arrivals events id.now) ++ new.now) (Some waits)) result }
+    ensures looks { OnlyAsks S.Store tables.old tables.new }
+    ensures cause { IfErr result (TellsCause (state S.Store tables.old) (state S.Store tables.new)) }
+{
+    match is_named(tables.alloc(), &awaited, new) {
+        Ok(true) => {
+            let heard = heard_after(tables, id, heard, new);
+            woken_by(awaited, heard)
+        }
+        Ok(false) => {
+            drop(awaited);
+            Ok(false)
+        }
+        Err(why) => {
+            drop(awaited);
+            Err(why)
+        }
+    }
+}
+
+/// Whether an attempt that was suspended, by the payload that is kept of it, and is not woken by the recorded arrivals behind so many,
+/// which it heard, is woken by these behind them. Where what it waits for names none of these, no arrival is read.
+pub(crate) fn is_woken_by_new<S: Alter>(
+    tables: &mut StoreTables<S>,
+    id: &ByteStr,
+    version: Version,
+    suspension: &[u8],
+    heard: u32,
+    new: &[Notification],
+) -> Result<bool, Refusal>
+    ensures told { HasCleanDisk (state S.Store tables.new) → (events : List Event) → IsStoreOf events (state S.Store tables.old)
+        → (waits : Suspension) → IsFrameRead (version_number version) (Frame.Suspend (Some waits)) → KeepsSuspension waits suspension.now
+        → is_model_woken (without heard (recorded_arrivals events id.now)) (Some waits) ≡ false
+        → TellsOrRefuses (λ woken. woken ≡ is_model_woken (without heard (recorded_arrivals events id.now) ++ new.now) (Some waits)) result }
+    ensures looks { OnlyAsks S.Store tables.old tables.new }
+    ensures cause { IfErr result (TellsCause (state S.Store tables.old) (state S.Store tables.new)) }
+{
+    match awaited(tables.alloc(), version, suspension) {
+        Ok(awaited) => woken_by_new(tables, id, awaited, heard, new),
         Err(fault) => Err(refusal_of(fault)),
     }
 }

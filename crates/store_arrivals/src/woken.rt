@@ -7,13 +7,13 @@ ghost use Rattle.journal_model.specs.Notification.{Text};
 ghost use Rattle.journal_model.specs.Event.{Event};
 ghost use Rattle.store_tables.specs.Looks.{OnlyAsks};
 ghost use Rattle.store_refusals.specs.Prepared.{TellsOrRefuses};
-ghost use Rattle.store_invocations.specs.Rows.{Decides, IsRowOf, IsStoreOf};
+ghost use Rattle.store_invocations.specs.Rows.{Decides, IsOpenRow, IsStoreOf};
 ghost use Rattle.store_arrivals.specs.Arrivals.{IsArrival, arrival_tests};
 ghost use Rattle.store_arrivals.specs.Woken.{awake_then, row_then};
 ghost use Rattle.store_refusals.specs.Causes.{TellsCause};
 
 use crate::arrival::{PreparedArrival, prepare_arrival};
-use crate::wake::is_woken;
+use crate::wake::is_woken_by_new;
 use journal_model::Notification;
 use protocol_stream::MessageType;
 use sqlite::Alter;
@@ -21,14 +21,14 @@ use std::slice;
 use store_refusals::Refusal;
 use store_tables::{InvocationRow, StoreTables};
 
-/// Whether the invocation is awake once these are recorded too. One that is awake stays so; of one that waits the arrivals are read that
-/// its attempt did not hear.
+/// Whether the open invocation is awake once these are recorded too. One that is awake stays so; of one that waits for one of these the
+/// arrivals are read that its attempt did not hear.
 fn is_awake_with<S: Alter>(
     tables: &mut StoreTables<S>,
     row: &InvocationRow,
     new: &[Notification],
 ) -> Result<bool, Refusal>
-    ensures told { HasCleanDisk (state S.Store tables.new) → (events : List Event) (id : Text) → IsStoreOf events (state S.Store tables.old) → IsRowOf events id row.now
+    ensures told { HasCleanDisk (state S.Store tables.new) → (events : List Event) (id : Text) → IsStoreOf events (state S.Store tables.old) → IsOpenRow events id row.now
         → TellsOrRefuses (λ awake. awake ≡ awake_then events id new.now) result }
     ensures looks { OnlyAsks S.Store tables.old tables.new }
     ensures cause { IfErr result (TellsCause (state S.Store tables.old) (state S.Store tables.new)) }
@@ -37,7 +37,7 @@ fn is_awake_with<S: Alter>(
         return Ok(true);
     }
     match &row.progress.suspension {
-        Some(suspension) => is_woken(
+        Some(suspension) => is_woken_by_new(
             tables,
             &row.id,
             row.version,
@@ -49,13 +49,13 @@ fn is_awake_with<S: Alter>(
     }
 }
 
-/// The row, with the flag that it has once these are recorded too.
+/// The row of an open invocation, with the flag that it has once these are recorded too.
 pub(crate) fn woken_row<S: Alter>(
     tables: &mut StoreTables<S>,
     mut row: InvocationRow,
     new: &[Notification],
 ) -> Result<InvocationRow, Refusal>
-    ensures told { HasCleanDisk (state S.Store tables.new) → (events : List Event) (id : Text) → IsStoreOf events (state S.Store tables.old) → IsRowOf events id row
+    ensures told { HasCleanDisk (state S.Store tables.new) → (events : List Event) (id : Text) → IsStoreOf events (state S.Store tables.old) → IsOpenRow events id row
         → TellsOrRefuses (λ woken. woken ≡ row_then events id new.now row) result }
     ensures looks { OnlyAsks S.Store tables.old tables.new }
     ensures cause { IfErr result (TellsCause (state S.Store tables.old) (state S.Store tables.new)) }
@@ -80,7 +80,7 @@ pub fn prepare_woken<S: Alter>(
     ty: MessageType,
     arrival: Notification,
 ) -> Result<PreparedArrival, Refusal>
-    ensures decided { HasCleanDisk (state S.Store tables.new) → (events : List Event) (id : Text) → IsStoreOf events (state S.Store tables.old) → IsRowOf events id row
+    ensures decided { HasCleanDisk (state S.Store tables.new) → (events : List Event) (id : Text) → IsStoreOf events (state S.Store tables.old) → IsOpenRow events id row
         → Decides (arrival_tests row arrival) (IsArrival (row_then events id (arrival ∷ []) row) ty arrival) result }
     ensures looks { OnlyAsks S.Store tables.old tables.new }
     ensures cause { IfErr result (TellsCause (state S.Store tables.old) (state S.Store tables.new)) }

@@ -15,3 +15,4 @@ pub mod AttemptBeginning
 pub mod Next
 pub mod Starts
 pub mod Deciding
+pub mod KeysOfStates

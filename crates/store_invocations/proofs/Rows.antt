@@ -1,5 +1,5 @@
 -- The rows of a journal, told apart by their kinds.
-use Rattle.std.proofs.Common.{◌≡◌, refl, sym, ap, ap₂, ◌∙◌, append_assoc, arith, inl, length, not, is_some, ℕ, ◌+◌, ◌==◌, Bool, true, false, if◌then◌else◌, List, [], ◌∷◌, ◌++◌, map, filter, Option, Some, None, IsTrue}
+use Rattle.std.proofs.Common.{◌≡◌, ◌≢◌, refl, sym, ap, ap₂, ◌∙◌, append_assoc, arith, length, not, ℕ, suc, ◌+◌, ◌==◌, Bool, true, false, if◌then◌else◌, List, [], ◌∷◌, ◌++◌, map, filter, Option, Some, None, IsTrue}
 use Rattle.std.proofs.lemmas.Bool.{eqb-true}
 use Rattle.sqlite.specs.State.{State}
 use Rattle.journal_model.specs.Notification.{Bytes, Text}
@@ -12,7 +12,6 @@ use Rattle.journal_model.specs.Event.{Event}
 use Rattle.journal_model.specs.Journal.{Entry, Recorded, Arrived, request_asking, entries_of, invocation_begun, starting_state}
 use Rattle.journal_model.specs.Attempt.{notification_type, type_of_completion}
 use Rattle.journal_model.specs.Cause.{IsAccepted, those_that_hold}
-use Rattle.journal_model.specs.declared.cause.Cause.{Cause}
 use Rattle.journal_laws.proofs.ObjectState.{no_entries}
 use Rattle.sql_tables.specs.declared.read.ReadError.{ReadError}
 use Rattle.sql_tables.specs.declared.read.ReadError.TheVariants.{Refused, Foreign, OutOfMemory}
@@ -20,14 +19,15 @@ use Rattle.protocol_types.specs.declared.message_type.MessageType.{MessageType}
 use Rattle.protocol_types.specs.declared.message_type.MessageType.TheVariants.{CallInvocationIdCompletionNotification, CallCompletionNotification}
 use Rattle.protocol_types.specs.MessageType.{is_command}
 use Rattle.store_tables.specs.declared.row.EntryRow.{EntryRow}
+use Rattle.store_tables.specs.declared.row.InvocationRow.{InvocationRow}
 use Rattle.store_tables.specs.Questions.{IsJournal, IsNoJournal}
 use Rattle.store_model.specs.Kept.{entry_row, journal_rows, rows_from, rows_of_journal}
 use Rattle.store_model.proofs.Finding.{all_found}
 use Rattle.store_model.proofs.Framing.{AreAskedBefore, all_asked_before, kind_stays}
-use Rattle.store_refusals.specs.declared.refusal.Refusal.TheVariants as refusal
+use Rattle.store_refusals.specs.declared.refusal.Refusal.{Refusal}
 use Rattle.store_refusals.specs.Refused.{IsRefused, is_circumstance, reading_refusal}
 use Rattle.store_refusals.specs.Prepared.{Keeps}
-use Rattle.store_invocations.specs.Rows.{known_tests}
+use Rattle.store_invocations.specs.Rows.{IsRowOf, known_tests}
 use Rattle.store_invocations.specs.declared.recorded.RecordedEntry.{RecordedEntry}
 use Rattle.store_invocations.specs.Told.{entries_told, entry_read, is_entry, kind_by, told_from}
 
@@ -102,22 +102,21 @@ entries_read events id accepted = by_begun (invocation_begun events id) refl
     by_begun None is = sym (ap (λ (entries : List Entry). told_from entries 1 entries) (no_entries (starting_state events id) events accepted id is))
     by_begun (Some new) is = read_from id [] 1 (entries_of events id) (entries_of events id) refl (all_asked_before id events accepted) refl
 
--- ---- an invocation that was begun has rows
+-- ---- an invocation's row counts those of its journal
 
-begun_rows : (o : Option NewInvocation) (id : Text) (entries : List Entry) → (length (rows_of_journal o id entries) == 0) ≡ false → those_that_hold ((not (is_some o), Cause.UnknownInvocation) ∷ []) ≡ []
-begun_rows None id entries e = cc
-begun_rows (Some new) id entries e = refl
+many_from : (id : Text) (before : List Entry) (place : ℕ) (entries : List Entry) → length (rows_from id before place entries) ≡ length entries
+many_from id before place [] = refl
+many_from id before place (entry ∷ entries) = ap suc (many_from id (before ++ entry ∷ []) (place + 1) entries)
 
-pub known_with_rows : (events : List Event) (id : Text) (rows : List EntryRow) → rows ≡ journal_rows events id → (length rows == 0) ≡ false → those_that_hold (known_tests events id) ≡ []
-known_with_rows events id rows are some =
-    begun_rows (invocation_begun events id) id (entries_of events id) (ap (λ (all : List EntryRow). length all == 0) (sym are) ∙ some)
+pub rows_counted : (events : List Event) (id : Text) (row : InvocationRow) → IsRowOf events id row → length (journal_rows events id) ≡ row.progress.entries
+rows_counted events id row of =
+    let begun : length (journal_rows events id) ≡ suc (length (rows_from id [] 1 (entries_of events id))) = ap (λ (o : Option NewInvocation). length (rows_of_journal o id (entries_of events id))) of.begun in
+    let many : length (rows_from id [] 1 (entries_of events id)) ≡ length (entries_of events id) = many_from id [] 1 (entries_of events id) in
+    let counted : row.progress.entries ≡ 1 + length (entries_of events id) = ap (λ (r : InvocationRow). r.progress.entries) of.is ∙ ap (λ (one : Text). 1 + length (entries_of events one)) of.named in
+    omega (arith, begun, many, counted)
 
-no_rows : (o : Option NewInvocation) (id : Text) (entries : List Entry) → (length (rows_of_journal o id entries) == 0) ≡ true
-    → IsRefused (those_that_hold ((not (is_some o), Cause.UnknownInvocation) ∷ [])) (refusal.Cause Cause.UnknownInvocation)
-no_rows None id entries e = inl refl
-no_rows (Some new) id entries e = absurd (let zero = eqb-true (length (rows_of_journal (Some new) id entries)) 0 e in omega (arith, zero))
-
-pub unknown_without : (events : List Event) (id : Text) (rows : List EntryRow) → rows ≡ journal_rows events id → (length rows == 0) ≡ true
-    → IsRefused (those_that_hold (known_tests events id)) (refusal.Cause Cause.UnknownInvocation)
-unknown_without events id rows are none =
-    no_rows (invocation_begun events id) id (entries_of events id) (ap (λ (all : List EntryRow). length all == 0) (sym are) ∙ none)
+-- so none is missing, and none too many
+pub none_missing : (events : List Event) (id : Text) (row : InvocationRow) (rows : List EntryRow) (why : Refusal) → IsRowOf events id row → rows ≡ journal_rows events id
+    → length rows ≢ row.progress.entries → IsRefused (those_that_hold (known_tests events id)) why
+none_missing events id row rows why of are differ =
+    absurd (differ (ap (λ (all : List EntryRow). length all) are ∙ rows_counted events id row of))

@@ -11,11 +11,12 @@ ghost use Rattle.store_invocations.specs.Rows.{Decides, IsStoreOf, known_tests};
 ghost use Rattle.store_invocations.specs.Told.{entries_told, entry_read, is_entry, kind_by};
 ghost use Rattle.store_refusals.specs.Causes.{TellsCause};
 
+use crate::row::known_row;
 use bytes::{ByteStr, Bytes};
 use protocol_types::MessageType;
 use sqlite::Alter;
 use std::alloc::{AllocError, Global};
-use store_refusals::{Cause, Refusal};
+use store_refusals::Refusal;
 use store_tables::{EntryRow, StoreTables, journal};
 
 /// What is recorded at a place.
@@ -71,21 +72,24 @@ fn entries_among(alloc: Global, rows: &[EntryRow]) -> Result<Vec<RecordedEntry>,
     Ok(entries)
 }
 
-/// The rows of a journal, the input's first. An invocation that was begun has that one at least.
+/// The rows of a journal, the input's first: so many as the invocation's row tells.
 fn rows_of<S: Alter>(tables: &mut StoreTables<S>, id: &ByteStr) -> Result<Vec<EntryRow>, Refusal>
     ensures told { HasCleanDisk (state S.Store tables.new) → (events : List Event) → IsStoreOf events (state S.Store tables.old) → Decides (known_tests events id.now) (λ rows. rows.items ≡ journal_rows events id.now) result }
     ensures looks { OnlyAsks S.Store tables.old tables.new }
     ensures cause { IfErr result (TellsCause (state S.Store tables.old) (state S.Store tables.new)) }
 {
+    let row = known_row(tables, id)?;
+    let count = row.progress.entries;
+    drop(row);
     let rows = journal(tables, id)?;
-    if rows.as_slice().is_empty() {
+    if rows.len() != count as usize {
         drop(rows);
-        return Err(Refusal::Cause(Cause::UnknownInvocation));
+        return Err(Refusal::ForeignRow);
     }
     Ok(rows)
 }
 
-/// The recorded requests and arrivals, by place.
+/// The recorded requests and arrivals, by place. Where rows are missing that the invocation's row counts, it is foreign.
 pub fn entries<S: Alter>(
     tables: &mut StoreTables<S>,
     id: &ByteStr,

@@ -19,7 +19,7 @@ returns-in-Ok-clause-decided g c clean events store of =
     let told = c.in-Ok.ensures.decided early events store in
     let now = store_kept events old mid c.type_of_result.ensures.looks.crash c.type_of_result.ensures.looks.kept store in
     all_ready events c.args.id.now c.args.completion c.args.brought c.args.row c.in-Ok.ty store.accepted of told.0 told.1 c.prepare_woken.result
-    (c.prepare_woken.ensures.decided clean events c.args.id.now now of.0)
+    (c.prepare_woken.ensures.decided clean events c.args.id.now now of)
 
 pub returns-in-Err-clause-decided : goal.returns-in-Err-clause-decided
 returns-in-Err-clause-decided g c clean events store of =

@@ -12,7 +12,7 @@ returns-in-Some-clause-decided g c clean events id store of = signal_refused eve
 pub returns-in-None-clause-decided : goal.returns-in-None-clause-decided
 returns-in-None-clause-decided g c clean events id store of =
     signal_ready events id c.args.key c.args.brought c.args.row store.accepted of (none_holds (signal_tests c.args.key c.args.brought) (sym c.in-None.ensures)) c.prepare_woken.result
-    (rw c.into_id.ensures at (c.prepare_woken.ensures.decided clean events id store of.0))
+    (rw c.into_id.ensures at (c.prepare_woken.ensures.decided clean events id store of))
 
 pub returns-in-Some-clause-cause : goal.returns-in-Some-clause-cause
 returns-in-Some-clause-cause g c =

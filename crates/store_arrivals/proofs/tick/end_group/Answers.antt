@@ -13,9 +13,9 @@ returns-in-Ok-clause-decided g c clean events store opened =
     let old : State = state g.S.Store c.args.tables.now in
     let mid : State = state g.S.Store c.open_row.new.tables in
     let early : HasCleanDisk mid = omega (arith, c.end_open-ended.ensures.looks.crash.clean, clean) in
-    let of = (c.in-Ok.ensures.decided early events store).1.0 in
+    let of = (c.in-Ok.ensures.decided early events store).1 in
     let now = store_kept events old mid c.open_row.ensures.looks.crash c.open_row.ensures.looks.kept store in
-    group_ended events (as_group c.args.group) c.in-Ok.row c.args.writes.now.items c.end_open-ended.new.writes.items c.end_open-ended.result of
+    group_ended events (as_group c.args.group) c.in-Ok.row c.args.writes.now.items c.end_open-ended.new.writes.items c.end_open-ended.result of.0
     (rw (c.as_slice.ensures.value, c.into_vec-completions.ensures.items) at (c.end_open-ended.ensures.decided clean events c.args.group.invocation now of))
 
 pub returns-in-Err-clause-decided : goal.returns-in-Err-clause-decided

@@ -1,11 +1,16 @@
-use Rattle.std.proofs.Common.{◌≡◌, [], map, sym, subst, arith, inr}
+use Rattle.std.proofs.Common.{◌≡◌, ◌∙◌, [], map, sym, ap, subst, arith, inr}
+use Rattle.std.specs.List.{list_all}
+use Rattle.std.specs.Str.{is_utf8}
 use Rattle.sqlite.specs.Held.{state}
 use Rattle.sqlite.specs.State.{State, HasCleanDisk}
 use Rattle.journal_model.specs.Journal.{object_state}
+use Rattle.store_tables.specs.declared.row.StateRow.{StateRow}
 use Rattle.store_model.specs.Kept.{state_row}
+use Rattle.store_refusals.specs.declared.refusal.Refusal.TheVariants.{ForeignRow}
 use Rattle.store_refusals.specs.Refused.{IsRefused}
 use Rattle.store_invocations.proofs.Reading.{told_err}
 use Rattle.store_invocations.proofs.Deciding.{states_are, states_known}
+use Rattle.store_invocations.proofs.KeysOfStates.{text_kept}
 use Rattle.store_refusals.proofs.Causes.{read_cause_by}
 use Rattle.store_invocations.proofs.states.object_states.Goals as goal
 
@@ -15,6 +20,14 @@ returns-clause-told g c clean events store =
     let early : HasCleanDisk old = omega (arith, c.states_of.ensures.looks.crash.clean) in
     let k = store.keeps early (c.in_ok-states.ensures.open clean) in
     states_are events old c.args.object.now c.in_ok-states.states.items k (c.in_ok-states.ensures.arranged clean)
+
+pub returns-then-are_keys_text-clause-told : goal.returns-then-are_keys_text-clause-told
+returns-then-are_keys_text-clause-told g c clean events store =
+    let old : State = state g.S.Store c.args.tables.now in
+    let early : HasCleanDisk old = omega (arith, c.states_of.ensures.looks.crash.clean) in
+    let k = store.keeps early (c.in_ok-states.ensures.open clean) in
+    text_kept events c.args.object.now c.in_ok-states.states.items ForeignRow store.accepted (states_are events old c.args.object.now c.in_ok-states.states.items k (c.in_ok-states.ensures.arranged clean))
+    (ap (list_all (λ (row : StateRow). is_utf8 row.key)) (sym c.as_slice.ensures.value) ∙ sym c.are_keys_text.ensures ∙ c.if-are_keys_text.false)
 
 pub returns-in_err-states-clause-told : goal.returns-in_err-states-clause-told
 returns-in_err-states-clause-told g c clean events store =
