@@ -23,7 +23,9 @@ use std::io::Read;
 use std::process::ExitCode;
 use std::rt::{Env, HostRuntime};
 use std::{env, io};
-use store_files::{MemoryFile, close_file, leave_file, let_go, open_file, open_in_memory};
+use store_files::{
+    FoundFiles, MemoryFile, close_file, leave_file, let_go, open_file, open_in_memory,
+};
 
 /// The two words that the program is called with.
 #[derive(Drop)]
@@ -100,10 +102,11 @@ fn open_path<S: Start>(
     ensures kept { IfOk result (λ store. HasCleanDisk (file_state store.connection) → (events : List Event) → KeepsEvents events (image_at S.Start) → Stands (after_open events) (file_state store.connection) store.live.attempts) }
     ensures err { IfErr result (λ fault. fault ≡ ProgramFault.DatabaseRefused) }
 {
+    let found = FoundFiles::at(rt, path);
     match open_file(rt, path, start) {
         Ok(store) => Ok(store),
         Err(why) => {
-            let_go(rt, path, why);
+            let_go(rt, path, found, why);
             Err(ProgramFault::DatabaseRefused)
         }
     }

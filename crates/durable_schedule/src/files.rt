@@ -6,8 +6,8 @@ use sqlite::Unknown;
 pub use sqlite::{File, FileStore};
 use std::rt::HostRuntime;
 pub use store_files::{
-    FileNotTaken, MemoryFile, NotTaken, Reason, close_file, leave_file, let_go, open_file,
-    open_in_memory, reason_of,
+    FileNotTaken, FoundFiles, MemoryFile, NotTaken, Reason, close_file, leave_file, let_go,
+    open_file, open_in_memory, reason_of,
 };
 
 /// The store in the file at a path, or why it is not taken. No attempt is live. Where there is no file, one is made. One that is not taken
@@ -18,11 +18,12 @@ pub fn open(rt: &HostRuntime, path: &str) -> Result<Store<FileStore<File>>, Reas
     ensures none_live { IfOk result (λ store. store.live.attempts ≡ []) }
     ensures memory { path.now ≡ codes ":memory:" → IfOk result (λ store. ⊥) }
 {
+    let found = FoundFiles::at(rt, path);
     match open_file(rt, path, Unknown) {
         Ok(store) => Ok(store),
         Err(mut why) => {
             let reason = reason_of(rt, path, &mut why);
-            let_go(rt, path, why);
+            let_go(rt, path, found, why);
             Err(reason)
         }
     }

@@ -2,6 +2,7 @@
 //! in that file alone. And one whose database lies in memory, and is let go of with it. And laws of what crashes leave of any store.
 #![tactic(auto)]
 
+mod beside;
 mod close;
 mod crashes;
 mod laws;
@@ -12,11 +13,11 @@ mod memory;
 mod open;
 mod why;
 
+pub use beside::{FoundFiles, let_go};
 pub use close::close_file;
 pub use crashes::{crashes_leave_events, images_are_stores};
 pub use laws::opened_files_last;
 pub use leave::leave_file;
-pub use look::let_go;
 pub use memory::{memory_stays_clean, open_in_memory};
 pub use memory_disk::MemoryFile;
 pub use open::{FileNotTaken, NotTaken, open_file};

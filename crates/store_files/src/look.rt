@@ -3,23 +3,21 @@ ghost use Rattle.std.specs.Prelude.{◌≡◌, ◌⊎◌, IsTrue};
 ghost use Rattle.store_files.specs.Why.{is_seen};
 ghost use Rattle.store_files.specs.declared.why.Reason.TheVariants as reason;
 
-use crate::open::{FileNotTaken, NotTaken};
 use crate::why::Reason;
-use sqlite::Start;
 use std::fs::OpenOptions;
 use std::io::{ErrorKind, Read};
-use std::os::unix::fs::MetadataExt;
+use std::os::unix::fs::{FileExt, MetadataExt};
 use std::rt::HostRuntime;
 use std::{fs, io};
 
 /// A database has a page at least, and a page at least so many bytes.
 const LEAST_BYTES: u64 = 512;
 
-/// A log that records something has a header, and that of a frame.
-const LEAST_LOG_BYTES: u64 = 32 + 24;
+/// The place in a database's header of its greatest root, which it names for `auto_vacuum` alone.
+const GREATEST_ROOT: u64 = 52;
 
 /// The name beside that of the file to which a path leads, links followed.
-fn beside(rt: &HostRuntime, path: &str, ending: &str) -> io::Result<String> {
+pub(crate) fn beside(rt: &HostRuntime, path: &str, ending: &str) -> io::Result<String> {
     let real = fs::canonicalize(rt, path)?;
     Ok(format!(in rt.alloc(); "{}{ending}", real.as_str())?)
 }
@@ -110,43 +108,22 @@ fn begins_well(rt: &HostRuntime, path: &str) -> io::Result<bool> {
     Ok(first == *b"SQLite format 3\0")
 }
 
-/// Whether a file in which no database is read holds a damaged one.
+/// Whether the database at a path keeps track of its pages for `auto_vacuum`.
+fn has_auto_vacuum(rt: &HostRuntime, path: &str) -> io::Result<bool> {
+    let mut root = [0; 4];
+    let file = fs::open(rt, path)?;
+    Ok(file.read_at(&mut root, GREATEST_ROOT)? == 4 && root != [0; 4])
+}
+
+/// What a file holds in which no database is read: none, one of a kind that is not read, or a damaged one.
 pub(crate) fn kind_at(rt: &HostRuntime, path: &str) -> Reason
-    ensures { (result ≡ reason.NoDatabase) ⊎ (result ≡ reason.Damaged) }
+    ensures { (result ≡ reason.NoDatabase) ⊎ ((result ≡ reason.AutoVacuum) ⊎ (result ≡ reason.Damaged)) }
 {
-    match begins_well(rt, path) {
-        Ok(true) => Reason::Damaged,
-        _ => Reason::NoDatabase,
+    if !begins_well(rt, path).unwrap_or(false) {
+        return Reason::NoDatabase;
     }
-}
-
-/// Whether a file holds something. One that is being made is empty or begins with a zero, and its log tells how far that went.
-fn holds_something(rt: &HostRuntime, path: &str) -> io::Result<bool> {
-    let mut first = [0];
-    let mut file = fs::open(rt, path)?;
-    file.read_exact(&mut first)?;
-    Ok(first != [0])
-}
-
-/// Removes the log beside a file where it records nothing.
-fn remove_bare_log(rt: &HostRuntime, path: &str) -> io::Result<()> {
-    let log = beside(rt, path, "-wal")?;
-    let found = fs::symlink_metadata(rt, log.as_str())?;
-    if found.is_file() && found.len() < LEAST_LOG_BYTES && holds_something(rt, path)? {
-        fs::remove_file(rt, log.as_str())?;
+    if has_auto_vacuum(rt, path).unwrap_or(false) {
+        return Reason::AutoVacuum;
     }
-    Ok(())
-}
-
-/// Lets go of a file that was not taken, and removes the log that its opening has made beside it. Both files are held until that is
-/// done, so nobody writes to the log meanwhile. A log that was there before goes too, if it records nothing.
-pub fn let_go<S: Start>(rt: &HostRuntime, path: &str, why: FileNotTaken<S>) {
-    let files = match why {
-        NotTaken::Unopened(_, None) => return,
-        NotTaken::Unopened(_, Some(left)) => left.into_files(),
-        NotTaken::NoStore(left) => left.connection.into_store().close(),
-    };
-    // Where the system does not remove it, it stays.
-    let _ = remove_bare_log(rt, path);
-    drop(files);
+    Reason::Damaged
 }
