@@ -19,8 +19,8 @@ mod laws;
 
 pub use bytes::{ByteStr, Bytes};
 pub use files::{
-    File, FileNotTaken, FileStore, FoundFiles, MemoryFile, NotTaken, Reason, close_file, leave_file, let_go,
-    open, open_file, open_in_memory, reason_of,
+    File, FileNotTaken, FileStore, FoundFiles, MemoryFile, NotTaken, Reason, close_file,
+    leave_file, let_go, open, open_file, open_in_memory, reason_of,
 };
 pub use front::{run_new_schedule, run_reopened_schedule};
 pub use journal_store::Store;

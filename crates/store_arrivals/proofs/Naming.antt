@@ -10,11 +10,14 @@ use Rattle.journal_model.specs.Delivery.{state_of_result}
 use Rattle.journal_model.specs.Attempt.{is_woken, result_of}
 use Rattle.journal_model.specs.Event.{Suspension}
 use Rattle.protocol_records.specs.declared.future.Future.{Future}
-use Rattle.protocol_trees.specs.Shape.{forest}
+use Rattle.protocol_trees.specs.Shape.{forest, state_meant}
 use Rattle.protocol_trees.specs.Future.{future_tree, leaves_in, children_in}
 use Rattle.protocol_trees.specs.FutureShape.{future_tree_is}
 use Rattle.protocol_trees.proofs.Tallying.{one_more}
-use Rattle.store_frames.specs.First.{arrived_state}
+use Rattle.protocol_trees.specs.declared.tree.AwaitState.{AwaitState as State}
+use Rattle.store_frames.specs.declared.first.FirstArrivals.{FirstArrivals}
+use Rattle.store_frames.specs.First.{AreFirst, arrived_state, first_state, or_pending}
+use Rattle.store_frames.proofs.Waking.{leaf_meant}
 use Rattle.store_frames.specs.Awaited.{IsAwaited}
 use Rattle.store_arrivals.specs.Named.{has_leaf, some_has_leaf, is_among, names_any}
 
@@ -73,6 +76,13 @@ unnamed_sleeps suspension future old new awaited none asleep =
     sym asleep ∙ sym (awaited old)
     ∙ sym (same_awake (is_among new) (arrived_state (old ++ new)) (arrived_state old) (unnamed_leaf old new) (future_tree future) none)
     ∙ awaited (old ++ new)
+
+-- ---- whether an id is that of an arrival, as its state tells
+
+pub among_is : (first : FirstArrivals) (arrivals : List Arrival) (id : NotificationId) (state : State) → AreFirst first arrivals → state ≡ or_pending (first_state first id)
+    → is_completed (state_meant state) ≡ is_among arrivals id
+among_is first arrivals id state are is =
+    ap (λ (s : State). is_completed (state_meant s)) is ∙ ap is_completed (leaf_meant (first_state first id) arrivals id (are id))
 
 -- ---- a node's leaves, and the trees in it, one after another
 

@@ -94,12 +94,7 @@ fn restore_log(rt: &HostRuntime, path: &str, found: FoundFiles) -> io::Result<()
 /// Lets go of a file that was not taken, of which this was found before it was opened, and leaves it as it was: it removes the log that its
 /// opening has made beside it, and the zeros that it has put behind a log that was there. Both files are held until that is done, so nobody
 /// writes to the log meanwhile. A log that was there before goes too, if it records nothing.
-pub fn let_go<S: Start>(
-    rt: &HostRuntime,
-    path: &str,
-    found: FoundFiles,
-    why: FileNotTaken<S>,
-) {
+pub fn let_go<S: Start>(rt: &HostRuntime, path: &str, found: FoundFiles, why: FileNotTaken<S>) {
     let files = match why {
         NotTaken::Unopened(_, None) => return,
         NotTaken::Unopened(_, Some(left)) => left.into_files(),
