@@ -106,7 +106,7 @@ none_more test xs i x there before own =
 
 leaves_first : {Leaf : Type 0} (test : Leaf → Bool) (leaves : List Leaf) (children : List (AwaitTree Leaf))
     → some_has_leaf test (forest (map (λ leaf. Single leaf) leaves ++ children)) ≡ (list_any test leaves || list_any (has_leaf test) children)
-leaves_first test [] children = in_children children
+leaves_first {Leaf} test [] children = in_children children
   where
     in_children : (trees : List (AwaitTree Leaf)) → some_has_leaf test (forest trees) ≡ list_any (has_leaf test) trees
     in_children [] = refl

@@ -21,13 +21,13 @@ returns-clause-told g c clean events store =
     let k = store.keeps early (c.in_ok-states.ensures.open clean) in
     states_are events old c.args.object.now c.in_ok-states.states.items k (c.in_ok-states.ensures.arranged clean)
 
-pub returns-then-are_keys_text-clause-told : goal.returns-then-are_keys_text-clause-told
-returns-then-are_keys_text-clause-told g c clean events store =
+pub returns-then-not-are_keys_text-clause-told : goal.returns-then-not-are_keys_text-clause-told
+returns-then-not-are_keys_text-clause-told g c clean events store =
     let old : State = state g.S.Store c.args.tables.now in
     let early : HasCleanDisk old = omega (arith, c.states_of.ensures.looks.crash.clean) in
     let k = store.keeps early (c.in_ok-states.ensures.open clean) in
     text_kept events c.args.object.now c.in_ok-states.states.items ForeignRow store.accepted (states_are events old c.args.object.now c.in_ok-states.states.items k (c.in_ok-states.ensures.arranged clean))
-    (ap (list_all (λ (row : StateRow). is_utf8 row.key)) (sym c.as_slice.ensures.value) ∙ sym c.are_keys_text.ensures ∙ c.if-are_keys_text.false)
+    (ap (list_all (λ (row : StateRow). is_utf8 row.key)) (sym c.as_slice.ensures.value) ∙ sym c.are_keys_text.ensures ∙ c.if-not-are_keys_text.true)
 
 pub returns-in_err-states-clause-told : goal.returns-in_err-states-clause-told
 returns-in_err-states-clause-told g c clean events store =
