@@ -11,12 +11,11 @@ ghost use Rattle.store_files.specs.declared.open.NotTaken.TheVariants.{NoStore, 
 
 use crate::look::{kind_at, seen_at};
 use crate::open::NotTaken;
-use bytes::Bytes;
 use journal_store::{NotOpened, Refusal};
 use sqlite::{Alter, Connection, Error, ErrorCode, Row};
 use sqlite_schema::schema::{Schema, Table, View};
 use sqlite_value::order::is_same;
-use sqlite_value::value::ValueRef;
+use sqlite_value::value::{Bytes, ValueRef};
 use std::fmt;
 use std::rt::HostRuntime;
 
