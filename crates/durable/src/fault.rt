@@ -1,31 +1,34 @@
 //! Why the program does not come to its end.
 ghost use Rattle.std.specs.Prelude.{◌≡◌, Some};
-ghost use Rattle.durable.specs.declared.fault.ProgramFault.TheVariants.{Script};
 
 use durable_script::ScriptFault;
 use std::fmt;
+use store_files::Reason;
 
 /// Why the program does not come to its end.
-#[derive(Clone, Copy)]
+#[derive(Drop)]
 pub enum ProgramFault {
     /// It was not called with two words.
     Usage,
-    /// The database cannot be opened.
-    DatabaseRefused,
-    Script(ScriptFault),
+    /// The path of the database is no text.
+    PathNoText,
+    /// The database cannot be opened, or closed.
+    DatabaseRefused(Reason),
+    /// The script does not come to its end; and what is amiss with its line, where that is not understood.
+    Script(ScriptFault, Option<String>),
 }
 
 impl ProgramFault {
     ghost use Rattle.durable.specs.Fault.{status_of};
 
     /// The status that the program ends with.
-    pub fn status(self) -> u8
-        ensures { result ≡ status_of self }
+    pub fn status(&self) -> u8
+        ensures { result ≡ status_of self.now }
     {
         match self {
             ProgramFault::Usage => 3,
-            ProgramFault::DatabaseRefused => 2,
-            ProgramFault::Script(fault) => fault.status(),
+            ProgramFault::PathNoText | ProgramFault::DatabaseRefused(_) => 2,
+            ProgramFault::Script(fault, _) => fault.status(),
         }
     }
 }
@@ -38,16 +41,10 @@ impl fmt::Display for ProgramFault {
     fn fmt<W: fmt::Write>(&self, f: &mut fmt::Formatter<W>) -> fmt::Result {
         match self {
             ProgramFault::Usage => write!(f, "usage: durable SCRIPT DATABASE"),
-            ProgramFault::DatabaseRefused => write!(f, "database refused"),
-            ProgramFault::Script(fault) => write!(f, "{fault}"),
+            ProgramFault::PathNoText => write!(f, "database refused\nits path is no UTF-8"),
+            ProgramFault::DatabaseRefused(reason) => write!(f, "database refused\n{reason}"),
+            ProgramFault::Script(fault, None) => write!(f, "{fault}"),
+            ProgramFault::Script(fault, Some(why)) => write!(f, "{fault}\n{why}"),
         }
-    }
-}
-
-impl From<ScriptFault> for ProgramFault {
-    ghost from_gives = { λ fault program_fault. program_fault ≡ Script fault };
-
-    fn from(fault: ScriptFault) -> ProgramFault {
-        ProgramFault::Script(fault)
     }
 }

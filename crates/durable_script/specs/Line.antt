@@ -8,8 +8,7 @@ use Rattle.journal_model.specs.Run.{Handler}
 use Rattle.journal_model.specs.declared.invocation.NewInvocation.{NewInvocation}
 use Rattle.journal_model.specs.declared.notification.NotificationResult.{NotificationResult}
 use Rattle.journal_model.specs.declared.notification.NotificationResult.TheVariants as result
-use Rattle.journal_model.specs.declared.invocation.StateMode as model
-use Rattle.journal_model.specs.declared.invocation.StateMode.TheVariants as mode
+use Rattle.journal_model.specs.declared.invocation.StateMode.{StateMode}
 use Rattle.vm_types.specs.Options.{default_options}
 use Rattle.durable_schedule.specs.Attempts.turn
 use Rattle.durable_schedule.specs.Schedules.event
@@ -21,8 +20,6 @@ use Rattle.script_lines.specs.declared.value.LineValue.{LineValue}
 use Rattle.script_lines.specs.declared.value.LineValue.TheVariants as value
 use Rattle.script_lines.specs.Word.{handler_word}
 use Rattle.script_lines.specs.declared.word.HandlerName.{HandlerName}
-use Rattle.script_lines.specs.declared.word.StateMode.{StateMode}
-use Rattle.script_lines.specs.declared.word.StateMode.TheVariants.{Whole, Hidden}
 use Rattle.durable_script.specs.Outcome.{given_outcome}
 use Rattle.durable_script.specs.Printed.{printed, refused_memory}
 use Rattle.durable_script.specs.Shown.{ShowsOnly, Shows, ShowsDue, TellsState}
@@ -31,14 +28,10 @@ use Rattle.durable_script.specs.Shown.{ShowsOnly, Shows, ShowsDue, TellsState}
 abbrev pub IsNamed : HandlerName → BuiltIn → Type 0
 IsNamed name handler = (alloc : Global) × (built_in alloc (handler_word name) ≡ Some handler)
 
-abbrev pub state_mode : StateMode → model.StateMode
-state_mode Whole = mode.Whole
-state_mode Hidden = mode.None
-
 -- a line's invocation has no headers
 abbrev pub new_invocation : List ℕ → List ℕ → ℕ → StateMode → ℕ → List ℕ → NewInvocation
 new_invocation id object version state seed input =
-    record { id = id; object = object; input = input; headers = []; version = version; seed = seed; state = state_mode state }
+    record { id = id; object = object; input = input; headers = []; version = version; seed = seed; state = state }
 
 -- what a line's value brings; its failures have no pairs
 abbrev pub brought : LineValue → NotificationResult

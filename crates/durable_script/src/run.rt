@@ -23,6 +23,8 @@ use std::io::{Read, Write};
 pub struct ScriptEnd<S: Alter> {
     /// The store, changed by the lines that were done.
     pub store: Store<S>,
+    /// The script, or nothing where it cannot be read.
+    pub script: Vec<u8>,
     /// Why not all lines were done and written.
     pub result: Result<(), ScriptFault>,
 }
@@ -61,8 +63,11 @@ pub fn run_script<R: Read, W: Write, S: Alter + Drop>(
     ensures unread { result.result ≡ Err ScriptFault.ScriptUnreadable → writer.new ≡ writer.old }
 {
     let Ok(script) = read_script(alloc, reader) else {
-        let result = Err(ScriptFault::ScriptUnreadable);
-        return ScriptEnd { store, result };
+        return ScriptEnd {
+            store,
+            script: Vec::new(alloc),
+            result: Err(ScriptFault::ScriptUnreadable),
+        };
     };
     schedules_keep::<BuiltIn>();
     schedules_leave::<BuiltIn>();
@@ -74,5 +79,9 @@ pub fn run_script<R: Read, W: Write, S: Alter + Drop>(
     let result = finish(writer, reached);
     let Runner { scheduler, .. } = runner;
     let store = scheduler.into_store();
-    ScriptEnd { store, result }
+    ScriptEnd {
+        store,
+        script,
+        result,
+    }
 }

@@ -15,13 +15,13 @@ use crate::state::show_state;
 use built_in_handlers::BuiltIn;
 use bytes::{ByteStr, Bytes};
 use durable_schedule::{Event, EventRefusal, Reply, Scheduler, Turn};
-use journal_model::{Failure, NewInvocation, NotificationResult};
+use journal_model::{Failure, NewInvocation, NotificationResult, StateMode};
 use journal_store::Store;
 use script_lines::fault::ScriptFault;
 use script_lines::line::{Line, parse_line};
 use script_lines::outcome::LineOutcome;
 use script_lines::value::LineValue;
-use script_lines::word::{HandlerName, StateMode};
+use script_lines::word::HandlerName;
 use sequence::Sequence;
 use sqlite::Alter;
 use std::alloc::{AllocError, Global};
@@ -53,10 +53,7 @@ fn invoke(
         headers: Sequence::new(alloc),
         version,
         seed,
-        state: match state {
-            StateMode::Whole => journal_model::StateMode::Whole,
-            StateMode::Hidden => journal_model::StateMode::None,
-        },
+        state,
     })
 }
 

@@ -186,7 +186,7 @@ fn print_next<S: Alter + Drop>(
 /// Tells that an event was done, or why it is refused.
 fn print_done(rt: &HostRuntime, name: &str, done: &str, reply: Reply) -> Result<(), Fault> {
     match reply {
-        Reply::Done => Ok(println!(rt; "{name}: {done}").map_err(Error::from)?),
+        Reply::Done | Reply::Placed(_) => Ok(println!(rt; "{name}: {done}").map_err(Error::from)?),
         Reply::Refused(refusal) => Err(Fault::Refused(anyhow!(
             "{name}: refused {}, {refusal:?}",
             refusal.name()

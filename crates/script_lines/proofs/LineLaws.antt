@@ -9,8 +9,7 @@ use Rattle.std.proofs.lemmas.Fmt.{decimal_is_IsNumeral}
 use Rattle.std.proofs.lemmas.Str.Parse.{digit_from_value}
 use Rattle.std.proofs.lemmas.List.Elements.{All-from_recursion, recursion_from_All}
 use Rattle.std.proofs.lemmas.List.Splits.{slice_split_at, slice_split_none, join_with_byte-slice_split}
-use Rattle.script_lines.specs.declared.word.StateMode.{StateMode}
-use Rattle.script_lines.specs.declared.word.StateMode.TheVariants.{Whole, Hidden}
+use Rattle.journal_model.specs.declared.invocation.StateMode.{StateMode}
 use Rattle.script_lines.specs.declared.word.HandlerName.{HandlerName}
 use Rattle.script_lines.specs.declared.word.HandlerName.TheVariants.{Nap, Nap99, Race, Both, Ask, Pair, Twice, Keys, Read, Effect, Go, Hook, Quorum}
 use Rattle.script_lines.specs.declared.word.Command.{Command}
@@ -340,8 +339,8 @@ letters (byte ∷ word) e =
     (ne_eqb byte 32 (λ same. omega arith), letters word tests.1)
 
 mode-no_space : (state : StateMode) → NoSpace (mode_word state)
-mode-no_space Whole = letters (codes "whole") refl
-mode-no_space Hidden = letters (codes "none") refl
+mode-no_space StateMode.Whole = letters (codes "whole") refl
+mode-no_space StateMode.None = letters (codes "none") refl
 
 handler-no_space : (handler : HandlerName) → NoSpace (handler_word handler)
 handler-no_space Nap = letters (codes "nap") refl

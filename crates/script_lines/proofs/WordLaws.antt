@@ -11,8 +11,7 @@ use Rattle.std.proofs.lemmas.Str.{IsUtf8-from_ascii}
 use Rattle.std.specs.Result.{OkIff, result_ok}
 use Rattle.std.specs.Bool.{then_some}
 use Rattle.std.proofs.lemmas.List.Elements.{All-from_recursion, recursion_from_All}
-use Rattle.script_lines.specs.declared.word.StateMode.{StateMode}
-use Rattle.script_lines.specs.declared.word.StateMode.TheVariants.{Whole, Hidden}
+use Rattle.journal_model.specs.declared.invocation.StateMode.{StateMode}
 use Rattle.script_lines.specs.declared.word.HandlerName.{HandlerName}
 use Rattle.script_lines.specs.declared.word.HandlerName.TheVariants.{Nap, Nap99, Race, Both, Ask, Pair, Twice, Keys, Read, Effect, Go, Hook, Quorum}
 use Rattle.script_lines.specs.Word.{text_word, IsWordByte, IsText, mode_word, handler_word}
@@ -219,17 +218,17 @@ printable-IsAscii bytes e = ascii bytes (printable_from bytes e)
 mode_takes : (word : List ℕ) (state : StateMode) → mode_of word ≡ Some state → Unit {0} × (word ≡ mode_word state)
 unfolding mode_of
 mode_takes word state e =
-    elim (chosen (bytes_eq word (codes "whole")) (Some Whole) (cond (bytes_eq word (codes "none")) (Some Hidden) None) (Some state) e) [
-      | inl whole ↦ (tt, (bytes_eq-Decides word (codes "whole")).0 whole.0 ∙ ap mode_word (same_Some Whole state whole.1))
+    elim (chosen (bytes_eq word (codes "whole")) (Some StateMode.Whole) (cond (bytes_eq word (codes "none")) (Some StateMode.None) None) (Some state) e) [
+      | inl whole ↦ (tt, (bytes_eq-Decides word (codes "whole")).0 whole.0 ∙ ap mode_word (same_Some StateMode.Whole state whole.1))
       | inr other ↦
-          let found = cond_some (bytes_eq word (codes "none")) Hidden state other.1 in
+          let found = cond_some (bytes_eq word (codes "none")) StateMode.None state other.1 in
           (tt, (bytes_eq-Decides word (codes "none")).0 found.0 ∙ ap mode_word found.1)
     ]
 
 mode_again : (state : StateMode) → Unit {0} → mode_of (mode_word state) ≡ Some state
 unfolding mode_of
-mode_again Whole h = refl
-mode_again Hidden h = refl
+mode_again StateMode.Whole h = refl
+mode_again StateMode.None h = refl
 
 pub mode_reading : IsReading mode_of mode_word (λ _. Unit {0})
 mode_reading = record { takes = mode_takes; again = mode_again }

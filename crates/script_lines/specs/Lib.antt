@@ -1,6 +1,7 @@
 pub mod Word
 pub mod Line
 pub mod LineReader
+pub mod LineFlaw
 pub mod Script
 pub mod ScriptLines
 pub mod Text

@@ -3,8 +3,6 @@
 use Rattle.std.specs.Prelude.{◌≡◌, ℕ, ◌+◌, ◌^◌, ◌&&◌, ◌==◌, Bool, List, take, drop, option_map, [], ◌∷◌, length, Option, Some, None, Result, Ok, Err, option_and_then, codes, if◌then◌else◌, bytes_eq, decimal, nat_lt, nat_le}
 use Rattle.std.specs.List.{list_all, position}
 use Rattle.std.specs.Str.Parse.{digits_value}
-use Rattle.script_lines.specs.declared.word.StateMode.{StateMode}
-use Rattle.script_lines.specs.declared.word.StateMode.TheVariants.{Whole, Hidden}
 use Rattle.script_lines.specs.declared.word.HandlerName.{HandlerName}
 use Rattle.script_lines.specs.declared.word.HandlerName.TheVariants.{Nap, Nap99, Race, Both, Ask, Pair, Twice, Keys, Read, Effect, Go, Hook, Quorum}
 use Rattle.script_lines.specs.Word.{handler_word}
@@ -12,6 +10,7 @@ use Rattle.script_lines.specs.declared.word.LineError.{LineError}
 use Rattle.script_lines.specs.declared.word.LineError.TheVariants.{NotUnderstood, Memory}
 use Rattle.script_lines.specs.declared.word.Command.{Command}
 use Rattle.script_lines.specs.declared.word.Command.TheVariants.{Invoke as InvokeCommand, Result as ResultCommand, Signal as SignalCommand, Cancel as CancelCommand, Tick as TickCommand, Begin as BeginCommand, Feed as FeedCommand, Close as CloseCommand, Turn as TurnCommand, Move as MoveCommand, Stop as StopCommand, Due as DueCommand, Show as ShowCommand, State as StateCommand}
+use Rattle.journal_model.specs.declared.invocation.StateMode.{StateMode}
 use Rattle.journal_model.specs.declared.notification.SignalKey.{SignalKey}
 use Rattle.journal_model.specs.declared.notification.SignalKey.TheVariants.{ByIndex, ByName}
 use Rattle.script_lines.specs.declared.value.LineValue.{LineValue}
@@ -51,8 +50,8 @@ text_read word = if bytes_eq word (codes "-") then Some [] else
     (if nat_lt 0 (length word) then printable_of word else None)
 
 unfoldable pub mode_of : List ℕ → Option StateMode
-mode_of word = if bytes_eq word (codes "whole") then Some Whole else
-    (if bytes_eq word (codes "none") then Some Hidden else None)
+mode_of word = if bytes_eq word (codes "whole") then Some StateMode.Whole else
+    (if bytes_eq word (codes "none") then Some StateMode.None else None)
 
 unfoldable pub handler_of : List ℕ → Option HandlerName
 handler_of word =

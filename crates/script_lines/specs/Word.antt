@@ -1,9 +1,8 @@
 -- What the words of a script's line spell.
 use Rattle.std.specs.Prelude.{◌≡◌, ◌≢◌, ℕ, ◌^◌, ◌<◌, ◌≤◌, List, [], ◌∷◌, ◌++◌, All, Option, Some, None, codes, decimal}
-use Rattle.script_lines.specs.declared.word.StateMode.{StateMode}
-use Rattle.script_lines.specs.declared.word.StateMode.TheVariants.{Whole, Hidden}
 use Rattle.script_lines.specs.declared.word.HandlerName.{HandlerName}
 use Rattle.script_lines.specs.declared.word.HandlerName.TheVariants.{Nap, Nap99, Race, Both, Ask, Pair, Twice, Keys, Read, Effect, Go, Hook, Quorum}
+use Rattle.journal_model.specs.declared.invocation.StateMode.{StateMode}
 use Rattle.journal_model.specs.declared.notification.SignalKey.{SignalKey}
 use Rattle.journal_model.specs.declared.notification.SignalKey.TheVariants.{ByIndex, ByName}
 use Rattle.script_lines.specs.declared.value.LineValue.{LineValue}
@@ -31,8 +30,8 @@ pub record IsText (text : List ℕ) : Type 0 where
   pub no_dash : text ≢ codes "-"
 
 abbrev pub mode_word : StateMode → List ℕ
-mode_word Whole = codes "whole"
-mode_word Hidden = codes "none"
+mode_word StateMode.Whole = codes "whole"
+mode_word StateMode.None = codes "none"
 
 abbrev pub handler_word : HandlerName → List ℕ
 handler_word Nap = codes "nap"

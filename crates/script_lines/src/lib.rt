@@ -3,6 +3,7 @@
 
 pub mod arrival;
 pub mod fault;
+pub mod flaw;
 pub mod line;
 pub mod outcome;
 pub mod output;

@@ -12,12 +12,12 @@ use crate::outcome::{LineOutcome, parse_outcome};
 use crate::target::parse_target;
 use crate::value::{LineValue, parse_value};
 use crate::word::{
-    Command, HandlerName, LineError, StateMode, parse_command, parse_handler, parse_mode,
-    parse_text, parse_u32, parse_u64,
+    Command, HandlerName, LineError, parse_command, parse_handler, parse_mode, parse_text,
+    parse_u32, parse_u64,
 };
 use bstr::ByteSlice;
 use bytes::{ByteStr, Bytes};
-use journal_model::SignalKey;
+use journal_model::{SignalKey, StateMode};
 use std::alloc::{AllocError, Global};
 
 /// A line that is understood. `id` names an invocation, `attempt` one of its attempts.
@@ -58,7 +58,7 @@ pub enum Line {
         handler: HandlerName,
         now: u64,
     },
-    /// Moves up to `count` input bytes to the attempt.
+    /// Feeds the attempt up to `count` bytes of its input.
     Feed {
         id: ByteStr,
         attempt: u32,

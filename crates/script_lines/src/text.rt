@@ -73,7 +73,7 @@ pub enum LineReply {
     Ticked(u64),
     /// An attempt of this number was begun.
     Begun(u32),
-    /// So many bytes were handed out.
+    /// So many bytes were fed.
     Fed(usize),
     /// So many turns were taken.
     Turned {

@@ -8,6 +8,7 @@ ghost use Rattle.script_lines.specs.LineReader.{Gives, is_word_byte, number_belo
 
 use bytes::{ByteStr, Bytes};
 use itoa::Buffer;
+use journal_model::StateMode;
 use std::alloc::{AllocError, Global};
 use std::str;
 
@@ -45,15 +46,6 @@ pub enum Command {
     Due,
     Show,
     State,
-}
-
-/// How much of its object's state an invocation is begun with.
-#[derive(Clone, Copy)]
-pub enum StateMode {
-    /// The whole map.
-    Whole,
-    /// Nothing: each read asks the store.
-    Hidden,
 }
 
 /// The built-in handlers that a line may name.
@@ -134,7 +126,7 @@ pub fn parse_u64(word: &[u8]) -> Option<u64>
 }
 
 /// Whether all bytes are printable ones, and none is a space.
-fn is_printable(bytes: &[u8]) -> bool
+pub(crate) fn is_printable(bytes: &[u8]) -> bool
     ensures { result ≡ list_all is_word_byte bytes.now }
 {
     bytes.iter().all(|byte| *byte >= b'!' && *byte <= b'~')
@@ -173,7 +165,7 @@ pub fn parse_mode(word: &[u8]) -> Option<StateMode>
 {
     match word {
         b"whole" => Some(StateMode::Whole),
-        b"none" => Some(StateMode::Hidden),
+        b"none" => Some(StateMode::None),
         _ => None,
     }
 }
