@@ -91,7 +91,7 @@ fn now_ms<R: Clock>(rt: &R) -> io::Result<u64> {
 }
 
 /// The input of a job, or of an order, that begins now.
-fn input(alloc: Global, now: u64, is_order: bool) -> Result<Bytes, AllocError> {
+fn input_of(alloc: Global, now: u64, is_order: bool) -> Result<Bytes, AllocError> {
     let mut input = Vec::new(alloc);
     input.extend_from_slice(&now.to_be_bytes())?;
     if is_order {
@@ -203,7 +203,7 @@ fn add<S: Alter + Drop>(
     now: u64,
     is_order: bool,
 ) -> Result<(), Fault> {
-    let input = input(rt.alloc(), now, is_order).map_err(Error::from)?;
+    let input = input_of(rt.alloc(), now, is_order).map_err(Error::from)?;
     let new = named(rt.alloc(), name, input).map_err(Error::from)?;
     let reply = scheduler.apply(Event::Invoke(new));
     print_done(rt, name, "added", reply)
