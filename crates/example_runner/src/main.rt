@@ -25,7 +25,7 @@ use std::rt::{Clock, Env, HostRuntime};
 use std::time::{SystemTime, UNIX_EPOCH};
 use std::{env, io};
 
-/// How many attempts a job may have in one call: each executes one effect at most.
+/// How many attempts a job may have in one call: what an effect brings is told to the next one.
 const ATTEMPTS: u32 = 100;
 
 /// What a call does.
