@@ -1,8 +1,7 @@
-use Rattle.std.proofs.Common.{◌≡◌, ◌∙◌, sym, ap, subst, arith, inr, length, List, IsTrue}
+use Rattle.std.proofs.Common.{sym, subst, arith, inr, IsTrue}
 use Rattle.sqlite.specs.Held.{state}
 use Rattle.sqlite.specs.State.{State, HasCleanDisk}
 use Rattle.journal_model.specs.Cause.{those_that_hold}
-use Rattle.store_tables.specs.declared.row.EntryRow.{EntryRow}
 use Rattle.store_model.specs.Kept.{journal_rows}
 use Rattle.store_refusals.specs.declared.refusal.Refusal.TheVariants.{ForeignRow}
 use Rattle.store_refusals.specs.Refused.{IsRefused, is_circumstance}
@@ -21,6 +20,17 @@ returns-clause-told g c clean events store =
     let found = c.in_ok-row.ensures.decided early events store in
     let now = store_kept events old mid c.known_row.ensures.looks.crash c.known_row.ensures.looks.kept store in
     (found.0, rows_are events c.args.id.now mid c.in_ok-rows.rows.items (now.keeps early (c.in_ok-rows.ensures.open clean)) (c.in_ok-rows.ensures.found clean))
+
+pub returns-then-len-count-clause-told : goal.returns-then-len-count-clause-told
+returns-then-len-count-clause-told g c clean events store =
+    let old : State = state g.S.Store c.args.tables.now in
+    let mid : State = state g.S.Store c.known_row.new.tables in
+    let early : HasCleanDisk mid = omega (arith, c.journal.ensures.looks.crash.clean, clean) in
+    let found = c.in_ok-row.ensures.decided early events store in
+    let now = store_kept events old mid c.known_row.ensures.looks.crash c.known_row.ensures.looks.kept store in
+    let are = rows_are events c.args.id.now mid c.in_ok-rows.rows.items (now.keeps early (c.in_ok-rows.ensures.open clean)) (c.in_ok-rows.ensures.found clean) in
+    none_missing events c.args.id.now c.in_ok-row.row c.in_ok-rows.rows.items ForeignRow found.1 are
+    (λ same. omega (arith, c.len.ensures, c.if-len-count.true, same))
 
 pub returns-in_err-row-clause-told : goal.returns-in_err-row-clause-told
 returns-in_err-row-clause-told g c clean events store =
