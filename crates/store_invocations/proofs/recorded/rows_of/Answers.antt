@@ -1,4 +1,4 @@
-use Rattle.std.proofs.Common.{sym, subst, arith, inr, IsTrue}
+use Rattle.std.proofs.Common.{◌≡◌, sym, subst, arith, inr, IsTrue}
 use Rattle.sqlite.specs.Held.{state}
 use Rattle.sqlite.specs.State.{State, HasCleanDisk}
 use Rattle.journal_model.specs.Cause.{those_that_hold}
