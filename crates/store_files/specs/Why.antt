@@ -1,9 +1,5 @@
 -- Why a file is not taken.
-use Rattle.std.specs.Prelude.{◌≡◌, ◌⊎◌, Bool, true, false, ◌||◌, if◌then◌else◌, ℕ, List, [], pos, IsTrue, Result, Ok, Err, bytes_eq, codes}
-use Rattle.std.specs.List.{list_any}
-use Rattle.sqlite_schema.specs.declared.schema.Schema.{Schema}
-use Rattle.sqlite_schema.specs.declared.schema.Table.{Table}
-use Rattle.sqlite_schema.specs.declared.schema.View.{View}
+use Rattle.std.specs.Prelude.{◌≡◌, ◌⊎◌, Bool, true, false, ℕ, List, [], pos, IsTrue, Result, Ok, Err, codes}
 use Rattle.sqlite_value.specs.declared.value.Value.TheVariants.{Int}
 use Rattle.sqlite_value.specs.Order.{Row, column}
 use Rattle.sqlite.specs.declared.error.Error.{Error}
@@ -29,8 +25,7 @@ reason_text reason.AutoVacuum = codes "it is a database with auto_vacuum, which 
 reason_text reason.Damaged = codes "it is a database that is damaged, or of a kind that is not read"
 reason_text reason.NoStore = codes "it is a database, and no store's"
 reason_text reason.OtherVersion = codes "it is a store's, of another version"
-reason_text reason.Analyzed = codes "it is a store's, with statistics of ANALYZE, which DROP TABLE sqlite_stat1 takes away"
-reason_text reason.Changed = codes "it is a store's, with other tables, indexes or rows than a store makes"
+reason_text reason.Changed = codes "it is a store's, with other tables, indexes or rows than a store makes; what ANALYZE makes DROP TABLE sqlite_stat1 takes away"
 reason_text reason.DiskFailed = codes "the disk failed or is full"
 reason_text reason.OutOfMemory = codes "memory was refused"
 
@@ -81,21 +76,8 @@ MarkTells (Err _) why = why ≡ reason.NoStore
 abbrev pub IsMarkAsked : State → State → Reason → Type 0
 IsMarkAsked s t why = (answer : Result Row Error) × QueriesRow mark_question [] s t answer × MarkTells answer why
 
--- whether a database has the table in which ANALYZE keeps its statistics
-abbrev pub statistics : List ℕ
-statistics = codes "sqlite_stat1"
-
-abbrev pub has_statistics : Schema → Bool
-has_statistics schema =
-    list_any (λ (table : Table). bytes_eq table.name statistics) schema.tables || list_any (λ (view : View). bytes_eq view.name statistics) schema.views
-
--- what was added to a store of this version is told, where it is that
-abbrev pub told_of : Schema → Reason → Reason
-told_of schema reason.Changed = if has_statistics schema then reason.Analyzed else reason.Changed
-told_of schema why = why
-
 -- why no store was opened over a connection, which is asked where its tables or rows are not a store's
 pub record StoreTells (s t : State) (refused : Refusal) (why : Reason) : Type 0 where
   pub memory : refused ≡ refusal.OutOfMemory → why ≡ reason.OutOfMemory
   pub statement : (error : Error) → refused ≡ refusal.StatementRefused error → why ≡ told_by error
-  pub foreign : refused ≡ refusal.ForeignRow → HasCleanDisk t → (told : Reason) × IsMarkAsked s t told × (why ≡ told_of t.now.schema told)
+  pub foreign : refused ≡ refusal.ForeignRow → HasCleanDisk t → IsMarkAsked s t why

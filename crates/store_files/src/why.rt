@@ -1,21 +1,17 @@
 // Why a file is not taken, as a host tells it to its user.
-ghost use Rattle.std.specs.Prelude.{◌≡◌, true, false, Some, bytes_eq};
-ghost use Rattle.std.specs.List.{list_any};
-ghost use Rattle.sqlite_schema.specs.declared.schema.Table.{Table as SchemaTable};
-ghost use Rattle.sqlite_schema.specs.declared.schema.View.{View as SchemaView};
+ghost use Rattle.std.specs.Prelude.{◌≡◌, true, false, Some};
 ghost use Rattle.sqlite.specs.Held.{state};
 ghost use Rattle.sqlite.specs.State.{HasCleanDisk};
 ghost use Rattle.sqlite.specs.declared.error.Error.{Error};
-ghost use Rattle.store_files.specs.Why.{ErrorTells, IsMarkAsked, IsThisVersion, MarkTells, StoreTells, VersionTells, has_statistics, told_by, told_of};
+ghost use Rattle.store_files.specs.Why.{ErrorTells, IsMarkAsked, IsThisVersion, MarkTells, StoreTells, VersionTells, told_by};
 ghost use Rattle.store_files.specs.declared.open.NotTaken.TheVariants.{NoStore, Unopened};
 
 use crate::look::{kind_at, seen_at};
 use crate::open::NotTaken;
 use journal_store::{NotOpened, Refusal};
 use sqlite::{Alter, Connection, Error, ErrorCode, Row};
-use sqlite_schema::schema::{Schema, Table, View};
 use sqlite_value::order::is_same;
-use sqlite_value::value::{Bytes, ValueRef};
+use sqlite_value::value::ValueRef;
 use std::fmt;
 use std::rt::HostRuntime;
 
@@ -45,9 +41,7 @@ pub enum Reason {
     NoStore,
     /// It is a store's, of another version.
     OtherVersion,
-    /// It is a store's of this version, to which `ANALYZE` has added the table of its statistics.
-    Analyzed,
-    /// It is a store's of this version, to which something else has added tables, indexes or rows.
+    /// It is a store's of this version, to which something else has added tables, indexes or rows, as `ANALYZE` does.
     Changed,
     /// The disk failed or is full.
     DiskFailed,
@@ -76,11 +70,8 @@ impl Reason {
             Reason::Damaged => "it is a database that is damaged, or of a kind that is not read",
             Reason::NoStore => "it is a database, and no store's",
             Reason::OtherVersion => "it is a store's, of another version",
-            Reason::Analyzed => {
-                "it is a store's, with statistics of ANALYZE, which DROP TABLE sqlite_stat1 takes away"
-            }
             Reason::Changed => {
-                "it is a store's, with other tables, indexes or rows than a store makes"
+                "it is a store's, with other tables, indexes or rows than a store makes; what ANALYZE makes DROP TABLE sqlite_stat1 takes away"
             }
             Reason::DiskFailed => "the disk failed or is full",
             Reason::OutOfMemory => "memory was refused",
@@ -159,63 +150,13 @@ fn asked<S: Alter>(connection: &mut Connection<S>) -> Reason
     by_mark(connection.query_row("SELECT version FROM meta WHERE name = 'journal_store'", &[]))
 }
 
-fn is_name(name: &Bytes, wanted: &str) -> bool
-    ensures { result ≡ bytes_eq name.now wanted.now }
-{
-    name.as_slice() == wanted.as_bytes()
-}
-
-fn has_table(tables: &[Table], name: &str) -> bool
-    ensures { result ≡ list_any (λ (table : SchemaTable). bytes_eq table.name name.now) tables.now }
-{
-    for table in tables {
-        if is_name(&table.name, name) {
-            return true;
-        }
-    }
-    false
-}
-
-/// The same, of tables that SQL here does not reach.
-fn has_view(views: &[View], name: &str) -> bool
-    ensures { result ≡ list_any (λ (view : SchemaView). bytes_eq view.name name.now) views.now }
-{
-    for view in views {
-        if is_name(&view.name, name) {
-            return true;
-        }
-    }
-    false
-}
-
-fn has_statistics(schema: &Schema) -> bool
-    ensures { result ≡ has_statistics schema.now }
-{
-    let name = "sqlite_stat1";
-    has_table(schema.tables.as_slice(), name) | has_view(schema.views.as_slice(), name)
-}
-
-/// What was added to a store of this version: statistics, as far as the schema tells.
-fn by_schema(schema: &Schema, why: Reason) -> Reason
-    ensures { result ≡ told_of schema.now why }
-{
-    if why == Reason::Changed && has_statistics(schema) {
-        Reason::Analyzed
-    } else {
-        why
-    }
-}
-
 fn by_refusal<S: Alter>(connection: &mut Connection<S>, refusal: Refusal) -> Reason
     ensures { StoreTells (state S.Store connection.old) (state S.Store connection.new) refusal result }
 {
     match refusal {
         Refusal::OutOfMemory => Reason::OutOfMemory,
         Refusal::StatementRefused(error) => told(error),
-        _ => {
-            let why = asked(connection);
-            by_schema(connection.schema(), why)
-        }
+        _ => asked(connection),
     }
 }
 
