@@ -1,6 +1,6 @@
 // The end of an attempt.
 ghost use Rattle.vm_core.specs.Calls.{SysWriteOutput};
-ghost use Rattle.vm_progress.specs.Ending.{EndsAs};
+ghost use Rattle.vm_progress.specs.EndEffects.{EndsAs};
 ghost use Rattle.vm_start.specs.Phases.{kept_error};
 ghost use Rattle.vm_c_machine.specs.Calls.{Does};
 ghost use Rattle.vm_c_values.specs.Options.{payload_options};

@@ -1,8 +1,8 @@
 // What comes in and goes out.
 ghost use Rattle.std.specs.Prelude.{◌≡◌, None};
-ghost use Rattle.vm_feeding.specs.Asking.{IsReady};
-ghost use Rattle.vm_feeding.specs.Closing.{ClosesInput};
-ghost use Rattle.vm_feeding.specs.Feeding.{IsFed};
+ghost use Rattle.vm_feeding.specs.MachineQueries.{TellsReady};
+ghost use Rattle.vm_feeding.specs.EndOfInput.{ClosesInput};
+ghost use Rattle.vm_feeding.specs.InputBytes.{IsFed};
 ghost use Rattle.vm_c_machine.specs.Calls.{Changes, Does, GivesOutput, ReadsInput};
 ghost use Rattle.vm_c_machine.specs.Host.{ToldByHost};
 ghost use Rattle.vm_c_values.specs.Options.{is_set};
@@ -84,7 +84,7 @@ pub extern "C" fn hengomaru_vm_is_ready_to_execute(
     handle: &mut Handle,
     ready: &mut u32,
 ) -> u32
-    ensures { Over (Does (λ old made new. IsReady old.phase made × (new ≡ old)) (λ _. is_set ready.new)) handle.old.value result handle.new.value }
+    ensures { Over (Does (λ old made new. TellsReady old.phase made × (new ≡ old)) (λ _. is_set ready.new)) handle.old.value result handle.new.value }
 {
     match handle.take(alloc) {
         Some(mut held) => {

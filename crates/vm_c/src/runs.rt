@@ -1,6 +1,6 @@
 // Runs.
-ghost use Rattle.vm_proposals.specs.Calling.{CallsRun};
-ghost use Rattle.vm_proposals.specs.Proposing.{ProposesRun};
+ghost use Rattle.vm_proposals.specs.RunCallEffects.{CallsRun};
+ghost use Rattle.vm_proposals.specs.ProposalEffects.{ProposesRun};
 ghost use Rattle.vm_refusals.specs.declared.retries.RetryPolicy.{RetryPolicy};
 ghost use Rattle.vm_refusals.specs.declared.runs.RunExitResult.{RunExitResult};
 ghost use Rattle.vm_c_machine.specs.Calls.{Does};

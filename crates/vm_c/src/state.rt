@@ -1,7 +1,7 @@
 // The object's state.
 ghost use Rattle.std.specs.Prelude.{None};
 ghost use Rattle.vm_core.specs.Calls.{SysStateGet, SysStateGetKeys, SysStateSet, SysStateClear, SysStateClearAll};
-ghost use Rattle.vm_feeding.specs.EphemeralReading.{IsGot, IsTaken};
+ghost use Rattle.vm_feeding.specs.EphemeralStateReads.{IsGot, IsReadTaken};
 ghost use Rattle.vm_c_machine.specs.Calls.{Does, Takes};
 ghost use Rattle.vm_c_values.specs.Options.{payload_options};
 ghost use Rattle.vm_c.specs.Calls.{Over};
@@ -127,7 +127,7 @@ pub extern "C" fn hengomaru_vm_take_ephemeral_notification(
     id: u32,
     kind: &mut u32,
 ) -> u32
-    ensures { Over (Takes (IsTaken (record { number = id })) kind.new) handle.old.value result handle.new.value }
+    ensures { Over (Takes (IsReadTaken (record { number = id })) kind.new) handle.old.value result handle.new.value }
 {
     match handle.take(alloc) {
         Some(mut held) => {

@@ -1,8 +1,8 @@
 // What a machine is asked, which changes nothing.
 ghost use Rattle.std.specs.Prelude.{◌≡◌, ◌-ℤ◌, pos};
 ghost use Rattle.protocol_types.specs.Version.{version_content_type};
-ghost use Rattle.vm_feeding.specs.Asking.{state_of};
-ghost use Rattle.vm_feeding.specs.Handles.{Looks};
+ghost use Rattle.vm_feeding.specs.MachineQueries.{state_of_phase};
+ghost use Rattle.vm_feeding.specs.Handles.{LooksAtHandle};
 ghost use Rattle.vm_c_machine.specs.Calls.{Asks};
 ghost use Rattle.vm_c_machine.specs.Telling.{TellsError, TellsPart, state_number};
 ghost use Rattle.vm_c_values.specs.Options.{is_set};
@@ -33,7 +33,7 @@ pub extern "C" fn hengomaru_vm_response_head(
 /// How far the attempt has come: 0 its start has not come, 1 replaying, 2 processing, 3 closed.
 #[unsafe(no_mangle)]
 pub extern "C" fn hengomaru_vm_state(alloc: Global, handle: &mut Handle, state: &mut u32) -> u32
-    ensures { Over (Asks (λ vm reply. state.new ≡ state_number (state_of vm.phase vm.active.is_replaying))) handle.old.value result handle.new.value }
+    ensures { Over (Asks (λ vm reply. state.new ≡ state_number (state_of_phase vm.phase vm.active.is_replaying))) handle.old.value result handle.new.value }
 {
     match handle.take(alloc) {
         Some(held) => {
@@ -70,7 +70,7 @@ pub extern "C" fn hengomaru_vm_is_completed(
     notification: u32,
     completed: &mut u32,
 ) -> u32
-    ensures { Over (Asks (λ vm reply. Looks vm.phase vm.active notification (is_set completed.new))) handle.old.value result handle.new.value }
+    ensures { Over (Asks (λ vm reply. LooksAtHandle vm.phase vm.active notification (is_set completed.new))) handle.old.value result handle.new.value }
 {
     match handle.take(alloc) {
         Some(held) => {
