@@ -326,7 +326,14 @@ fn kind_at(command: Command, place: usize) -> WordKind
         Command::Signal => signal_kind(place),
         Command::Result => result_kind(place),
         Command::Begin => begin_kind(place),
-        _ => text_and_number(place),
+        Command::Cancel
+        | Command::Feed
+        | Command::Close
+        | Command::Move
+        | Command::Stop
+        | Command::Due
+        | Command::Show
+        | Command::State => text_and_number(place),
     }
 }
 
