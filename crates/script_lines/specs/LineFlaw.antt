@@ -1,6 +1,6 @@
 -- What is amiss with a line that is not understood.
-use Rattle.std.specs.Prelude.{◌≡◌, ◌≢◌, ◌⊎◌, ℕ, ◌-◌, ◌^◌, ◌&&◌, ◌||◌, ◌==◌, Bool, true, false, List, take, [], ◌∷◌, ◌++◌, length, Option, Some, None, is_some, codes, decimal, if◌then◌else◌, bytes_eq, nat_lt}
-use Rattle.std.specs.List.{Contains, list_all, slice_split}
+use Rattle.std.specs.Prelude.{ℕ, ◌^◌, ◌&&◌, ◌||◌, ◌==◌, Bool, false, List, ◌++◌, length, Option, Some, None, is_some, codes, decimal, if◌then◌else◌, nat_lt}
+use Rattle.std.specs.List.{list_all}
 use Rattle.protocol_types.specs.Texts.{hex_byte}
 use Rattle.script_lines.specs.declared.word.Command.{Command}
 use Rattle.script_lines.specs.declared.word.Command.TheVariants as command
@@ -8,7 +8,7 @@ use Rattle.script_lines.specs.declared.flaw.LineFlaw.{LineFlaw}
 use Rattle.script_lines.specs.declared.flaw.LineFlaw.TheVariants as flaw
 use Rattle.script_lines.specs.declared.flaw.WordKind.{WordKind}
 use Rattle.script_lines.specs.declared.flaw.WordKind.TheVariants as kind
-use Rattle.script_lines.specs.LineReader.{number_below, text_read, mode_of, handler_of, coded_of, value_in, value_of, outcome_in, outcome_of, command_of, is_word_byte}
+use Rattle.script_lines.specs.LineReader.{number_below, mode_of, handler_of, coded_of, value_in, value_of, outcome_in, outcome_of, is_word_byte}
 
 -- what a word of a kind is, as it is told behind one that is not
 abbrev pub wanted_text : WordKind → List ℕ
@@ -45,13 +45,6 @@ flaw_text flaw.Spaces = codes "one space stands between two words, and none at a
 flaw_text (flaw.Command word) = word.now ++ codes " is no command: begin, cancel, close, due, feed, invoke, move, result, show, signal, state, stop, tick, turn"
 flaw_text (flaw.Count command count) = codes "words: " ++ decimal count ++ codes ", wanted: " ++ usage_text command
 flaw_text (flaw.Word kind word) = word.now ++ codes " " ++ wanted_text kind
-
--- what is shown of a word: its first bytes, if these are a text
-abbrev pub first_bytes : List ℕ → List ℕ
-first_bytes word = if nat_lt 60 (length word) then take 60 word else word
-
-abbrev pub IsShown : (word text : List ℕ) → Type 0
-IsShown word text = (text ≡ first_bytes word) ⊎ (text ≡ [])
 
 abbrev pub is_positive : Option ℕ → Bool
 is_positive None = false
@@ -101,24 +94,3 @@ is_count_of command.Close count = count == 2
 is_count_of command.Stop count = count == 2
 is_count_of command.Due count = count == 0
 is_count_of command count = count == 1
-
-abbrev pub words_in : List ℕ → List (List ℕ)
-words_in line = slice_split (λ byte. byte == 32) line
-
--- a word of the line is not of the kind that is wanted in its place
-abbrev pub IsWordFlaw : Command → LineFlaw → Type 0
-IsWordFlaw command (flaw.Word kind text) = (place : ℕ) × (word : List ℕ) × (kind ≡ kind_at command place) × (fits kind word ≡ false) × IsShown word text.now
-IsWordFlaw command flaw = ⊥
-
--- or their count is not one of the command's
-abbrev pub IsFlawBehind : Command → LineFlaw → Type 0
-IsFlawBehind command (flaw.Count told count) = (told ≡ command) × (is_count_of command (count - 1) ≡ false)
-IsFlawBehind command flaw = IsWordFlaw command flaw
-
--- what is told is amiss with the line
-abbrev pub IsFlaw : List ℕ → LineFlaw → Type 0
-IsFlaw line flaw.CarriageReturn = Contains line 13
-IsFlaw line (flaw.Byte byte) = Contains line byte × (is_word_byte byte ≡ false)
-IsFlaw line flaw.Spaces = Unit {0}
-IsFlaw line (flaw.Command text) = (word : List ℕ) × (command_of word ≡ None) × IsShown word text.now
-IsFlaw line flaw = (command : Command) × IsFlawBehind command flaw

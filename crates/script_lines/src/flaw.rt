@@ -2,7 +2,7 @@
 ghost use Rattle.std.specs.Prelude.{◌≡◌, Some, false, IfSome};
 ghost use Rattle.std.specs.List.{Contains};
 ghost use Rattle.script_lines.specs.LineReader.{is_word_byte};
-ghost use Rattle.script_lines.specs.LineFlaw.{IsFlaw, IsFlawBehind, IsWordFlaw, is_coded, is_count_of, is_outcome_of, is_value_of, kind_at, first_bytes, fits, IsShown};
+ghost use Rattle.script_lines.specs.LineFlaw.{is_coded, is_count_of, is_outcome_of, is_value_of, kind_at, fits};
 
 use crate::value::split_at_colon;
 use crate::word::{
@@ -135,22 +135,18 @@ impl fmt::Display for LineFlaw<'_> {
 /// The most bytes of a word that are shown.
 const SHOWN: usize = 60;
 
-/// The first bytes of a word.
-fn first_bytes(word: &[u8]) -> &[u8]
-    ensures { result.now ≡ first_bytes word.now }
-{
-    if word.len() > SHOWN {
-        &word[..SHOWN]
+/// The first bytes of a word, at most so many.
+fn first_bytes(word: &[u8], most: usize) -> &[u8] {
+    if word.len() > most {
+        &word[..most]
     } else {
         word
     }
 }
 
-/// What is shown of a word. Nothing is of one that is no text.
-fn shown(word: &[u8]) -> &str
-    ensures { IsShown word.now result.now }
-{
-    match str::from_utf8(first_bytes(word)) {
+/// What is shown of a word: its first bytes, if these are a text.
+fn shown(word: &[u8]) -> &str {
+    match str::from_utf8(first_bytes(word, SHOWN)) {
         Ok(text) => text,
         Err(_) => "",
     }
@@ -354,9 +350,7 @@ fn is_count_of(command: Command, count: usize) -> bool
 }
 
 /// The first word behind a command that is not of the kind that is wanted in its place.
-fn word_flaw(command: Command, line: &[u8]) -> Option<LineFlaw<'_>>
-    ensures { IfSome result (IsWordFlaw command) }
-{
+fn word_flaw(command: Command, line: &[u8]) -> Option<LineFlaw<'_>> {
     for (place, word) in line.split_str(b" ").skip(1).enumerate() {
         let kind = kind_at(command, place);
         if !fits(kind, word) {
@@ -367,9 +361,7 @@ fn word_flaw(command: Command, line: &[u8]) -> Option<LineFlaw<'_>>
 }
 
 /// What is amiss with the words of a line behind its command, the first of all words.
-fn words_flaw(command: Command, line: &[u8]) -> Option<LineFlaw<'_>>
-    ensures { IfSome result (IsFlawBehind command) }
-{
+fn words_flaw(command: Command, line: &[u8]) -> Option<LineFlaw<'_>> {
     let count = line.split_str(b" ").count();
     if is_count_of(command, count.saturating_sub(1)) {
         word_flaw(command, line)
@@ -389,9 +381,7 @@ fn odd_byte(line: &[u8]) -> Option<u8>
 
 /// What is amiss with a line that is not understood: with its bytes, the spaces between its words, how many these are, or the first
 /// one that is not such as is wanted in its place. Nothing is amiss with one that is understood.
-pub fn flaw_of(line: &[u8]) -> Option<LineFlaw<'_>>
-    ensures { IfSome result (IsFlaw line.now) }
-{
+pub fn flaw_of(line: &[u8]) -> Option<LineFlaw<'_>> {
     match odd_byte(line) {
         Some(b'\r') => return Some(LineFlaw::CarriageReturn),
         Some(byte) => return Some(LineFlaw::Byte(byte)),
