@@ -47,11 +47,11 @@ enum Request {
     Run(Words),
 }
 
-/// Whether a word of the call is text, if there is one of this number.
+/// Whether a word of the call is text, if there is one of this number. Behind it the buffer has zeros, which are text.
 fn is_text_at<R: Env>(rt: &R, at: usize) -> bool {
     let mut buffer = [0u8; 4096];
     match rt.arg(at, &mut buffer) {
-        Ok(len) => str::from_utf8(&buffer[..len]).is_ok(),
+        Ok(_) => str::from_utf8(buffer.as_slice()).is_ok(),
         Err(_) => true,
     }
 }
