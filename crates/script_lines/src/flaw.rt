@@ -351,53 +351,22 @@ fn is_count_of(command: Command, count: usize) -> bool
 
 /// The first word behind a command that is not of the kind that is wanted in its place.
 fn word_flaw(command: Command, line: &[u8]) -> Option<LineFlaw<'_>> {
-    let mut place = 0usize;
-    for word in line.split_str(b" ") {
-        if place > 0 {
-            let kind = kind_at(command, place - 1);
-            if !fits(kind, word) {
-                return Some(LineFlaw::Word(kind, shown(word)));
-            }
+    for (place, word) in line.split_str(b" ").skip(1).enumerate() {
+        let kind = kind_at(command, place);
+        if !fits(kind, word) {
+            return Some(LineFlaw::Word(kind, shown(word)));
         }
-        place = place.saturating_add(1);
     }
     None
 }
 
-/// How many words a line has.
-fn count_words(line: &[u8]) -> usize {
-    let mut count = 0usize;
-    for _word in line.split_str(b" ") {
-        count = count.saturating_add(1);
-    }
-    count
-}
-
 /// What is amiss with the words of a line behind its command, the first of all words.
 fn words_flaw(command: Command, line: &[u8]) -> Option<LineFlaw<'_>> {
-    let count = count_words(line);
+    let count = line.split_str(b" ").count();
     if is_count_of(command, count.saturating_sub(1)) {
         word_flaw(command, line)
     } else {
         Some(LineFlaw::Count(command, count))
-    }
-}
-
-/// Whether two spaces stand beside each other, or one at an end.
-fn has_odd_spaces(line: &[u8]) -> bool {
-    for word in line.split_str(b" ") {
-        if word.is_empty() {
-            return true;
-        }
-    }
-    false
-}
-
-/// The first word of a line.
-fn first_word(line: &[u8]) -> &[u8] {
-    match line.split_str(b" ").next() {
-        Some(word) => word,
-        None => line,
     }
 }
 
@@ -418,10 +387,10 @@ pub fn flaw_of(line: &[u8]) -> Option<LineFlaw<'_>> {
         Some(byte) => return Some(LineFlaw::Byte(byte)),
         None => {}
     }
-    if has_odd_spaces(line) {
+    if line.split_str(b" ").any(|word| word.is_empty()) {
         return Some(LineFlaw::Spaces);
     }
-    let first = first_word(line);
+    let first = line.split_str(b" ").next().unwrap_or(b"".as_slice());
     match parse_command(first) {
         Some(command) => words_flaw(command, line),
         None => Some(LineFlaw::Command(shown(first))),
