@@ -9,12 +9,13 @@ use Rattle.vm_start.specs.FailureReport.{IsCopy}
 use Rattle.vm_start.specs.Failure.{asked_behavior, failed_with}
 use Rattle.vm_types.specs.declared.options.JournalMismatchRetryBehavior.{JournalMismatchRetryBehavior}
 use Rattle.vm_attempt_laws.specs.Bodies.{outcomes_in}
-use Rattle.vm_attempt_laws.specs.AttemptInvariants.{FailsWith, TellsBy}
+use Rattle.vm_attempt_laws.specs.AttemptInvariants.{FailsWith, IsNoFailure, TellsBy}
 use Rattle.vm_attempt_laws.specs.Machine.phases
 use Rattle.vm_attempt_laws.specs.Machine.{FailsNow, MachineState, out_of_memory, TellsError, TellsFailureCause, told_error, Written}
 use Rattle.vm_attempt_laws.specs.OutputOfAttempt.{AllFit, Fails, frame_meant, Sent, sent_stream}
 use Rattle.vm_attempt_laws.specs.Words.{Error, IsNote, journal_mismatch, Version, version_number}
 use Rattle.vm_attempt_laws.proofs.Notes.{cause_tells, fails_now, TellsNotes}
+use Rattle.vm_attempt_laws.proofs.Unfailed.{CauseAsksNoEnd, sent_open, told_open}
 
 -- an error is what the machine fails with, and its frame alone is sent; or memory was refused
 abbrev pub ToldBy : Version → JournalMismatchRetryBehavior → Written → Result Error AllocError → Error → List Sent → Type 0
@@ -27,6 +28,8 @@ pub record FailsAlone (version : Version) (asked : JournalMismatchRetryBehavior)
   pub bytes : new.active.output.bytes ≡ old.bytes ++ sent_stream version coming
   pub notes : AllByRecursion IsNote (map (frame_meant version) coming)
   pub quiet : outcomes_in (map (frame_meant version) coming) ≡ []
+  -- none ends the invocation where the cause asks for no end
+  pub unfailed : CauseAsksNoEnd version asked cause → AllByRecursion IsNoFailure (map (frame_meant version) coming)
   pub kept : Error
   pub phase : new.phase ≡ phases.Failed kept
   pub copies : IsCopy kept error
@@ -67,6 +70,9 @@ fails_alone cause old answer new active opened of_version fails = record {
   bytes = ap (λ (o : Written). o.bytes) now.output ∙ notes.written.bytes ∙ ap (λ (v : Version). old.active.output.bytes ++ sent_stream v notes.coming) of_version;
   notes = subst (λ (v : Version). AllByRecursion IsNote (map (frame_meant v) notes.coming)) of_version notes.notes;
   quiet = subst (λ (v : Version). outcomes_in (map (frame_meant v) notes.coming) ≡ []) of_version notes.quiet;
+  unfailed = λ unended. subst (λ (v : Version). AllByRecursion IsNoFailure (map (frame_meant v) notes.coming)) of_version
+      (sent_open old.active.output.version now.told notes.coming
+      (told_open old.version old.options.journal_mismatch_retry_behavior cause old.active.output now.told now.before unended now.tells) notes.tells);
   kept = now.told;
   phase = now.phase_is;
   copies = now.answers;

@@ -40,15 +40,17 @@ use Rattle.vm_attempt_laws.specs.InputOfAttempt.{Kind, phase_kind}
 use Rattle.vm_attempt_laws.specs.BodyExecution.{BodyCause, Lacks, TriedAgain, Pauses, IsLong, LacksMemory, BodyFailsWhen, BodyTells, BodyToldAs}
 use Rattle.vm_attempt_laws.specs.OutputOfAttempt.{AllFit, Fails, frame_meant, Proposes, Sent, sent_stream}
 use Rattle.vm_attempt_laws.specs.AttemptSimulation.{HasRead, HasBodies, kind_where, machine_failed, Serves}
-use Rattle.vm_attempt_laws.specs.TurnsInRun.{OutcomeIs, tried_by, FailsForBody, RunsOne, TurnKeeps}
+use Rattle.vm_attempt_laws.specs.TurnsInRun.{MayNotEnd, OutcomeIs, tried_by, FailsForBody, RunsOne, TurnKeeps}
 use Rattle.vm_attempt_laws.specs.Words.{after_turn, Error, Handler, internal, Invocation, journal_mismatch, AttemptInRun, Machine, NotificationId, unsupported_feature, Version, version_number, VMOptions}
 use Rattle.vm_attempt_laws.proofs.Alone.{FailsAlone, failed_same, fails_alone, ToldBy}
+use Rattle.vm_attempt_laws.proofs.Errors.{body_errors}
 use Rattle.vm_attempt_laws.proofs.Executing.{WithBodies, ExecutesSo, executes_so}
 use Rattle.vm_attempt_laws.proofs.Going.{OnlyTurns, serves_on}
 use Rattle.vm_attempt_laws.proofs.Notes.{answers_kept, note_turn, waits_more}
 use Rattle.vm_attempt_laws.proofs.Now.{Now, call_of}
 use Rattle.vm_attempt_laws.proofs.InputAndOutput.{turns_send}
 use Rattle.vm_attempt_laws.proofs.TurnOutput.{IsTold, is_told}
+use Rattle.vm_attempt_laws.proofs.Unfailed.{body_open, CauseAsksNoEnd}
 use Rattle.vm_attempt_laws.proofs.Stored.{notes_of_store}
 
 the_error : (a b : Error) → ◌≡◌ {A = Result Error AllocError} (Ok a) (Ok b) → a ≡ b
@@ -149,6 +151,11 @@ module _ {H : Type 0} (function : H → Handler) (next : Handler) (version : Ver
   module _ (error : Error) (result : p.proposed ≡ Err error) (cause : Result Error AllocError) (fails : Alone cause error) (why : BodyCause) (when : BodyFailsWhen version options ran (tried_by live r.shows) before.vm.state one.run why)
       (tells : (told : Error) → cause ≡ Ok told → BodyTells version options ran (tried_by live r.shows) before.vm.state one.run why (failed_with (version_number version) options.journal_mismatch_retry_behavior told))
       (told_as : (told : Error) (sent : List Sent) → BodyTells version options ran (tried_by live r.shows) before.vm.state one.run why told → FailsWith told before.vm.state.active.output error → sent ≡ Fails (told_error error) ∷ [] → ToldHere why error sent) where
+    opens : MayNotEnd options given → (some : Result Error AllocError) → cause ≡ some → CauseAsksNoEnd version options.journal_mismatch_retry_behavior some
+    opens may (Ok told) is =
+        body_open version options given (tried_by live r.shows) before.vm.state one.run may why when (failed_with (version_number version) options.journal_mismatch_retry_behavior told) (tells told is)
+    opens may (Err refused) is = tt
+
     by_cause : (some : Result Error AllocError) → cause ≡ some → ToldBy version options.journal_mismatch_retry_behavior before.vm.state.active.output some error fails.coming
         → FailsForBody function next version options is_closed live before proposed given error fails.coming
     by_cause (Ok told) is (inl one_told) =
@@ -164,6 +171,8 @@ module _ {H : Type 0} (function : H → Handler) (next : Handler) (version : Ver
       output = waits_more version fails.coming before after (ap (λ (a : Attempt H). a.front ++ a.behind) p.others) fails.bytes;
       makes = note_turn next is_closed live (map (frame_meant version) fails.coming) fails.notes;
       proposes = fails.quiet;
+      errors = body_errors next live proposed version options given before.vm.state error fails.coming (by_cause cause refl fails.told);
+      unfailed = λ may. fails.unfailed (opens may cause refl);
       behind = (inr (by_cause cause refl fails.told), machine_failed fails.kept fails.phase, answers_kept fails.kept error after fails.phase fails.copies);
     })
 
@@ -300,6 +309,7 @@ module _ {H : Type 0} (function : H → Handler) (next : Handler) (version : Ver
       body = one.body;
       first = one.first;
       value = value;
+      journal = r.journal;
       shows = r.shows;
       outcome = outcome_same ran.policy (tried_by live r.shows) given.result value outcome;
       sends = refl;
@@ -316,6 +326,8 @@ module _ {H : Type 0} (function : H → Handler) (next : Handler) (version : Ver
       output = waits_more version sent before after (ap (λ (a : Attempt H). a.front ++ a.behind) p.others) bytes;
       makes = note_turn next is_closed live (map (frame_meant version) sent) (tt, tt);
       proposes = tt;
+      errors = (tt, tt);
+      unfailed = λ may. (tt, tt);
       behind = ran_one;
     })
 

@@ -1,9 +1,11 @@
 -- The input of an attempt is closed.
-use Rattle.std.proofs.Common.{◌≡◌, ◌⊎◌, inl, inr, ◌∙◌, ℕ, Bool, true, ◌++◌, map, Option, Some, None, Ok, refl, sym, ap, subst}
+use Rattle.std.proofs.Common.{◌≡◌, ◌⊎◌, inl, inr, ◌∙◌, ℕ, eq-eqb, Bool, true, true≢false, ◌++◌, map, Option, Some, None, Ok, refl, sym, ap, subst}
 use Rattle.std.specs.List.{AllByRecursion}
+use Rattle.protocol_errors.specs.declared.error.ErrorBehavior.{ErrorBehavior}
 use Rattle.vm_start.specs.Phases.{kept_error}
 use Rattle.vm_attempt_laws.specs.AttemptSimulation.{kind_where, HasNotRead, HasRead, Serves}
-use Rattle.vm_attempt_laws.specs.AttemptInvariants.{early_error, StaysClosed, ClosesEarly, ClosesServing, WritesNothing}
+use Rattle.vm_attempt_laws.proofs.Unfailed.{failed_open, sent_open, told_open}
+use Rattle.vm_attempt_laws.specs.AttemptInvariants.{early_error, IsNoFailure, StaysClosed, ClosesEarly, ClosesServing, WritesNothing}
 use Rattle.vm_attempt_laws.proofs.Bodies.{bodies_stay}
 use Rattle.vm_attempt_laws.proofs.Notes.{TellsNotes, cause_tells, fails_with, waits_more}
 use Rattle.vm_attempt_laws.proofs.Over.{serves_by, waits_same}
@@ -13,7 +15,7 @@ use Rattle.vm_attempt_laws.specs.Machine.phases
 use Rattle.vm_attempt_laws.specs.Machine.{Written, FailsNow, FailsAs, MachineState, is_waiting, input_closed, ClosesWhere, ClosesInput, HasFailed, IsDriven}
 use Rattle.vm_attempt_laws.specs.InputOfAttempt.{start_told, Kind, phase_kind, HasStarted}
 use Rattle.vm_attempt_laws.specs.OutputOfAttempt.{sent_stream, AllFit, frame_meant}
-use Rattle.vm_attempt_laws.specs.Words.{Error, Version, Handler, Invocation, Machine, AttemptInRun, HasReadJournal, VMOptions, item_at, IsNote}
+use Rattle.vm_attempt_laws.specs.Words.{Error, Version, Handler, Invocation, Machine, AttemptInRun, HasReadJournal, VMOptions, item_at, IsNote, journal_mismatch, version_number}
 
 closes_new : {H : Type 0} (over : Option Finish) (before after : Attempt H) → before.over ≡ over → before.over ≡ None → ClosesUnless over before after
     → ClosesInput before.vm.state after.vm.state × (after ≡ record before { vm = after.vm })
@@ -119,8 +121,19 @@ module _ {H : Type 0} (function : H → Handler) (next : Handler) (version : Ver
       output = waits_more version told.coming before after (ap (λ (a : Attempt H). a.front ++ a.behind) does.1) written;
       notes = subst (λ (v : Version). AllByRecursion IsNote (map (frame_meant v) told.coming)) of_version told.notes;
       tells = told.tells;
+      unfailed = subst (λ (v : Version). AllByRecursion IsNoFailure (map (frame_meant v) told.coming)) of_version
+          (sent_open before.vm.state.active.output.version now.told told.coming
+          (told_open before.vm.state.version before.vm.state.options.journal_mismatch_retry_behavior (Ok early_error) before.vm.state.active.output now.told now.before
+          (failed_open (version_number before.vm.state.version) before.vm.state.options.journal_mismatch_retry_behavior early_error (λ fails. retried fails) (λ mismatch. absurd (no_mismatch mismatch))) now.tells)
+          told.tells);
     }
       where
+        retried : early_error.behavior ≡ ErrorBehavior.Fail → ⊥
+        retried e = cc
+
+        no_mismatch : early_error.code.0 ≡ journal_mismatch → ⊥
+        no_mismatch e = true≢false (sym (eq-eqb early_error.code.0 journal_mismatch e))
+
         written : after.vm.state.active.output.bytes ≡ before.vm.state.active.output.bytes ++ sent_stream version told.coming
         written =
             ap (λ (w : Written). w.bytes) now.output ∙ told.written.bytes

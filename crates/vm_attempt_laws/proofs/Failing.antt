@@ -1,5 +1,5 @@
 -- A call fails: for which cause, and what is told of it.
-use Rattle.std.proofs.Common.{Bool, ◌≡◌, ◌⊎◌, inl, inr, ◌∙◌, ℕ, ◌==◌, false, List, [], ◌∷◌, ◌++◌, map, Option, Some, Result, Ok, Err, IfOk, refl, sym, ap, subst}
+use Rattle.std.proofs.Common.{Bool, ◌≡◌, ◌⊎◌, inl, inr, ◌∙◌, ℕ, ◌==◌, false, List, [], ◌∷◌, ◌++◌, map, Option, Some, Result, Ok, Err, IfOk, sym, ap, subst}
 use Rattle.std.specs.List.{AllByRecursion}
 use Rattle.std.specs.declared.alloc.AllocError.{AllocError}
 use Rattle.journal_model.specs.AwaitTree.{Single}
@@ -9,8 +9,8 @@ use Rattle.attempt_model.specs.Machine.{FailedBy, Fault, Mismatch, UncompletedIn
 use Rattle.vm_awaits.specs.Views.{slots_of}
 use Rattle.vm_outcomes.specs.Causes.{TellsEither, CauseTells}
 use Rattle.vm_outcomes.proofs.Midway.{stops_midway}
+use Rattle.vm_progress.specs.Uncompleted.{started_id}
 use Rattle.vm_refusals.specs.Refusals.{refusal_code}
-use Rattle.vm_refusals.specs.declared.refusal.CallRefusal.{CallRefusal}
 use Rattle.vm_types.specs.declared.options.JournalMismatchRetryBehavior.{JournalMismatchRetryBehavior}
 use Rattle.vm_types.specs.declared.options.JournalReplay.{JournalReplay}
 use Rattle.vm_types.specs.declared.options.JournalReplay.TheVariants.{Enabled, Disabled}
@@ -19,11 +19,11 @@ use Rattle.vm_waiting.specs.declared.waits_for.WaitsFor.{WaitsFor}
 use Rattle.vm_waiting.specs.declared.waits_for.WaitsFor.TheVariants.{Future, Child}
 use Rattle.vm_request_laws.proofs.RequestBounds.{all_append}
 use Rattle.vm_attempt_laws.proofs.InputAndOutput.{turns_send}
-use Rattle.vm_attempt_laws.proofs.Quiet.{commands_quiet}
+use Rattle.vm_attempt_laws.proofs.Quiet.{commands_open, commands_quiet}
 use Rattle.vm_attempt_laws.proofs.Notes.{TellsNotes, note_turn, cause_tells, fails_with}
 use Rattle.vm_attempt_laws.specs.Bodies.{outcomes_in}
 use Rattle.vm_attempt_laws.specs.Machine.phases
-use Rattle.vm_attempt_laws.specs.AttemptInvariants.{FailsWith, TellsBy}
+use Rattle.vm_attempt_laws.specs.AttemptInvariants.{FailsWith, IsNoFailure, TellsBy}
 use Rattle.vm_attempt_laws.specs.Machine.{IsCopy, writes_frames, MachineState, Written, TellsFailureCause, out_of_memory, told_error, Fails, Cause, ByFault, NoNumber, TooLong, TooDeep, NoReplay, NoMemory, HasPut, requests_passed_on, FailsWhen}
 use Rattle.vm_attempt_laws.specs.InputOfAttempt.{Kind}
 use Rattle.vm_attempt_laws.specs.OutputOfAttempt.{Sent, Asks, Fails as SentFails, sent_stream, AllFit, frame_meant, IsOfStore}
@@ -32,6 +32,7 @@ use Rattle.vm_attempt_laws.specs.TurnsInRun.{IsTurnOf, RunWaitsFor, IsOwnCause, 
 use Rattle.vm_attempt_laws.proofs.Now.{Now, compares, call_of, reply_at}
 use Rattle.vm_attempt_laws.proofs.Midway.{PassesOn, passes_on, no_front, none_written}
 use Rattle.vm_attempt_laws.proofs.Stored.{notes_of_store}
+use Rattle.vm_attempt_laws.proofs.Unfailed.{CauseAsksNoEnd, cause_open, refused_code, sent_open, told_open}
 use Rattle.vm_attempt_laws.proofs.TurnOutput.{passed_of_store, of_output, opened, passed_may, passed_fit, passed_recorded}
 
 -- what a failing turn has told, and why
@@ -42,22 +43,13 @@ pub record FailsSo (next : Handler) (version : Version) (is_closed : Bool) (live
   pub bytes : new.active.output.bytes ≡ vm.active.output.bytes ++ sent_stream version coming
   pub makes : IsTurnOf next is_closed live (map (frame_meant version) coming)
   pub quiet : outcomes_in (map (frame_meant version) coming) ≡ []
+  pub unfailed : AllByRecursion IsNoFailure (map (frame_meant version) coming)
   pub kept : Error
   pub phase : new.phase ≡ phases.Failed kept
   pub copies : IsCopy kept error
   pub by : FailsBy next version live (next live.start.given.input answers) vm new error coming
 
 -- ---- what its own causes tell
-
-pub refused_code : (refused : CallRefusal) → (refusal_code refused ≡ internal) ⊎ (refusal_code refused ≡ unsupported_feature)
-refused_code CallRefusal.EmptyIdempotencyKey = inl refl
-refused_code CallRefusal.EmptyScope = inl refl
-refused_code CallRefusal.EmptyLimitKey = inl refl
-refused_code CallRefusal.UnsupportedScope = inr refl
-refused_code CallRefusal.UnsupportedLimitKey = inr refl
-refused_code CallRefusal.UnsupportedFailureMetadata = inr refl
-refused_code CallRefusal.UnsupportedAtLeast = inr refl
-refused_code CallRefusal.OutOfBoundsDuration = inl refl
 
 pub either_code : (new : MachineState) (text : Option Bytes) (told : Error) → TellsEither new.active.journal internal text told → told.code.0 ≡ internal
 either_code new text told (inl plain) = ap (λ (e : Error). e.code.0) plain.plain
@@ -225,6 +217,11 @@ module _ (next : Handler) (version : Version) (options : VMOptions) (is_closed :
         makes = subst (λ (frames : List Frame). IsTurnOf next is_closed live frames) (sym (meant of_version stop.meant)) (passed_follow f.far (map (frame_meant version) told.coming) notes);
         quiet = ap outcomes_in (meant of_version stop.meant) ∙ commands_quiet f.far.more (map (frame_meant version) told.coming)
             ∙ subst (λ (v : Version). outcomes_in (map (frame_meant v) told.coming) ≡ []) of_version told.quiet;
+        unfailed = subst (AllByRecursion IsNoFailure) (sym (meant of_version stop.meant))
+            (commands_open f.far.more (map (frame_meant version) told.coming)
+            (sent_open version f.fails.told told.coming
+            (told_open vm.version vm.options.journal_mismatch_retry_behavior f.told (writes_frames f.far.more vm.active.output) f.fails.told f.fails.before (causes f.told f.has_cause.tells) f.fails.tells)
+            told.tells));
         kept = f.fails.told;
         phase = f.fails.phase_is;
         copies = f.fails.answers;
@@ -232,6 +229,14 @@ module _ (next : Handler) (version : Version) (options : VMOptions) (is_closed :
             (by_cause error new f told.coming told.tells);
       }
     where
+      causes : (cause : Result Error AllocError)
+          → IfOk cause (λ e. CauseTells vm.version (started_id vm.start) f.far.put.left new.active.journal (slots_of new.active.results) vm.runs (call_of next live n.at) f.has_cause.cause e)
+          → CauseAsksNoEnd vm.version vm.options.journal_mismatch_retry_behavior cause
+      causes (Ok e) tells =
+          cause_open vm.version vm.options.journal_mismatch_retry_behavior new e next live (call_of next live n.at) vm f.far.put.left (started_id vm.start) f.has_cause.cause
+          (own f.far f.has_cause.cause f.has_cause.when) tells
+      causes (Err refused) tells = tt
+
       told : TellsNotes f.fails.told (writes_frames f.far.more vm.active.output) f.fails.before
       told =
           cause_tells vm.version vm.options.journal_mismatch_retry_behavior f.told (writes_frames f.far.more vm.active.output) f.fails.told f.fails.before (opened next version options is_closed live vm n)

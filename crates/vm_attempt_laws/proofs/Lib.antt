@@ -8,6 +8,8 @@ pub mod Feeding
 pub mod Phases
 pub mod Quiet
 pub mod Notes
+pub mod Errors
+pub mod Unfailed
 pub mod Closing
 pub mod InputAndOutput
 pub mod Recorded

@@ -18,7 +18,8 @@ use Rattle.vm_attempt_laws.specs.BodyExecution.{BodyCause, BodyFailsWhen, BodyTo
 use Rattle.vm_attempt_laws.specs.OutputOfAttempt.{Sent}
 use Rattle.vm_attempt_laws.specs.Words.{internal, unsupported_feature, journal_mismatch, Error, Version, version_number, Call, Request, Handler, arrivals_carried, AttemptInRun, VMOptions}
 use Rattle.vm_attempt_laws.specs.TurnsInRun.{FailsByBody, tried_by, IsBodyCode, IsOwnCause, IsToldAs, FailsBy, TurnServes, TurnsMatch}
-use Rattle.vm_attempt_laws.proofs.Failing.{refused_code, either_code}
+use Rattle.vm_attempt_laws.proofs.Failing.{either_code}
+use Rattle.vm_attempt_laws.proofs.Unfailed.{refused_code}
 
 -- the behaviour that is asked for changes no code
 failed_code : (version : Version) (asked : JournalMismatchRetryBehavior) (error : Error) → (failed_with (version_number version) asked error).code.0 ≡ error.code.0

@@ -1,18 +1,49 @@
 -- What each turn of an attempt tells of the run.
 use Rattle.std.proofs.Common.{◌≡◌, ◌⊎◌, inl, inr, ◌∙◌, ℕ, suc, pred, Bool, false, List, [], ◌∷◌, ◌++◌, map, Option, Some, None, refl, sym, ap, subst}
 use Rattle.journal_model.specs.Run.{GoesOn, RefusedCall, Ended, run, run_requests}
+use Rattle.std.specs.List.{AllByRecursion}
 use Rattle.replay_laws.proofs.Standing.{at}
+use Rattle.replay_laws.specs.ReplayedAttempt.{IsOfJournal}
 use Rattle.attempt_model.specs.Machine.{Mismatch, UncompletedInReplay, EndInReplay, KeysNotText, ChildNotId, Refused}
 use Rattle.vm_attempt_laws.specs.Attempts.{Attempt, Turn}
-use Rattle.vm_attempt_laws.specs.Bodies.{Body, NonEmptyValue, RunOutcome}
+use Rattle.vm_attempt_laws.specs.Bodies.{Body, by_policy, Executor, IsBehind, IsReplayed, NonEmptyValue, RunOutcome}
 use Rattle.vm_attempt_laws.specs.Machine.{Cause, ByFault, NoNumber, TooLong, TooDeep, NoReplay, NoMemory}
-use Rattle.vm_attempt_laws.specs.BodyExecution.{RunWaitsFor, WaitsForOthers, ExecutesFirst}
+use Rattle.vm_attempt_laws.specs.BodyExecution.{BodyCause, BodyToldAs, IsBodyCode, LacksMemory, RunWaitsFor, tried_by, WaitsForOthers, ExecutesFirst}
 use Rattle.vm_attempt_laws.specs.OutputOfAttempt.{Sent, frame_meant}
-use Rattle.vm_attempt_laws.specs.AttemptSimulation.{HasNotRead, HasRead, Serves}
-use Rattle.vm_attempt_laws.specs.TurnReports.{Told, HasCome, HasJournal, FailsSo, refused, of_body, lacks, too_deep, TurnTells, IsAttemptTold, TellsOne, TurnsTell}
-use Rattle.vm_attempt_laws.specs.TurnsInRun.{turns_answered, IsOwnCause, FailsBy, FailsFor, FailsForBody, TurnsBehind, TurnServes}
-use Rattle.vm_attempt_laws.specs.Words.{Arrival, arrivals_carried, after_turn, Error, Handler, HasReadJournal, Input, item_at, AttemptInRun, Request, requests_carried, Version, VMOptions}
+use Rattle.vm_attempt_laws.specs.AttemptSimulation.{HasBodies, HasNotRead, HasRead, Serves}
+use Rattle.vm_attempt_laws.specs.TurnReports.{Told, IsAcknowledgedBy, HasCome, HasJournal, ProposesOutcomeOf, FailsSo, refused, of_body, lacks, too_deep, IsLacking, memory, numbers, room, TurnTells, IsAttemptTold, TellsOne, TurnsTell}
+use Rattle.vm_attempt_laws.specs.TurnsInRun.{RunsOne, turns_answered, IsOwnCause, IsToldAs, FailsBy, FailsFor, FailsForBody, TurnsBehind, TurnServes}
+use Rattle.vm_attempt_laws.specs.Words.{Arrival, arrivals_carried, after_turn, CarriesArrival, CarriesOutcome, CarriesRequest, Error, Handler, HasReadJournal, Input, InputMessage, item_at, AttemptInRun, Request, requests_carried, unsupported_feature, Version, VMOptions}
 use Rattle.vm_attempt_laws.proofs.Matching.{code_of_cause, body_code, IsCodeOf, IsOwnCode, IsCode}
+
+-- ---- what is acknowledged
+
+front_of_all : {A : Type 0} (P : A → Type 0) (xs ys : List A) → AllByRecursion P (xs ++ ys) → AllByRecursion P xs
+front_of_all P [] ys all = tt
+front_of_all P (x ∷ xs) ys all = (all.0, front_of_all P xs ys all.1)
+
+module _ (proposed : List (ℕ × NonEmptyValue)) where
+  -- a journal acknowledges nothing, and what comes behind it what was proposed
+  behind_acknowledged : (version : ℕ) (later : List InputMessage) → AllByRecursion (IsBehind version proposed) later → AllByRecursion (IsAcknowledgedBy proposed) later
+  behind_acknowledged version [] all = tt
+  behind_acknowledged version (CarriesArrival type arrival ∷ later) all = (tt, behind_acknowledged version later all.1)
+  behind_acknowledged version (CarriesOutcome completion value ∷ later) all = (all.0.1, behind_acknowledged version later all.1)
+  behind_acknowledged version (message ∷ later) all = absurd all.0
+
+  input_acknowledged : (version : ℕ) (journal later : List InputMessage) → AllByRecursion IsOfJournal journal → AllByRecursion (IsBehind version proposed) later
+      → AllByRecursion (IsAcknowledgedBy proposed) (journal ++ later)
+  input_acknowledged version [] later journal behind = behind_acknowledged version later behind
+  input_acknowledged version (CarriesRequest request ∷ messages) later journal behind = (tt, input_acknowledged version messages later journal.1 behind)
+  input_acknowledged version (CarriesArrival type arrival ∷ messages) later journal behind = (tt, input_acknowledged version messages later journal.1 behind)
+  input_acknowledged version (message ∷ messages) later journal behind = absurd journal.0
+
+pub read_acknowledged : (next : Handler) (live : AttemptInRun) (proposed : List (ℕ × NonEmptyValue)) (e : Executor) → IsReplayed next live proposed e → AllByRecursion (IsAcknowledgedBy proposed) live.read
+read_acknowledged next live proposed e lives =
+    front_of_all (IsAcknowledgedBy proposed) live.read live.unread
+    (subst (AllByRecursion (IsAcknowledgedBy proposed)) (sym lives.parts)
+    (tt, input_acknowledged proposed live.start.given.version live.start.journal lives.later lives.start.journal lives.later_are))
+
+-- ---- what a turn tells
 
 module _ (next : Handler) (live : AttemptInRun) (told : Told) (proposed : List (ℕ × NonEmptyValue)) (calls_are : pred told.answered ≡ live.calls) (proposed_are : told.proposed ≡ proposed) where
   abbrev own_requests : List Request
@@ -37,9 +68,15 @@ module _ (next : Handler) (live : AttemptInRun) (told : Told) (proposed : List (
       (subst (λ (some : List (ℕ × NonEmptyValue)). ExecutesFirst next live.start.given arrivals live.calls own_requests some body) (sym proposed_are) w))
 
 module _ {H : Type 0} (function : H → Handler) (next : Handler) (version : Version) (options : VMOptions) (is_closed : Bool) (live : AttemptInRun) (before : Attempt H) (proposed : List (ℕ × NonEmptyValue)) (ran : RunOutcome)
-    (told : Told) (s : Serves function next version options live is_closed before) (t : IsAttemptTold live before is_closed proposed told) where
-  abbrev come : HasCome live.start told.bytes
-  come = record { read = live.read; kept = live.held; parts = t.bytes; whole = ap item_at (sym s.bytes) ∙ s.whole }
+    (told : Told) (own : HasBodies next live proposed before) (s : Serves function next version options live is_closed before) (t : IsAttemptTold live before is_closed proposed told) where
+  abbrev pub come : HasCome live.start told.bytes told.proposed
+  come = record {
+    read = live.read;
+    kept = live.held;
+    parts = t.bytes;
+    whole = ap item_at (sym s.bytes) ∙ s.whole;
+    acknowledged = subst (λ (some : List (ℕ × NonEmptyValue)). AllByRecursion (IsAcknowledgedBy some) live.read) (sym t.outcomes) (read_acknowledged next live proposed own.executor own.lives);
+  }
 
   -- the first that has answered reads the input
   calls_so : HasNotRead function next version options live is_closed before ⊎ HasRead function next version options live before → pred (turns_answered before.input live.calls) ≡ live.calls
@@ -48,6 +85,18 @@ module _ {H : Type 0} (function : H → Handler) (next : Handler) (version : Ver
 
   calls_are : pred told.answered ≡ live.calls
   calls_are = ap pred t.answered ∙ calls_so s.stands
+
+  -- the body that it has executed, and its outcome, by what was told
+  pub told_outcome : (sent : List Sent) (after : Attempt H) (b : RunsOne function next version options is_closed live before proposed ran sent after)
+      → ProposesOutcomeOf next live.start told come ran b.body b.value
+  told_outcome sent after b = record {
+    journal = record { later = b.journal.later; parts = b.journal.parts };
+    first = told_first next live told proposed calls_are t.outcomes b.body b.first;
+    written = live.machine.written;
+    behind = ap (λ (calls : ℕ). run_requests next live.start.given (arrivals_carried live.read) (suc calls)) calls_are ∙ b.first.waits.exactly;
+    shows = b.shows;
+    outcome = b.outcome;
+  }
 
   abbrev Tells : Turn → Told → Type 0
   Tells turn now = TurnTells next live.start told come ran turn now
@@ -77,36 +126,51 @@ module _ {H : Type 0} (function : H → Handler) (next : Handler) (version : Ver
   -- ---- why it has failed
 
   of_depth : (error : Error) → RunWaitsFor next live.start.given (arrivals_carried live.read) live.calls → IsOwnCode error → FailsSo next live.start told come ran error
-  of_depth error waits (inl is) = lacks is
+  of_depth error waits (inl is) = lacks (room is)
   of_depth error waits (inr is) = too_deep (subst (λ (calls : ℕ). RunWaitsFor next live.start.given (arrivals_carried live.read) calls) (sym calls_are) waits) is
 
   for_call : (error : Error) (sent : List Sent) (after : Attempt H) → FailsBy next version live (next live.start.given.input before.answers) before.vm.state after.vm.state error sent → FailsSo next live.start told come ran error
-  for_call error sent after by = by_why by.cause by.own (code_of_cause next version live (next live.start.given.input before.answers) before.vm.state after.vm.state error sent by)
+  for_call error sent after by = by_why by.cause by.own by.told (code_of_cause next version live (next live.start.given.input before.answers) before.vm.state after.vm.state error sent by)
     where
-      by_why : (cause : Cause) → IsOwnCause next live.start.given (arrivals_carried live.read) live.calls cause → IsCodeOf cause error → FailsSo next live.start told come ran error
-      by_why (ByFault (Refused refusal)) own code = refused refusal (subst (λ (calls : ℕ). (run next live.start.given (arrivals_carried live.read) (suc calls)).ending ≡ RefusedCall refusal) (sym calls_are) own)
-      by_why (ByFault Mismatch) own code = absurd own
-      by_why (ByFault UncompletedInReplay) own code = absurd own
-      by_why (ByFault EndInReplay) own code = absurd own
-      by_why (ByFault KeysNotText) own code = absurd own
-      by_why (ByFault ChildNotId) own code = absurd own
-      by_why TooDeep own code = of_depth error own code
-      by_why NoNumber own code = lacks code
-      by_why TooLong own code = lacks code
-      by_why NoReplay own code = absurd own
-      by_why NoMemory own code = lacks code
+      by_why : (cause : Cause) → IsOwnCause next live.start.given (arrivals_carried live.read) live.calls cause
+          → IsToldAs version live (next live.start.given.input before.answers) before.vm.state after.vm.state by.far.more cause error sent → IsCodeOf cause error → FailsSo next live.start told come ran error
+      by_why (ByFault (Refused refusal)) own told_as code = refused refusal (subst (λ (calls : ℕ). (run next live.start.given (arrivals_carried live.read) (suc calls)).ending ≡ RefusedCall refusal) (sym calls_are) own)
+      by_why (ByFault Mismatch) own told_as code = absurd own
+      by_why (ByFault UncompletedInReplay) own told_as code = absurd own
+      by_why (ByFault EndInReplay) own told_as code = absurd own
+      by_why (ByFault KeysNotText) own told_as code = absurd own
+      by_why (ByFault ChildNotId) own told_as code = absurd own
+      by_why TooDeep own told_as code = of_depth error own code
+      by_why NoNumber own told_as code = lacks (numbers code)
+      by_why TooLong own told_as code = lacks (room code)
+      by_why NoReplay own told_as code = absurd own
+      by_why NoMemory own told_as code = lacks (memory told_as)
 
   for_body : (error : Error) (sent : List Sent) → (body : Body) → ExecutesFirst next live.start.given (arrivals_carried live.read) live.calls (requests_carried live.read ++ live.machine.written) proposed body
-      → IsCode ran error.code.0 → FailsSo next live.start told come ran error
-  for_body error sent body first (inl is) = lacks is
+      → IsLacking error ⊎ ((error.code.0 ≡ unsupported_feature) ⊎ IsBodyCode ran.result error.code.0) → FailsSo next live.start told come ran error
+  for_body error sent body first (inl lacking) = lacks lacking
   for_body error sent body first (inr (inl is)) = of_body body (told_first next live told proposed calls_are t.outcomes body first) (inr is)
   for_body error sent body first (inr (inr own)) = of_body body (told_first next live told proposed calls_are t.outcomes body first) (inl own)
+
+  -- an internal error of a body is that there was no memory, or no room for its outcome or its error
+  body_lacks : (error : Error) (sent : List Sent) → FailsForBody function next version options is_closed live before proposed ran error sent
+      → IsLacking error ⊎ ((error.code.0 ≡ unsupported_feature) ⊎ IsBodyCode ran.result error.code.0)
+  body_lacks error sent by = by_why by.cause by.told (body_code next live proposed version options ran before.vm.state error sent by)
+    where
+      by_code : IsCode ran error.code.0 → IsLacking error ⊎ ((error.code.0 ≡ unsupported_feature) ⊎ IsBodyCode ran.result error.code.0)
+      by_code (inl is) = inl (room is)
+      by_code (inr other) = inr other
+
+      by_why : (why : BodyCause) → BodyToldAs version options (by_policy ran) (tried_by live by.shows) before.vm.state by.run why error sent → IsCode ran error.code.0
+          → IsLacking error ⊎ ((error.code.0 ≡ unsupported_feature) ⊎ IsBodyCode ran.result error.code.0)
+      by_why LacksMemory told_as code = inl (memory told_as)
+      by_why why told_as code = by_code code
 
   failed_so : (error : Error) (sent : List Sent) (after : Attempt H) → FailsFor function next version options is_closed live before error sent after
       ⊎ FailsForBody function next version options is_closed live before proposed ran error sent
       → FailsSo next live.start told come ran error
   failed_so error sent after (inl by) = for_call error sent after by
-  failed_so error sent after (inr by) = for_body error sent by.body by.first (body_code next live proposed version options ran before.vm.state error sent by)
+  failed_so error sent after (inr by) = for_body error sent by.body by.first (body_lacks error sent by)
 
   abbrev One : Turn → Attempt H → Type 0
   One turn after = TellsOne function next version options live.start is_closed told ran turn after
@@ -132,7 +196,7 @@ module _ {H : Type 0} (function : H → Handler) (next : Handler) (version : Ver
   by_turn sent Turn.RanBody after b = record {
     come = come;
     now = record told { proposed = told.proposed ++ (b.body.completion, b.value) ∷ [] };
-    tells = (b.body, b.value, told_first next live told proposed calls_are t.outcomes b.body b.first, refl);
+    tells = (b.body, b.value, told_outcome sent after b, refl);
     goes_on = inr (record {
       live = after_turn live (map (frame_meant version) sent) live.calls b.machine;
       proposed = proposed ++ (b.body.completion, b.value) ∷ [];
@@ -184,4 +248,4 @@ module _ {H : Type 0} (function : H → Handler) (next : Handler) (version : Ver
 pub turns_tell : {H : Type 0} (function : H → Handler) (next : Handler) (version : Version) (options : VMOptions) → TurnServes function next version options → TurnsTell function next version options
 turns_tell function next version options keeps is_closed live before proposed ran turn after told queued b s t turns =
     let k = keeps is_closed live before proposed ran turn after queued b s turns in
-    by_turn function next version options is_closed live before proposed ran told s t k.sent turn after k.behind
+    by_turn function next version options is_closed live before proposed ran told b s t k.sent turn after k.behind

@@ -57,6 +57,8 @@ module _ {H : Type 0} (function : H → Handler) (next : Handler) (version : Ver
     output = same ∙ sym (append-nil (output_of before));
     makes = no_turn next is_closed live;
     proposes = quiet;
+    errors = tt;
+    unfailed = λ may. tt;
     behind = behind;
   }
 

@@ -1,6 +1,7 @@
 -- Each turn of an attempt, by what its machine does.
 use Rattle.std.proofs.Common.{◌≡◌, ◌⊎◌, inl, inr, ◌∙◌, ℕ, suc, Bool, true, false, List, [], ◌∷◌, ◌++◌, map, Option, Some, refl, sym, ap, subst}
 use Rattle.std.proofs.Math.Path.{fun_ext}
+use Rattle.std.specs.List.{AllByRecursion}
 use Rattle.journal_model.specs.AwaitTree.{map_leaves}
 use Rattle.journal_model.specs.History.{stands_for}
 use Rattle.journal_model.specs.Future.{tree_of}
@@ -12,9 +13,11 @@ use Rattle.vm_waiting.specs.declared.waits_for.WaitsFor.TheVariants.{Future, Chi
 use Rattle.run_laws.proofs.Awaits.{awaits_tell, children_tell}
 use Rattle.vm_outcomes.proofs.Failing.{none_put}
 use Rattle.vm_attempt_laws.specs.Bodies.{Executor, IsReplayed, KeepsBodies, NonEmptyValue, outcomes_in, RunOutcome}
+use Rattle.vm_attempt_laws.specs.AttemptInvariants.{IsNoError, TellsErrorBy}
 use Rattle.vm_attempt_laws.specs.AttemptSimulation.{HasNumbers, HasRead, HasBodies, Serves, finished, machine_failed}
 use Rattle.vm_attempt_laws.proofs.Notes.{answers_kept, waits_more}
-use Rattle.vm_attempt_laws.proofs.Quiet.{answer_quiet, waits_quiet}
+use Rattle.vm_attempt_laws.proofs.Errors.{call_errors, calm_unfailed, memory_told}
+use Rattle.vm_attempt_laws.proofs.Quiet.{answer_calm, answer_quiet, waits_calm, waits_quiet}
 use Rattle.vm_attempt_laws.proofs.Bodies.{keeps_with}
 use Rattle.vm_attempt_laws.proofs.Executing.{WithBodies, answered_lives, answered_keeps, none_executing, waits_live, waits_others}
 use Rattle.vm_attempt_laws.proofs.Going.{OnlyTurns, serves_on}
@@ -58,8 +61,8 @@ module _ {H : Type 0} (function : H → Handler) (next : Handler) (version : Ver
     sent_more : output_of after ≡ output_of before ++ sent_stream version sends.coming
     sent_more = waits_more version sends.coming before after front (ap (λ (m : MachineState). m.active.output.bytes) state_is ∙ sends.bytes)
 
-    keeps_turn : (turn : Turn) → ProposesAs turn (map (frame_meant version) sends.coming) → TurnsBehind function next version options is_closed live before proposed ran sends.coming turn after → Keeps turn after
-    keeps_turn turn quiet behind = record {
+    keeps_turn : (turn : Turn) → ProposesAs turn (map (frame_meant version) sends.coming) → AllByRecursion (TellsErrorBy turn) (map (frame_meant version) sends.coming) → AllByRecursion IsNoError (map (frame_meant version) sends.coming) → TurnsBehind function next version options is_closed live before proposed ran sends.coming turn after → Keeps turn after
+    keeps_turn turn quiet errors calm behind = record {
       sent = sends.coming;
       fit = sends.fit;
       of_store = sent_of_store live.start.given.version is_closed live.machine (reply_at next live before.vm.state n.at) version sends.coming
@@ -67,6 +70,8 @@ module _ {H : Type 0} (function : H → Handler) (next : Handler) (version : Ver
       output = sent_more;
       makes = n.makes.turns (map (frame_meant version) sends.coming) n.whole sends.sends;
       proposes = quiet;
+      errors = errors;
+      unfailed = λ may. calm_unfailed (map (frame_meant version) sends.coming) calm;
       behind = behind;
     }
 
@@ -102,6 +107,9 @@ module _ {H : Type 0} (function : H → Handler) (next : Handler) (version : Ver
         quiet : ProposesAs Turn.Answered (map (frame_meant version) so.sends.coming)
         quiet = answer_quiet live.start.given.version is_closed live.machine (map (frame_meant version) so.sends.coming) answer a.machine sends
 
+        calm : AllByRecursion IsNoError (map (frame_meant version) so.sends.coming)
+        calm = answer_calm live.start.given.version is_closed live.machine (map (frame_meant version) so.sends.coming) answer a.machine sends
+
         next_one : AnswersNext next live.start.given (requests_carried live.read) (arrivals_carried live.read) live.calls answer a.machine
         next_one = subst (RepliesAsRun next live.start.given (requests_carried live.read) (arrivals_carried live.read) live.calls) a.replies n.as_run
 
@@ -121,7 +129,7 @@ module _ {H : Type 0} (function : H → Handler) (next : Handler) (version : Ver
             let answers = ap (λ (a : Attempt H). a.answers) is ∙ ap (λ (some : List Answer). some ++ answer ∷ []) r.answers ∙ sym next_one.answers in
             let counted : turns_answered after.input (suc live.calls) ≡ suc (turns_answered before.input live.calls) =
             ap (λ (i : Option Input). turns_answered i (suc live.calls)) (input ∙ r.input) ∙ sym (ap (λ (i : Option Input). suc (turns_answered i live.calls)) r.input) in
-            subst (λ (t : Turn). Keeps t after) (sym one.0) (keeps_turn vm after front state_is so.sends Turn.Answered quiet (
+            subst (λ (t : Turn). Keeps t after) (sym one.0) (keeps_turn vm after front state_is so.sends Turn.Answered quiet calm calm (
               suc live.calls,
               a.machine,
               counted,
@@ -134,7 +142,7 @@ module _ {H : Type 0} (function : H → Handler) (next : Handler) (version : Ver
         taken (inr over) =
             let is = over.1 in
             subst (λ (t : Turn). Keeps t after) (sym over.0)
-            (keeps_turn vm after (ap (λ (a : Attempt H). a.front ++ a.behind) is) (ap (λ (a : Attempt H). a.vm.state) is) so.sends (Turn.Failed out_of_memory) quiet
+            (keeps_turn vm after (ap (λ (a : Attempt H). a.front ++ a.behind) is) (ap (λ (a : Attempt H). a.vm.state) is) so.sends (Turn.Failed out_of_memory) quiet (memory_told (map (frame_meant version) so.sends.coming)) calm
             (inl (no_memory so.sends.coming after), finished finishes.OutOfMemory (ap (λ (a : Attempt H). a.over) is), λ kept none. inr refl))
 
     -- what is written where it is suspended
@@ -161,7 +169,7 @@ module _ {H : Type 0} (function : H → Handler) (next : Handler) (version : Ver
         }
 
     pub waiting : Waits live.start.given live.machine (call_of next live n.at) before.vm.state vm.state → turn ≡ Turn.Waiting → after ≡ record before { vm = vm } → Keeps turn after
-    waiting p is_turn is = subst (λ (t : Turn). Keeps t after) (sym is_turn) (keeps_turn vm after front state_is so Turn.Waiting quiet (
+    waiting p is_turn is = subst (λ (t : Turn). Keeps t after) (sym is_turn) (keeps_turn vm after front state_is so Turn.Waiting quiet calm calm (
       inr (sym (ap (λ (k : Kind). k.is_input_closed) n.kind) ∙ is_open, waits_others next version options is_closed live before.vm.state n proposed b.executor w p.waits p.machine p.replies p.none p.written),
       (
         p.machine,
@@ -193,6 +201,9 @@ module _ {H : Type 0} (function : H → Handler) (next : Handler) (version : Ver
         quiet : ProposesAs Turn.Waiting (map (frame_meant version) so.coming)
         quiet = waits_quiet live.start.given.version is_closed live.machine (map (frame_meant version) so.coming) p.waits p.machine sends
 
+        calm : AllByRecursion IsNoError (map (frame_meant version) so.coming)
+        calm = waits_calm live.start.given.version is_closed live.machine (map (frame_meant version) so.coming) p.waits p.machine sends
+
         told : IsTold next version options is_closed live before.vm.state n p.waits p.machine
         told = is_told next version options is_closed live before.vm.state n p.waits p.machine p.replies
 
@@ -219,7 +230,9 @@ module _ {H : Type 0} (function : H → Handler) (next : Handler) (version : Ver
         let sent = subst (λ (r : Reply). SendsReply live.start.given.version is_closed live.machine r (map (frame_meant version) sends.coming)) p.replies sends.sends in
         subst (λ (t : Turn). Keeps t after) (sym over.0)
         (keeps_turn vm after (ap (λ (a : Attempt H). a.front ++ a.behind) is) (ap (λ (a : Attempt H). a.vm.state) is) sends Turn.Suspended
-        (waits_quiet live.start.given.version is_closed live.machine (map (frame_meant version) sends.coming) p.waits p.machine sent) (
+        (waits_quiet live.start.given.version is_closed live.machine (map (frame_meant version) sends.coming) p.waits p.machine sent)
+        (waits_calm live.start.given.version is_closed live.machine (map (frame_meant version) sends.coming) p.waits p.machine sent)
+        (waits_calm live.start.given.version is_closed live.machine (map (frame_meant version) sends.coming) p.waits p.machine sent) (
           closed,
           waits_others next version options is_closed live before.vm.state n proposed b.executor w p.waits p.machine p.replies p.none p.written,
           finished finishes.Suspended (ap (λ (a : Attempt H). a.over) is),
@@ -234,7 +247,7 @@ module _ {H : Type 0} (function : H → Handler) (next : Handler) (version : Ver
         let ends = subst (RepliesAsRun next live.start.given (requests_carried live.read) (arrivals_carried live.read) live.calls) e.replies n.as_run in
         let sent = subst (λ (r : Reply). SendsReply live.start.given.version is_closed live.machine r (map (frame_meant version) sends.coming)) e.replies sends.sends in
         subst (λ (t : Turn). Keeps t after) (sym over.0)
-        (keeps_turn vm after (ap (λ (a : Attempt H). a.front ++ a.behind) is) (ap (λ (a : Attempt H). a.vm.state) is) sends Turn.Ended (ap outcomes_in sent) (
+        (keeps_turn vm after (ap (λ (a : Attempt H). a.front ++ a.behind) is) (ap (λ (a : Attempt H). a.vm.state) is) sends Turn.Ended (ap outcomes_in sent) (subst (AllByRecursion IsNoError) (sym sent) (tt, tt)) (subst (AllByRecursion IsNoError) (sym sent) (tt, tt)) (
           record { over = ends.ended; exactly = ends.exactly },
           finished finishes.Ended (ap (λ (a : Attempt H). a.over) is),
           sent,
@@ -251,5 +264,7 @@ module _ {H : Type 0} (function : H → Handler) (next : Handler) (version : Ver
           output = waits_more version so.coming before after (ap (λ (a : Attempt H). a.front ++ a.behind) is) (ap (λ (m : MachineState). m.active.output.bytes) state_is ∙ so.bytes);
           makes = so.makes;
           proposes = so.quiet;
+          errors = call_errors next version live (next live.start.given.input before.answers) before.vm.state vm.state error so.coming so.by;
+          unfailed = λ may. so.unfailed;
           behind = (inl (subst (λ (m : MachineState). FailsBy next version live (next live.start.given.input before.answers) before.vm.state m error so.coming) (sym state_is) so.by), machine_failed so.kept (ap (λ (m : MachineState). m.phase) state_is ∙ so.phase), answers_kept so.kept error after (ap (λ (m : MachineState). m.phase) state_is ∙ so.phase) so.copies);
         })

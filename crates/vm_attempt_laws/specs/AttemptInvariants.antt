@@ -2,6 +2,7 @@
 use Rattle.std.specs.Prelude.{◌≡◌, ◌⊎◌, ◌≤◌, ℕ, Bool, true, false, List, [], ◌∷◌, ◌++◌, map, Result, Ok}
 use Rattle.std.specs.List.{AllByRecursion}
 use Rattle.std.specs.declared.alloc.AllocError.{AllocError}
+use Rattle.journal_model.specs.Event.{Fail}
 use Rattle.protocol_errors.specs.Fixed.{fixed_code, fixed_text}
 use Rattle.protocol_errors.specs.declared.fixed.FixedError.TheVariants.{InputClosedWhileWaitingEntries}
 use Rattle.vm_attempt.specs.Attempt.{ClosesInput}
@@ -26,6 +27,26 @@ FailsWith error old told = (told ≡ error) ⊎ (IsErrorTooLong error old × (to
 -- what it has written by that: the frame of what it fails with, and nothing where memory was refused
 abbrev pub TellsBy : (told : Error) → List Sent → Type 0
 TellsBy told sent = (sent ≡ Fails (told_error told) ∷ []) ⊎ ((told ≡ out_of_memory) × (sent ≡ []))
+
+-- the frame is no error that ends its invocation
+abbrev pub IsNoFailure : Frame → Type 0
+IsNoFailure (Frame.Error code message Fail delay) = ⊥
+IsNoFailure frame = Unit {0}
+
+-- the frame is no error
+abbrev pub IsNoError : Frame → Type 0
+IsNoError (Frame.Error code message behavior delay) = ⊥
+IsNoError frame = Unit {0}
+
+-- an error frame tells the error that was answered, or one for a copy of which there was no memory
+abbrev pub TellsErrorOf : Error → Frame → Type 0
+TellsErrorOf error (Frame.Error code message behavior delay) = (error ≡ out_of_memory) ⊎ ((code ≡ error.code.0) × (message ≡ error.message))
+TellsErrorOf error frame = Unit {0}
+
+-- the errors among the frames of a turn are the one that it has failed by
+abbrev pub TellsErrorBy : Turn → Frame → Type 0
+TellsErrorBy (Turn.Failed error) = TellsErrorOf error
+TellsErrorBy turn = IsNoError
 
 -- what it fails with whose input is closed before its journal was read
 abbrev pub early_error : Error
@@ -124,6 +145,7 @@ module _ {H : Type 0} (function : H → Handler) (next : Handler) (version : Ver
     pub output : output_of after ≡ output_of before ++ sent_stream version sent
     pub notes : AllByRecursion IsNote (map (frame_meant version) sent)
     pub tells : TellsBy error sent
+    pub unfailed : AllByRecursion IsNoFailure (map (frame_meant version) sent)
 
   abbrev pub ClosesServing : Type 0
   ClosesServing = (live : AttemptInRun) (is_closed : Bool) (before after : Attempt H) → Serves function next version options live is_closed before → ClosesInput before after

@@ -1,5 +1,5 @@
 -- The bodies of an attempt's runs: which the run waits for, which of these is executed first, and for which cause one fails its attempt.
-use Rattle.std.specs.Prelude.{◌≡◌, ◌≤◌, ◌⊎◌, ◌*◌, ◌^◌, ℕ, suc, true, false, List, [], ◌∷◌, ◌++◌, length, Option, Some, None, option_map}
+use Rattle.std.specs.Prelude.{◌≡◌, ◌≢◌, ◌≤◌, ◌⊎◌, ◌*◌, ◌^◌, ℕ, suc, true, false, List, [], ◌∷◌, ◌++◌, length, Option, Some, None, option_map}
 use Rattle.std.specs.Duration.{as_nanos}
 use Rattle.std.specs.declared.time.Duration.{Duration}
 use Rattle.journal_model.specs.AwaitTree.{Single, map_leaves}
@@ -13,12 +13,13 @@ use Rattle.protocol_types.specs.declared.feature.Feature.{Feature}
 use Rattle.vm_machine.specs.CallAdmission.{IsAbout}
 use Rattle.vm_machine.specs.Causes.{TellsPlainError}
 use Rattle.vm_start.specs.Failure.{failed_with}
+use Rattle.vm_types.specs.declared.options.JournalMismatchRetryBehavior.TheVariants.{FailTerminally}
 use Rattle.run_laws.specs.Suspended.{left_of}
 use Rattle.vm_attempt_laws.specs.Bodies.{NonEmptyValue, Body, has_handle, bodies_of, Among, has_arrived, count_proposed, RunOutcome, by_policy, RunExitResult, feature_name_of, run_told, with_delay, about, pausing, Tried, inherits, proposal, proposal_message, ending, Outcome, Retry, Pause, feature_lacked, Run, run_at}
 use Rattle.vm_attempt_laws.specs.AttemptInvariants.{FailsWith}
 use Rattle.vm_attempt_laws.specs.Machine.{are_any, MachineState, out_of_memory, told_error}
 use Rattle.vm_attempt_laws.specs.OutputOfAttempt.{Sent, Fails}
-use Rattle.vm_attempt_laws.specs.Words.{internal, unsupported_feature, Error, Version, version_number, NotificationId, AwaitTree, Arrival, arrivals_carried, Request, requests_carried, AttemptInRun, ShowsStart, VMOptions}
+use Rattle.vm_attempt_laws.specs.Words.{internal, unsupported_feature, journal_mismatch, AttemptStart, Error, Version, version_number, NotificationId, AwaitTree, Arrival, arrivals_carried, Request, requests_carried, AttemptInRun, ShowsStart, VMOptions}
 
 -- with one more call the run over these arrivals waits
 abbrev pub RunWaitsFor : (next : Handler) (given : Invocation) (arrivals : List Arrival) (calls : ℕ) → Type 0
@@ -67,9 +68,13 @@ module _ (next : Handler) (given : Invocation) (arrivals : List Arrival) (calls 
 
 -- ---- what it ends as
 
--- what was tried before: while the attempt has written no command, what the start frame tells of attempts since the last entry, in milliseconds
+-- what was tried before by an attempt that has written these requests: while that is none, what the start frame tells of attempts since the
+-- last entry, in milliseconds
+abbrev pub tried_of : (start : AttemptStart) → ShowsStart start → (written : List Request) → Tried
+tried_of start shows written = inherits (are_any written) (record { count = shows.shows.retry_count; nanos = shows.shows.duration * 1000000 })
+
 abbrev pub tried_by : (live : AttemptInRun) → ShowsStart live.start → Tried
-tried_by live shows = inherits (are_any live.machine.written) (record { count = shows.shows.retry_count; nanos = shows.shows.duration * 1000000 })
+tried_by live shows = tried_of live.start shows live.machine.written
 
 -- the outcome is this one, by the policy, and by what was tried before
 abbrev pub OutcomeIs : RunOutcome → Tried → NonEmptyValue → Type 0
@@ -130,3 +135,7 @@ pub record FailsByBody (next : Handler) (live : AttemptInRun) (proposed : List (
 abbrev pub IsBodyCode : RunExitResult → ℕ → Type 0
 IsBodyCode (RunExitResult.RetryableFailure duration error) code = code ≡ error.code.0
 IsBodyCode exit code = ⊥
+
+-- the options do not ask for the end of an invocation whose body has failed as a journal that does not match
+abbrev pub MayNotEnd : VMOptions → RunOutcome → Type 0
+MayNotEnd options ran = IsBodyCode ran.result journal_mismatch → options.journal_mismatch_retry_behavior ≢ FailTerminally

@@ -1,13 +1,15 @@
 -- What each turn of an attempt tells of the run, by what its turns have told before.
 use Rattle.std.specs.Prelude.{◌≡◌, ◌⊎◌, ℕ, suc, pred, Bool, true, false, List, [], ◌∷◌, ◌++◌, map, Option, Some, None}
+use Rattle.std.specs.List.{AllByRecursion}
 use Rattle.journal_model.specs.Run.{GoesOn, RefusedCall, Ended, run, run_requests}
 use Rattle.vm_attempt_laws.specs.Attempts.{Attempt, Turn, Turns}
-use Rattle.vm_attempt_laws.specs.Bodies.{Body, NonEmptyValue, RunOutcome}
-use Rattle.vm_attempt_laws.specs.AttemptInvariants.{early_error}
-use Rattle.vm_attempt_laws.specs.BodyExecution.{RunWaitsFor, WaitsForOthers, ExecutesFirst, IsBodyCode}
+use Rattle.vm_attempt_laws.specs.Machine.{out_of_memory}
+use Rattle.vm_attempt_laws.specs.Bodies.{Among, Body, NonEmptyValue, RunOutcome}
+use Rattle.vm_attempt_laws.specs.AttemptInvariants.{early_error, IsNoError, IsNoFailure, TellsErrorBy}
+use Rattle.vm_attempt_laws.specs.BodyExecution.{RunWaitsFor, WaitsForOthers, ExecutesFirst, IsBodyCode, OutcomeIs, tried_of}
 use Rattle.vm_attempt_laws.specs.AttemptSimulation.{HasBodies, IsOver, Serves}
 use Rattle.vm_attempt_laws.specs.TurnsInRun.{turns_answered}
-use Rattle.vm_attempt_laws.specs.Words.{Arrival, arrivals_carried, AttemptStart, Bytes, CarriesInput, Error, Handler, input_bytes, InputMessage, internal, item_at, AttemptInRun, piece_of, Queued, Refusal, Request, unsupported_feature, Version, VMOptions}
+use Rattle.vm_attempt_laws.specs.Words.{Arrival, arrivals_carried, AttemptStart, Bytes, CarriesInput, CarriesOutcome, Error, Frame, Handler, input_bytes, InputMessage, internal, item_at, AttemptInRun, piece_of, Queued, Refusal, Request, requests_carried, ShowsStart, unsupported_feature, Version, VMOptions}
 
 -- What was told of one attempt by the replies so far: the bytes that it was handed, whether its input was closed, how many of its turns have
 -- answered, the first of which reads the input, which outcomes it has proposed, and the turn by which it is over.
@@ -21,19 +23,51 @@ pub record Told : Type 0 where
 abbrev pub told_nothing : Told
 told_nothing = record { bytes = []; is_closed = false; answered = 0; proposed = []; over = None }
 
--- the messages of its input that have come whole to an attempt that was begun so: its start frame is in front of them
-pub record HasCome (start : AttemptStart) (bytes : Bytes) : Type 0 where
+-- what an attempt lacks that has failed so
+pub data IsLacking (error : Error) : Type 0 where
+  -- a number for what a call makes: a completion, a signal or a handle
+  numbers : error.code.0 ≡ internal → IsLacking error
+  -- room in a frame, for what a call asks or waits for, for the outcome of a body, or for an error
+  room : error.code.0 ≡ internal → IsLacking error
+  memory : error ≡ out_of_memory → IsLacking error
+
+-- while no turn has told that it is over, it has written no error
+abbrev pub TellsErrorAt : Option Turn → Frame → Type 0
+TellsErrorAt None = IsNoError
+TellsErrorAt (Some turn) = TellsErrorBy turn
+
+-- an error that its input was closed too early, or an internal one for that
+abbrev pub IsEarly : Told → (code : ℕ) → Type 0
+IsEarly told code = (told.is_closed ≡ true) × ((code ≡ early_error.code.0) ⊎ (code ≡ internal))
+
+-- A frame that it has written says what was told: an outcome is one that it has proposed; an error ends no invocation, and is the one by which a
+-- turn has failed, or it tells that its input was closed before its journal had come.
+abbrev pub IsFrameTold : Told → Frame → Type 0
+IsFrameTold told (Frame.RunOutcome completion value is_acknowledged) = Among (completion, value) told.proposed
+IsFrameTold told (Frame.Error code message behavior delay) =
+    IsNoFailure (Frame.Error code message behavior delay) × (TellsErrorAt told.over (Frame.Error code message behavior delay) ⊎ IsEarly told code)
+IsFrameTold told frame = Unit {0}
+
+-- an acknowledgement has the number alone: the value that it stands for is one that the attempt has proposed
+abbrev pub IsAcknowledgedBy : List (ℕ × NonEmptyValue) → InputMessage → Type 0
+IsAcknowledgedBy proposed (CarriesOutcome completion value) = Among (completion, value) proposed
+IsAcknowledgedBy proposed message = Unit {0}
+
+-- the messages of its input that have come whole to an attempt that was begun so, and has proposed these outcomes: its start frame is in front
+-- of them
+pub record HasCome (start : AttemptStart) (bytes : Bytes) (proposed : List (ℕ × NonEmptyValue)) : Type 0 where
   pub read : List InputMessage
   pub kept : Bytes
   pub parts : bytes ≡ start.frame ++ (input_bytes (map piece_of read) ++ kept)
   pub whole : item_at kept ≡ None
+  pub acknowledged : AllByRecursion (IsAcknowledgedBy proposed) read
 
 -- its input and its journal are among them
 pub record HasJournal (start : AttemptStart) (read : List InputMessage) : Type 0 where
   pub later : List InputMessage
   pub parts : read ≡ CarriesInput start.new ∷ (start.journal ++ later)
 
-module _ (next : Handler) (start : AttemptStart) (told : Told) (come : HasCome start told.bytes) where
+module _ (next : Handler) (start : AttemptStart) (told : Told) (come : HasCome start told.bytes told.proposed) where
   -- how many calls were answered, and what the run over the arrivals that have come asks for with one more
   abbrev pub calls : ℕ
   calls = pred told.answered
@@ -51,6 +85,16 @@ module _ (next : Handler) (start : AttemptStart) (told : Told) (come : HasCome s
   abbrev pub First : Body → Type 0
   First body = ExecutesFirst next start.given arrivals calls requests told.proposed body
 
+  -- The body has ended with this outcome: the journal had come whole, it is the body that the run waits for first, and the policy says so of how
+  -- it has ended, by what was tried before by an attempt that has asked for these requests behind its journal.
+  pub record ProposesOutcomeOf (ran : RunOutcome) (body : Body) (value : NonEmptyValue) : Type 0 where
+    pub journal : HasJournal start come.read
+    pub first : First body
+    pub written : List Request
+    pub behind : requests ≡ requests_carried come.read ++ written
+    pub shows : ShowsStart start
+    pub outcome : OutcomeIs ran (tried_of start shows written) value
+
   -- why an attempt has failed
   pub data FailsSo (ran : RunOutcome) (error : Error) : Type 0 where
     -- the run refuses the call that its handler makes next
@@ -60,7 +104,7 @@ module _ (next : Handler) (start : AttemptStart) (told : Told) (come : HasCome s
     -- its input was closed before its journal had come
     early : (HasJournal start come.read → ⊥) → told.is_closed ≡ true → error.code.0 ≡ early_error.code.0 → FailsSo ran error
     -- there was no number or no room for what it makes, or no memory
-    lacks : error.code.0 ≡ internal → FailsSo ran error
+    lacks : IsLacking error → FailsSo ran error
     -- the run waits, for what is nested too deep to be told
     too_deep : RunWaitsFor next start.given arrivals calls → error.code.0 ≡ unsupported_feature → FailsSo ran error
 
@@ -68,7 +112,7 @@ module _ (next : Handler) (start : AttemptStart) (told : Told) (come : HasCome s
   abbrev pub TurnTells : RunOutcome → Turn → (now : Told) → Type 0
   TurnTells ran Turn.Answered now = (now ≡ record told { answered = suc told.answered }) × ((told.answered ≡ 0) ⊎ ((run next start.given arrivals told.answered).ending ≡ GoesOn))
   TurnTells ran Turn.RanBody now =
-      (body : Body) × (value : NonEmptyValue) × First body × (now ≡ record told { proposed = told.proposed ++ (body.completion, value) ∷ [] })
+      (body : Body) × (value : NonEmptyValue) × ProposesOutcomeOf ran body value × (now ≡ record told { proposed = told.proposed ++ (body.completion, value) ∷ [] })
   TurnTells ran Turn.Waiting now = (now ≡ told) × ((HasJournal start come.read → ⊥) ⊎ ((told.is_closed ≡ false) × Waits))
   TurnTells ran Turn.Suspended now = (now ≡ record told { over = Some Turn.Suspended }) × (told.is_closed ≡ true) × Waits
   TurnTells ran Turn.Ended now = (now ≡ record told { over = Some Turn.Ended }) × ((run next start.given arrivals (suc calls)).ending ≡ Ended)
@@ -93,7 +137,7 @@ module _ {H : Type 0} (function : H → Handler) (next : Handler) (version : Ver
 
   -- its turn tells this, of the run over the arrivals that have come to it, and it goes on so, or is over
   pub record TellsOne (start : AttemptStart) (is_closed : Bool) (told : Told) (ran : RunOutcome) (turn : Turn) (after : Attempt H) : Type 0 where
-    pub come : HasCome start told.bytes
+    pub come : HasCome start told.bytes told.proposed
     pub now : Told
     pub tells : TurnTells next start told come ran turn now
     pub goes_on : IsOver after ⊎ GoesOnTold start is_closed now after

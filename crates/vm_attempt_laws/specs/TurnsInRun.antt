@@ -10,9 +10,9 @@ use Rattle.vm_outcomes.specs.Causes.{CauseTells}
 use Rattle.vm_attempt_laws.specs.Attempts.{output_of, Turns, Attempt, Turn}
 use Rattle.vm_attempt_laws.specs.Bodies.{requests_asked_by, NonEmptyValue, Body, outcomes_in, outcome_frame, RunOutcome}
 use Rattle.vm_attempt_laws.specs.AttemptSimulation.{Serves, HasBodies, IsOver, AnswersKept}
-use Rattle.vm_attempt_laws.specs.AttemptInvariants.{FailsWith}
+use Rattle.vm_attempt_laws.specs.AttemptInvariants.{FailsWith, IsNoFailure, TellsErrorBy}
 use Rattle.vm_attempt_laws.specs.Machine.{MachineState, out_of_memory, told_error, Cause, ByFault, TooDeep, NoReplay, NoMemory, HasPut, FailsWhen}
-pub use Rattle.vm_attempt_laws.specs.BodyExecution.{RunWaitsFor, RunComesTo, WaitsForOthers, ExecutesFirst, tried_by, OutcomeIs, FailsByBody, IsBodyCode}
+pub use Rattle.vm_attempt_laws.specs.BodyExecution.{RunWaitsFor, RunComesTo, WaitsForOthers, ExecutesFirst, tried_by, OutcomeIs, FailsByBody, IsBodyCode, MayNotEnd}
 use Rattle.vm_attempt_laws.specs.OutputOfAttempt.{Sent, Asks, Fails, sent_stream, AllFit, frame_meant, IsOfStore}
 use Rattle.vm_attempt_laws.specs.Words.{internal, unsupported_feature, Error, Version, version_number, Call, Input, Arrival, Request, arrivals_carried, requests_carried, Machine, Refused, ShowsStart, AttemptInRun, HasReadJournal, after_turn, VMOptions, Queued, TurnsOfRun, requests_sent}
 
@@ -97,6 +97,7 @@ module _ {H : Type 0} (function : H → Handler) (next : Handler) (version : Ver
         pub body : Body
         pub first : ExecutesFirst next live.start.given (arrivals_carried live.read) live.calls (requests_carried live.read ++ live.machine.written) proposed body
         pub value : NonEmptyValue
+        pub journal : HasReadJournal live
         pub shows : ShowsStart live.start
         pub outcome : OutcomeIs ran (tried_by live shows) value
         pub sends : map (frame_meant version) sent ≡ outcome_frame (version_number version) body.completion value ∷ []
@@ -131,6 +132,10 @@ module _ {H : Type 0} (function : H → Handler) (next : Handler) (version : Ver
         pub output : output_of after ≡ output_of before ++ sent_stream version sent
         pub makes : IsTurnOf next is_closed live (map (frame_meant version) sent)
         pub proposes : ProposesAs turn (map (frame_meant version) sent)
+        -- an error among them is the one that it has failed by
+        pub errors : AllByRecursion (TellsErrorBy turn) (map (frame_meant version) sent)
+        -- no error among them ends the invocation, but where its body has failed as a journal that does not match, and the options ask for that
+        pub unfailed : MayNotEnd options ran → AllByRecursion IsNoFailure (map (frame_meant version) sent)
         pub behind : TurnsBehind sent turn after
 
 module _ {H : Type 0} (function : H → Handler) (next : Handler) (version : Version) (options : VMOptions) where
