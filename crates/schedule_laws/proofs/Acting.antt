@@ -23,13 +23,15 @@ use Rattle.vm_types.specs.Options.{run_options}
 use Rattle.vm_types.specs.declared.options.VMOptions.{VMOptions}
 use Rattle.vm_attempt_laws.specs.Attempts.{Feeds, ClosesInput, output_of, Attempt}
 use Rattle.replay_laws.specs.AttemptWithBodies.{IsLiveExecutor}
-use Rattle.vm_attempt_laws.specs.Bodies.{Executor}
+use Rattle.vm_attempt_laws.specs.Bodies.{Executor, NonEmptyValue}
 use Rattle.vm_attempt_laws.specs.Machine.{Written}
 use Rattle.vm_attempt_laws.specs.OutputOfAttempt.sent
 use Rattle.vm_attempt_laws.specs.OutputOfAttempt.{Sent, sent_stream, sent_frame, frame_meant, IsOfStore}
 use Rattle.vm_attempt_laws.proofs.Stored.{notes_of_store}
 use Rattle.vm_attempt_laws.specs.AttemptInvariants.{early_error, FailsWith, LacksMemory, ClosesEarly, StaysClosed}
 use Rattle.vm_attempt_laws.specs.AttemptSimulation.{HasBodies, Serves, machine_failed}
+use Rattle.vm_attempt_laws.proofs.TurnReports.{read_acknowledged}
+use Rattle.vm_attempt_laws.specs.TurnReports.{IsAcknowledgedBy, IsFrameTold, IsLacking, memory, numbers, room}
 use Rattle.vm_attempt_laws.specs.TurnsInRun.{turns_answered}
 use Rattle.vm_attempt_laws.specs.Words.{item_at, Input}
 use Rattle.vm_start.specs.FailureReport.{out_of_memory}
@@ -45,6 +47,7 @@ use Rattle.schedule_laws.proofs.InvocationInRun.{IsFlown, flown, flown_still}
 use Rattle.schedule_laws.proofs.Serving.{ServingLaws}
 use Rattle.schedule_laws.proofs.Staying.{over_of, fed_going, fed_failed, fed_over, closed_going, closed_failed, closed_over}
 use Rattle.schedule_laws.proofs.Telling.{told_more}
+use Rattle.schedule_laws.proofs.Unfailed.{frames_early, frames_further}
 
 never : (b : Bool) → (b && false) ≡ false
 never true = refl
@@ -73,15 +76,21 @@ written_behind version waits before after coming more e written =
 
 -- what an attempt fails with whose input is closed too early: that error, or, where its frame would be too long or there is no memory, an
 -- internal one
-early_tells : (old : Written) (error : Error) → FailsWith early_error old error ⊎ (error ≡ out_of_memory) → (error.code.0 ≡ early_error.code.0) ⊎ (error.code.0 ≡ internal)
+early_tells : (old : Written) (error : Error) → FailsWith early_error old error ⊎ (error ≡ out_of_memory) → (error.code.0 ≡ early_error.code.0) ⊎ IsLacking error
 early_tells old error (inl (inl same)) = inl (ap (λ (e : Error). e.code.0) same)
-early_tells old error (inl (inr long)) = inr (ap (λ (e : Error). e.code.0) long.1)
-early_tells old error (inr lacks) = inr (ap (λ (e : Error). e.code.0) lacks)
+early_tells old error (inl (inr long)) = inr (room (ap (λ (e : Error). e.code.0) long.1))
+early_tells old error (inr lacks) = inr (memory lacks)
+
+early_code : (error : Error) → (error.code.0 ≡ early_error.code.0) ⊎ IsLacking error → (error.code.0 ≡ early_error.code.0) ⊎ (error.code.0 ≡ internal)
+early_code error (inl is) = inl is
+early_code error (inr (numbers is)) = inr is
+early_code error (inr (room is)) = inr is
+early_code error (inr (memory is)) = inr (ap (λ (e : Error). e.code.0) is)
 
 module _ {H : Type 0} (function : H → Handler) (next : Handler) (options : VMOptions) (id : Text) (laws : ServingLaws function next options) (told : ToldOf) where
   module _ (events : List Event) (output : Option Bytes) (held : List (HeldAttempt H)) (new : NewInvocation) (n : ℕ) (one : HeldAttempt H) (waits : Bytes)
       (live : live_attempt events id ≡ Some n) (output_is : output ≡ Some waits) (there : held_of held id n ≡ Some one) (f : FollowsBegun function next options id told events output held new)
-      (t : Tracked) (at : Attends function next options id events new f.version f.coming n t one.attempt) where
+      (t : Tracked) (is_told : told n ≡ Some t) (at : Attends function next options id events new f.version f.coming n t one.attempt) where
     -- it flies
     flight : Flies new f.version f.coming waits one.attempt
     flight = f.flies n waits one live output_is there
@@ -165,13 +174,13 @@ module _ {H : Type 0} (function : H → Handler) (next : Handler) (options : VMO
       pub fed : FollowsBegun function next options id (with_told told n fed_told) (handing ∷ events) output (changed_to changed) new
       fed =
           let (wrote, attends) = fed_attends at in
-          flown function next options id told (handing ∷ events) held new n one (record one { attempt = changed }) fed_told there refl refl events output f output waits (tt, f.typed)
+          flown function next options id told (handing ∷ events) held new n one (record one { attempt = changed }) fed_told there refl refl events output f output waits (tt, f.typed) (tt, f.unfailed)
           (λ m above. f.numbered m (subst (λ (k : ℕ). k < m) (zero-add (attempts_begun events id)) above)) live_then
           (flown_still function next options id told (handing ∷ events) held new events output f n output waits fed_told (record one { attempt = changed })
           (subst (λ (run : Invocation). FollowsSo next run id (handing ∷ events) (map (frame_meant f.version) f.coming)) given_then
           (one_event next (given_of options id events new) id handing events (map (frame_meant f.version) f.coming) (map (frame_meant f.version) f.coming) accepted.0 refl f.follows))
           (fly_on next (given_of options id events new) id handing events (map (frame_meant f.version) f.coming) (map (frame_meant f.version) f.coming) n accepted refl refl refl f.follows live (f.outcomes n live))
-          output_is (still changed wrote) attends)
+          output_is (frames_further t.told fed_told.told (record { proposed = λ x among. among; over = inr refl; closed = λ e. e }) (map (frame_meant f.version) f.coming) (f.told_frames n t live is_told)) (still changed wrote) attends)
 
     -- ---- its input is closed
 
@@ -200,13 +209,17 @@ module _ {H : Type 0} (function : H → Handler) (next : Handler) (options : VMO
       outcomes_still =
           fly_on next (given_of options id events new) id closing events (map (frame_meant f.version) f.coming) (map (frame_meant f.version) f.coming) n accepted refl refl refl f.follows live (f.outcomes n live)
 
+      told_still : AllByRecursion (IsFrameTold closed_told.told) (map (frame_meant f.version) f.coming)
+      told_still =
+          frames_further t.told closed_told.told (record { proposed = λ x among. among; over = inr refl; closed = λ e. refl }) (map (frame_meant f.version) f.coming) (f.told_frames n t live is_told)
+
       abbrev Closed : Type 0
       Closed = IsFlown function next options id told (closing ∷ events) held new n output waits closed_told (record one { attempt = changed })
 
       -- nothing was written
       quiet : output_of changed ≡ output_of one.attempt → Attends function next options id (closing ∷ events) new f.version f.coming n closed_told changed → Closed
       quiet wrote attends =
-          flown_still function next options id told (closing ∷ events) held new events output f n output waits closed_told (record one { attempt = changed }) follows_still outcomes_still output_is
+          flown_still function next options id told (closing ∷ events) held new events output f n output waits closed_told (record one { attempt = changed }) follows_still outcomes_still output_is told_still
           (still changed wrote) attends
 
       close_served : (s : IsServed function next options id events new f.version f.coming t one.attempt) → StaysClosed function next f.version options s.live one.attempt changed
@@ -239,7 +252,14 @@ module _ {H : Type 0} (function : H → Handler) (next : Handler) (options : VMO
       early_attends : t.told.over ≡ None → (s : IsServed function next options id events new f.version f.coming t one.attempt) → (early : ClosesEarly function next f.version options s.live one.attempt changed)
           → IsClosedEarly closed_told changed
       early_attends so s early = subst (λ (start : AttemptStart). IsClosedEarly (record { start = start; told = record t.told { is_closed = true } }) changed) s.start_is (record {
-        come = record { read = s.live.read; kept = s.live.held; parts = s.is_told.bytes; whole = ap item_at (sym s.serves.bytes) ∙ s.serves.whole };
+        come = record {
+          read = s.live.read;
+          kept = s.live.held;
+          parts = s.is_told.bytes;
+          whole = ap item_at (sym s.serves.bytes) ∙ s.serves.whole;
+          acknowledged = subst (λ (some : List (ℕ × NonEmptyValue)). AllByRecursion (IsAcknowledgedBy some) s.live.read) (sym s.is_told.outcomes)
+              (read_acknowledged next s.live s.proposed s.bodies.executor s.bodies.lives);
+        };
         unread = λ journal. early.unread (record { later = journal.later; parts = journal.parts });
         closed = refl;
         error = early.error;
@@ -260,6 +280,9 @@ module _ {H : Type 0} (function : H → Handler) (next : Handler) (options : VMO
           outcomes = subst (λ (frames : List Frame). OutcomesFly id (closing ∷ events) frames) (sym (meant_append f.version f.coming early.sent))
               (others_fly id (closing ∷ events) (map (frame_meant f.version) f.coming) (map (frame_meant f.version) early.sent) (told_none f.version early.error early.sent early.tells) outcomes_still);
           output_is = output_is;
+          told_frames = subst (AllByRecursion (IsFrameTold closed_told.told)) (sym (meant_append f.version f.coming early.sent))
+              (all_append (IsFrameTold closed_told.told) (map (frame_meant f.version) f.coming) (map (frame_meant f.version) early.sent) told_still
+              (frames_early closed_told.told f.version early.error early.sent refl (early_code early.error (early_tells one.attempt.vm.state.active.output early.error early.told)) early.tells early.unfailed));
           flies = record {
             version_is = flight.version_is;
             bytes = written_behind f.version waits (output_of one.attempt) (output_of changed) f.coming early.sent flight.bytes early.output;
@@ -284,5 +307,5 @@ module _ {H : Type 0} (function : H → Handler) (next : Handler) (options : VMO
 
       pub closed : FollowsBegun function next options id (with_told told n closed_told) (closing ∷ events) output (changed_to changed) new
       closed =
-          flown function next options id told (closing ∷ events) held new n one (record one { attempt = changed }) closed_told there refl refl events output f output waits (tt, f.typed)
+          flown function next options id told (closing ∷ events) held new n one (record one { attempt = changed }) closed_told there refl refl events output f output waits (tt, f.typed) (tt, f.unfailed)
           (λ m above. f.numbered m (subst (λ (k : ℕ). k < m) (zero-add (attempts_begun events id)) above)) live_still (closed_attends at)

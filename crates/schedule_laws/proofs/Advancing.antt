@@ -1,5 +1,5 @@
 -- Bytes of an attempt that is held leave it, and wait at the store: nothing else of it changes.
-use Rattle.std.proofs.Common.{◌≡◌, ℕ, List, [], ◌++◌, take, drop, Option, Some, Result, Ok, refl, sym, ap, ◌∙◌, append_assoc, take-append-drop}
+use Rattle.std.proofs.Common.{◌≡◌, ℕ, List, [], ◌++◌, take, drop, Option, Some, Result, Ok, refl, sym, ap, subst, ◌∙◌, append_assoc, take-append-drop}
 use Rattle.std.specs.declared.alloc.AllocError.{AllocError}
 use Rattle.journal_model.specs.declared.invocation.NewInvocation.{NewInvocation}
 use Rattle.journal_model.specs.Notification.{Bytes, Text}
@@ -20,12 +20,14 @@ use Rattle.schedule_model.specs.Attempts.{Advances, Gathers}
 use Rattle.schedule_model.specs.declared.held.HeldAttempt.{HeldAttempt}
 use Rattle.schedule_model.specs.First.{with_first}
 use Rattle.schedule_model.specs.Held.{is_held, held_of}
+use Rattle.schedule_model.proofs.Holding.{some_is}
 use Rattle.schedule_laws.specs.TrackedAttempt.{Tracked, IsServed, IsLeft, Attends, is_over, lacks_memory, closed_early, is_served, is_left}
 use Rattle.schedule_laws.specs.InvocationInRun.{Flies, FollowsBegun, ToldOf}
 use Rattle.schedule_laws.proofs.TrackedAttempt.{told_of, with_told, with_same_told}
 use Rattle.schedule_laws.proofs.InvocationInRun.{flown, flown_still, quiet_changed, retold}
 use Rattle.schedule_laws.proofs.Serving.{ServingLaws}
 use Rattle.schedule_laws.proofs.Staying.{moved_going, moved_failed, moved_over}
+use Rattle.schedule_laws.proofs.Unfailed.{IsFurther, same_further}
 
 module _ {H : Type 0} (function : H → Handler) (next : Handler) (options : VMOptions) (id : Text) (laws : ServingLaws function next options) (told : ToldOf) where
   -- ---- its first bytes leave, and wait at the store
@@ -92,8 +94,8 @@ module _ {H : Type 0} (function : H → Handler) (next : Handler) (options : VMO
         → FollowsBegun function next options id told events before held new → FollowsBegun function next options id told events after changed_to new
     advanced before after count live advances behind f =
         retold function next options id (with_told told n t.0) told events after changed_to new (with_same_told told n t.0 t.1)
-        (flown function next options id told events held new n one (record one { attempt = changed }) t.0 there refl refl events before f after (behind.waited ++ take count (output_of one.attempt)) f.typed f.numbered live
-        (flown_still function next options id told events held new events before f n after (behind.waited ++ take count (output_of one.attempt)) t.0 (record one { attempt = changed }) f.follows (f.outcomes n live) behind.now_is
+        (flown function next options id told events held new n one (record one { attempt = changed }) t.0 there refl refl events before f after (behind.waited ++ take count (output_of one.attempt)) f.typed f.unfailed f.numbered live
+        (flown_still function next options id told events held new events before f n after (behind.waited ++ take count (output_of one.attempt)) t.0 (record one { attempt = changed }) f.follows (f.outcomes n live) behind.now_is (f.told_frames n t.0 live t.1)
         (record { version_is = leaving.version_is; bytes = moved_bytes })
         (moved_attends events new f.version f.coming n count one.attempt changed accepted advances.moves
         (Ok (take count (output_of one.attempt)), record { moves = advances.moves; front = refl; rest = advances.rest }) t.0 t.2)))
@@ -114,7 +116,7 @@ module _ {H : Type 0} (function : H → Handler) (next : Handler) (options : VMO
     pub gathered : (output : Option Bytes) → Gathers one.attempt changed → FollowsBegun function next options id told events output held new → FollowsBegun function next options id told events output changed_to new
     gathered output gathers f =
         retold function next options id (with_told told n t.0) told events output changed_to new (with_same_told told n t.0 t.1)
-        (quiet_changed function next options id told events held new n one (record one { attempt = changed }) t.0 there refl refl output f gathers.same
+        (quiet_changed function next options id told events held new n one (record one { attempt = changed }) t.0 there refl refl output f gathers.same (λ k is. subst (λ (one_told : Tracked). IsFurther one_told.told t.0.told) (some_is t.0 k (sym t.1 ∙ is)) (same_further t.0.told))
         (moved_attends events new f.version f.coming n 0 one.attempt changed accepted gathers.moves (Ok [], record { moves = gathers.moves; front = refl; rest = gathers.same }) t.0 t.2))
       where
         t : (t : Tracked) × (told n ≡ Some t) × Attends function next options id events new f.version f.coming n t one.attempt

@@ -54,6 +54,7 @@ use Rattle.schedule_laws.proofs.Others.{into, other_on}
 use Rattle.schedule_laws.proofs.Outcomes.{none_fly}
 use Rattle.schedule_laws.proofs.Serving.{ServingLaws}
 use Rattle.schedule_laws.proofs.Taking.{version_begun}
+use Rattle.schedule_laws.proofs.Unfailed.{unborn_unfailed}
 
 begun_some : (o : Option NewInvocation) → is_some o ≡ true → (new : NewInvocation) × (o ≡ Some new)
 begun_some (Some new) is = (new, refl)
@@ -77,6 +78,8 @@ module _ {H : Type 0} (function : H → Handler) (next : Handler) (options : VMO
             of_store = tt;
             follows = record { accepted = s.accepted; holds = h.holds; flies = λ attempt live. tt };
             outcomes = λ number live. none_fly id s.events;
+            unfailed = h.unfailed;
+            told_frames = λ number t live is_told. tt;
             numbered = λ number above. (refl, refl);
             flies = λ number waits one live is_out found. some_none (sym found);
             attends = λ number one found. some_none (sym found);
@@ -89,7 +92,7 @@ module _ {H : Type 0} (function : H → Handler) (next : Handler) (options : VMO
   follows_holds s held f new is =
       let g : FollowsBegun function next options id f.0 s.events (s.outputs id) held new =
       subst (λ (o : Option NewInvocation). FollowsWhere function next options id f.0 s.events (s.outputs id) held o) is f.1 in
-      record { fit = g.typed; holds = g.follows.holds }
+      record { fit = g.typed; holds = g.follows.holds; unfailed = g.unfailed }
 
   -- ---- an invocation is made
 
@@ -105,6 +108,8 @@ module _ {H : Type 0} (function : H → Handler) (next : Handler) (options : VMO
         of_store = tt;
         follows = begins_of_run next (given_of options id (Event.Invoke one ∷ s.events) one) id (Event.Invoke one) s.events accepted e;
         outcomes = λ number live. none_fly id (Event.Invoke one ∷ s.events);
+        unfailed = (tt, unborn_unfailed id s.events s.accepted unborn);
+        told_frames = λ number t live is_told. tt;
         numbered = λ number above. unheld number;
         flies = λ number waits other live is_out found. some_none (sym found ∙ (unheld number).0);
         attends = λ number other found. some_none (sym found ∙ (unheld number).0);
@@ -172,6 +177,8 @@ module _ {H : Type 0} (function : H → Handler) (next : Handler) (options : VMO
         of_store = tt;
         follows = follows_anew (map (frame_meant f.version) f.coming) f.follows;
         outcomes = λ m live. none_fly id (beginning ∷ s.events);
+        unfailed = (tt, f.unfailed);
+        told_frames = λ m t live is_told. tt;
         numbered = numbered;
         flies = flies;
         attends = attends;

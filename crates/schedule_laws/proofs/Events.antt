@@ -21,12 +21,13 @@ use Rattle.vm_attempt_laws.specs.Attempts.{output_of, Attempt}
 use Rattle.vm_attempt_laws.specs.OutputOfAttempt.sent
 use Rattle.vm_attempt_laws.specs.OutputOfAttempt.{Sent, sent_stream, frame_meant, IsOfStore}
 use Rattle.vm_attempt_laws.specs.AttemptSimulation.{Serves}
+use Rattle.vm_attempt_laws.specs.TurnReports.{IsFrameTold, Told}
 use Rattle.schedule_model.specs.declared.held.HeldAttempt.{HeldAttempt}
 use Rattle.schedule_model.specs.Held.{held_of}
 use Rattle.schedule_model.proofs.Holding.{some_none}
 use Rattle.schedule_laws.specs.EventBounds.{AcceptedFits, AllFit}
 use Rattle.schedule_laws.specs.TrackedAttempt.{Tracked, IsServed, Attends, AttendsAs, is_over, lacks_memory, closed_early, is_served, is_left}
-use Rattle.schedule_laws.specs.InvocationInRun.{given_of, Flies, FollowsBegun, FollowsWhere, FollowsIn, OutcomesFly, ToldOf}
+use Rattle.schedule_laws.specs.InvocationInRun.{FailsNot, given_of, Flies, FollowsBegun, FollowsWhere, FollowsIn, OutcomesFly, ToldOf}
 use Rattle.schedule_laws.proofs.Fits.{may_come}
 use Rattle.schedule_laws.proofs.TrackedAttempt.{aside}
 use Rattle.schedule_laws.proofs.Outcomes.{fly_on}
@@ -40,7 +41,7 @@ pub record IsPlain (id : Text) (event : Event) : Type 0 where
   pub closes : (is_of id event && closes_input event) ≡ false
 
 module _ {H : Type 0} (function : H → Handler) (next : Handler) (options : VMOptions) (id : Text) (event : Event) (events : List Event) (plain : IsPlain id event)
-    (causes : causes_of events event ≡ []) (accepted : IsAccepted events) (fits : AcceptedFits id event) (laws : ServingLaws function next options) (told : ToldOf) where
+    (causes : causes_of events event ≡ []) (accepted : IsAccepted events) (fits : AcceptedFits id event) (not_failed : FailsNot id event) (laws : ServingLaws function next options) (told : ToldOf) where
   closed_same : is_input_closed (event ∷ events) id ≡ is_input_closed events id
   closed_same = closed_now event events id plain.going ∙ ap (λ (b : Bool). b || is_input_closed events id) plain.closes
 
@@ -97,6 +98,7 @@ module _ {H : Type 0} (function : H → Handler) (next : Handler) (options : VMO
     pub left : List Sent
     pub fit : sent.AllFit version left
     pub of_store : AllByRecursion IsOfStore left
+    pub told_frames : (all : Told) → AllByRecursion (IsFrameTold all) (map (frame_meant version) coming) → AllByRecursion (IsFrameTold all) (map (frame_meant version) left)
     pub passes : PassesOn id event (map (frame_meant version) coming) (map (frame_meant version) left)
     pub waits : (now : Bytes) → after ≡ Some now
         → (waited : Bytes) × (before ≡ Some waited) × ((more : Bytes) → waited ++ more ≡ sent_stream version coming → now ++ more ≡ sent_stream version left)
@@ -112,6 +114,8 @@ module _ {H : Type 0} (function : H → Handler) (next : Handler) (options : VMO
     follows = subst (λ (given : Invocation). FollowsSo next given id (event ∷ events) (map (frame_meant f.version) g.left)) (given_same new)
         (one_event next (given_of options id events new) id event events (map (frame_meant f.version) f.coming) (map (frame_meant f.version) g.left) causes g.passes f.follows);
     outcomes = λ n live. outcomes_by_end (is_of id event && ends_live event) refl n live;
+    unfailed = (not_failed, f.unfailed);
+    told_frames = λ n t live is. told_by_end (is_of id event && ends_live event) refl n t live is;
     numbered = λ n above. f.numbered n (subst (λ (k : ℕ). k < n) attempts_same above);
     flies = λ n now one live is found. by_end (is_of id event && ends_live event) refl n now one live is found;
     attends = λ n one found. attends_by_end (is_of id event && ends_live event) refl n one (f.attends n one found);
@@ -123,6 +127,11 @@ module _ {H : Type 0} (function : H → Handler) (next : Handler) (options : VMO
           let before : live_attempt events id ≡ Some n = sym (live_now event events id plain.going e) ∙ live in
           fly_on next (given_of options id events new) id event events (map (frame_meant f.version) f.coming) (map (frame_meant f.version) g.left) n (causes, accepted) plain.old plain.going g.passes f.follows before
           (f.outcomes n before)
+
+      told_by_end : (b : Bool) → (is_of id event && ends_live event) ≡ b → (n : ℕ) (t : Tracked) → live_attempt (event ∷ events) id ≡ Some n → told n ≡ Some t
+          → AllByRecursion (IsFrameTold t.told) (map (frame_meant f.version) g.left)
+      told_by_end true e n t live is = some_none (sym live ∙ none_live event events id plain.going e)
+      told_by_end false e n t live is = g.told_frames t.told (f.told_frames n t (sym (live_now event events id plain.going e) ∙ live) is)
 
       by_end : (b : Bool) → (is_of id event && ends_live event) ≡ b → (n : ℕ) (now : Bytes) (one : HeldAttempt H) → live_attempt (event ∷ events) id ≡ Some n → after ≡ Some now → held_of held id n ≡ Some one
           → Flies new f.version g.left now one.attempt
@@ -145,6 +154,7 @@ module _ {H : Type 0} (function : H → Handler) (next : Handler) (options : VMO
     left = f.coming;
     fit = f.fit;
     of_store = f.of_store;
+    told_frames = λ all frames. frames;
     passes = passes (map (frame_meant f.version) f.coming);
     waits = λ now is. (now, same now is, λ more e. e);
   }

@@ -11,6 +11,7 @@ use Rattle.live_laws.specs.RequestsInFlight.{FollowsSo}
 use Rattle.vm_attempt_laws.specs.Attempts.{output_of}
 use Rattle.vm_attempt_laws.specs.OutputOfAttempt.sent
 use Rattle.vm_attempt_laws.specs.OutputOfAttempt.{Sent, frame_meant, IsOfStore}
+use Rattle.vm_attempt_laws.specs.TurnReports.{IsFrameTold}
 use Rattle.vm_types.specs.declared.options.VMOptions.{VMOptions}
 use Rattle.schedule_model.specs.declared.held.HeldAttempt.{HeldAttempt}
 use Rattle.schedule_model.specs.First.{with_first}
@@ -18,8 +19,9 @@ use Rattle.schedule_model.specs.Held.{is_held, held_of}
 use Rattle.schedule_model.proofs.Holding.{some_is, some_none, held_with, held_other_number}
 use Rattle.schedule_laws.specs.EventBounds.{AllFit}
 use Rattle.schedule_laws.specs.TrackedAttempt.{Tracked, Attends, AttendsAs}
-use Rattle.schedule_laws.specs.InvocationInRun.{given_of, Flies, FollowsBegun, FollowsWhere, OutcomesFly, ToldOf}
-use Rattle.schedule_laws.proofs.TrackedAttempt.{aside, told_at, told_other, with_told}
+use Rattle.schedule_laws.specs.InvocationInRun.{FailsNot, given_of, Flies, FollowsBegun, FollowsWhere, OutcomesFly, ToldOf}
+use Rattle.schedule_laws.proofs.TrackedAttempt.{aside, told_at, told_of, told_other, with_told}
+use Rattle.schedule_laws.proofs.Unfailed.{frames_further, IsFurther}
 
 module _ {H : Type 0} (function : H → Handler) (next : Handler) (options : VMOptions) (id : Text) where
   pub same_held : (told : ToldOf) (events : List Event) (output : Option Bytes) (held more : List (HeldAttempt H)) (new : Option NewInvocation) → ((n : ℕ) → held_of more id n ≡ held_of held id n)
@@ -33,6 +35,8 @@ module _ {H : Type 0} (function : H → Handler) (next : Handler) (options : VMO
     of_store = f.of_store;
     follows = f.follows;
     outcomes = f.outcomes;
+    unfailed = f.unfailed;
+    told_frames = f.told_frames;
     numbered = λ n above. (same n ∙ (f.numbered n above).0, (f.numbered n above).1);
     flies = λ n waits one live is found. f.flies n waits one live is (sym (same n) ∙ found);
     attends = λ n one found. f.attends n one (sym (same n) ∙ found);
@@ -48,15 +52,27 @@ module _ {H : Type 0} (function : H → Handler) (next : Handler) (options : VMO
       pub follows : FollowsSo next (given_of options id events new) id events (map (frame_meant version) coming)
       pub outcomes : OutcomesFly id events (map (frame_meant version) coming)
       pub output_is : output ≡ Some waits
+      pub told_frames : AllByRecursion (IsFrameTold now.told) (map (frame_meant version) coming)
       pub flies : Flies new version coming waits one.attempt
       pub attends : Attends function next options id events new version coming number now one.attempt
 
     -- what was on its way still is
     pub flown_still : (before : List Event) (was : Option Bytes) (f : FollowsBegun function next options id told before was held new) (number : ℕ) (output : Option Bytes) (waits : Bytes) (now : Tracked) (one : HeldAttempt H)
         → FollowsSo next (given_of options id events new) id events (map (frame_meant f.version) f.coming) → OutcomesFly id events (map (frame_meant f.version) f.coming) → output ≡ Some waits
-        → Flies new f.version f.coming waits one.attempt → Attends function next options id events new f.version f.coming number now one.attempt → IsFlown number output waits now one
-    flown_still before was f number output waits now one follows outcomes output_is flies attends =
-        record { version = f.version; coming = f.coming; fit = f.fit; of_store = f.of_store; follows = follows; outcomes = outcomes; output_is = output_is; flies = flies; attends = attends }
+        → AllByRecursion (IsFrameTold now.told) (map (frame_meant f.version) f.coming) → Flies new f.version f.coming waits one.attempt
+        → Attends function next options id events new f.version f.coming number now one.attempt → IsFlown number output waits now one
+    flown_still before was f number output waits now one follows outcomes output_is told_frames flies attends = record {
+      version = f.version;
+      coming = f.coming;
+      fit = f.fit;
+      of_store = f.of_store;
+      follows = follows;
+      outcomes = outcomes;
+      output_is = output_is;
+      told_frames = told_frames;
+      flies = flies;
+      attends = attends;
+    }
 
     -- one that is held has changed, the live one or not, and what was told of it
     module _ (number : ℕ) (h g : HeldAttempt H) (now : Tracked) (found : held_of held id number ≡ Some h) (invocation : g.invocation ≡ h.invocation) (same_number : g.number ≡ h.number) where
@@ -95,10 +111,10 @@ module _ {H : Type 0} (function : H → Handler) (next : Handler) (options : VMO
               (others_attend n one far (sym (others n far) ∙ there))
 
       -- the live one has changed, or an event came that is done with it
-      pub flown : (before : List Event) (was : Option Bytes) (f : FollowsBegun function next options id told before was held new) (output : Option Bytes) (waits : Bytes) → AllFit id events
+      pub flown : (before : List Event) (was : Option Bytes) (f : FollowsBegun function next options id told before was held new) (output : Option Bytes) (waits : Bytes) → AllFit id events → AllByRecursion (FailsNot id) events
           → ((n : ℕ) → attempts_begun events id < n → (held_of held id n ≡ None) × (told n ≡ None)) → live_attempt events id ≡ Some number → IsFlown number output waits now g
           → FollowsBegun function next options id (with_told told number now) events output more new
-      flown before was f output waits typed numbered live it = record {
+      flown before was f output waits typed unfailed numbered live it = record {
         version = it.version;
         coming = it.coming;
         typed = typed;
@@ -106,6 +122,11 @@ module _ {H : Type 0} (function : H → Handler) (next : Handler) (options : VMO
         of_store = it.of_store;
         follows = it.follows;
         outcomes = λ n live_is. it.outcomes;
+        unfailed = unfailed;
+        told_frames = λ n t live' is.
+            let same : number ≡ n = some_is number n (sym live ∙ live') in
+            let it_is : now ≡ t = some_is now t (sym (told_at told number now) ∙ ap (with_told told number now) same ∙ is) in
+            subst (λ (k : Tracked). AllByRecursion (IsFrameTold k.told) (map (frame_meant it.version) it.coming)) it_is it.told_frames;
         numbered = numbered_still numbered;
         flies = λ n again one live' is there.
             let same : number ≡ n = some_is number n (sym live ∙ live') in
@@ -129,6 +150,8 @@ module _ {H : Type 0} (function : H → Handler) (next : Handler) (options : VMO
         of_store = f.of_store;
         follows = f.follows;
         outcomes = f.outcomes;
+        unfailed = f.unfailed;
+        told_frames = λ n t live is. f.told_frames n t live (sym (told_other told number now n (λ same. not_live (live ∙ ap (λ (m : ℕ). Some m) same))) ∙ is);
         numbered = numbered_still f.numbered;
         flies = λ n waits one live is there. f.flies n waits one live is (sym (others n (λ same. not_live (live ∙ ap (λ (m : ℕ). Some m) same))) ∙ there);
         attends = each_attends f.version f.coming own (λ n one far there. f.attends n one there);
@@ -136,8 +159,8 @@ module _ {H : Type 0} (function : H → Handler) (next : Handler) (options : VMO
 
       -- one that is held has changed, live or not, and has written nothing more
       pub quiet_changed : (output : Option Bytes) (f : FollowsBegun function next options id told events output held new) → output_of g.attempt ≡ output_of h.attempt
-          → Attends function next options id events new f.version f.coming number now g.attempt → FollowsBegun function next options id (with_told told number now) events output more new
-      quiet_changed output f wrote own = record {
+          → ((t : Tracked) → told number ≡ Some t → IsFurther t.told now.told) → Attends function next options id events new f.version f.coming number now g.attempt → FollowsBegun function next options id (with_told told number now) events output more new
+      quiet_changed output f wrote further own = record {
         version = f.version;
         coming = f.coming;
         typed = f.typed;
@@ -145,11 +168,23 @@ module _ {H : Type 0} (function : H → Handler) (next : Handler) (options : VMO
         of_store = f.of_store;
         follows = f.follows;
         outcomes = f.outcomes;
+        unfailed = f.unfailed;
+        told_frames = λ n t live is. told_by_number n t live is (n == number) refl;
         numbered = numbered_still f.numbered;
         flies = λ n waits one live is there. by_number n waits one live is there (n == number) refl;
         attends = each_attends f.version f.coming own (λ n one far there. f.attends n one there);
       }
         where
+          told_by_number : (n : ℕ) (t : Tracked) → live_attempt events id ≡ Some n → with_told told number now n ≡ Some t → (b : Bool) → (n == number) ≡ b
+              → AllByRecursion (IsFrameTold t.told) (map (frame_meant f.version) f.coming)
+          told_by_number n t live is true e =
+              let same : n ≡ number = eqb-true n number e in
+              let it_is : now ≡ t = some_is now t (sym (told_at told number now) ∙ ap (with_told told number now) (sym same) ∙ is) in
+              let was = told_of function next options id told events new f.version f.coming number h.attempt (told number) refl (f.attends number h found) in
+              subst (λ (k : Tracked). AllByRecursion (IsFrameTold k.told) (map (frame_meant f.version) f.coming)) it_is
+              (frames_further was.0.told now.told (further was.0 was.1) (map (frame_meant f.version) f.coming) (f.told_frames n was.0 live (ap told same ∙ was.1)))
+          told_by_number n t live is false e = f.told_frames n t live (sym (told_other told number now n (λ same. true≢false (sym (eq-eqb n number same) ∙ e))) ∙ is)
+
           by_number : (n : ℕ) (waits : Bytes) (one : HeldAttempt H) → live_attempt events id ≡ Some n → output ≡ Some waits → held_of more id n ≡ Some one → (b : Bool) → (n == number) ≡ b
               → Flies new f.version f.coming waits one.attempt
           by_number n waits one live is there true e =
@@ -171,6 +206,8 @@ module _ {H : Type 0} (function : H → Handler) (next : Handler) (options : VMO
     of_store = f.of_store;
     follows = f.follows;
     outcomes = f.outcomes;
+    unfailed = f.unfailed;
+    told_frames = λ n t live is. f.told_frames n t live (sym (same n) ∙ is);
     numbered = λ n above. ((f.numbered n above).0, same n ∙ (f.numbered n above).1);
     flies = f.flies;
     attends = λ n one there. subst (λ (t : Option Tracked). AttendsAs function next options id events new f.version f.coming n t one.attempt) (sym (same n)) (f.attends n one there);

@@ -17,9 +17,13 @@ use Rattle.store_refusals.specs.declared.refusal.Refusal.TheVariants.{OutOfMemor
 use Rattle.store_calls.specs.AbstractStore.{Standing, StaysStanding, Adds}
 use Rattle.store_calls.specs.declared.begun.BegunAttempt.{BegunAttempt}
 use Rattle.store_calls.specs.Calls.{Invokes, CompletesCall, Signals, Cancels, Ticks, BeginsStoredAttempt, BeginsAttempt, Stops}
+use Rattle.store_calls.specs.Frames.{LeavesRefused, Rests, TakesEach}
 use Rattle.store_calls.proofs.Live.{live_when}
 use Rattle.store_calls.proofs.Taking.{bytes_stay}
 use Rattle.schedule_model.specs.ArgumentBounds.{ResultFits, signal_arrival}
+use Rattle.store_steps.specs.Taken.{lies_in_frame}
+use Rattle.vm_attempt_laws.specs.TurnReports.{Told}
+use Rattle.schedule_laws.specs.TrackedAttempt.{Tracked}
 use Rattle.schedule_laws.specs.InvocationInRun.{FollowsWhere, FollowsTold, ToldOf}
 use Rattle.schedule_laws.proofs.Advancing.{gathered}
 use Rattle.schedule_laws.proofs.Beginning.{made, unheld}
@@ -30,7 +34,7 @@ use Rattle.schedule_laws.proofs.Moving.{stopped, rested, moved}
 use Rattle.schedule_laws.proofs.Others.{into, stands_still, other_on}
 use Rattle.schedule_laws.proofs.Schedules.{with_same, some_none, held_with, held_other_invocation}
 use Rattle.schedule_laws.proofs.Serving.{ServingLaws}
-use Rattle.schedule_laws.proofs.Taking.{took_each}
+use Rattle.schedule_laws.proofs.Taking.{ComesAsTold, comes_behind, nothing_comes, took_as_told, took_each}
 use Rattle.schedule_laws.specs.Attempts.{Gathers, Attempt}
 use Rattle.schedule_laws.specs.Schedules.event
 use Rattle.schedule_laws.specs.Schedules.reply
@@ -79,7 +83,7 @@ module _ {H : Type 0} (function : H → Handler) (next : Handler) (options : VMO
   completed other n value s t held fits adds f =
       let accepted : IsAccepted (Event.Result other n value ∷ s.events) = subst IsAccepted adds.events t.accepted in
       into function next options id told t (Event.Result other n value ∷ s.events) (s.outputs id) held adds.events (adds.outputs id)
-      (where_on function next options id (Event.Result other n value) s.events (complete_plain other n value) accepted.0 accepted.1 (λ same. fits) laws told (s.outputs id) (s.outputs id) held
+      (where_on function next options id (Event.Result other n value) s.events (complete_plain other n value) accepted.0 accepted.1 (λ same. fits) tt laws told (s.outputs id) (s.outputs id) held
       (λ frames. refl) (λ now is. is) f)
 
   signal_plain : (other : Text) (key : SignalKey) (value : NotificationResult) → IsPlain id (Event.Signal other key value)
@@ -89,7 +93,7 @@ module _ {H : Type 0} (function : H → Handler) (next : Handler) (options : VMO
   signalled other key value s t held fits adds f =
       let accepted : IsAccepted (Event.Signal other key value ∷ s.events) = subst IsAccepted adds.events t.accepted in
       into function next options id told t (Event.Signal other key value ∷ s.events) (s.outputs id) held adds.events (adds.outputs id)
-      (where_on function next options id (Event.Signal other key value) s.events (signal_plain other key value) accepted.0 accepted.1 (λ same. fits) laws told (s.outputs id) (s.outputs id) held
+      (where_on function next options id (Event.Signal other key value) s.events (signal_plain other key value) accepted.0 accepted.1 (λ same. fits) tt laws told (s.outputs id) (s.outputs id) held
       (λ frames. refl) (λ now is. is) f)
 
   cancel_plain : (other : Text) → IsPlain id (Event.Cancel other)
@@ -99,7 +103,7 @@ module _ {H : Type 0} (function : H → Handler) (next : Handler) (options : VMO
   cancelled other s t held adds f =
       let accepted : IsAccepted (Event.Cancel other ∷ s.events) = subst IsAccepted adds.events t.accepted in
       into function next options id told t (Event.Cancel other ∷ s.events) (s.outputs id) held adds.events (adds.outputs id)
-      (where_on function next options id (Event.Cancel other) s.events (cancel_plain other) accepted.0 accepted.1 tt laws told (s.outputs id) (s.outputs id) held
+      (where_on function next options id (Event.Cancel other) s.events (cancel_plain other) accepted.0 accepted.1 tt tt laws told (s.outputs id) (s.outputs id) held
       (λ frames. refl) (λ now is. is) f)
 
   ticked : (now : ℕ) (s t : Standing) (held : List (HeldAttempt H)) → Adds (Event.Tick now) s t → In s held → In t held
@@ -219,3 +223,29 @@ module _ {H : Type 0} (function : H → Handler) (next : Handler) (options : VMO
       let stays : StaysStanding s t = bytes_stay (is_live s.events one.invocation one.number) one.invocation one.number why s t d.0 in
       by_invocation one changed s t held there (λ same. gathered_own one changed s t held stays d.1 f) (λ far. stands_still function next options id told s t held stays f)
   kept_move count one _ s t held changed there d f = absurd d
+
+  -- what no further frame is taken for brings no frame
+  refused_comes : (b : Bool) (n : ℕ) (all : Told) (s t : Standing) → LeavesRefused b id n s t → ComesAsTold all s.events t.events
+  refused_comes true n all s t left = record { added = Event.Stop id n ∷ []; more = left.events; as_told = (tt, tt) }
+  refused_comes false n all s t stays = nothing_comes all s.events t.events stays.events
+
+  rests_come : (n : ℕ) (why : Option Refusal) (all : Told) (s t : Standing) → Rests id n why s t → ComesAsTold all s.events t.events
+  rests_come n None all s t (inl ended) = nothing_comes all s.events t.events ended.stays.events
+  rests_come n None all s t (inr none) = nothing_comes all s.events t.events none.stays.events
+  rests_come n (Some why) all s t (inl room) = nothing_comes all s.events t.events room.stays.events
+  rests_come n (Some why) all s t (inr r) = refused_comes (lies_in_frame why) n all s t r.left
+
+  -- the frames that are taken say what was told of their attempt
+  pub moved_as_told : (count bytes frames : ℕ) (why : Option Refusal) (one : HeldAttempt H) (changed : Attempt H) (s t : Standing) (held : List (HeldAttempt H)) → held_of held one.invocation one.number ≡ Some one
+      → one.invocation ≡ id → (tracked : Tracked) → told one.number ≡ Some tracked → MovesOne count one s (reply.Moved bytes frames why) t changed → In s held → ComesAsTold tracked.told s.events t.events
+  moved_as_told count bytes frames why one changed s t held there same tracked is_told d f =
+      let put = d.3 in
+      let now : HeldAttempt H = record one { attempt = changed } in
+      let more : List (HeldAttempt H) = with_attempt held one changed in
+      let here : held_of more one.invocation one.number ≡ Some now = held_with one.invocation one.number held one now there refl refl in
+      let pushed = moved function next options id told laws one bytes changed s put.0 held there put.1 d.4 f in
+      comes_behind tracked.told s.events put.0.events t.events (nothing_comes tracked.told s.events put.0.events put.1.events)
+      (comes_behind tracked.told put.0.events put.2.between.events t.events
+      (took_as_told function next options id told laws one.number now d.0 put.0 put.2.between more tracked (ap (λ (x : Text). held_of more x one.number) (sym same) ∙ here) is_told
+      (subst (λ (x : Text). TakesEach x one.number d.0 put.0 put.2.between) same put.2.taken) pushed)
+      (rests_come one.number why tracked.told put.2.between t (subst (λ (x : Text). Rests x one.number why put.2.between t) same put.2.rests)))

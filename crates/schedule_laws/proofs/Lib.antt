@@ -7,6 +7,7 @@ pub mod Staying
 pub mod TrackedAttempt
 pub mod Telling
 pub mod Outcomes
+pub mod Unfailed
 pub mod InvocationInRun
 pub mod Events
 pub mod Others
@@ -22,3 +23,5 @@ pub mod Replying
 pub mod Leaving
 pub mod Schedules
 pub mod Isolation
+pub mod EntryPlaces
+pub mod SettledOnce

@@ -96,7 +96,7 @@ module _ {H : Type 0} (function : H → Handler) (next : Handler) (options : VMO
     stopped_own n s t held leaves f =
         let accepted : IsAccepted (Event.Stop id n ∷ s.events) = subst IsAccepted leaves.events t.accepted in
         into function next options id told t (Event.Stop id n ∷ s.events) None held leaves.events leaves.own
-        (where_on function next options id (Event.Stop id n) s.events (stop_plain n) accepted.0 accepted.1 tt laws told (s.outputs id) None held (λ frames. refl) (λ now is. some_none (sym is)) f)
+        (where_on function next options id (Event.Stop id n) s.events (stop_plain n) accepted.0 accepted.1 tt tt laws told (s.outputs id) None held (λ frames. refl) (λ now is. some_none (sym is)) f)
 
     pub stopped : (other : Text) (n : ℕ) (s t : Standing) (held : List (HeldAttempt H)) → LeavesWaiting (Event.Stop other n) other None s t → FollowsTold function next options id told s held → FollowsTold function next options id told t held
     stopped other n s t held leaves f = by_id (bytes_eq other id) refl

@@ -15,6 +15,7 @@ use Rattle.schedule_laws.specs.InvocationInRun.{FollowsIn, FollowsTold, ToldOf}
 use Rattle.schedule_laws.proofs.Events.{IsPlain, where_on}
 use Rattle.schedule_laws.proofs.Fits.{other_fits}
 use Rattle.schedule_laws.proofs.Serving.{ServingLaws}
+use Rattle.schedule_laws.proofs.Unfailed.{other_unfailed}
 
 other_invokes : (id : Text) (event : Event) → is_of id event ≡ false → begins id event ≡ false
 other_invokes id (Event.Invoke new) e = e
@@ -52,5 +53,5 @@ module _ {H : Type 0} (function : H → Handler) (next : Handler) (options : VMO
     other_on event s t held other e o f =
         let accepted : IsAccepted (event ∷ s.events) = subst IsAccepted e t.accepted in
         into t (event ∷ s.events) (s.outputs id) held e o
-        (where_on function next options id event s.events (other_plain id event other) accepted.0 accepted.1 (other_fits id event other) laws told (s.outputs id) (s.outputs id) held
+        (where_on function next options id event s.events (other_plain id event other) accepted.0 accepted.1 (other_fits id event other) (other_unfailed id event other) laws told (s.outputs id) (s.outputs id) held
         (other_passes id event other) (λ now is. is) f)

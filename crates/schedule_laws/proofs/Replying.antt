@@ -14,7 +14,11 @@ use Rattle.due_laws.proofs.InputParts.{part_is_taken}
 use Rattle.store_refusals.specs.declared.refusal.Refusal.{Refusal}
 use Rattle.store_calls.specs.AbstractStore.{Standing, StaysStanding, Adds}
 use Rattle.store_calls.specs.Calls.{HandsOut}
+use Rattle.vm_attempt_laws.specs.BodyExecution.{IsBodyCode, MayNotEnd}
 use Rattle.vm_attempt_laws.specs.TurnReports.{Told}
+use Rattle.vm_refusals.specs.declared.runs.RunExitResult.{RunExitResult}
+use Rattle.protocol_errors.specs.Code.{journal_mismatch}
+use Rattle.schedule_model.specs.Outcomes.{is_mismatch}
 use Rattle.schedule_model.specs.declared.event.EventRefusal.{EventRefusal}
 use Rattle.schedule_laws.specs.Attempts.{Feeds, ClosesInput, Turns, Attempt, Turn, RunOutcome}
 use Rattle.schedule_laws.specs.TrackedAttempt.{Tracked, Attends}
@@ -24,14 +28,15 @@ use Rattle.schedule_laws.specs.Schedules.event
 use Rattle.schedule_laws.specs.Schedules.refusal
 use Rattle.schedule_laws.specs.Schedules.reply
 use Rattle.schedule_laws.specs.Schedules.{Event, Reply, HeldAttempt, with_first, is_held, held_of, with_attempt, BeginDoes, IfHeld, UnlessMismatch, tells_mismatch, given_in, HandsOutEach, StopsHandingOut, FeedsEach, FeedsOne, FeedsParts, ClosesOne, StopsOne, TurnsOne, MovesOne, Does, Brings, FitsEvent}
-use Rattle.schedule_laws.specs.Turned.{TellsAttempt, TurnTellsNow, is_of_attempt}
+use Rattle.schedule_laws.specs.Turned.{TakesAsTold, TellsAttempt, TurnTellsNow, is_of_attempt}
 use Rattle.schedule_laws.proofs.Acting.{fed, closed}
 use Rattle.schedule_laws.proofs.TrackedAttempt.{told_at, told_of, told_other, with_told}
 use Rattle.schedule_laws.proofs.Beginning.{begun}
-use Rattle.schedule_laws.proofs.Keeping.{handed_live, handed_open, closed_live, kept_cancel, kept_invoke, kept_move, kept_parts, kept_refused, kept_result, kept_signal, kept_stop, kept_stopped, kept_tick, other_changed, same_state, some_waits}
+use Rattle.schedule_laws.proofs.Keeping.{handed_live, handed_open, closed_live, kept_cancel, kept_invoke, kept_move, moved_as_told, kept_parts, kept_refused, kept_result, kept_signal, kept_stop, kept_stopped, kept_tick, other_changed, same_state, some_waits}
 use Rattle.schedule_laws.proofs.Others.{into, stands_still, other_on}
 use Rattle.schedule_laws.proofs.Schedules.{with_same, with_twice, some_none, found_is, held_is, held_with}
 use Rattle.schedule_laws.proofs.Serving.{ServingLaws}
+use Rattle.schedule_laws.proofs.Taking.{told_of_all}
 use Rattle.schedule_laws.proofs.Turning.{turned_begun}
 
 some_same : (a b : Tracked) → Some a ≡ Some b → a ≡ b
@@ -39,6 +44,15 @@ some_same a b e = cc
 
 whole : (t : Tracked) → Some t ≡ Some (record { start = t.start; told = t.told })
 whole t = refl
+
+-- an outcome that tells no mismatch asks for no end
+not_ended : (options : VMOptions) (ran : RunOutcome) → tells_mismatch ran ≡ false → MayNotEnd options ran
+not_ended options ran none code = absurd (by_exit ran.result none code)
+  where
+    by_exit : (exit : RunExitResult) → is_mismatch exit ≡ false → IsBodyCode exit journal_mismatch → ⊥
+    by_exit (RunExitResult.RetryableFailure duration error) none code = true≢false (sym (eq-eqb error.code.0 journal_mismatch (sym code)) ∙ none)
+    by_exit (RunExitResult.Success bytes) none code = code
+    by_exit (RunExitResult.TerminalFailure failure) none code = code
 
 -- how an attempt is told of that was fed so
 abbrev pub SaysFed : Bytes → Tracked → Told → Type 0
@@ -106,7 +120,7 @@ module _ {H : Type 0} (function : H → Handler) (next : Handler) (options : VMO
             (adds.outputs id)
             (subst (λ (o : Option NewInvocation). FollowsWhere function next options id (with_told told one.number (record { start = t0.start; told = after })) (ModelEvent.Feed id one.number (length bytes) ∷ s.events)
             (s.outputs id) changed_to o) (sym is)
-            (fed function next options id laws told s.events (s.outputs id) held new one.number one waits live waits_is there f t0 at (length bytes) bytes changed accepted
+            (fed function next options id laws told s.events (s.outputs id) held new one.number one waits live waits_is there f t0 so at (length bytes) bytes changed accepted
             (handed_open s.events id one.number (length bytes) accepted.0) bytes_are feeds)))
             refl
 
@@ -129,17 +143,17 @@ module _ {H : Type 0} (function : H → Handler) (next : Handler) (options : VMO
             (into function next options id (with_told told one.number (record { start = t0.start; told = after })) t (ModelEvent.Close id one.number ∷ s.events) (s.outputs id) changed_to adds.events (adds.outputs id)
             (subst (λ (o : Option NewInvocation). FollowsWhere function next options id (with_told told one.number (record { start = t0.start; told = after })) (ModelEvent.Close id one.number ∷ s.events) (s.outputs id)
             changed_to o) (sym is)
-            (closed function next options id laws told s.events (s.outputs id) held new one.number one waits live waits_is there f t0 at changed accepted closes)))
+            (closed function next options id laws told s.events (s.outputs id) held new one.number one waits live waits_is there f t0 so at changed accepted closes)))
             refl
 
-    pub turned_own : (ran : RunOutcome) (turn : Turn) → ReplaysInLine options → Turns function ran one.attempt turn changed → StaysStanding s t → FollowsTold function next options id told s held → Now (SaysTurned next ran turn)
-    turned_own ran turn in_line turns stays f = by_begun (invocation_begun s.events id) refl f
+    pub turned_own : (ran : RunOutcome) → MayNotEnd options ran → (turn : Turn) → ReplaysInLine options → Turns function ran one.attempt turn changed → StaysStanding s t → FollowsTold function next options id told s held → Now (SaysTurned next ran turn)
+    turned_own ran may turn in_line turns stays f = by_begun (invocation_begun s.events id) refl f
       where
         by_begun : (o : Option NewInvocation) → invocation_begun s.events id ≡ o → FollowsWhere function next options id told s.events (s.outputs id) held o → Now (SaysTurned next ran turn)
         by_begun None is f = some_none (sym there ∙ (f one.number).0)
         by_begun (Some new) is f =
             let (t0, so, at) = tracked_in new f in
-            let it = turned_begun function next options id laws told s.events (s.outputs id) held new one.number one there f t0 ran turn changed s.accepted in_line turns
+            let it = turned_begun function next options id laws told s.events (s.outputs id) held new one.number one there f t0 so ran may turn changed s.accepted in_line turns
             (λ live. some_waits (s.outputs id) (live_attempt s.events id) one.number (s.live id) live) at in
             told_now function next options id told one.number (SaysTurned next ran turn) t changed_to t0 it.now so
             (stands_still function next options id (with_told told one.number (record { start = t0.start; told = it.now })) s t changed_to stays
@@ -201,11 +215,20 @@ module _ {H : Type 0} (function : H → Handler) (next : Handler) (options : VMO
   not_done true start (event.Feed other n count) why bytes t = refl
   not_done true start one why bytes t = refl
 
+  -- what is taken of them
+  abbrev Takes : Event H → Reply → Standing → Standing → Type 0
+  Takes one answer s t = (n : ℕ) (tracked : Tracked) → told n ≡ Some tracked → (added : List ModelEvent) → t.events ≡ added ++ s.events → TakesAsTold id n one answer added tracked.told
+
+  refused_takes : (one : Event H) (why : EventRefusal) (s t : Standing) → Takes one (reply.Refused why) s t
+  refused_takes (event.Move other n count) why s t m tracked is added more = tt
+  refused_takes one why s t m tracked is added more = tt
+
   -- nothing more
   quiet : (one : Event H) (answer : Reply) (bytes : Bytes) (s t : Standing) (more : List (HeldAttempt H))
       → ((m : ℕ) (tracked : Tracked) → TellsAttempt next tracked.start (is_of_attempt id m one) one answer bytes tracked.told tracked.told) → BeginsTold options id one answer s.events told
-      → FollowsTold function next options id told t more → Keeps one answer bytes s t more
-  quiet one answer bytes s t more tells begins f = record { now = told; follows = f; tells = λ m tracked is. (tracked.told, is ∙ whole tracked, tells m tracked); begins = begins }
+      → Takes one answer s t → FollowsTold function next options id told t more → Keeps one answer bytes s t more
+  quiet one answer bytes s t more tells begins takes f =
+      record { now = told; follows = f; tells = λ m tracked is. (tracked.told, is ∙ whole tracked, tells m tracked); begins = begins; takes = takes }
 
   refused_begins : (one : Event H) (why : EventRefusal) (s : Standing) → BeginsTold options id one (reply.Refused why) s.events told
   refused_begins (event.Begin other handler now) why s = tt
@@ -215,25 +238,26 @@ module _ {H : Type 0} (function : H → Handler) (next : Handler) (options : VMO
       → FollowsTold function next options id told s held → Keeps one answer bytes s t more
   refused one why answer bytes s t held more is stays same f =
       subst (λ (said : Reply). Keeps one said bytes s t more) (sym is)
-      (quiet one (reply.Refused why) bytes s t more (λ m tracked. not_done (is_of_attempt id m one) tracked.start one why bytes tracked.told) (refused_begins one why s)
+      (quiet one (reply.Refused why) bytes s t more (λ m tracked. not_done (is_of_attempt id m one) tracked.start one why bytes tracked.told) (refused_begins one why s) (refused_takes one why s t)
       (same_state function next options id laws told s t held more stays same f))
 
   -- of an attempt of another invocation
   elsewhere : (one : Event H) (answer : Reply) (bytes : Bytes) (s t : Standing) (more : List (HeldAttempt H)) → ((m : ℕ) → is_of_attempt id m one ≡ false) → BeginsTold options id one answer s.events told
-      → FollowsTold function next options id told t more → Keeps one answer bytes s t more
-  elsewhere one answer bytes s t more none begins f =
+      → Takes one answer s t → FollowsTold function next options id told t more → Keeps one answer bytes s t more
+  elsewhere one answer bytes s t more none begins takes f =
       quiet one answer bytes s t more
-      (λ m tracked. subst (λ (b : Bool). TellsAttempt next tracked.start b one answer bytes tracked.told tracked.told) (sym (none m)) (not_meant tracked.start one answer bytes tracked.told)) begins f
+      (λ m tracked. subst (λ (b : Bool). TellsAttempt next tracked.start b one answer bytes tracked.told tracked.told) (sym (none m)) (not_meant tracked.start one answer bytes tracked.told)) begins takes f
 
   -- of this one
   meant : (one : Event H) (answer : Reply) (bytes : Bytes) (n : ℕ) (Says : Tracked → Told → Type 0) (s t : Standing) (more : List (HeldAttempt H)) → ((m : ℕ) → is_of_attempt id m one ≡ (n == m))
       → ((again : ToldOf) → BeginsTold options id one answer s.events again) → ((tracked : Tracked) (after : Told) → Says tracked after → TellsAttempt next tracked.start true one answer bytes tracked.told after)
-      → OwnNow function next options id told n Says t more → Keeps one answer bytes s t more
-  meant one answer bytes n Says s t more which begins says it = record {
+      → Takes one answer s t → OwnNow function next options id told n Says t more → Keeps one answer bytes s t more
+  meant one answer bytes n Says s t more which begins says takes it = record {
     now = it.again;
     follows = it.follows;
     tells = λ m tracked is. by_number m tracked is (n == m) refl;
     begins = begins it.again;
+    takes = takes;
   }
     where
       by_number : (m : ℕ) (tracked : Tracked) → told m ≡ Some tracked → (b : Bool) → (n == m) ≡ b
@@ -265,17 +289,17 @@ module _ {H : Type 0} (function : H → Handler) (next : Handler) (options : VMO
 
   by_invocation : (one : HeldAttempt H) (changed : Attempt H) (said : Event H) (answer : Reply) (bytes : Bytes) (Says : Tracked → Told → Type 0) (s t : Standing) (held : List (HeldAttempt H))
       → held_of held one.invocation one.number ≡ Some one → ((m : ℕ) → is_of_attempt id m said ≡ (bytes_eq one.invocation id && (one.number == m)))
-      → ((again : ToldOf) → BeginsTold options id said answer s.events again) → ((tracked : Tracked) (after : Told) → Says tracked after → TellsAttempt next tracked.start true said answer bytes tracked.told after)
+      → ((again : ToldOf) → BeginsTold options id said answer s.events again) → ((tracked : Tracked) (after : Told) → Says tracked after → TellsAttempt next tracked.start true said answer bytes tracked.told after) → Takes said answer s t
       → (one.invocation ≡ id → Own one changed Says t held id) → (bytes_eq one.invocation id ≡ false → FollowsTold function next options id told t held) → Keeps said answer bytes s t (with_attempt held one changed)
-  by_invocation one changed said answer bytes Says s t held there which begins says own others = by_id (bytes_eq one.invocation id) refl
+  by_invocation one changed said answer bytes Says s t held there which begins says takes own others = by_id (bytes_eq one.invocation id) refl
     where
       by_id : (b : Bool) → bytes_eq one.invocation id ≡ b → Keeps said answer bytes s t (with_attempt held one changed)
       by_id true e =
           let same : one.invocation ≡ id = (bytes_eq-Decides one.invocation id).0 e in
-          meant said answer bytes one.number Says s t (with_attempt held one changed) (λ m. which m ∙ both_true (bytes_eq one.invocation id) (one.number == m) e) begins says
+          meant said answer bytes one.number Says s t (with_attempt held one changed) (λ m. which m ∙ both_true (bytes_eq one.invocation id) (one.number == m) e) begins says takes
           (subst (λ (x : Text). Own one changed Says t held x) (sym same) (own same) there)
       by_id false e =
-          elsewhere said answer bytes s t (with_attempt held one changed) (λ m. which m ∙ both_false (bytes_eq one.invocation id) (one.number == m) e) (begins told)
+          elsewhere said answer bytes s t (with_attempt held one changed) (λ m. which m ∙ both_false (bytes_eq one.invocation id) (one.number == m) e) (begins told) takes
           (other_changed function next options id laws told one changed t held there e (others e))
 
   -- ---- what is done with one that is held
@@ -305,7 +329,7 @@ module _ {H : Type 0} (function : H → Handler) (next : Handler) (options : VMO
       let feeds : FeedsParts count parts why one s t changed = d.6 in
       subst (λ (hs : List (HeldAttempt H)). Keeps (event.Feed other n count) (reply.Fed fed why) bytes s t hs) (sym d.7)
       (by_invocation one changed (event.Feed other n count) (reply.Fed fed why) bytes (SaysFed (given_in parts)) s t held it.0 (meets_of other n held one it) (λ again. tt)
-      (λ tracked after says. says ∙ ap (λ (given : Bytes). record tracked.told { bytes = tracked.told.bytes ++ given }) (sym d.5))
+      (λ tracked after says. says ∙ ap (λ (given : Bytes). record tracked.told { bytes = tracked.told.bytes ++ given }) (sym d.5)) (λ m tracked is added more. tt)
       (λ same found. stopped_behind one changed count parts why feeds.0 t held
       (subst (λ (x : Text). StopsHandingOut x one.number count parts why feeds.0 t) same feeds.3)
       (parts_own one.number count parts one changed s feeds.0 held refl found (subst (λ (x : Text). HandsOutEach x one.number count parts s feeds.0) same feeds.1) feeds.2 f))
@@ -350,34 +374,43 @@ module _ {H : Type 0} (function : H → Handler) (next : Handler) (options : VMO
 
   closed_held : (other : Text) (n : ℕ) (answer : Reply) (bytes : Bytes) (s t : Standing) (held : List (HeldAttempt H)) → ByHeld ClosesOne (event.Close other n) other n answer bytes s t held
   closed_held other n reply.Done bytes s t held one changed it d f =
-      by_invocation one changed (event.Close other n) reply.Done bytes SaysClosed s t held it.0 (meets_of other n held one it) (λ again. tt) (λ tracked after says. says)
+      by_invocation one changed (event.Close other n) reply.Done bytes SaysClosed s t held it.0 (meets_of other n held one it) (λ again. tt) (λ tracked after says. says) (λ m tracked is added more. tt)
       (λ same found. closed_own function next options id laws told one changed s t held found (subst (λ (x : Text). Adds (ModelEvent.Close x one.number) s t) same d.0) d.1 f)
       (λ far. other_on function next options id told laws (ModelEvent.Close one.invocation one.number) s t held far d.0.events (d.0.outputs id) f)
   closed_held other n (reply.Refused (refusal.Store why)) bytes s t held one changed it d f = refuses_held (event.Close other n) why bytes one changed s t held it.0 d.1 d.0.stays f
   closed_held other n answer bytes s t held one changed it d f = absurd d
 
-  turned_held : (other : Text) (n : ℕ) (ran : RunOutcome) (answer : Reply) (bytes : Bytes) (s t : Standing) (held : List (HeldAttempt H)) → ReplaysInLine options
+  turned_held : (other : Text) (n : ℕ) (ran : RunOutcome) → MayNotEnd options ran → (answer : Reply) (bytes : Bytes) (s t : Standing) (held : List (HeldAttempt H)) → ReplaysInLine options
       → ByHeld (TurnsOne function ran) (event.Turn other n ran) other n answer bytes s t held
-  turned_held other n ran (reply.Turned turn) bytes s t held in_line one changed it d f =
-      by_invocation one changed (event.Turn other n ran) (reply.Turned turn) bytes (SaysTurned next ran turn) s t held it.0 (meets_of other n held one it) (λ again. tt) (λ tracked after says. says)
-      (λ same found. turned_own function next options id laws told one changed s t held found ran turn in_line d.0 d.1 f)
+  turned_held other n ran may (reply.Turned turn) bytes s t held in_line one changed it d f =
+      by_invocation one changed (event.Turn other n ran) (reply.Turned turn) bytes (SaysTurned next ran turn) s t held it.0 (meets_of other n held one it) (λ again. tt) (λ tracked after says. says) (λ m tracked is added more. tt)
+      (λ same found. turned_own function next options id laws told one changed s t held found ran may turn in_line d.0 d.1 f)
       (λ far. stands_still function next options id told s t held d.1 f)
-  turned_held other n ran answer bytes s t held in_line one changed it d f = absurd d
+  turned_held other n ran may answer bytes s t held in_line one changed it d f = absurd d
+
+  -- what is taken of an attempt whose bytes are moved
+  takes_moved : (other : Text) (n count : ℕ) (answer : Reply) (s t : Standing) (held : List (HeldAttempt H)) (one : HeldAttempt H) (changed : Attempt H) → named other n held one → MovesOne count one s answer t changed
+      → FollowsTold function next options id told s held → Takes (event.Move other n count) answer s t
+  takes_moved other n count (reply.Moved bytes frames why) s t held one changed it d f m tracked is added more = λ same_id same_number.
+      told_of_all tracked.told s.events t.events
+      (moved_as_told function next options id laws told count bytes frames why one changed s t held it.0 (it.1 ∙ same_id) tracked (ap told (it.2 ∙ same_number) ∙ is) d f) added more
+  takes_moved other n count answer s t held one changed it d f m tracked is added more = tt
 
   moved_held : (other : Text) (n count : ℕ) (answer : Reply) (bytes : Bytes) (s t : Standing) (held : List (HeldAttempt H)) → ByHeld (MovesOne count) (event.Move other n count) other n answer bytes s t held
   moved_held other n count answer bytes s t held one changed it d f =
-      elsewhere (event.Move other n count) answer bytes s t (with_attempt held one changed) (λ m. refl) tt (kept_move function next options id laws told count one answer s t held changed it.0 d f)
+      elsewhere (event.Move other n count) answer bytes s t (with_attempt held one changed) (λ m. refl) tt (takes_moved other n count answer s t held one changed it d f)
+      (kept_move function next options id laws told count one answer s t held changed it.0 d f)
 
   stopped_held : (other : Text) (n : ℕ) (answer : Reply) (bytes : Bytes) (s t : Standing) (held : List (HeldAttempt H)) → ByHeld StopsOne (event.Stop other n) other n answer bytes s t held
   stopped_held other n answer bytes s t held one changed it d f =
-      elsewhere (event.Stop other n) answer bytes s t (with_attempt held one changed) (λ m. refl) tt (kept_stop function next options id laws told one answer s t held changed it.0 d f)
+      elsewhere (event.Stop other n) answer bytes s t (with_attempt held one changed) (λ m. refl) tt (λ m tracked is added more. tt) (kept_stop function next options id laws told one answer s t held changed it.0 d f)
 
   -- a turn that is refused at once changes nothing
-  turned_unless : (is_mismatch : Bool) (other : Text) (n : ℕ) (ran : RunOutcome) (answer : Reply) (bytes : Bytes) (s t : Standing) (held more : List (HeldAttempt H)) → ReplaysInLine options
+  turned_unless : (is_mismatch : Bool) (other : Text) (n : ℕ) (ran : RunOutcome) (answer : Reply) (bytes : Bytes) (s t : Standing) (held more : List (HeldAttempt H)) → ReplaysInLine options → tells_mismatch ran ≡ is_mismatch
       → UnlessMismatch is_mismatch (TurnsOne function ran) (held_of held other n) s held answer t more → FollowsTold function next options id told s held → Keeps (event.Turn other n ran) answer bytes s t more
-  turned_unless true other n ran answer bytes s t held more in_line d f = refused (event.Turn other n ran) refusal.JournalMismatchOutcome answer bytes s t held more d.0 d.1 d.2 f
-  turned_unless false other n ran answer bytes s t held more in_line d f =
-      if_held (TurnsOne function ran) (event.Turn other n ran) other n answer bytes s t held more (turned_held other n ran answer bytes s t held in_line) d f
+  turned_unless true other n ran answer bytes s t held more in_line e d f = refused (event.Turn other n ran) refusal.JournalMismatchOutcome answer bytes s t held more d.0 d.1 d.2 f
+  turned_unless false other n ran answer bytes s t held more in_line e d f =
+      if_held (TurnsOne function ran) (event.Turn other n ran) other n answer bytes s t held more (turned_held other n ran (not_ended options ran e) answer bytes s t held in_line) d f
 
   begun_one : (other : Text) (handler : H) (now : ℕ) (answer : Reply) (bytes : Bytes) (s t : Standing) (held more : List (HeldAttempt H)) → ReplaysInLine options → now < 2 ^ 64 → (other ≡ id → function handler ≡ next)
       → BeginDoes options other handler now s held answer t more → FollowsTold function next options id told s held → Keeps (event.Begin other handler now) answer bytes s t more
@@ -388,9 +421,10 @@ module _ {H : Type 0} (function : H → Handler) (next : Handler) (options : VMO
         follows = it.follows;
         tells = λ m tracked is. (tracked.told, it.same m tracked is ∙ whole tracked, refl);
         begins = λ same new is. ap it.again d.1 ∙ it.own same new is;
+        takes = λ m tracked is added more. tt;
       }
   begun_one other handler now (reply.Refused (refusal.Store why)) bytes s t held more in_line moment brings d f =
-      elsewhere (event.Begin other handler now) (reply.Refused (refusal.Store why)) bytes s t more (λ m. refl) tt (kept_refused function next options id laws told other now why s t held more moment d f)
+      elsewhere (event.Begin other handler now) (reply.Refused (refusal.Store why)) bytes s t more (λ m. refl) tt (λ m tracked is added more. tt) (kept_refused function next options id laws told other now why s t held more moment d f)
   begun_one other handler now answer bytes s t held more in_line moment brings d f = absurd d
 
   -- ---- each event
@@ -406,23 +440,23 @@ module _ {H : Type 0} (function : H → Handler) (next : Handler) (options : VMO
       → DoesFeeding function options one answer bytes s held t more → FollowsTold function next options id told s held → Keeps one answer bytes s t more
   told_by (event.Invoke one) answer bytes s t held more in_line fits brings d f =
       subst (λ (hs : List (HeldAttempt H)). Keeps (event.Invoke one) answer bytes s t hs) (sym d.1)
-      (elsewhere (event.Invoke one) answer bytes s t held (λ m. refl) tt (kept_invoke function next options id laws told one answer s t held fits d.0 f))
+      (elsewhere (event.Invoke one) answer bytes s t held (λ m. refl) tt (λ m tracked is added more. tt) (kept_invoke function next options id laws told one answer s t held fits d.0 f))
   told_by (event.Result other n value) answer bytes s t held more in_line fits brings d f =
       subst (λ (hs : List (HeldAttempt H)). Keeps (event.Result other n value) answer bytes s t hs) (sym d.1)
-      (elsewhere (event.Result other n value) answer bytes s t held (λ m. refl) tt (kept_result function next options id laws told other n value answer s t held fits d.0 f))
+      (elsewhere (event.Result other n value) answer bytes s t held (λ m. refl) tt (λ m tracked is added more. tt) (kept_result function next options id laws told other n value answer s t held fits d.0 f))
   told_by (event.Signal other key value) answer bytes s t held more in_line fits brings d f =
       subst (λ (hs : List (HeldAttempt H)). Keeps (event.Signal other key value) answer bytes s t hs) (sym d.1)
-      (elsewhere (event.Signal other key value) answer bytes s t held (λ m. refl) tt (kept_signal function next options id laws told other key value answer s t held fits d.0 f))
+      (elsewhere (event.Signal other key value) answer bytes s t held (λ m. refl) tt (λ m tracked is added more. tt) (kept_signal function next options id laws told other key value answer s t held fits d.0 f))
   told_by (event.Cancel other) answer bytes s t held more in_line fits brings d f =
       subst (λ (hs : List (HeldAttempt H)). Keeps (event.Cancel other) answer bytes s t hs) (sym d.1)
-      (elsewhere (event.Cancel other) answer bytes s t held (λ m. refl) tt (kept_cancel function next options id laws told other answer s t held d.0 f))
+      (elsewhere (event.Cancel other) answer bytes s t held (λ m. refl) tt (λ m tracked is added more. tt) (kept_cancel function next options id laws told other answer s t held d.0 f))
   told_by (event.Tick now) answer bytes s t held more in_line fits brings d f =
       subst (λ (hs : List (HeldAttempt H)). Keeps (event.Tick now) answer bytes s t hs) (sym d.1)
-      (elsewhere (event.Tick now) answer bytes s t held (λ m. refl) tt (kept_tick function next options id laws told now answer s t held d.0 f))
+      (elsewhere (event.Tick now) answer bytes s t held (λ m. refl) tt (λ m tracked is added more. tt) (kept_tick function next options id laws told now answer s t held d.0 f))
   told_by (event.Begin other handler now) answer bytes s t held more in_line fits brings d f = begun_one other handler now answer bytes s t held more in_line fits brings d f
   told_by (event.Feed other n count) answer bytes s t held more in_line fits brings d f = told_feed other n count answer bytes s t held more d f
   told_by (event.Close other n) answer bytes s t held more in_line fits brings d f = if_held ClosesOne (event.Close other n) other n answer bytes s t held more (closed_held other n answer bytes s t held) d f
-  told_by (event.Turn other n ran) answer bytes s t held more in_line fits brings d f = turned_unless (tells_mismatch ran) other n ran answer bytes s t held more in_line d f
+  told_by (event.Turn other n ran) answer bytes s t held more in_line fits brings d f = turned_unless (tells_mismatch ran) other n ran answer bytes s t held more in_line refl d f
   told_by (event.Move other n count) answer bytes s t held more in_line fits brings d f = if_held (MovesOne count) (event.Move other n count) other n answer bytes s t held more (moved_held other n count answer bytes s t held) d f
   told_by (event.Stop other n) answer bytes s t held more in_line fits brings d f = if_held StopsOne (event.Stop other n) other n answer bytes s t held more (stopped_held other n answer bytes s t held) d f
 

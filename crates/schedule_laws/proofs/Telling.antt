@@ -1,17 +1,16 @@
 -- What a turn of an attempt that serves tells, and that what was told of it then is so still, where it goes on.
-use Rattle.std.proofs.Common.{◌≡◌, ◌⊎◌, inl, inr, ◌∙◌, ℕ, suc, pred, Bool, List, [], ◌∷◌, ◌++◌, append_assoc, map, Option, Some, refl, sym, ap, subst}
+use Rattle.std.proofs.Common.{◌≡◌, ◌⊎◌, inl, inr, ◌∙◌, ℕ, suc, Bool, List, [], ◌∷◌, ◌++◌, append_assoc, map, Option, Some, refl, sym, ap}
 use Rattle.input_laws.proofs.Handed.{bytes_more}
 use Rattle.journal_model.specs.Attempt.{Piece}
-use Rattle.journal_model.specs.Run.{run_requests}
 use Rattle.vm_attempt_laws.specs.Attempts.{Attempt, Turn}
-use Rattle.vm_attempt_laws.specs.Bodies.{Body, NonEmptyValue, RunOutcome}
+use Rattle.vm_attempt_laws.proofs.TurnReports.{come, told_outcome}
+use Rattle.vm_attempt_laws.specs.Bodies.{NonEmptyValue, RunOutcome}
 use Rattle.vm_attempt_laws.specs.AttemptInvariants.{IsLast}
-use Rattle.vm_attempt_laws.specs.BodyExecution.{ExecutesFirst}
 use Rattle.vm_attempt_laws.specs.OutputOfAttempt.{Sent, frame_meant}
-use Rattle.vm_attempt_laws.specs.AttemptSimulation.{AnswersKept, HasNotRead, HasRead, IsOver, Serves}
+use Rattle.vm_attempt_laws.specs.AttemptSimulation.{AnswersKept, HasBodies, IsOver, Serves}
 use Rattle.vm_attempt_laws.specs.TurnReports.{Told, HasCome, TurnTells, IsAttemptTold, GoesOnTold, TellsOne}
 use Rattle.vm_attempt_laws.specs.TurnsInRun.{turns_answered, TurnsBehind}
-use Rattle.vm_attempt_laws.specs.Words.{after_turn, arrivals_carried, Bytes, Handler, Input, input_bytes, InputMessage, item_at, AttemptInRun, piece_of, Request, requests_carried, Version, VMOptions}
+use Rattle.vm_attempt_laws.specs.Words.{after_turn, Bytes, Handler, Input, input_bytes, InputMessage, AttemptInRun, piece_of, Version, VMOptions}
 
 -- ---- bytes
 
@@ -36,26 +35,7 @@ told_more before frame held given kept read some was are =
 -- ---- turns
 
 module _ {H : Type 0} (function : H → Handler) (next : Handler) (version : Version) (options : VMOptions) (is_closed : Bool) (live : AttemptInRun) (before : Attempt H) (proposed : List (ℕ × NonEmptyValue)) (ran : RunOutcome)
-    (told : Told) (s : Serves function next version options live is_closed before) (t : IsAttemptTold live before is_closed proposed told) where
-  abbrev pub come : HasCome live.start told.bytes
-  come = record { read = live.read; kept = live.held; parts = t.bytes; whole = ap item_at (sym s.bytes) ∙ s.whole }
-
-  -- the first that has answered reads the input
-  calls_so : HasNotRead function next version options live is_closed before ⊎ HasRead function next version options live before → pred (turns_answered before.input live.calls) ≡ live.calls
-  calls_so (inl n) = ap (λ (input : Option Input). pred (turns_answered input live.calls)) n.input ∙ ap pred n.calls ∙ sym n.calls
-  calls_so (inr r) = ap (λ (input : Option Input). pred (turns_answered input live.calls)) r.input
-
-  calls_are : pred told.answered ≡ live.calls
-  calls_are = ap pred t.answered ∙ calls_so s.stands
-
-  -- the body that it executes, by what was told
-  told_first : (body : Body) → ExecutesFirst next live.start.given (arrivals_carried live.read) live.calls (requests_carried live.read ++ live.machine.written) proposed body
-      → ExecutesFirst next live.start.given (arrivals_carried live.read) (pred told.answered) (run_requests next live.start.given (arrivals_carried live.read) (suc (pred told.answered))) told.proposed body
-  told_first body w =
-      subst (λ (calls : ℕ). ExecutesFirst next live.start.given (arrivals_carried live.read) calls (run_requests next live.start.given (arrivals_carried live.read) (suc calls)) told.proposed body) (sym calls_are)
-      (subst (λ (requests : List Request). ExecutesFirst next live.start.given (arrivals_carried live.read) live.calls requests told.proposed body) (sym w.waits.exactly)
-      (subst (λ (some : List (ℕ × NonEmptyValue)). ExecutesFirst next live.start.given (arrivals_carried live.read) live.calls (requests_carried live.read ++ live.machine.written) some body) (sym t.outcomes) w))
-
+    (told : Told) (own : HasBodies next live proposed before) (s : Serves function next version options live is_closed before) (t : IsAttemptTold live before is_closed proposed told) where
   abbrev Behind : List Sent → Turn → Attempt H → Type 0
   Behind sent turn after = TurnsBehind function next version options is_closed live before proposed ran sent turn after
 
@@ -68,7 +48,7 @@ module _ {H : Type 0} (function : H → Handler) (next : Handler) (version : Ver
   IsToldBehind sent turn after b now = now.over ≡ Some turn
 
   pub record TellsBehind (sent : List Sent) (turn : Turn) (after : Attempt H) (b : Behind sent turn after) : Type 0 where
-    pub has_come : HasCome live.start told.bytes
+    pub has_come : HasCome live.start told.bytes told.proposed
     pub now : Told
     pub tells : TurnTells next live.start told has_come ran turn now
     pub is_told : IsToldBehind sent turn after b now
@@ -89,9 +69,9 @@ module _ {H : Type 0} (function : H → Handler) (next : Handler) (version : Ver
     );
   }
   tells_behind sent Turn.RanBody after b one = record {
-    has_come = come;
+    has_come = come function next version options is_closed live before proposed ran told own s t;
     now = record told { proposed = told.proposed ++ (b.body.completion, b.value) ∷ [] };
-    tells = (b.body, b.value, told_first b.body b.first, refl);
+    tells = (b.body, b.value, told_outcome function next version options is_closed live before proposed ran told own s t sent after b, refl);
     is_told = (
       refl,
       record {

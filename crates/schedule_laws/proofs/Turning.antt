@@ -1,6 +1,7 @@
 -- A turn of an attempt that is held keeps its invocation in the run, and tells where the run stands: of the live one, of one that was stopped or
 -- overtaken, and of one that is over.
 use Rattle.std.proofs.Common.{◌≡◌, ◌≢◌, ℕ, List, [], ◌∷◌, ◌++◌, map, Option, Some, None, refl, sym, ap, subst, ◌∙◌, inl, inr}
+use Rattle.std.specs.List.{AllByRecursion}
 use Rattle.journal_model.specs.declared.invocation.NewInvocation.{NewInvocation}
 use Rattle.journal_model.specs.Notification.{Bytes, Text}
 use Rattle.journal_model.specs.Event.{Event, Frame}
@@ -23,17 +24,19 @@ use Rattle.replay_laws.specs.OutcomesInFlight.{OutcomesStand}
 use Rattle.replay_laws.specs.AttemptWithBodies.{IsLiveExecutor}
 use Rattle.replay_laws.specs.Laws.{LivesOn}
 use Rattle.vm_attempt_laws.specs.Attempts.{output_of, Turns, Attempt, Turn}
-use Rattle.vm_attempt_laws.specs.Bodies.{IsReplayed, outcome_frame, outcomes_in, RunOutcome}
+use Rattle.vm_attempt_laws.specs.Bodies.{Among, IsReplayed, outcome_frame, outcomes_in, RunOutcome}
+use Rattle.vm_attempt_laws.specs.BodyExecution.{MayNotEnd}
 use Rattle.vm_attempt_laws.specs.AttemptInvariants.{IsLast, LacksMemory}
 use Rattle.vm_attempt_laws.specs.Machine.phases
 use Rattle.vm_attempt_laws.specs.OutputOfAttempt.sent
 use Rattle.vm_attempt_laws.specs.OutputOfAttempt.{Sent, frame_meant, IsOfStore}
 use Rattle.vm_attempt_laws.specs.AttemptSimulation.{AnswersKept, IsOver}
-use Rattle.vm_attempt_laws.specs.TurnReports.{Told, HasCome, FailsSo, early, lacks, TurnTells, GoesOnTold}
+use Rattle.vm_attempt_laws.specs.TurnReports.{IsFrameTold, Told, HasCome, FailsSo, early, IsLacking, lacks, memory, TurnTells, GoesOnTold}
 use Rattle.vm_attempt_laws.specs.TurnsInRun.{ProposesAs, RunsOne, TurnKeeps, TurnsBehind}
 use Rattle.schedule_model.specs.declared.held.HeldAttempt.{HeldAttempt}
 use Rattle.schedule_model.specs.First.{with_first}
 use Rattle.schedule_model.specs.Held.{is_held, held_of}
+use Rattle.schedule_model.proofs.Holding.{some_is}
 use Rattle.schedule_laws.specs.TrackedAttempt.{Tracked, IsOverBy, by_error, IsClosedEarly, IsServed, IsLeft, Attends, is_over, lacks_memory, closed_early, is_served, is_left}
 use Rattle.schedule_laws.specs.InvocationInRun.{ReplaysInLine, given_of, FollowsBegun, OutcomesFly, ToldOf}
 use Rattle.schedule_laws.specs.Turned.{TurnTellsNow}
@@ -44,6 +47,7 @@ use Rattle.schedule_laws.proofs.InvocationInRun.{IsFlown, beside, flown, quiet_c
 use Rattle.schedule_laws.proofs.Serving.{ServingLaws}
 use Rattle.schedule_laws.proofs.Staying.{ends_by, turned_failed, turned_over}
 use Rattle.schedule_laws.proofs.Telling.{TellsBehind, left_behind, tells_behind}
+use Rattle.schedule_laws.proofs.Unfailed.{among_first, among_last, frames_calm, frames_failed, frames_further, IsFurther, same_further}
 
 module _ {H : Type 0} (function : H → Handler) (next : Handler) (options : VMOptions) (id : Text) (laws : ServingLaws function next options) (told : ToldOf) where
   -- the run of the live attempt is that of the invocation
@@ -53,8 +57,8 @@ module _ {H : Type 0} (function : H → Handler) (next : Handler) (options : VMO
       s.lives.is_live.begun.given_is ∙ ap (λ (one : NewInvocation). run_of (run_options options) options.fallback_random_seed one (starting_state events id)) s.new_is
 
   module _ (events : List Event) (output : Option Bytes) (held : List (HeldAttempt H)) (new : NewInvocation) (n : ℕ) (one : HeldAttempt H) (there : held_of held id n ≡ Some one)
-      (f : FollowsBegun function next options id told events output held new) (t : Tracked) (ran : RunOutcome) (turn : Turn) (changed : Attempt H) (accepted : IsAccepted events) (in_line : ReplaysInLine options)
-      (turns : Turns function ran one.attempt turn changed) where
+      (f : FollowsBegun function next options id told events output held new) (t : Tracked) (is_told : told n ≡ Some t) (ran : RunOutcome) (may : MayNotEnd options ran) (turn : Turn) (changed : Attempt H)
+      (accepted : IsAccepted events) (in_line : ReplaysInLine options) (turns : Turns function ran one.attempt turn changed) where
     -- what its turn tells, and what stands then
     pub record TurnedBegun : Type 0 where
       pub now : Told
@@ -95,7 +99,7 @@ module _ {H : Type 0} (function : H → Handler) (next : Handler) (options : VMO
       Behind sends turned = TurnsBehind function next f.version options (is_input_closed events id) s.live one.attempt s.proposed ran sends turned changed
 
       abbrev Tells : (sends : List Sent) (turned : Turn) → Behind sends turned → Type 0
-      Tells sends turned b = TellsBehind function next f.version options (is_input_closed events id) s.live one.attempt s.proposed ran t.told s.serves s.is_told sends turned changed b
+      Tells sends turned b = TellsBehind function next f.version options (is_input_closed events id) s.live one.attempt s.proposed ran t.told s.bodies s.serves s.is_told sends turned changed b
 
       abbrev Attending : List Sent → Told → Type 0
       Attending sends now = Attends function next options id events new f.version (f.coming ++ sends) n (record { start = t.start; told = now }) changed
@@ -167,16 +171,58 @@ module _ {H : Type 0} (function : H → Handler) (next : Handler) (options : VMO
 
       tells_turn : Tells kept_turn.sent turn kept_turn.behind
       tells_turn =
-          tells_behind function next f.version options (is_input_closed events id) s.live one.attempt s.proposed ran t.told s.serves s.is_told kept_turn.sent turn changed kept_turn.behind
+          tells_behind function next f.version options (is_input_closed events id) s.live one.attempt s.proposed ran t.told s.bodies s.serves s.is_told kept_turn.sent turn changed kept_turn.behind
           (laws.tells f.version (is_input_closed events id) s.live one.attempt s.proposed ran turn changed t.told in_line.queued s.bodies s.serves s.is_told turns)
 
       abbrev turned_told : Tracked
       turned_told = record { start = t.start; told = tells_turn.now }
 
+      -- ---- what its frames say
+
+      -- an attempt that is not over has proposed the same
+      further_by : {same : Told} (now : Told) → now ≡ same → same.proposed ≡ t.told.proposed → same.is_closed ≡ t.told.is_closed → IsFurther t.told now
+      further_by now is proposed closed = record {
+        proposed = λ x among. subst (Among x) (sym (ap (λ (k : Told). k.proposed) is ∙ proposed)) among;
+        over = inl so;
+        closed = λ e. ap (λ (k : Told). k.is_closed) is ∙ closed ∙ e;
+      }
+
+      -- what was told before is told still
+      told_further : (turned : Turn) (has_come : HasCome s.live.start t.told.bytes t.told.proposed) (now : Told) → TurnTells next s.live.start t.told has_come ran turned now → IsFurther t.told now
+      told_further Turn.RanBody has_come now tells = record {
+        proposed = λ x among. subst (Among x) (sym (ap (λ (k : Told). k.proposed) tells.3)) (among_first x t.told.proposed ((tells.0.completion, tells.1) ∷ []) among);
+        over = inl so;
+        closed = λ e. ap (λ (k : Told). k.is_closed) tells.3 ∙ e;
+      }
+      told_further Turn.Answered has_come now tells = further_by now tells.0 refl refl
+      told_further Turn.Waiting has_come now tells = further_by now tells.0 refl refl
+      told_further Turn.Suspended has_come now tells = further_by now tells.0 refl refl
+      told_further Turn.Ended has_come now tells = further_by now tells.0 refl refl
+      told_further (Turn.Failed error) has_come now tells = further_by now tells.0 refl refl
+
+      -- an outcome that it sends is the one of the body that it has executed, and an error the one that it has failed by
+      sends_told : (turned : Turn) (k : TurnKeeps function next f.version options (is_input_closed events id) s.live one.attempt s.proposed ran turned changed) (tells : Tells k.sent turned k.behind)
+          → AllByRecursion (IsFrameTold tells.now) (map (frame_meant f.version) k.sent)
+      sends_told Turn.RanBody k tells =
+          subst (AllByRecursion (IsFrameTold tells.now)) (sym k.behind.sends)
+          (subst (Among (k.behind.body.completion, k.behind.value)) (sym tells.is_told.1.outcomes) (among_last (k.behind.body.completion, k.behind.value) s.proposed), tt)
+      sends_told Turn.Answered k tells = frames_calm tells.now (map (frame_meant f.version) k.sent) k.proposes k.errors
+      sends_told Turn.Waiting k tells = frames_calm tells.now (map (frame_meant f.version) k.sent) k.proposes k.errors
+      sends_told Turn.Suspended k tells = frames_calm tells.now (map (frame_meant f.version) k.sent) k.proposes k.errors
+      sends_told Turn.Ended k tells = frames_calm tells.now (map (frame_meant f.version) k.sent) k.proposes k.errors
+      sends_told (Turn.Failed error) k tells = frames_failed tells.now error tells.is_told (map (frame_meant f.version) k.sent) k.proposes (k.unfailed may) k.errors
+
+      frames_told : AllByRecursion (IsFrameTold tells_turn.now) (map (frame_meant f.version) (f.coming ++ kept_turn.sent))
+      frames_told =
+          subst (AllByRecursion (IsFrameTold tells_turn.now)) (sym (meant_append f.version f.coming kept_turn.sent))
+          (all_append (IsFrameTold tells_turn.now) (map (frame_meant f.version) f.coming) (map (frame_meant f.version) kept_turn.sent)
+          (frames_further t.told tells_turn.now (told_further turn tells_turn.has_come tells_turn.now tells_turn.tells) (map (frame_meant f.version) f.coming) (f.told_frames n t live is_told))
+          (sends_told turn kept_turn tells_turn))
+
       -- it tells where the run stands
       turned_tells : TurnTellsNow next t.start t.told t.told.over ran turn tells_turn.now
       turned_tells = subst (λ (over : Option Turn). TurnTellsNow next t.start t.told over ran turn tells_turn.now) (sym so)
-          (inr (subst (λ (start : AttemptStart). (come : HasCome start t.told.bytes) × TurnTells next start t.told come ran turn tells_turn.now) s.start_is (tells_turn.has_come, tells_turn.tells)))
+          (inr (subst (λ (start : AttemptStart). (come : HasCome start t.told.bytes t.told.proposed) × TurnTells next start t.told come ran turn tells_turn.now) s.start_is (tells_turn.has_come, tells_turn.tells)))
 
       turned_flown : IsFlown function next options id told events held new n output waits turned_told (record one { attempt = changed })
       turned_flown =
@@ -194,6 +240,7 @@ module _ {H : Type 0} (function : H → Handler) (next : Handler) (options : VMO
                 (subst (λ (run : Invocation). FollowsSo next run id events (s.live.coming ++ map (frame_meant f.version) kept_turn.sent)) given_is (lives_on.follows (map (frame_meant f.version) kept_turn.sent) before kept_turn.makes)));
             outcomes = outcomes_behind turn kept_turn;
             output_is = output_is;
+            told_frames = frames_told;
             flies = record {
               version_is = (f.flies n waits one live output_is there).version_is;
               bytes = written_behind f.version waits (output_of one.attempt) (output_of changed) f.coming kept_turn.sent (f.flies n waits one live output_is there).bytes kept_turn.output;
@@ -205,7 +252,7 @@ module _ {H : Type 0} (function : H → Handler) (next : Handler) (options : VMO
       turned = record {
         now = tells_turn.now;
         tells = turned_tells;
-        follows = flown function next options id told events held new n one (record one { attempt = changed }) turned_told there refl refl events output f output waits f.typed f.numbered live turned_flown;
+        follows = flown function next options id told events held new n one (record one { attempt = changed }) turned_told there refl refl events output f output waits f.typed f.unfailed f.numbered live turned_flown;
       }
 
     -- ---- one that was stopped or overtaken
@@ -217,9 +264,9 @@ module _ {H : Type 0} (function : H → Handler) (next : Handler) (options : VMO
       left_turn : TurnKeeps function next l.version options l.is_closed goes.live one.attempt goes.proposed ran turn changed
       left_turn = laws.turns l.version l.is_closed goes.live one.attempt goes.proposed ran turn changed in_line.queued goes.bodies goes.serves turns
 
-      left_tells : TellsBehind function next l.version options l.is_closed goes.live one.attempt goes.proposed ran t.told goes.serves goes.is_told left_turn.sent turn changed left_turn.behind
+      left_tells : TellsBehind function next l.version options l.is_closed goes.live one.attempt goes.proposed ran t.told goes.bodies goes.serves goes.is_told left_turn.sent turn changed left_turn.behind
       left_tells =
-          tells_behind function next l.version options l.is_closed goes.live one.attempt goes.proposed ran t.told goes.serves goes.is_told left_turn.sent turn changed left_turn.behind
+          tells_behind function next l.version options l.is_closed goes.live one.attempt goes.proposed ran t.told goes.bodies goes.serves goes.is_told left_turn.sent turn changed left_turn.behind
           (laws.tells l.version l.is_closed goes.live one.attempt goes.proposed ran turn changed t.told in_line.queued goes.bodies goes.serves goes.is_told turns)
 
       abbrev left_told : Tracked
@@ -227,7 +274,7 @@ module _ {H : Type 0} (function : H → Handler) (next : Handler) (options : VMO
 
       left_attends : Attends function next options id events new f.version f.coming n left_told changed
       left_attends =
-          elim (left_behind function next l.version options l.is_closed goes.live one.attempt goes.proposed ran t.told goes.serves goes.is_told left_turn.sent turn changed left_turn.behind left_tells) [
+          elim (left_behind function next l.version options l.is_closed goes.live one.attempt goes.proposed ran t.told goes.bodies goes.serves goes.is_told left_turn.sent turn changed left_turn.behind left_tells) [
             | inl (over, kept, last, told_is) ↦ is_over turn told_is (ends_by function ran one.attempt turn changed goes.serves.going turns over kept last)
             | inr (same, on) ↦ is_left (same ∙ so) not_live (record {
               version = l.version;
@@ -240,32 +287,33 @@ module _ {H : Type 0} (function : H → Handler) (next : Handler) (options : VMO
       turned_left = record {
         now = left_tells.now;
         tells = subst (λ (over : Option Turn). TurnTellsNow next t.start t.told over ran turn left_tells.now) (sym so)
-            (inr (subst (λ (start : AttemptStart). (come : HasCome start t.told.bytes) × TurnTells next start t.told come ran turn left_tells.now) goes.start_is (left_tells.has_come, left_tells.tells)));
+            (inr (subst (λ (start : AttemptStart). (come : HasCome start t.told.bytes t.told.proposed) × TurnTells next start t.told come ran turn left_tells.now) goes.start_is (left_tells.has_come, left_tells.tells)));
         follows = beside function next options id told events held new n one (record one { attempt = changed }) left_told there refl refl output not_live f left_attends;
       }
 
     -- ---- one that is over, or whose machine has failed
 
     -- nothing changes but what is told
-    quiet : (now : Told) → changed ≡ one.attempt → TurnTellsNow next t.start t.told t.told.over ran turn now
+    quiet : (now : Told) → IsFurther t.told now → changed ≡ one.attempt → TurnTellsNow next t.start t.told t.told.over ran turn now
         → Attends function next options id events new f.version f.coming n (record { start = t.start; told = now }) changed → TurnedBegun
-    quiet now same tells attends = record {
+    quiet now further same tells attends = record {
       now = now;
       tells = tells;
-      follows = quiet_changed function next options id told events held new n one (record one { attempt = changed }) (record { start = t.start; told = now }) there refl refl output f (ap output_of same) attends;
+      follows = quiet_changed function next options id told events held new n one (record one { attempt = changed }) (record { start = t.start; told = now }) there refl refl output f (ap output_of same)
+          (λ k is. subst (λ (one_told : Tracked). IsFurther one_told.told now) (some_is t k (sym is_told ∙ is)) further) attends;
     }
 
     turned_over_by : (last : Turn) → t.told.over ≡ Some last → IsOverBy last one.attempt → TurnedBegun
     turned_over_by last so over =
         let it = turned_over function ran last one.attempt turn changed over turns in
-        quiet t.told it.1 (subst (λ (o : Option Turn). TurnTellsNow next t.start t.told o ran turn t.told) (sym so) (it.0, refl))
+        quiet t.told (same_further t.told) it.1 (subst (λ (o : Option Turn). TurnTellsNow next t.start t.told o ran turn t.told) (sym so) (it.0, refl))
         (is_over last so (subst (λ (a : Attempt H). IsOverBy last a) (sym it.1) over))
 
     -- the error that it has failed with is told, or that there was no memory for it
-    failed_now : (kept error : Error) → one.attempt.over ≡ None → one.attempt.vm.state.phase ≡ phases.Failed kept → IsCopy kept error → turn ≡ Turn.Failed error → changed ≡ one.attempt
+    failed_now : (kept error : Error) → t.told.over ≡ None → one.attempt.over ≡ None → one.attempt.vm.state.phase ≡ phases.Failed kept → IsCopy kept error → turn ≡ Turn.Failed error → changed ≡ one.attempt
         → TurnTellsNow next t.start t.told t.told.over ran turn (record t.told { over = Some (Turn.Failed error) }) → TurnedBegun
-    failed_now kept error going failed copies is same tells =
-        quiet (record t.told { over = Some (Turn.Failed error) }) same tells
+    failed_now kept error so going failed copies is same tells =
+        quiet (record t.told { over = Some (Turn.Failed error) }) (record { proposed = λ x among. among; over = inl so; closed = λ e. e }) same tells
         (is_over (Turn.Failed error) refl
         (by_error kept error (ap (λ (a : Attempt H). a.over) same ∙ going) (ap (λ (a : Attempt H). a.vm.state.phase) same ∙ failed) copies refl))
 
@@ -274,7 +322,7 @@ module _ {H : Type 0} (function : H → Handler) (next : Handler) (options : VMO
         let it = turned_failed function ran out_of_memory one.attempt turn changed going lacks_it turns in
         let same : it.0 ≡ out_of_memory = elim it.2 [ inl e ↦ e | inr e ↦ e ] in
         let is : turn ≡ Turn.Failed out_of_memory = it.1 ∙ ap Turn.Failed same in
-        failed_now out_of_memory out_of_memory going lacks_it (inl refl) is it.3
+        failed_now out_of_memory out_of_memory so going lacks_it (inl refl) is it.3
         (subst (λ (o : Option Turn). TurnTellsNow next t.start t.told o ran turn (record t.told { over = Some (Turn.Failed out_of_memory) })) (sym so) (inl (is, refl)))
 
     turned_early : t.told.over ≡ None → one.attempt.over ≡ None → IsClosedEarly t one.attempt → TurnedBegun
@@ -283,11 +331,11 @@ module _ {H : Type 0} (function : H → Handler) (next : Handler) (options : VMO
         let why : FailsSo next t.start t.told e.come ran it.0 = elim it.2 [
           | inl same ↦ elim e.tells [
             | inl code ↦ early e.unread e.closed (ap (λ (error : Error). error.code.0) same ∙ code)
-            | inr code ↦ lacks (ap (λ (error : Error). error.code.0) same ∙ code)
+            | inr lacking ↦ lacks (subst IsLacking (sym same) lacking)
           ]
-          | inr none ↦ lacks (ap (λ (error : Error). error.code.0) none)
+          | inr none ↦ lacks (memory none)
         ] in
-        failed_now e.error it.0 going e.failed it.2 it.1 it.3
+        failed_now e.error it.0 so going e.failed it.2 it.1 it.3
         (subst (λ (o : Option Turn). TurnTellsNow next t.start t.told o ran turn (record t.told { over = Some (Turn.Failed it.0) })) (sym so)
         (inr (e.come, subst (λ (one_turn : Turn). TurnTells next t.start t.told e.come ran one_turn (record t.told { over = Some (Turn.Failed it.0) })) (sym it.1) (refl, why))))
 

@@ -16,11 +16,13 @@ use Rattle.live_laws.specs.RequestsInFlight.{FollowsSo}
 use Rattle.vm_types.specs.Options.{run_options}
 use Rattle.vm_types.specs.declared.options.VMOptions.{VMOptions}
 use Rattle.vm_types.specs.declared.options.JournalReplay.TheVariants.{Enabled}
+use Rattle.vm_attempt_laws.specs.AttemptInvariants.{IsNoFailure}
 use Rattle.vm_attempt_laws.specs.Attempts.{output_of, Attempt}
 use Rattle.replay_laws.specs.OutcomesInFlight.{OutcomesStand}
 use Rattle.vm_attempt_laws.specs.Bodies.{NonEmptyValue}
 use Rattle.vm_attempt_laws.specs.OutputOfAttempt.sent
 use Rattle.vm_attempt_laws.specs.OutputOfAttempt.{Sent, sent_stream, frame_meant, IsOfStore}
+use Rattle.vm_attempt_laws.specs.TurnReports.{IsFrameTold}
 use Rattle.store_calls.specs.AbstractStore.{Standing}
 use Rattle.schedule_model.specs.declared.held.HeldAttempt.{HeldAttempt}
 use Rattle.schedule_model.specs.Held.{held_of}
@@ -36,12 +38,19 @@ pub record ReplaysInLine (options : VMOptions) : Type 0 where
 abbrev pub given_of : VMOptions → Text → List Event → NewInvocation → Invocation
 given_of options id events new = run_of (run_options options) options.fallback_random_seed new (starting_state events id)
 
+-- an accepted event of this invocation is no error that closes it
+abbrev pub FailsNot : Text → Event → Type 0
+FailsNot id (Event.Move other attempt frame) = other ≡ id → IsNoFailure frame
+FailsNot id event = Unit {0}
+
 -- ---- what a store is handed in with, and left with
 
--- all events of the invocation are such as calls bring, and what is recorded of it is of the run of this function
+-- all events of the invocation are such as calls bring, what is recorded of it is of the run of this function, and no error has closed it
 pub record IsInRun (next : Handler) (options : VMOptions) (id : Text) (events : List Event) (new : NewInvocation) : Type 0 where
   pub fit : AllFit id events
   pub holds : Holds next (given_of options id events new) id events
+  -- no error has closed it
+  pub unfailed : AllByRecursion (FailsNot id) events
 
 -- if it was begun
 abbrev pub HoldsOf : Handler → VMOptions → Text → List Event → Type 0
@@ -66,16 +75,18 @@ ToldOf = ℕ → Option Tracked
 
 module _ {H : Type 0} (function : H → Handler) (next : Handler) (options : VMOptions) (id : Text) (told : ToldOf) where
   -- an invocation that was begun: what is recorded of it and what is on its way is of the run, attempts beyond those that were begun are not
-  -- held, the outcomes on their way are those of the live one, its bytes are of the frames on their way, and each that is held stands as it
-  -- was told
+  -- held, the outcomes on their way are those of the live one, its bytes are of the frames on their way, which say what was told of it, no error
+  -- has closed the invocation, and each that is held stands as it was told
   pub record FollowsBegun (events : List Event) (output : Option Bytes) (held : List (HeldAttempt H)) (new : NewInvocation) : Type 0 where
     pub version : Version
     pub coming : List Sent
     pub typed : AllFit id events
+    pub unfailed : AllByRecursion (FailsNot id) events
     pub fit : sent.AllFit version coming
     pub of_store : AllByRecursion IsOfStore coming
     pub follows : FollowsSo next (given_of options id events new) id events (map (frame_meant version) coming)
     pub outcomes : (number : ℕ) → live_attempt events id ≡ Some number → OutcomesFly id events (map (frame_meant version) coming)
+    pub told_frames : (number : ℕ) (t : Tracked) → live_attempt events id ≡ Some number → told number ≡ Some t → AllByRecursion (IsFrameTold t.told) (map (frame_meant version) coming)
     pub numbered : (number : ℕ) → attempts_begun events id < number → (held_of held id number ≡ None) × (told number ≡ None)
     pub flies : (number : ℕ) (waits : Bytes) (one : HeldAttempt H) → live_attempt events id ≡ Some number → output ≡ Some waits → held_of held id number ≡ Some one
         → Flies new version coming waits one.attempt

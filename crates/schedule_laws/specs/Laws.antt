@@ -1,10 +1,10 @@
 -- What schedules keep, and what they leave.
-use Rattle.std.specs.Prelude.{◌≡◌, ℕ, false, List, [], ◌∷◌, length, Some, None}
+use Rattle.std.specs.Prelude.{◌≡◌, ℕ, false, List, [], ◌∷◌, ◌++◌, length, IfSome, Some, None}
 use Rattle.std.specs.List.{AllByRecursion}
 use Rattle.journal_model.specs.declared.invocation.NewInvocation.{NewInvocation}
 use Rattle.journal_model.specs.Notification.{Bytes, Text}
 use Rattle.journal_model.specs.Event as model
-use Rattle.journal_model.specs.Journal.{invocation_begun}
+use Rattle.journal_model.specs.Journal.{ByEnd, closing_of, invocation_begun, recorded_answer}
 use Rattle.journal_model.specs.Cause.{IsAccepted}
 use Rattle.journal_model.specs.Run.{Handler}
 use Rattle.journal_model.specs.Headline.{Headline, NeverLate, WakesExactly}
@@ -20,7 +20,7 @@ use Rattle.schedule_laws.specs.InvocationInRun.{ReplaysInLine, HoldsOf, given_of
 use Rattle.schedule_laws.specs.Schedules.event
 use Rattle.schedule_laws.specs.Schedules.reply
 use Rattle.schedule_laws.specs.Schedules.{Event, Reply, HeldAttempt, held_of, with_attempt, given_in, FeedsParts, MovesOne, Does, Scheduled, AppliesAll, Brings, FitsEvent}
-use Rattle.schedule_laws.specs.Turned.{TellsAttempt, is_of_attempt, attempt_start_of, told_start}
+use Rattle.schedule_laws.specs.Turned.{TellsAttempt, is_of_attempt, attempt_start_of, TakesAsTold, told_start}
 
 -- ---- what is answered of frames
 
@@ -69,6 +69,8 @@ module _ {H : Type 0} (function : H → Handler) where
     pub tells : (number : ℕ) (t : Tracked) → told number ≡ Some t
         → (after : Told) × (now number ≡ Some (record { start = t.start; told = after })) × TellsAttempt next t.start (is_of_attempt id number one) one answer bytes t.told after
     pub begins : BeginsTold options id one answer old.events now
+    -- what is taken of it says what was told
+    pub takes : (number : ℕ) (t : Tracked) → told number ≡ Some t → (added : List model.Event) → new.events ≡ added ++ old.events → TakesAsTold id number one answer added t.told
 
   abbrev pub ToldByEach : Type 0
   ToldByEach = (next : Handler) (options : VMOptions) (id : Text) (one : Event H) (answer : Reply) (bytes : Bytes) (old new : Standing) (held more : List (HeldAttempt H)) (told : ToldOf) → ReplaysInLine options
@@ -111,6 +113,15 @@ module _ {H : Type 0} (function : H → Handler) where
 abbrev pub HoldsHeadline : Type 0
 HoldsHeadline = (next : Handler) (options : VMOptions) (id : Text) (events : List model.Event) → IsAccepted events → HoldsOf next options id events
     → Headline next (run_options options) options.fallback_random_seed events id
+
+-- it is closed by its end, or open, and has an answer at its end alone
+pub record IsClosedByEnd (events : List model.Event) (id : Text) : Type 0 where
+  pub closed : IfSome (closing_of events id) (λ closing. closing ≡ ByEnd)
+  pub answered : IfSome (recorded_answer events id) (λ answer. closing_of events id ≡ Some ByEnd)
+
+abbrev pub HoldsClosed : Type 0
+HoldsClosed = (next : Handler) (options : VMOptions) (id : Text) (events : List model.Event) (new : NewInvocation) → invocation_begun events id ≡ Some new → HoldsOf next options id events
+    → IsClosedByEnd events id
 
 -- waking is never late
 abbrev pub HoldsNeverLate : Type 0

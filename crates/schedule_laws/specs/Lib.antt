@@ -8,3 +8,5 @@ pub mod Laws
 pub mod Schedules
 pub mod Attempts
 pub mod Isolation
+pub mod EntryPlaces
+pub mod SettledOnce

@@ -7,7 +7,6 @@ use Rattle.journal_model.specs.Event.{Event}
 use Rattle.journal_model.specs.Attempt.{live_attempt, is_input_closed}
 use Rattle.journal_model.specs.Run.{Handler}
 use Rattle.protocol_types.specs.declared.version.Version.{Version}
-use Rattle.protocol_errors.specs.Code.{internal}
 use Rattle.protocol_errors.specs.declared.error.Error.{Error}
 use Rattle.live_laws.specs.StartFrame.{AttemptStart}
 use Rattle.live_laws.specs.AttemptWithMachine.{AttemptInRun}
@@ -20,7 +19,7 @@ use Rattle.vm_attempt_laws.specs.Machine.phases
 use Rattle.vm_attempt_laws.specs.Machine.{IsCopy}
 use Rattle.vm_attempt_laws.specs.OutputOfAttempt.{Sent, frame_meant}
 use Rattle.vm_attempt_laws.specs.AttemptSimulation.{HasBodies, Serves}
-use Rattle.vm_attempt_laws.specs.TurnReports.{Told, HasCome, HasJournal, IsAttemptTold, GoesOnTold}
+use Rattle.vm_attempt_laws.specs.TurnReports.{Told, HasCome, HasJournal, IsLacking, IsAttemptTold, GoesOnTold}
 
 -- what an attempt was begun with, and what was told of it
 pub record Tracked : Type 0 where
@@ -37,12 +36,12 @@ module _ {H : Type 0} where
 
   -- its input was closed before its journal had come, of which it tells so
   pub record IsClosedEarly (t : Tracked) (a : Attempt H) : Type 0 where
-    pub come : HasCome t.start t.told.bytes
+    pub come : HasCome t.start t.told.bytes t.told.proposed
     pub unread : HasJournal t.start come.read → ⊥
     pub closed : t.told.is_closed ≡ true
     pub error : Error
     pub failed : a.vm.state.phase ≡ phases.Failed error
-    pub tells : (error.code.0 ≡ early_error.code.0) ⊎ (error.code.0 ≡ internal)
+    pub tells : (error.code.0 ≡ early_error.code.0) ⊎ IsLacking error
 
 module _ {H : Type 0} (function : H → Handler) (next : Handler) (options : VMOptions) (id : Text) where
   -- ---- an attempt that serves

@@ -1,5 +1,6 @@
 -- What each reply to a turn says of the run, of an attempt that is live, that was stopped, or that was overtaken.
 use Rattle.std.specs.Prelude.{◌≡◌, ◌⊎◌, ℕ, ◌==◌, ◌&&◌, Bool, true, false, List, ◌∷◌, ◌++◌, Option, Some, None, bytes_eq}
+use Rattle.std.specs.List.{AllByRecursion}
 use Rattle.journal_model.specs.declared.invocation.NewInvocation.{NewInvocation}
 use Rattle.journal_model.specs.Notification.{Bytes, Text}
 use Rattle.journal_model.specs.Event as model
@@ -11,7 +12,7 @@ use Rattle.vm_start.specs.FailureReport.{IsCopy, out_of_memory}
 use Rattle.vm_types.specs.Options.{run_options}
 use Rattle.vm_types.specs.declared.options.VMOptions.{VMOptions}
 use Rattle.vm_attempt_laws.specs.Bodies.{RunOutcome}
-use Rattle.vm_attempt_laws.specs.TurnReports.{Told, told_nothing, HasCome, TurnTells}
+use Rattle.vm_attempt_laws.specs.TurnReports.{Told, told_nothing, HasCome, IsFrameTold, TurnTells}
 use Rattle.schedule_laws.specs.Attempts.{Turn}
 use Rattle.schedule_laws.specs.Schedules.event
 use Rattle.schedule_laws.specs.Schedules.reply
@@ -32,7 +33,7 @@ TellsNoMemory told turn now = (turn ≡ Turn.Failed out_of_memory) × (now ≡ r
 -- a turn of an attempt that is over, or is not
 abbrev pub TurnTellsNow : Handler → AttemptStart → (told : Told) → (over : Option Turn) → RunOutcome → Turn → (now : Told) → Type 0
 TurnTellsNow next start told (Some last) ran turn now = IsAgain last turn × (now ≡ told)
-TurnTellsNow next start told None ran turn now = TellsNoMemory told turn now ⊎ ((come : HasCome start told.bytes) × TurnTells next start told come ran turn now)
+TurnTellsNow next start told None ran turn now = TellsNoMemory told turn now ⊎ ((come : HasCome start told.bytes told.proposed) × TurnTells next start told come ran turn now)
 
 -- What is told of the attempt behind one more event, by its reply: a turn tells where its run stands, it is told that no more of its input comes,
 -- and these bytes of it were fed. Whether the event is its own is said by a number of it.
@@ -49,11 +50,23 @@ is_of_attempt id number (event.Close other n) = bytes_eq other id && (n == numbe
 is_of_attempt id number (event.Feed other n count) = bytes_eq other id && (n == number)
 is_of_attempt id number one = false
 
+-- an accepted event is a frame that says what was told of its attempt, if it is a frame
+abbrev pub IsTakenAsTold : Told → model.Event → Type 0
+IsTakenAsTold told (model.Event.Move id attempt frame) = IsFrameTold told frame
+IsTakenAsTold told event = Unit {0}
+
+-- Of the frames of the attempt that an event moves to the store each says what was told by then: an outcome of a run is one that a turn was
+-- given that has executed the body of that run; an error is the one by which a turn has failed, and none closes the invocation.
+abbrev pub TakesAsTold : {H : Type 0} → Text → ℕ → Event H → Reply → (added : List model.Event) → Told → Type 0
+TakesAsTold id number (event.Move other attempt count) (reply.Moved bytes frames why) added told = other ≡ id → attempt ≡ number → AllByRecursion (IsTakenAsTold told) added
+TakesAsTold id number one answer added told = Unit {0}
+
 -- So it is of each event behind its begin.
-abbrev pub TurnsTellEach : {H : Type 0} → Handler → AttemptStart → Text → ℕ → List (Event H) → List Reply → (handed : List Bytes) → Told → Type 0
-TurnsTellEach next start id number (one ∷ events) (answer ∷ replies) (bytes ∷ handed) told =
-    (now : Told) × TellsAttempt next start (is_of_attempt id number one) one answer bytes told now × TurnsTellEach next start id number events replies handed now
-TurnsTellEach next start id number events replies handed told = Unit {0}
+abbrev pub TurnsTellEach : {H : Type 0} → Handler → AttemptStart → Text → ℕ → List (Event H) → List Reply → (added : List (List model.Event)) → (handed : List Bytes) → Told → Type 0
+TurnsTellEach next start id number (one ∷ events) (answer ∷ replies) (some ∷ added) (bytes ∷ handed) told =
+    (now : Told) × TellsAttempt next start (is_of_attempt id number one) one answer bytes told now × TakesAsTold id number one answer some told
+    × TurnsTellEach next start id number events replies added handed now
+TurnsTellEach next start id number events replies added handed told = Unit {0}
 
 -- ---- of each attempt
 
@@ -66,15 +79,16 @@ abbrev pub told_start : AttemptStart → Told
 told_start start = record told_nothing { bytes = start.frame }
 
 -- What the replies behind a begin tell of the attempt that it has begun, behind these accepted events.
-abbrev pub BegunTells : {H : Type 0} → Handler → VMOptions → Text → Event H → Reply → (bytes : Bytes) → (events : List (Event H)) → List Reply → (handed : List Bytes) → (earlier : List model.Event) → Type 0
-BegunTells next options id (event.Begin other handler now) (reply.Begun number) bytes events replies handed earlier =
+abbrev pub BegunTells : {H : Type 0} → Handler → VMOptions → Text → Event H → Reply → (bytes : Bytes) → (events : List (Event H)) → List Reply → (added : List (List model.Event)) → (handed : List Bytes) → (earlier : List model.Event)
+    → Type 0
+BegunTells next options id (event.Begin other handler now) (reply.Begun number) bytes events replies added handed earlier =
     other ≡ id → (new : NewInvocation) → invocation_begun earlier id ≡ Some new
     → (bytes ≡ (attempt_start_of options id earlier now new).frame)
-    × TurnsTellEach next (attempt_start_of options id earlier now new) id number events replies handed (told_start (attempt_start_of options id earlier now new))
-BegunTells next options id one answer bytes events replies handed earlier = Unit {0}
+    × TurnsTellEach next (attempt_start_of options id earlier now new) id number events replies added handed (told_start (attempt_start_of options id earlier now new))
+BegunTells next options id one answer bytes events replies added handed earlier = Unit {0}
 
 -- So it is of each begin of the invocation, where each event has added these to the accepted events.
 abbrev pub EachBegunTells : {H : Type 0} → Handler → VMOptions → Text → List (Event H) → List Reply → (added : List (List model.Event)) → (handed : List Bytes) → (earlier : List model.Event) → Type 0
 EachBegunTells next options id (one ∷ events) (answer ∷ replies) (some ∷ added) (bytes ∷ handed) earlier =
-    BegunTells next options id one answer bytes events replies handed earlier × EachBegunTells next options id events replies added handed (some ++ earlier)
+    BegunTells next options id one answer bytes events replies added handed earlier × EachBegunTells next options id events replies added handed (some ++ earlier)
 EachBegunTells next options id events replies added handed earlier = Unit {0}

@@ -7,10 +7,12 @@
 //! laws.
 #![tactic(auto)]
 
+ghost use Rattle.schedule_laws.specs.EntryPlaces.{EntriesKeepPlaces};
 ghost use Rattle.schedule_laws.specs.HandedInput.{HandsOutInput};
 ghost use Rattle.schedule_laws.specs.FittingLaws.{AttemptsAreFedWell, AttemptsCanStart, MessagesMayCome};
 ghost use Rattle.schedule_laws.specs.Isolation.{AllAnswerAlone, AllKeepState, AllReplyAlike, AllStandAlone};
-ghost use Rattle.schedule_laws.specs.Laws.{FollowsHolds, FramesAreTaken, HoldsFollows, HoldsHeadline, HoldsNeverLate, HoldsTold, HoldsWakesExactly, KeptByEach, LeavesHolds, NoneRefused, ToldByEach};
+ghost use Rattle.schedule_laws.specs.Laws.{FollowsHolds, FramesAreTaken, HoldsClosed, HoldsFollows, HoldsHeadline, HoldsNeverLate, HoldsTold, HoldsWakesExactly, KeptByEach, LeavesHolds, NoneRefused, ToldByEach};
+ghost use Rattle.schedule_laws.specs.SettledOnce.{SettledOnceTheSame};
 
 use journal_laws::invocations_isolated;
 use journal_model::Handler;
@@ -39,6 +41,17 @@ pub fn attempts_can_start()
 /// is left.
 pub fn inputs_are_handed_out()
     ensures { HandsOutInput }
+{}
+
+/// An entry that is recorded keeps its place, and is never changed or removed, whatever is accepted behind it.
+pub fn entries_keep_places()
+    ensures { EntriesKeepPlaces }
+{}
+
+/// What is recorded of an invocation that was settled once depends on its run and its arrivals alone: one that has ended, or of which an
+/// attempt was suspended that had been handed all that is recorded, also where another attempt was begun since.
+pub fn settled_once_record_the_same()
+    ensures { SettledOnceTheSame }
 {}
 
 /// Each event keeps an invocation in its run, whatever is stopped, overtaken or refused, and no frame of it is refused for a cause that
@@ -78,9 +91,10 @@ pub fn frames_are_taken<H: Handler>()
     schedules_keep::<H>();
 }
 
-/// That is the headline, and that waking is never late and, from version 7 on, exact.
+/// That is the headline, that such an invocation is closed by its end alone, and that waking is never late and, from version 7 on, exact.
 pub fn records_of_runs()
     ensures headline { HoldsHeadline }
+    ensures closed { HoldsClosed }
     ensures never_late { HoldsNeverLate }
     ensures wakes_exactly { HoldsWakesExactly }
 {}
