@@ -1,6 +1,6 @@
 -- What is accepted of each event of a schedule is what its reply tells.
 use Rattle.std.proofs.Common.{◌≡◌, refl, sym, ap, subst, ◌∙◌, ℕ, arith, Bool, true, false, ◌++◌, append_assoc, length, length-append, map, if◌then◌else◌, List, [], ◌∷◌, Option, Some, None, inl, inr}
-use Rattle.std.proofs.lemmas.List.{map-append}
+use Rattle.std.proofs.lemmas.List.{append_cancel_right, map-append}
 use Rattle.journal_model.specs.Notification.{Text}
 use Rattle.journal_model.specs.declared.notification.SignalKey.{SignalKey}
 use Rattle.journal_model.specs.declared.invocation.NewInvocation.{NewInvocation}
@@ -22,7 +22,8 @@ use Rattle.schedule_laws.specs.Schedules.scheduled
 use Rattle.schedule_laws.specs.Schedules.event
 use Rattle.schedule_laws.specs.Schedules.reply
 use Rattle.schedule_laws.specs.Schedules.refusal
-use Rattle.schedule_laws.specs.Schedules.{Reply, HeldAttempt, held_of, RepliesDone, RepliesPlace, RepliesCount, BeginDoes, FeedsOne, ClosesOne, StopsOne, TurnsOne, MovesOne, IfHeld, UnlessMismatch, tells_mismatch, Does, Scheduled, AppliesAll}
+use Rattle.schedule_laws.specs.Schedules.{Reply, HeldAttempt, held_of, RepliesDone, RepliesPlace, RepliesCount, BeginDoes, FeedsOne, ClosesOne, StopsOne, TurnsOne, MovesOne, IfHeld, UnlessMismatch, tells_mismatch, Does, Scheduled}
+use Rattle.durable_schedule.specs.Runs.{AppliesEach}
 use Rattle.durable_schedule.specs.Front.{AreAcceptedOf, IsAcceptedOf, stop_for}
 use Rattle.durable_schedule.proofs.Feeding.{are_fed, parts_events, some_parts, stopped_events, sum_given}
 
@@ -183,11 +184,13 @@ module _ {H : Type 0} (function : H → Handler) (options : VMOptions) where
       held_adds (λ id n. event.Stop id n) StopsOne id n s t held more answer (λ stays. ([], refl, stays.events)) (λ one changed it. stop_adds one.invocation one.number answer s t it.0) it
 
   -- and so of all
-  pub all_accepted : (asked : List (scheduled.Event H)) (replies : List Reply) (old new : Scheduled H) → AppliesAll function options asked replies old new
-      → AreAcceptedOf asked replies old.standing.events new.standing.events
-  all_accepted [] [] old new it = ap (λ (s : Scheduled H). s.standing.events) it
-  all_accepted (one ∷ asked) (answer ∷ replies) old new it =
+  pub all_accepted : (asked : List (scheduled.Event H)) (replies : List Reply) (added : List (List Event)) (old new : Scheduled H) → AppliesEach function options asked replies added old new
+      → AreAcceptedOf asked replies added old.standing.events new.standing.events
+  all_accepted [] [] [] old new it = ap (λ (s : Scheduled H). s.standing.events) it
+  all_accepted (one ∷ asked) (answer ∷ replies) (some ∷ added) old new it =
       let first = does_add one old.standing it.0.standing old.held it.0.held answer it.1 in
-      (first.0, first.1, subst (λ (events : List Event). AreAcceptedOf asked replies events new.standing.events) first.2 (all_accepted asked replies it.0 new it.2))
-  all_accepted [] (answer ∷ replies) old new it = absurd it
-  all_accepted (one ∷ asked) [] old new it = absurd it
+      let same : first.0 ≡ some = append_cancel_right first.0 some old.standing.events (sym first.2 ∙ it.2) in (
+        subst (IsAcceptedOf one answer old.standing.events) same first.1,
+        subst (λ (events : List Event). AreAcceptedOf asked replies added events new.standing.events) it.2 (all_accepted asked replies added it.0 new it.4),
+      )
+  all_accepted _ _ _ old new it = absurd it

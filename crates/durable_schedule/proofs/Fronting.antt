@@ -1,10 +1,11 @@
 -- A schedule in terms of accepted events: what stands of each invocation, of all accepted events, and of what a crash leaves.
 use Rattle.std.proofs.Common.{◌≡◌, refl, sym, ap, subst, ◌∙◌, inl, inr, Bool, true, false, ◌||◌, if◌then◌else◌, List, [], ◌∷◌, option_map, filter_map}
 use Rattle.sqlite_trees.specs.declared.store.Store.{Ghosts}
+use Rattle.sqlite_trees.specs.Tree.{Trees}
 use Rattle.sqlite.specs.Held.{state}
 use Rattle.sqlite.specs.State.{HasCleanDisk, Survives}
 use Rattle.sqlite.proofs.StateLemmas.{survives_weaker}
-use Rattle.journal_model.specs.Notification.{Text}
+use Rattle.journal_model.specs.Notification.{Bytes, Text}
 use Rattle.journal_model.specs.Event.{Event, Frame}
 use Rattle.journal_model.specs.Journal.{Entry, begins, is_of, is_tick, starting_state, view_of}
 use Rattle.journal_model.specs.Run.{Handler}
@@ -24,9 +25,11 @@ use Rattle.schedule_laws.specs.Schedules.refusal
 use Rattle.schedule_laws.specs.Schedules.{Event as Asked, Reply, Scheduled, AppliesAll}
 use Rattle.scheduler.specs.declared.scheduler.Scheduler.{Scheduler}
 use Rattle.scheduler.specs.Scheduled.{IsScheduled}
-use Rattle.durable_schedule.specs.Runs.{LastsBehind, LastsBy, LastsNext, Leaves, LeavesFirst, at_first}
-use Rattle.durable_schedule.specs.Front.{AreAcceptedOf, IsFaithful, IsToldAlike, KeepsFirst, RecordsFaithfully, StandsFor, without_others}
+use Rattle.durable_schedule.specs.Runs.{EnduresUnwritten, LastsBehind, Leaves, LeavesFirst, at_first}
+use Rattle.durable_schedule.specs.Front.{IsFaithful, IsToldAlike, KeepsFirst, KeepsWritten, RecordsFaithfully, StandsFor, without_others}
+use Rattle.durable_schedule.specs.Handed.{AreHandedBy, HandsEach, HandsOne, IsHandedBy}
 use Rattle.durable_schedule.proofs.Adding.{all_accepted}
+use Rattle.durable_schedule.proofs.Written.{behind_more}
 
 -- ---- what came of others
 
@@ -67,40 +70,37 @@ module _ (id : Text) where
         is_due = it.dueness;
       }
 
--- ---- what lasts
+-- ---- what is handed
 
-by_more : (P Q : Type 0) → (P → Q) → (answer : Reply) → LastsBy P answer → LastsBy Q answer
-by_more P Q f (reply.Refused (refusal.Store why)) it = (it.0, f it.1)
-by_more P Q f (reply.Refused refusal.AttemptNotHeld) it = f it
-by_more P Q f (reply.Moved bytes frames why) it = (it.0, elim it.1 [ inl some ↦ inl some | inr before ↦ inr (f before) ])
-by_more P Q f _ it = tt
+module _ {H : Type 0} (function : H → Handler) (options : VMOptions) where
+  one_handed : (one : Asked H) (answer : Reply) (bytes : Bytes) (old new : Scheduled H) → HandsOne function options one answer bytes old new → IsHandedBy one answer bytes
+  one_handed (event.Begin id handler now) (reply.Begun number) bytes old new it = tt
+  one_handed (event.Feed id number count) (reply.Fed fed why) bytes old new it = it.4
+  one_handed one answer bytes old new it = it.1
 
-module _ {H : Type 0} where
-  next_more : (P Q : Type 0) → (P → Q) → (one : Asked H) (answer : Reply) → LastsNext P one answer → LastsNext Q one answer
-  next_more P Q f (event.Feed id attempt count) answer it = f it
-  next_more P Q f (event.Close id attempt) answer it = f it
-  next_more P Q f (event.Turn id attempt outcome) answer it = f it
-  next_more P Q f (event.Stop id attempt) answer it = f it
-  next_more P Q f _ answer it = by_more P Q f answer it
-
-  -- what lasts whatever did before lasts
-  behind_more : (P Q : Type 0) → (P → Q) → (asked : List (Asked H)) (replies : List Reply) → LastsBehind P asked replies → LastsBehind Q asked replies
-  behind_more P Q f (one ∷ asked) (answer ∷ replies) it =
-      behind_more (LastsNext P one answer) (LastsNext Q one answer) (next_more P Q f one answer) asked replies it
-  behind_more P Q f [] replies it = f it
-  behind_more P Q f (one ∷ asked) [] it = f it
+  all_handed : (asked : List (Asked H)) (replies : List Reply) (added : List (List Event)) (handed : List Bytes) (old new : Scheduled H) → HandsEach function options asked replies added handed old new
+      → AreHandedBy asked replies handed
+  all_handed [] [] [] [] old new it = tt
+  all_handed (one ∷ asked) (answer ∷ replies) (some ∷ added) (bytes ∷ handed) old new it =
+      (one_handed one answer bytes old it.0 it.1, all_handed asked replies added handed it.0 new it.3)
+  all_handed _ _ _ _ old new it = absurd it
 
 -- ---- a schedule
 
 module _ {H : Type 0} (function : H → Handler) (options : VMOptions) (stand : AllStandAlone) where
-  faithful : (asked : List (Asked H)) (replies : List Reply) (s : Standing) (new : Scheduled H) → AppliesAll function options asked replies (at_first s) new
-      → Leaves function options asked replies (at_first s) new → IsFaithful function options s.events asked replies new.standing.events
-  faithful asked replies s new applies leaves = record {
+  faithful : (asked : List (Asked H)) (replies : List Reply) (s : Standing) (new : Scheduled H) → Leaves function options asked replies (at_first s) new
+      → IsFaithful function options s.events asked replies new.standing.events
+  faithful asked replies s new leaves = record {
     accepted = new.standing.accepted;
-    told = all_accepted function options asked replies (at_first s) new applies;
+    added = leaves.added;
+    told = all_accepted function options asked replies leaves.added (at_first s) new leaves.each;
+    handed = leaves.handed;
+    hands = all_handed function options asked replies leaves.added leaves.handed (at_first s) new leaves.hands;
+    fed = leaves.fed;
+    turns = leaves.turns;
     in_run = λ next id in_line brings holds.
         let it = leaves.in_run next id in_line brings holds in
-        record { holds = it.holds; headline = it.headline; listed = it.listed; never_late = it.never_late; wakes_exactly = it.wakes_exactly };
+        record { holds = it.holds; headline = it.headline; closed = it.closed; listed = it.listed; never_late = it.never_late; wakes_exactly = it.wakes_exactly };
     isolated = λ id. told_alike id stand new.standing.events;
   }
 
@@ -116,26 +116,40 @@ module _ {H : Type 0} (function : H → Handler) (options : VMOptions) (stand : 
         record {
           events = it.0.standing.events;
           readers = record { store = it.1.standing.stands; scheduled = it.0; is = it.1; same = refl };
-          faithful = subst (λ (events : List Event). IsFaithful function options events asked replies it.0.standing.events) first.1.same (faithful asked replies first.0 it.0 it.2 it.3);
+          faithful = subst (λ (events : List Event). IsFaithful function options events asked replies it.0.standing.events) first.1.same (faithful asked replies first.0 it.0 it.3);
           lasts = λ written. it.4 (behind_more ⊥ (Outlasts first.0.events (state g store.connection)) (λ never. absurd never) asked replies written);
         }
 
-    -- and of what a crash leaves of it
-    pub keeps : (new : Stored S) → Endures g (LeavesFirst function options asked) store new → Survives (state g store.connection) (state g new.connection) (KeepsFirst function options before asked)
-    keeps new lives =
+    -- of what tables keep
+    kept_first : (replies : List Reply) (trees : Trees) → Keeps g (LeavesFirst function options asked replies) store trees → KeepsFirst function options before asked replies trees
+    kept_first replies trees it =
         let first = stood g before store stands in
-        survives_weaker (state g store.connection) (state g new.connection) (Keeps g (LeavesFirst function options asked) store) (KeepsFirst function options before asked)
-        (λ clean trees it.
         let kept = it first.0 first.1.standing in
-        let applied = kept.1.applied in
+        let answered = kept.1.applied in
+        let applied = answered.applies in
         record {
           first = applied.first;
           rest = applied.rest;
           first_are = applied.beginning;
-          replies = applied.answers;
+          answers = applied.answers;
+          answered = answered.answered;
+          later = answered.later;
+          replies_are = answered.replies_are;
+          but_last = answered.but_last;
+          unwritten = answered.unwritten;
           events = kept.0.events;
           faithful = subst (λ (events : List Event). IsFaithful function options events applied.first applied.answers kept.0.events) first.1.same
-              (faithful applied.first applied.answers first.0 (record { standing = kept.0; held = applied.held }) applied.applies kept.1.leaves);
+              (faithful applied.first applied.answers first.0 (record { standing = kept.0; held = applied.held }) kept.1.leaves);
           keeps = kept.2;
-        })
-        lives
+        }
+
+    -- and of what a crash leaves of it
+    pub keeps : (replies : List Reply) (new : Stored S) → Endures g (LeavesFirst function options asked replies) store new
+        → Survives (state g store.connection) (state g new.connection) (KeepsFirst function options before asked replies)
+    keeps replies new lives =
+        survives_weaker (state g store.connection) (state g new.connection) (Keeps g (LeavesFirst function options asked replies) store) (KeepsFirst function options before asked replies)
+        (λ clean trees it. kept_first replies trees it) lives
+
+    pub keeps_written : (replies : List Reply) (new : Stored S) → EnduresUnwritten g asked replies (LeavesFirst function options asked replies) store new → HasCleanDisk (state g new.connection) → (trees : Trees)
+        → (state g new.connection).may_leave trees → KeepsWritten function options before asked replies (state g store.connection).may_leave trees
+    keeps_written replies new left clean trees may = elim (left clean trees may) [ inl none ↦ inl none | inr it ↦ inr (kept_first replies trees it) ]

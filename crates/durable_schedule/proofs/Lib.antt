@@ -12,4 +12,6 @@ pub mod Settling
 pub mod Schedules
 mod Reopening
 mod Adding
-mod Fronting
+mod Written
+pub mod Fronting
+pub mod WrongRecords

@@ -17,7 +17,7 @@ module _ (on : HoldsOn) (next : Handler) (options : VMOptions) (id : Text) where
       → HoldsOf next options id (Event.Stop other n ∷ events)
   stop_holds other n events accepted holds new begun =
       let it = holds new begun in
-      record { fit = (tt, it.fit); holds = on next (given_of options id events new) id (Event.Stop other n) events accepted tt it.holds }
+      record { fit = (tt, it.fit); holds = on next (given_of options id events new) id (Event.Stop other n) events accepted tt it.holds; unfailed = (tt, it.unfailed) }
 
   -- the stop of one invocation's attempt, if one is live, and those of the invocations behind it
   one_more : (o : Option ℕ) (other : Text) (stops events : List Event) → (IsAccepted (stops ++ events) → HoldsOf next options id (stops ++ events))

@@ -1,5 +1,5 @@
 -- What is applied in a row, what that leaves of each invocation, when it lasts, and where a crash comes into it.
-use Rattle.std.proofs.Common.{◌≡◌, refl, sym, ap, subst, ◌∙◌, ◌++◌, append_assoc, append-nil, List, [], ◌∷◌, None, inl}
+use Rattle.std.proofs.Common.{refl, sym, ap, subst, ◌∙◌, ◌++◌, append_assoc, append-nil, List, [], ◌∷◌, None, inl, inr}
 use Rattle.std.specs.List.{AllByRecursion}
 use Rattle.sqlite_trees.specs.declared.store.Store.{Ghosts}
 use Rattle.sqlite.specs.Held.{state}
@@ -13,13 +13,13 @@ use Rattle.journal_store.specs.Stands.{IsStanding, Keeps, Endures, Outlasts}
 use Rattle.store_calls.specs.AbstractStore.{Standing}
 use Rattle.schedule_laws.proofs.Schedules.{schedules_grow}
 use Rattle.schedule_laws.specs.Isolation.{AllAnswerAlone, AllKeepState, AllStandAlone}
-use Rattle.schedule_laws.specs.Laws.{FramesAreTaken, HoldsHeadline, HoldsNeverLate, HoldsTold, HoldsWakesExactly, LeavesHolds, ToldByEach}
+use Rattle.schedule_laws.specs.Laws.{FramesAreTaken, HoldsClosed, HoldsHeadline, HoldsNeverLate, HoldsTold, HoldsWakesExactly, LeavesHolds, ToldByEach}
 use Rattle.schedule_laws.specs.Schedules.{Event, Reply, HeldAttempt, Scheduled, AppliesAll, Brings, FitsEvent}
 use Rattle.schedule_laws.specs.InvocationInRun.{HoldsOf, ReplaysInLine}
 use Rattle.scheduler.specs.declared.scheduler.Scheduler.{Scheduler}
 use Rattle.scheduler.specs.Scheduled.{IsScheduled, AppliesWith}
 use Rattle.due_laws.proofs.DueList.{due_tells}
-use Rattle.durable_schedule.specs.Runs.{AppliesFirst, LastsBehind, Leaves, LeavesFirst, StandsInRun, at_first}
+use Rattle.durable_schedule.specs.Runs.{AppliesAnswered, AppliesFirst, EnduresUnwritten, LastsBehind, Leaves, LeavesFirst, StandsInRun, at_first}
 use Rattle.journal_store.proofs.Enduring.{endures_on}
 use Rattle.durable_schedule.proofs.Apart.{stands_apart, stands_still}
 use Rattle.durable_schedule.proofs.Growing.{all_add, each_grow}
@@ -43,7 +43,7 @@ module _ {H : Type 0} (function : H → Handler) (options : VMOptions) where
       × (LastsBehind (Outlasts s.events (state g first.connection)) events replies → Outlasts to.standing.events (state g new.store.connection))
 
   -- what the laws of schedules give of all that is applied
-  module _ (leaves : LeavesHolds function) (headline : HoldsHeadline) (late : HoldsNeverLate) (exact : HoldsWakesExactly) (taken : FramesAreTaken function)
+  module _ (leaves : LeavesHolds function) (headline : HoldsHeadline) (closed : HoldsClosed) (late : HoldsNeverLate) (exact : HoldsWakesExactly) (taken : FramesAreTaken function)
       (stand : AllStandAlone) (keep : AllKeepState) (answer : AllAnswerAlone) (first_told : HoldsTold function) (each_told : ToldByEach function) where
     leaves_in_run : (events : List (Event H)) (replies : List Reply) (s : Standing) (new : Scheduled H) → AllByRecursion FitsEvent events → AppliesAll function options events replies (at_first s) new
         → (next : Handler) (id : Text) → ReplaysInLine options → AllByRecursion (Brings function id next) events → HoldsOf next options id s.events → StandsInRun next options id events replies new.standing.events
@@ -52,6 +52,7 @@ module _ {H : Type 0} (function : H → Handler) (options : VMOptions) where
         record {
           holds = holds;
           headline = headline next options id new.standing.events new.standing.accepted holds;
+          closed = λ begun is. closed next options id new.standing.events begun is holds;
           listed = due_tells new.standing.events id;
           never_late = λ begun is. late next options id new.standing.events begun is holds;
           wakes_exactly = λ begun is. exact next options id new.standing.events begun is holds;
@@ -80,22 +81,32 @@ module _ {H : Type 0} (function : H → Handler) (options : VMOptions) where
         }
 
     -- and of the first of the events
-    first_left : (events : List (Event H)) → AllByRecursion FitsEvent events → (s t : Standing) → AppliesFirst function options events s t → LeavesFirst function options events s t
-    first_left events fits s t it = record {
-      applied = it;
-      leaves = all_left it.first it.answers s (record { standing = t; held = it.held })
-          (first_all FitsEvent it.first it.rest (subst (λ (es : List (Event H)). AllByRecursion FitsEvent es) it.beginning fits)) it.applies;
-    }
+    first_left : (events : List (Event H)) (replies : List Reply) → AllByRecursion FitsEvent events → (s t : Standing) → AppliesAnswered function options events replies s t
+        → LeavesFirst function options events replies s t
+    first_left events replies fits s t it =
+        let first = it.applies in
+        record {
+          applied = it;
+          leaves = all_left first.first first.answers s (record { standing = t; held = first.held })
+              (first_all FitsEvent first.first first.rest (subst (λ (es : List (Event H)). AllByRecursion FitsEvent es) first.beginning fits)) first.applies;
+        }
 
     -- so it is of what a crash leaves
-    pub all_kept : {S : Type 0} (g : Ghosts S) (events : List (Event H)) → AllByRecursion FitsEvent events → (old new : Stored S) → Endures g (AppliesFirst function options events) old new
-        → Endures g (LeavesFirst function options events) old new
-    all_kept g events fits old new lives =
-        survives_weaker (state g old.connection) (state g new.connection) (Keeps g (AppliesFirst function options events) old) (Keeps g (LeavesFirst function options events) old)
-        (λ clean db it s is. let kept = it s is in (kept.0, first_left events fits s kept.0 kept.1, kept.2)) lives
+    pub all_kept : {S : Type 0} (g : Ghosts S) (events : List (Event H)) (replies : List Reply) → AllByRecursion FitsEvent events → (old new : Stored S)
+        → Endures g (AppliesAnswered function options events replies) old new → Endures g (LeavesFirst function options events replies) old new
+    all_kept g events replies fits old new lives =
+        survives_weaker (state g old.connection) (state g new.connection) (Keeps g (AppliesAnswered function options events replies) old) (Keeps g (LeavesFirst function options events replies) old)
+        (λ clean db it s is. let kept = it s is in (kept.0, first_left events replies fits s kept.0 kept.1, kept.2)) lives
+
+    pub all_written : {S : Type 0} (g : Ghosts S) (events : List (Event H)) (replies : List Reply) → AllByRecursion FitsEvent events → (old new : Stored S)
+        → EnduresUnwritten g events replies (AppliesAnswered function options events replies) old new → EnduresUnwritten g events replies (LeavesFirst function options events replies) old new
+    all_written g events replies fits old new left clean trees may = elim (left clean trees may) [
+      | inl none ↦ inl none
+      | inr it ↦ inr (λ s is. let kept = it s is in (kept.0, first_left events replies fits s kept.0 kept.1, kept.2))
+    ]
 
   -- fewer events are the first of more
-  first_of_more : (events : List (Event H)) (one : Event H) (s t : Standing) → AppliesFirst function options events s t → AppliesFirst function options (events ++ one ∷ []) s t
+  unfoldable pub first_of_more : (events : List (Event H)) (one : Event H) (s t : Standing) → AppliesFirst function options events s t → AppliesFirst function options (events ++ one ∷ []) s t
   first_of_more events one s t it = record {
     first = it.first;
     rest = it.rest ++ one ∷ [];
@@ -106,7 +117,7 @@ module _ {H : Type 0} (function : H → Handler) (options : VMOptions) where
   }
 
   -- all of them are
-  all_first : (events : List (Event H)) (replies : List Reply) (held : List (HeldAttempt H)) (s t : Standing) → AppliesAll function options events replies (at_first s) (record { standing = t; held = held })
+  unfoldable pub all_first : (events : List (Event H)) (replies : List Reply) (held : List (HeldAttempt H)) (s t : Standing) → AppliesAll function options events replies (at_first s) (record { standing = t; held = held })
       → AppliesFirst function options events s t
   all_first events replies held s t applies = record { first = events; rest = []; beginning = sym (append-nil events); answers = replies; held = held; applies = applies }
 

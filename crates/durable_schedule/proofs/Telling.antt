@@ -1,5 +1,5 @@
 -- What each reply to a turn tells of the attempt that a begin has begun.
-use Rattle.std.proofs.Common.{◌≡◌, refl, sym, ap, subst, ◌∙◌, ℕ, ◌++◌, List, [], ◌∷◌, Some}
+use Rattle.std.proofs.Common.{◌≡◌, ap, subst, ◌∙◌, ℕ, List, [], ◌∷◌, Some}
 use Rattle.std.specs.List.{AllByRecursion}
 use Rattle.journal_model.specs.Notification.{Bytes, Text}
 use Rattle.journal_model.specs.Event.{Event}
@@ -37,19 +37,19 @@ module _ {H : Type 0} (function : H → Handler) (options : VMOptions) where
     -- of an attempt of which this was told
     tell_each : (events : List (scheduled.Event H)) (replies : List Reply) (added : List (List Event)) (handed : List Bytes) (old new : Scheduled H) (told : ToldOf) (number : ℕ) (t : Tracked)
         → HandsEach function options events replies added handed old new → AllByRecursion FitsEvent events → AllByRecursion (Brings function id next) events → Follows told old → told number ≡ Some t
-        → TurnsTellEach next t.start id number events replies handed t.told
+        → TurnsTellEach next t.start id number events replies added handed t.told
     tell_each [] [] [] [] old new told number t it fits brings f is = tt
     tell_each (one ∷ events) (answer ∷ replies) (some ∷ added) (bytes ∷ handed) old new told number t it fits brings f is =
         let k = kept one answer bytes old it.0 told it.1 fits.0 brings.0 f in
         let now = k.tells number t is in
-        (now.0, now.2, tell_each events replies added handed it.0 new k.now number (record { start = t.start; told = now.0 }) it.3 fits.1 brings.1 k.follows now.1)
+        (now.0, now.2, k.takes number t is some it.2, tell_each events replies added handed it.0 new k.now number (record { start = t.start; told = now.0 }) it.3 fits.1 brings.1 k.follows now.1)
     tell_each _ _ _ _ old new told number t it fits brings f is = absurd it
 
     -- behind one event
     begun_tells : (one : scheduled.Event H) (answer : Reply) (bytes : Bytes) (events : List (scheduled.Event H)) (replies : List Reply) (added : List (List Event)) (handed : List Bytes) (old between new : Scheduled H)
         (told : ToldOf) → HandsOne function options one answer bytes old between → KeepsTold function next options id one answer bytes old.standing between.standing between.held told
         → HandsEach function options events replies added handed between new → AllByRecursion FitsEvent events → AllByRecursion (Brings function id next) events
-        → BegunTells next options id one answer bytes events replies handed old.standing.events
+        → BegunTells next options id one answer bytes events replies added handed old.standing.events
     begun_tells (event.Begin other handler now) (reply.Begun number) bytes events replies added handed old between new told it k rest fits brings = λ same invocation is. (
       it.4 ∙ it.2.start ∙ ap (λ (x : Text). frame_bytes MessageType.Start (start_payload old.standing.events x now)) same,
       tell_each events replies added handed between new k.now number

@@ -23,6 +23,8 @@ use Rattle.store_invocations.specs.Answered.{answer_told}
 use Rattle.journal_store.specs.Stored.{Stored}
 use Rattle.journal_store.specs.Stands.{KeepsAll, Outlasts, Stands}
 use Rattle.schedule_laws.specs.InvocationInRun.{HoldsOf, ReplaysInLine, given_of}
+use Rattle.schedule_laws.specs.Laws.{IsClosedByEnd}
+use Rattle.schedule_laws.specs.Turned.{EachBegunTells}
 use Rattle.schedule_laws.specs.Schedules.scheduled
 use Rattle.schedule_laws.specs.Schedules.event
 use Rattle.schedule_laws.specs.Schedules.reply
@@ -30,7 +32,8 @@ use Rattle.schedule_laws.specs.Schedules.refusal
 use Rattle.schedule_laws.specs.Schedules.{Reply, Scheduled, Brings}
 use Rattle.scheduler.specs.Scheduled.{IsScheduled}
 use Rattle.scheduler.specs.declared.scheduler.Scheduler.{Scheduler}
-use Rattle.durable_schedule.specs.Runs.{LastsBehind}
+use Rattle.durable_schedule.specs.Handed.{AreHandedBy, IsHandedInput}
+use Rattle.durable_schedule.specs.Runs.{AreButLast, LastsBehind, NoneWritten}
 
 -- ---- what was accepted, by the replies
 
@@ -68,11 +71,11 @@ IsAcceptedOf (event.Stop id attempt) reply.Done before accepted = accepted ≡ E
 IsAcceptedOf one (reply.Refused why) before accepted = accepted ≡ []
 IsAcceptedOf one answer before accepted = ⊥
 
--- These are all that is accepted of a schedule, behind what was accepted before.
-abbrev pub AreAcceptedOf : {H : Type 0} → List (scheduled.Event H) → List Reply → (before events : List Event) → Type 0
-AreAcceptedOf [] [] before events = events ≡ before
-AreAcceptedOf (one ∷ asked) (answer ∷ replies) before events = (accepted : List Event) × IsAcceptedOf one answer before accepted × AreAcceptedOf asked replies (accepted ++ before) events
-AreAcceptedOf _ _ before events = ⊥
+-- These are all that is accepted of a schedule, behind what was accepted before, and what is accepted of each of its events.
+abbrev pub AreAcceptedOf : {H : Type 0} → List (scheduled.Event H) → List Reply → (added : List (List Event)) → (before events : List Event) → Type 0
+AreAcceptedOf [] [] [] before events = events ≡ before
+AreAcceptedOf (one ∷ asked) (answer ∷ replies) (accepted ∷ added) before events = IsAcceptedOf one answer before accepted × AreAcceptedOf asked replies added (accepted ++ before) events
+AreAcceptedOf _ _ _ before events = ⊥
 
 -- ---- what stands of one invocation
 
@@ -83,6 +86,8 @@ pub record FollowsItsRun (next : Handler) (options : VMOptions) (id : Text) (eve
   -- Its recorded requests are a beginning of those that the run makes over its recorded arrivals, and where an attempt was suspended or ended,
   -- all of the run's over the arrivals that it was handed; its answer is the run's; and its object's state follows.
   pub headline : Headline next (run_options options) options.fallback_random_seed events id
+  -- It is closed by its end alone, by no error; and only then it has an answer, which is the run's.
+  pub closed : (new : NewInvocation) → invocation_begun events id ≡ Some new → IsClosedByEnd events id
   -- the call `due` lists it where it is due
   pub listed : list_any (bytes_eq id) (due events) ≡ is_due_after events id
   -- where the run over all arrivals goes on, an invocation that is suspended is due
@@ -112,22 +117,45 @@ module _ {H : Type 0} (function : H → Handler) (options : VMOptions) (before :
     -- each was accepted after those before it, for no cause of a refusal held then
     pub accepted : IsAccepted events
     -- they are those that the replies tell
-    pub told : AreAcceptedOf asked replies before events
+    pub added : List (List Event)
+    pub told : AreAcceptedOf asked replies added before events
+    -- The bytes that each event hands to the attempt that it names. Of each attempt these, one behind the other, are at each moment a beginning of
+    -- its start frame, the journal as it was when it was begun, and each later arrival by place.
+    pub handed : List Bytes
+    pub hands : AreHandedBy asked replies handed
+    pub fed : (id : Text) → (number : ℕ) → IsHandedInput id number asked replies added handed [] before
+    -- Of each attempt that is begun of such an invocation as `in_run` speaks of, each reply to a turn tells what the one uninterrupted run does over
+    -- the bytes that were handed to the attempt by then: a turn that was answered as having executed a body has executed the one that the run
+    -- waits for, and proposes the outcome that the turn was given. And of the frames that are moved from it an outcome is one that it has
+    -- proposed, for that run, and an error the one that a turn has failed by.
+    pub turns : (next : Handler) (id : Text) → ReplaysInLine options → AllByRecursion (Brings function id next) asked → HoldsOf next options id before
+        → EachBegunTells next options id asked replies added handed before
     -- Each invocation whose begins all bring one function is in the run of that function, if it was in it before: one that was not begun
     -- before is.
     pub in_run : (next : Handler) (id : Text) → ReplaysInLine options → AllByRecursion (Brings function id next) asked → HoldsOf next options id before → FollowsItsRun next options id events
     -- what came of others since an invocation was made changes nothing of it, whatever its begins bring
     pub isolated : (id : Text) → IsToldAlike id events (without_others id events)
 
-  -- what tables keep that a crash leaves: a faithful record of the first of these events, whatever the last of them was answered
-  pub record KeepsFirst (asked : List (scheduled.Event H)) (trees : Trees) : Type 0 where
+  -- What tables keep that a crash leaves: a faithful record of the first of these events, each with its reply, but that of the last of them may
+  -- be another one than was answered in the end. Every event that was answered as written is among them.
+  pub record KeepsFirst (asked : List (scheduled.Event H)) (replies : List Reply) (trees : Trees) : Type 0 where
     pub first : List (scheduled.Event H)
     pub rest : List (scheduled.Event H)
     pub first_are : asked ≡ first ++ rest
-    pub replies : List Reply
+    pub answers : List Reply
+    pub answered : List Reply
+    pub later : List Reply
+    pub replies_are : replies ≡ answered ++ later
+    pub but_last : AreButLast answers answered
+    pub unwritten : NoneWritten rest later
     pub events : List Event
-    pub faithful : IsFaithful first replies events
+    pub faithful : IsFaithful first answers events
     pub keeps : KeepsAll events trees
+
+-- What a crash leaves from then on: such a record; or what it could leave before, where no event was answered as written.
+module _ {H : Type 0} (function : H → Handler) (options : VMOptions) (before : List Event) where
+  abbrev pub KeepsWritten : List (scheduled.Event H) → List Reply → (could_be_left : Trees → Type 0) → Trees → Type 0
+  KeepsWritten asked replies could_be_left trees = (NoneWritten asked replies × could_be_left trees) ⊎ KeepsFirst function options before asked replies trees
 
 -- Something was written, and no event behind it was refused for want of memory or by the database, of those that may write more.
 abbrev pub IsWrittenLast : {H : Type 0} → List (scheduled.Event H) → List Reply → Type 0

@@ -57,6 +57,18 @@ module _ {H : Type 0} (function : H → Handler) (options : VMOptions) where
       (between : Scheduled H) × HandsOne one answer bytes old between × (between.standing.events ≡ some ++ old.standing.events) × HandsEach events replies added handed between new
   HandsEach _ _ _ _ old new = ⊥
 
+-- By the replies alone: a feed hands so many bytes as it is answered with, and none is handed but by a begin and a feed. A begin hands the start
+-- frame, which is of the input below.
+abbrev pub IsHandedBy : {H : Type 0} → scheduled.Event H → Reply → (bytes : Bytes) → Type 0
+IsHandedBy (event.Begin id handler now) (reply.Begun number) bytes = Unit {0}
+IsHandedBy (event.Feed id number count) (reply.Fed fed why) bytes = fed ≡ length bytes
+IsHandedBy one answer bytes = bytes ≡ []
+
+abbrev pub AreHandedBy : {H : Type 0} → List (scheduled.Event H) → List Reply → (handed : List Bytes) → Type 0
+AreHandedBy [] [] [] = Unit {0}
+AreHandedBy (one ∷ events) (answer ∷ replies) (bytes ∷ handed) = IsHandedBy one answer bytes × AreHandedBy events replies handed
+AreHandedBy _ _ _ = ⊥
+
 -- ---- what they are of the input
 
 -- those of an event's bytes that this attempt is handed

@@ -1,6 +1,10 @@
 -- What a schedule answers and leaves.
 use Rattle.std.specs.Prelude.{◌≡◌, ◌≢◌, ◌⊎◌, ℕ, Bool, true, false, if◌then◌else◌, List, [], ◌∷◌, ◌++◌, Option, Some, None, bytes_eq}
 use Rattle.std.specs.List.{AllByRecursion, list_any}
+use Rattle.sqlite_trees.specs.declared.store.Store.{Ghosts}
+use Rattle.sqlite_trees.specs.Tree.{Trees}
+use Rattle.sqlite.specs.Held.{state}
+use Rattle.sqlite.specs.State.{HasCleanDisk}
 use Rattle.journal_model.specs.Notification.{Bytes, Text}
 use Rattle.journal_model.specs.declared.invocation.NewInvocation.{NewInvocation}
 use Rattle.journal_model.specs.Event.{Event}
@@ -14,8 +18,10 @@ use Rattle.vm_types.specs.declared.options.VMOptions.{VMOptions}
 use Rattle.store_calls.specs.AbstractStore.{Standing}
 use Rattle.store_refusals.specs.declared.refusal.Refusal.{Refusal}
 use Rattle.store_refusals.specs.Refused.{is_circumstance}
+use Rattle.journal_store.specs.Stored.{Stored}
+use Rattle.journal_store.specs.Stands.{Keeps}
 use Rattle.schedule_laws.specs.Isolation.{IsAlike}
-use Rattle.schedule_laws.specs.Laws.{RefuseNoFrame}
+use Rattle.schedule_laws.specs.Laws.{IsClosedByEnd, RefuseNoFrame}
 use Rattle.schedule_laws.specs.Schedules.scheduled
 use Rattle.schedule_laws.specs.Schedules.event
 use Rattle.schedule_laws.specs.Schedules.reply
@@ -40,6 +46,69 @@ module _ {H : Type 0} (function : H → Handler) (options : VMOptions) where
     pub answers : List Reply
     pub held : List (HeldAttempt H)
     pub applies : AppliesAll function options first answers (at_first s) (record { standing = t; held = held })
+
+-- ---- what lasts
+
+-- It is no want of memory and no statement that was refused: behind these what was asked for may have been written all the same.
+abbrev pub IsCertain : Refusal → Type 0
+IsCertain why = is_circumstance why ≡ false
+
+abbrev pub AreCertain : Option Refusal → Type 0
+AreCertain None = Unit {0}
+AreCertain (Some why) = IsCertain why
+
+-- Whether all lasts that was accepted up to an event which may commit something, by its reply, from whether all before it did. What was
+-- done or taken was written, and all before it; what was refused for a cause was not.
+abbrev pub LastsBy : Type 0 → Reply → Type 0
+LastsBy Before (reply.Refused (refusal.Store why)) = IsCertain why × Before
+LastsBy Before (reply.Refused refusal.AttemptNotHeld) = Before
+LastsBy Before (reply.Moved bytes frames why) = AreCertain why × ((frames ≢ 0) ⊎ Before)
+LastsBy Before _ = Unit {0}
+
+-- what is fed, closed, turned and stopped commits nothing
+abbrev pub LastsNext : {H : Type 0} → Type 0 → scheduled.Event H → Reply → Type 0
+LastsNext Before (event.Feed id attempt count) answer = Before
+LastsNext Before (event.Close id attempt) answer = Before
+LastsNext Before (event.Turn id attempt outcome) answer = Before
+LastsNext Before (event.Stop id attempt) answer = Before
+LastsNext Before _ answer = LastsBy Before answer
+
+-- up to the last of these events, each with its reply
+abbrev pub LastsBehind : {H : Type 0} → Type 0 → List (scheduled.Event H) → List Reply → Type 0
+LastsBehind Before (one ∷ events) (answer ∷ replies) = LastsBehind (LastsNext Before one answer) events replies
+LastsBehind Before _ _ = Before
+
+-- an event was answered so that all of it was written for certain, and so all before it
+abbrev pub IsWrittenSo : {H : Type 0} → scheduled.Event H → Reply → Type 0
+IsWrittenSo one answer = LastsNext ⊥ one answer
+
+-- none of these events was, each with its reply
+abbrev pub NoneWritten : {H : Type 0} → List (scheduled.Event H) → List Reply → Type 0
+NoneWritten [] [] = Unit {0}
+NoneWritten (one ∷ events) (answer ∷ replies) = (IsWrittenSo one answer → ⊥) × NoneWritten events replies
+NoneWritten _ _ = ⊥
+
+-- the same replies, but for the last of them
+abbrev pub AreButLast : (replies others : List Reply) → Type 0
+AreButLast replies others = (replies ≡ others) ⊎ ((same : List Reply) × (last : Reply) × (other : Reply) × (replies ≡ same ++ last ∷ []) × (others ≡ same ++ other ∷ []))
+
+module _ {H : Type 0} (function : H → Handler) (options : VMOptions) where
+  -- The first of these events are applied, each answered as it was, but for the last of them: that may be another one than was answered in the
+  -- end. Of those behind them none was answered as written.
+  pub record AppliesAnswered (events : List (scheduled.Event H)) (replies : List Reply) (s t : Standing) : Type 0 where
+    pub applies : AppliesFirst function options events s t
+    pub answered : List Reply
+    pub later : List Reply
+    pub replies_are : replies ≡ answered ++ later
+    pub but_last : AreButLast applies.answers answered
+    pub unwritten : NoneWritten applies.rest later
+
+-- Whatever a crash leaves from then on, the tables keep something in this relation to what the store stood for; or they could be left before, and
+-- none of the events was answered as written.
+abbrev pub EnduresUnwritten : {H S : Type 0} → Ghosts S → List (scheduled.Event H) → List Reply → (Standing → Standing → Type 0) → (old new : Stored S) → Type 0
+EnduresUnwritten g events replies Relation old new =
+    HasCleanDisk (state g new.connection) → (trees : Trees) → (state g new.connection).may_leave trees
+    → (NoneWritten events replies × (state g old.connection).may_leave trees) ⊎ Keeps g Relation old trees
 
 -- ---- apart from others
 
@@ -111,6 +180,8 @@ pub record StandsInRun {H : Type 0} (next : Handler) (options : VMOptions) (id :
   -- and ends among these accepted events, not at the last one alone, they were all of the run's over the arrivals that its attempt had been
   -- handed; its answer is that of the run; and while it is open its object's state is its starting state changed by its recorded requests.
   pub headline : Headline next (run_options options) options.fallback_random_seed after id
+  -- It is closed by its end alone, by no error, and has an answer only then.
+  pub closed : (new : NewInvocation) → invocation_begun after id ≡ Some new → IsClosedByEnd after id
   -- the call `due` lists it where it is due
   pub listed : list_any (bytes_eq id) (due after) ≡ is_due after id
   -- so waking is never late, and from version 7 on exact, where nothing was cancelled and each handle that is awaited stands for an id
@@ -148,45 +219,16 @@ module _ {H : Type 0} (function : H → Handler) (options : VMOptions) where
     -- Of each attempt that is begun of such an invocation, live, stopped or overtaken, what each reply to a turn says is what the one
     -- uninterrupted run of its function does at that turn over the bytes that were handed to the attempt by then. That is said of its start:
     -- the run of the invocation, with these options and its object's state at its begin, and the journal as it was then; of the replies to its
-    -- turns so far, by how many have answered and what they have proposed; and of whether its input was closed.
+    -- turns so far, by how many have answered and what they have proposed; and of whether its input was closed. Of its frames that are moved to
+    -- the store an outcome is one that it has proposed.
     pub turns : (next : Handler) (id : Text) → ReplaysInLine options → AllByRecursion (Brings function id next) events → HoldsOf next options id old.standing.events
         → EachBegunTells next options id events replies added handed old.standing.events
 
-  -- what the first of these events leave, which were applied one after another with some answers
-  pub record LeavesFirst (events : List (scheduled.Event H)) (s t : Standing) : Type 0 where
-    pub applied : AppliesFirst function options events s t
-    pub leaves : Leaves applied.first applied.answers (at_first s) (record { standing = t; held = applied.held })
-
--- ---- what lasts
-
--- It is no want of memory and no statement that was refused: behind these what was asked for may have been written all the same.
-abbrev pub IsCertain : Refusal → Type 0
-IsCertain why = is_circumstance why ≡ false
-
-abbrev pub AreCertain : Option Refusal → Type 0
-AreCertain None = Unit {0}
-AreCertain (Some why) = IsCertain why
-
--- Whether all lasts that was accepted up to an event which may commit something, by its reply, from whether all before it did. What was
--- done or taken was written, and all before it; what was refused for a cause was not.
-abbrev pub LastsBy : Type 0 → Reply → Type 0
-LastsBy Before (reply.Refused (refusal.Store why)) = IsCertain why × Before
-LastsBy Before (reply.Refused refusal.AttemptNotHeld) = Before
-LastsBy Before (reply.Moved bytes frames why) = AreCertain why × ((frames ≢ 0) ⊎ Before)
-LastsBy Before _ = Unit {0}
-
--- what is fed, closed, turned and stopped commits nothing
-abbrev pub LastsNext : {H : Type 0} → Type 0 → scheduled.Event H → Reply → Type 0
-LastsNext Before (event.Feed id attempt count) answer = Before
-LastsNext Before (event.Close id attempt) answer = Before
-LastsNext Before (event.Turn id attempt outcome) answer = Before
-LastsNext Before (event.Stop id attempt) answer = Before
-LastsNext Before _ answer = LastsBy Before answer
-
--- up to the last of these events, each with its reply
-abbrev pub LastsBehind : {H : Type 0} → Type 0 → List (scheduled.Event H) → List Reply → Type 0
-LastsBehind Before (one ∷ events) (answer ∷ replies) = LastsBehind (LastsNext Before one answer) events replies
-LastsBehind Before _ _ = Before
+  -- what the first of these events leave, of which the last may have been answered otherwise than it was, and none that was answered as
+  -- written is left out
+  pub record LeavesFirst (events : List (scheduled.Event H)) (replies : List Reply) (s t : Standing) : Type 0 where
+    pub applied : AppliesAnswered function options events replies s t
+    pub leaves : Leaves applied.applies.first applied.applies.answers (at_first s) (record { standing = t; held = applied.applies.held })
 
 -- ---- a store that is opened again
 

@@ -2,9 +2,10 @@
 ghost use Rattle.std.specs.Prelude.{◌≡◌, List, [], IfOk, IfErr};
 ghost use Rattle.sqlite.specs.Held.{state};
 ghost use Rattle.sqlite.specs.State.{HasCleanDisk, Survives};
+ghost use Rattle.sqlite_trees.specs.Tree.{Trees};
 ghost use Rattle.journal_model.specs.Event.{Event as Accepted};
 ghost use Rattle.durable_schedule.specs.Causes.{TellsCauses};
-ghost use Rattle.durable_schedule.specs.Front.{KeepsFirst, RecordsFaithfully, StandsFor};
+ghost use Rattle.durable_schedule.specs.Front.{KeepsFirst, KeepsWritten, RecordsFaithfully, StandsFor};
 
 use crate::{NoRoom, run_schedule};
 use journal_store::Store;
@@ -26,7 +27,9 @@ pub fn run_reopened_schedule<H: Handler + Drop, S: Alter + Drop>(
     events: Vec<Event<H>>,
 ) -> Result<(Scheduler<H, S>, Vec<Reply>), NoRoom<S>>
     ensures faithful { IfOk result (λ done. (before : List Accepted) → StandsFor S.Store before store → HasCleanDisk (state S.Store done.0.store.connection) → RecordsFaithfully S.Store H.next_call options before events.items done.1.items done.0) }
-    ensures crash { IfOk result (λ done. (before : List Accepted) → StandsFor S.Store before store → Survives (state S.Store store.connection) (state S.Store done.0.store.connection) (KeepsFirst H.next_call options before events.items)) }
+    ensures crash { IfOk result (λ done. (before : List Accepted) → StandsFor S.Store before store → Survives (state S.Store store.connection) (state S.Store done.0.store.connection) (KeepsFirst H.next_call options before events.items done.1.items)) }
+    // What a crash leaves keeps every event that was answered as written: what could be left before is left only where none was.
+    ensures written { IfOk result (λ done. (before : List Accepted) → StandsFor S.Store before store → HasCleanDisk (state S.Store done.0.store.connection) → (trees : Trees) → (state S.Store done.0.store.connection).may_leave trees → KeepsWritten H.next_call options before events.items done.1.items (state S.Store store.connection).may_leave trees) }
     // Where the database refused a statement, the reply tells its own cause.
     ensures causes { IfOk result (λ done. TellsCauses S.Store H.next_call options events.items done.1.items store done.0) }
     ensures err { IfErr result (λ refused. refused.store ≡ store) }
@@ -40,10 +43,11 @@ pub fn run_reopened_schedule<H: Handler + Drop, S: Alter + Drop>(
 ///
 /// There is one list of accepted events, and `entries`, `answer`, `failure`, `is_open` and `due` of the scheduler, and of its store, tell of
 /// that list. Of each invocation whose begins all bring one function the recorded requests are a prefix of those that one uninterrupted run of
-/// this function makes over its recorded arrivals, and all of them where an attempt was suspended or ended, over what it was handed; its
-/// answer is the run's; and while it is suspended `due` lists it as soon as the run goes on, and from version 7 on only then, where nothing was
+/// this function makes over its recorded arrivals, and all of them where an attempt was suspended or ended, over what it was handed; its end
+/// alone closes it, and its answer is the run's; an outcome that is recorded of one of its runs is the one that a turn was given which has
+/// executed the body of that run; and while it is suspended `due` lists it as soon as the run goes on, and from version 7 on only then, where nothing was
 /// cancelled and all that it awaits has an id. What came of other invocations since it was made changes none of this. All of it lasts, unless memory or a statement was refused last; and a crash anywhere
-/// in it leaves the same of a prefix of the events.
+/// in it leaves the same of a prefix of the events, in which none is missing that was answered as written.
 pub fn run_new_schedule<H: Handler + Drop, S: Alter + Drop>(
     alloc: Global,
     store: Store<S>,
@@ -51,7 +55,8 @@ pub fn run_new_schedule<H: Handler + Drop, S: Alter + Drop>(
     events: Vec<Event<H>>,
 ) -> Result<(Scheduler<H, S>, Vec<Reply>), NoRoom<S>>
     ensures faithful { IfOk result (λ done. StandsFor S.Store [] store → HasCleanDisk (state S.Store done.0.store.connection) → RecordsFaithfully S.Store H.next_call options [] events.items done.1.items done.0) }
-    ensures crash { IfOk result (λ done. StandsFor S.Store [] store → Survives (state S.Store store.connection) (state S.Store done.0.store.connection) (KeepsFirst H.next_call options [] events.items)) }
+    ensures crash { IfOk result (λ done. StandsFor S.Store [] store → Survives (state S.Store store.connection) (state S.Store done.0.store.connection) (KeepsFirst H.next_call options [] events.items done.1.items)) }
+    ensures written { IfOk result (λ done. StandsFor S.Store [] store → HasCleanDisk (state S.Store done.0.store.connection) → (trees : Trees) → (state S.Store done.0.store.connection).may_leave trees → KeepsWritten H.next_call options [] events.items done.1.items (state S.Store store.connection).may_leave trees) }
     // Where the database refused a statement, the reply tells its own cause.
     ensures causes { IfOk result (λ done. TellsCauses S.Store H.next_call options events.items done.1.items store done.0) }
     ensures err { IfErr result (λ refused. refused.store ≡ store) }

@@ -11,7 +11,7 @@ ghost use Rattle.journal_store.specs.Stands.{Endures, IsStanding, Outlasts};
 ghost use Rattle.schedule_laws.specs.Schedules.{AppliesAll, FitsEvent, Scheduled};
 ghost use Rattle.scheduler.specs.Scheduled.{IsScheduled};
 ghost use Rattle.durable_schedule.specs.Causes.{TellsCauses};
-ghost use Rattle.durable_schedule.specs.Runs.{LastsBehind, Leaves, LeavesFirst, at_first};
+ghost use Rattle.durable_schedule.specs.Runs.{EnduresUnwritten, LastsBehind, Leaves, LeavesFirst, at_first};
 
 mod files;
 mod front;
@@ -26,8 +26,8 @@ pub use front::{run_new_schedule, run_reopened_schedule};
 pub use journal_store::Store;
 pub use laws::reopened_stores_hold;
 pub use schedule_laws::{
-    frames_are_taken, inputs_are_handed_out, invocations_stand_alone, records_of_runs,
-    schedules_keep, schedules_leave,
+    entries_keep_places, frames_are_taken, inputs_are_handed_out, invocations_stand_alone,
+    records_of_runs, replies_alike, schedules_keep, schedules_leave, settled_once_record_the_same,
 };
 pub use scheduler::{
     Answer, AttachInvocationTarget, AwaitedFuture, Call, Cause, EntryKind, Event, EventRefusal,
@@ -93,8 +93,11 @@ pub fn run_schedule<H: Handler + Drop, S: Alter + Drop>(
     ensures fits { IfOk result (λ done. AllByRecursion FitsEvent events.items) }
     // Where the database refused a statement, the reply tells its own cause, as `Scheduler::apply` does of each event.
     ensures causes { IfOk result (λ done. TellsCauses S.Store H.next_call options events.items done.1.items store done.0) }
-    // What a crash anywhere in it leaves is what it could leave before, or what the first of the events leave, of which the same is told.
-    ensures crash { IfOk result (λ done. Endures S.Store (LeavesFirst H.next_call options events.items) store done.0.store) }
+    // What a crash anywhere in it leaves is what it could leave before, or what the first of the events leave, of which the same is told: each
+    // with its reply, but the last of them may have been answered otherwise than it was in the end.
+    ensures crash { IfOk result (λ done. Endures S.Store (LeavesFirst H.next_call options events.items done.1.items) store done.0.store) }
+    // No event that was answered as written is lost by that: what could be left before is left only where none was.
+    ensures written { IfOk result (λ done. EnduresUnwritten S.Store events.items done.1.items (LeavesFirst H.next_call options events.items done.1.items) store done.0.store) }
     ensures err { IfErr result (λ refused. refused.store ≡ store) }
 {
     let Ok(mut replies) = Vec::with_capacity(alloc, events.len()) else {

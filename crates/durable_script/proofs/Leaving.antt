@@ -21,7 +21,7 @@ use Rattle.durable_script.specs.Run.{DoneLine, DoesAll, DoesFirst, AreSchedule, 
 use Rattle.durable_script.proofs.Following.{lines_are, cut_of}
 
 -- what schedules leave, and what that gives, as `schedule_laws` has it
-module _ (law : laws.LeavesHolds function_of) (headline : laws.HoldsHeadline) (late : laws.HoldsNeverLate) (exact : laws.HoldsWakesExactly) (taken : laws.FramesAreTaken function_of)
+module _ (law : laws.LeavesHolds function_of) (headline : laws.HoldsHeadline) (closed : laws.HoldsClosed) (late : laws.HoldsNeverLate) (exact : laws.HoldsWakesExactly) (taken : laws.FramesAreTaken function_of)
     (stand : AllStandAlone) (keep : AllKeepState) (answer : AllAnswerAlone) (begins_told : laws.HoldsTold function_of) (told : laws.ToldByEach function_of) where
   schedule_left : (done : List DoneLine) (s : Standing) (end : Scheduled BuiltIn) → DoesAll done (at_first s) end → AreSchedule done (at_first s) end
   schedule_left done s end does =
@@ -32,7 +32,7 @@ module _ (law : laws.LeavesHolds function_of) (headline : laws.HoldsHeadline) (l
         of_lines = it.are;
         applies = it.applies;
         brings = it.brings;
-        leaves = all_left function_of default_options law headline late exact taken stand keep answer begins_told told it.events it.replies s end it.fits it.applies;
+        leaves = all_left function_of default_options law headline closed late exact taken stand keep answer begins_told told it.events it.replies s end it.fits it.applies;
       }
 
   module _ {S : Type 0} (g : Ghosts S) (store after : Stored S) (start end : Scheduler BuiltIn S) (store_is : start.store ≡ store) (options_are : start.options ≡ default_options)

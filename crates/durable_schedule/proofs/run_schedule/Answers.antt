@@ -7,7 +7,8 @@ use Rattle.journal_store.specs.Stands.{Endures}
 use Rattle.scheduler.specs.Scheduled.{AppliesWith}
 use Rattle.durable_schedule.specs.Runs.{AppliesFirst}
 use Rattle.journal_store.proofs.Enduring.{same_endures}
-use Rattle.durable_schedule.proofs.Running.{LeadsFirst, all_kept, all_left, each_more, one_endures}
+use Rattle.durable_schedule.proofs.Running.{LeadsFirst, all_kept, all_left, all_written, each_more, one_endures}
+use Rattle.durable_schedule.proofs.Written.{LeavesAnswered, answered_endures, none_left, one_left}
 use Rattle.scheduler.proofs.DueAttempts.{all_yielded}
 use Rattle.durable_schedule.proofs.Settling.{AppliesOne, SettlesOne, one_leads, none_leads}
 use Rattle.durable_schedule.specs.Causes.{TellsCauses}
@@ -21,13 +22,17 @@ loop-event-preserved g c =
     let new = c.apply.new.self in
     let yielded = c.loop-event.yielded in
     let one = c.in-Some.event in
+    let leads =
+    one_leads g.H.Handler.next_call c.args.options g.S.Store yielded c.loop-event.replies.items one c.apply.result c.args.store old new
+    (λ clean. omega (arith, c.apply.ensures.crash.clean, clean)) inv.applies
+    (subst (λ (o : VMOptions). AppliesOne g.H.Handler.next_call o g.S.Store one c.apply.result old new) inv.options c.apply.ensures.does)
+    (subst (λ (o : VMOptions). SettlesOne g.H.Handler.next_call o g.S.Store one c.apply.result old new) inv.options c.apply.ensures.settled) c.apply.ensures.spares
+    (subst (λ (o : VMOptions). Endures g.S.Store (AppliesWith g.H.Handler.next_call o one old.held) old.store new.store) inv.options c.apply.ensures.crash) in
     record {
-      applies = subst (λ (rs : List Reply). LeadsFirst g.H.Handler.next_call c.args.options g.S.Store (yielded ++ one ∷ []) rs c.args.store new) (sym c.put.ensures.items)
-          (one_leads g.H.Handler.next_call c.args.options g.S.Store yielded c.loop-event.replies.items one c.apply.result c.args.store old new
-          (λ clean. omega (arith, c.apply.ensures.crash.clean, clean)) inv.applies
-          (subst (λ (o : VMOptions). AppliesOne g.H.Handler.next_call o g.S.Store one c.apply.result old new) inv.options c.apply.ensures.does)
-          (subst (λ (o : VMOptions). SettlesOne g.H.Handler.next_call o g.S.Store one c.apply.result old new) inv.options c.apply.ensures.settled) c.apply.ensures.spares
-          (subst (λ (o : VMOptions). Endures g.S.Store (AppliesWith g.H.Handler.next_call o one old.held) old.store new.store) inv.options c.apply.ensures.crash));
+      applies = subst (λ (rs : List Reply). LeadsFirst g.H.Handler.next_call c.args.options g.S.Store (yielded ++ one ∷ []) rs c.args.store new) (sym c.put.ensures.items) leads;
+      written = subst (λ (rs : List Reply). LeavesAnswered g.H.Handler.next_call c.args.options g.S.Store (yielded ++ one ∷ []) rs c.args.store new.store) (sym c.put.ensures.items)
+          (one_left g.H.Handler.next_call c.args.options g.S.Store yielded c.loop-event.replies.items one c.apply.result c.args.store old new (λ clean. omega (arith, c.apply.ensures.crash.clean, clean)) inv.applies leads
+          inv.written (subst (λ (o : VMOptions). Endures g.S.Store (AppliesWith g.H.Handler.next_call o one old.held) old.store new.store) inv.options c.apply.ensures.crash));
       causes = subst (λ (rs : List Reply). TellsCauses g.S.Store g.H.Handler.next_call c.args.options (yielded ++ one ∷ []) rs c.args.store new) (sym c.put.ensures.items)
           (causes_on g.S.Store g.H.Handler.next_call c.args.options yielded c.loop-event.replies.items one c.apply.result c.args.store old new inv.causes (record {
             does = subst (λ (o : VMOptions). AppliesOne g.H.Handler.next_call o g.S.Store one c.apply.result old new) inv.options c.apply.ensures.does;
@@ -49,6 +54,9 @@ loop-event-init g c =
     record {
       applies = subst (λ (rs : List Reply). LeadsFirst g.H.Handler.next_call c.args.options g.S.Store [] rs c.args.store first) (sym c.in-Ok.ensures.items)
           (none_leads g.H.Handler.next_call c.args.options g.S.Store c.args.store first same (sym c.new-scheduler.ensures.held));
+      written = subst (λ (rs : List Reply). LeavesAnswered g.H.Handler.next_call c.args.options g.S.Store [] rs c.args.store first.store) (sym c.in-Ok.ensures.items)
+          (subst (λ (store : Stored g.row.S.Denot). LeavesAnswered g.H.Handler.next_call c.args.options g.S.Store [] [] c.args.store store) same
+          (none_left g.H.Handler.next_call c.args.options g.S.Store c.args.store));
       causes = subst (λ (rs : List Reply). TellsCauses g.S.Store g.H.Handler.next_call c.args.options [] rs c.args.store first) (sym c.in-Ok.ensures.items)
           (record { first = first; over = sym same; held = c.new-scheduler.ensures.held; told = refl });
       fits = tt;
@@ -69,7 +77,7 @@ returns-clause-applies g c clean s is =
       it.0,
       it.1,
       it.2,
-      all_left function c.args.options c.schedules_leave.ensures c.records_of_runs.ensures.headline c.records_of_runs.ensures.never_late c.records_of_runs.ensures.wakes_exactly c.frames_are_taken.ensures
+      all_left function c.args.options c.schedules_leave.ensures c.records_of_runs.ensures.headline c.records_of_runs.ensures.closed c.records_of_runs.ensures.never_late c.records_of_runs.ensures.wakes_exactly c.frames_are_taken.ensures
           c.invocations_stand_alone.ensures.stand c.invocations_stand_alone.ensures.state c.invocations_stand_alone.ensures.answer c.schedules_keep.ensures.begins_told c.schedules_keep.ensures.told c.args.events.items c.loop-event.replies.items s it.0 (subst (λ (es : List (Event g.row.H.Denot)). AllByRecursion FitsEvent es) all c.loop-event.invariant.fits) it.2,
       it.3,
     )
@@ -91,9 +99,20 @@ returns-clause-crash g c =
     let h = c.into_iter-event-iterator.ensures.into_iter_gives in
     let all = all_yielded c.into_iter-event-iterator.result c.args.events.items h.0 (h.1 ∙ c.args.events.ok.0) c.loop-event.yielded c.loop-event.event-iterator c.loop-event.yielded_by c.next.result c.next.new.self c.in-None.is c.next.ensures.steps in
     let function = g.H.Handler.next_call in
-    all_kept function c.args.options c.schedules_leave.ensures c.records_of_runs.ensures.headline c.records_of_runs.ensures.never_late c.records_of_runs.ensures.wakes_exactly c.frames_are_taken.ensures
-    c.invocations_stand_alone.ensures.stand c.invocations_stand_alone.ensures.state c.invocations_stand_alone.ensures.answer c.schedules_keep.ensures.begins_told c.schedules_keep.ensures.told g.S.Store c.args.events.items (subst (λ (es : List (Event g.row.H.Denot)). AllByRecursion FitsEvent es) all c.loop-event.invariant.fits) c.args.store c.loop-event.scheduler.store
+    all_kept function c.args.options c.schedules_leave.ensures c.records_of_runs.ensures.headline c.records_of_runs.ensures.closed c.records_of_runs.ensures.never_late c.records_of_runs.ensures.wakes_exactly c.frames_are_taken.ensures c.invocations_stand_alone.ensures.stand c.invocations_stand_alone.ensures.state c.invocations_stand_alone.ensures.answer c.schedules_keep.ensures.begins_told c.schedules_keep.ensures.told
+    g.S.Store c.args.events.items c.loop-event.replies.items (subst (λ (es : List (Event g.row.H.Denot)). AllByRecursion FitsEvent es) all c.loop-event.invariant.fits) c.args.store c.loop-event.scheduler.store
+    (answered_endures function c.args.options g.S.Store c.args.events.items c.loop-event.replies.items c.args.store c.loop-event.scheduler.store
     (subst (λ (es : List (Event g.row.H.Denot)). Endures g.S.Store (AppliesFirst function c.args.options es) c.args.store c.loop-event.scheduler.store) all c.loop-event.invariant.crash)
+    (subst (λ (es : List (Event g.row.H.Denot)). LeavesAnswered function c.args.options g.S.Store es c.loop-event.replies.items c.args.store c.loop-event.scheduler.store) all c.loop-event.invariant.written))
+
+pub returns-clause-written : goal.returns-clause-written
+returns-clause-written g c =
+    let h = c.into_iter-event-iterator.ensures.into_iter_gives in
+    let all = all_yielded c.into_iter-event-iterator.result c.args.events.items h.0 (h.1 ∙ c.args.events.ok.0) c.loop-event.yielded c.loop-event.event-iterator c.loop-event.yielded_by c.next.result c.next.new.self c.in-None.is c.next.ensures.steps in
+    let function = g.H.Handler.next_call in
+    all_written function c.args.options c.schedules_leave.ensures c.records_of_runs.ensures.headline c.records_of_runs.ensures.closed c.records_of_runs.ensures.never_late c.records_of_runs.ensures.wakes_exactly c.frames_are_taken.ensures c.invocations_stand_alone.ensures.stand c.invocations_stand_alone.ensures.state c.invocations_stand_alone.ensures.answer c.schedules_keep.ensures.begins_told c.schedules_keep.ensures.told
+    g.S.Store c.args.events.items c.loop-event.replies.items (subst (λ (es : List (Event g.row.H.Denot)). AllByRecursion FitsEvent es) all c.loop-event.invariant.fits) c.args.store c.loop-event.scheduler.store
+    (subst (λ (es : List (Event g.row.H.Denot)). LeavesAnswered function c.args.options g.S.Store es c.loop-event.replies.items c.args.store c.loop-event.scheduler.store) all c.loop-event.invariant.written)
 
 pub returns-clause-count : goal.returns-clause-count
 returns-clause-count g c =

@@ -8,3 +8,6 @@ returns-clause-faithful g c = IfOk-weaker c.run_reopened_schedule.result _ _ (λ
 
 pub returns-clause-crash : goal.returns-clause-crash
 returns-clause-crash g c = IfOk-weaker c.run_reopened_schedule.result _ _ (λ done crash. crash []) c.run_reopened_schedule.ensures.crash
+
+pub returns-clause-written : goal.returns-clause-written
+returns-clause-written g c = IfOk-weaker c.run_reopened_schedule.result _ _ (λ done written. written []) c.run_reopened_schedule.ensures.written

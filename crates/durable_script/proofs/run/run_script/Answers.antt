@@ -30,7 +30,7 @@ returns-clause-runs g c =
         output = does.output;
         appended = appends_kept had between has does.output does.appended c.finish-result.ensures.bytes;
         comes_to = comes_so lines (λ (done : List DoneLine). Reaches g.S.Store (DoesFirst done) (DoesAll done) start end) (AreDone g.S.Store store after)
-            (λ done understood reached. are_done c.schedules_leave.ensures c.records_of_runs.ensures.headline c.records_of_runs.ensures.never_late c.records_of_runs.ensures.wakes_exactly c.frames_are_taken.ensures c.invocations_stand_alone.ensures.stand c.invocations_stand_alone.ensures.state c.invocations_stand_alone.ensures.answer c.schedules_keep.ensures.begins_told c.schedules_keep.ensures.told g.S.Store store after start end c.new-runner.ensures.store c.new-runner.ensures.options c.new-runner.ensures.held c.into_store-store.ensures done reached)
+            (λ done understood reached. are_done c.schedules_leave.ensures c.records_of_runs.ensures.headline c.records_of_runs.ensures.closed c.records_of_runs.ensures.never_late c.records_of_runs.ensures.wakes_exactly c.frames_are_taken.ensures c.invocations_stand_alone.ensures.stand c.invocations_stand_alone.ensures.state c.invocations_stand_alone.ensures.answer c.schedules_keep.ensures.begins_told c.schedules_keep.ensures.told g.S.Store store after start end c.new-runner.ensures.store c.new-runner.ensures.options c.new-runner.ensures.held c.into_store-store.ensures done reached)
             does.output reached does.comes_to;
       };
       ends = c.finish-result.ensures.ends;
