@@ -20,9 +20,9 @@ use Rattle.journal_model.specs.Run.{Handler, Invocation, Progress, Ending, GoesO
 use Rattle.journal_model.proofs.Continuing.{after_call-carried_out}
 use Rattle.attempt_laws.proofs.Answering as Answering
 use Rattle.attempt_model.specs.Children.{Child, cancel_requests_for, ChildrenOutcome, AllKnown, FirstUnknown, OneIsNoId, children_outcome}
-use Rattle.attempt_model.specs.Machine.{Machine, Reply, Answered, is_cancelled, reply_where_unknown, reply_where_asleep, reply_where_cancelled, reply_to_children, reply_where_awake, reply_to_await}
+use Rattle.attempt_model.specs.Machine.{Machine, Reply, Answered, is_cancelled, reply_where_unknown, reply_where_asleep, cancelled_by, reply_where_cancelled, reply_to_children, reply_where_awake, reply_to_await}
 use Rattle.attempt_model.specs.Requests.{Commands, PutState, put_all}
-use Rattle.attempt_model.specs.Results.{Ready, first_waiting_result, ready_without_first, Resolution, Awake, Asleep, resolution_of}
+use Rattle.attempt_model.specs.Results.{Ready, first_waiting_result, Resolution, Awake, Asleep, resolution_of}
 use Rattle.attempt_model.specs.Simulation.{TablesStand, RequestsStand, Reached, here, ahead, cancelling, IsShown, children_of, is_id_if_known, Stands, AreOfKind, Fits, next_call, AnswersNext, RepliesAsRun, IsReflexive}
 use Rattle.attempt_model.proofs.Requests.{Puts, put, agree}
 use Rattle.attempt_laws.proofs.Children.{cancels-same, TellsFrom, tells}
@@ -225,18 +225,7 @@ module _ (same_header : Request → Request → Bool) (reflexive : IsReflexive s
             by_first (Some r) f =
                 subst (λ (some : List Request). Replies (reply_where_cancelled same_header given (record m { queue = queue; ready = ready }) some (put_all same_header some (record { left = m.left; written = m.written })))) (sym same_asked)
                 (subst (λ (o : Option PutState). Replies (reply_where_cancelled same_header given (record m { queue = queue; ready = ready }) asked o)) (sym (ap (λ (some : Commands). put_all same_header asked (record { left = some; written = m.written })) now.requests.are_requests ∙ puts.puts))
-                (stepped step goes_on (record {
-                  left = map Some puts.rest;
-                  written = puts.wrote;
-                  completions = m.completions;
-                  signals = m.signals;
-                  queue = queue;
-                  ready = ready_without_first ready (Some cancel_id);
-                  slots = m.slots;
-                  start = m.start;
-                  done = m.done ++ asked;
-                  children = [];
-                })
+                (stepped step goes_on (cancelled_by asked (record { left = map Some puts.rest; written = puts.wrote }) (record m { queue = queue; ready = ready }))
                 (takes_first given.options steps arrivals t.place step queue ready m.slots 1 cancel_id r refl
                 (record { none_made = refl; handle_is = refl; none_known = known-cancels given.options steps arrivals t.place (next_completion steps) tracked }) t.stands refl f)
                 (now.completions ∙ none_more (next_completion steps)) (now.signals ∙ none_more (next_signal steps))

@@ -128,6 +128,16 @@ abbrev pub reply_to_end : Machine → Commands → Reply
 reply_to_end m [] = Finished m
 reply_to_end m (command ∷ left) = FailedBy EndInReplay
 
+-- a cancellation that these requests have passed on: one delivery of it is taken, and the children are let go of
+abbrev pub cancelled_by : List Request → PutState → Machine → Machine
+cancelled_by requests put m = record m {
+  left = put.left;
+  written = put.written;
+  ready = ready_without_first m.ready (Some cancel_id);
+  done = m.done ++ requests;
+  children = [];
+}
+
 module _ (same_header : Request → Request → Bool) (invocation : Invocation) where
   -- a call that makes handles or requests alone
   abbrev pub reply_to_make : Machine → Call → List Request → Option PutState → Reply
@@ -146,21 +156,10 @@ module _ (same_header : Request → Request → Bool) (invocation : Invocation) 
         children = m.children ++ map new_child (child_of invocation.options.implicit_cancellation m.completions call);
       })
 
-  -- a cancellation: one request is made for each child, one delivery of it is taken, and the children are let go of
+  -- a cancellation: one request is made for each child
   abbrev pub reply_where_cancelled : Machine → List Request → Option PutState → Reply
   reply_where_cancelled m requests None = FailedBy Mismatch
-  reply_where_cancelled m requests (Some p) = Answered Answer.Cancelled (record {
-    left = p.left;
-    written = p.written;
-    completions = m.completions;
-    signals = m.signals;
-    queue = m.queue;
-    ready = ready_without_first m.ready (Some cancel_id);
-    slots = m.slots;
-    start = m.start;
-    done = m.done ++ requests;
-    children = [];
-  })
+  reply_where_cancelled m requests (Some put) = Answered Answer.Cancelled (cancelled_by requests put m)
 
   abbrev pub reply_to_children : Machine → ChildrenOutcome → Reply
   reply_to_children m (AllKnown queue ready) =

@@ -3,7 +3,7 @@ use Rattle.std.proofs.Common.{◌≡◌, inl, inr, refl, sym, ap, ◌∙◌, sub
 use Rattle.journal_model.specs.declared.call.Call.{Call}
 use Rattle.journal_model.specs.declared.call.Answer.{Answer}
 use Rattle.journal_model.specs.declared.value.Value.{Value}
-use Rattle.journal_model.specs.Notification.{Text, cancel_id, Arrival}
+use Rattle.journal_model.specs.Notification.{Text, Arrival}
 use Rattle.journal_model.specs.AwaitTree.{AwaitTree}
 use Rattle.journal_model.specs.Await.{cancel_request}
 use Rattle.journal_model.specs.Request.{Request}
@@ -11,8 +11,8 @@ use Rattle.journal_model.specs.State.{StartState}
 use Rattle.journal_model.specs.Run.{Invocation}
 use Rattle.attempt_model.specs.Children.{Child, child_value, cancel_requests_for, AllKnown}
 use Rattle.attempt_model.specs.Requests.{Commands, PutState, put_one, put_all}
-use Rattle.attempt_model.specs.Results.{Ready, ready_without_first}
-use Rattle.attempt_model.specs.Machine.{Machine, Reply, FailedBy, Mismatch, reply_where_cancelled, reply_to_children, reply_to}
+use Rattle.attempt_model.specs.Results.{Ready}
+use Rattle.attempt_model.specs.Machine.{Machine, Reply, FailedBy, Mismatch, cancelled_by, reply_where_cancelled, reply_to_children, reply_to}
 use Rattle.protocol_calls.specs.declared.send_signal_command.SendSignalCommandMessage.{SendSignalCommandMessage}
 use Rattle.protocol_stream.specs.declared.encoder.EncodingError.TheVariants as unsent
 use Rattle.vm_awaits.specs.Views.{AsyncResults, results_of, ready_of}
@@ -116,18 +116,7 @@ module _ (checks_off : Bool) (given : Invocation) (m : Machine) (tree : AwaitTre
     module _ (put new : Active) (puts : PutsAll checks_off asked m.written looked put) (taken : results_of new.results ≡ after_cancellation (results_of put.results))
         (others : new ≡ record put { results = new.results; children = [] }) where
       abbrev cancelled : Machine
-      cancelled = record {
-        left = puts.put.left;
-        written = puts.put.written;
-        completions = m.completions;
-        signals = m.signals;
-        queue = queue;
-        ready = ready_without_first ready (Some cancel_id);
-        slots = m.slots;
-        start = m.start;
-        done = m.done ++ asked;
-        children = [];
-      }
+      cancelled = cancelled_by asked puts.put known
 
       sees_cancelled : Sees given new cancelled
       sees_cancelled = record {
