@@ -1,17 +1,24 @@
 -- What the questions ask for.
 use Rattle.std.proofs.Common.{◌≡◌, ◌&&◌, ℕ, suc, Bool, true, false, List, [], ◌∷◌, map, Option, None, Some, refl, ap, subst, ◌∙◌, bytes_eq}
 use Rattle.std.specs.List.{AllByRecursion}
+use Rattle.std.specs.Cmp.Lexicographic.{slice_cmp}
+use Rattle.std.specs.declared.cmp.Ordering.{Ordering}
+use Rattle.std.specs.declared.cmp.Ordering.TheVariants.{Less, Equal, Greater}
+use Rattle.std.specs.Ordering.{is_gt, is_lt, nat_cmp, ordering_reverse}
+use Rattle.std.proofs.lemmas.Cmp.{nat_list_cmp_total}
 use Rattle.std.specs.Int.{w64, cast_signed}
 use Rattle.std.specs.List.Sorted.{IsPermutation}
 use Rattle.sqlite_trees.specs.Tree.{Trees}
 use Rattle.sqlite.specs.declared.types.Value.TheVariants.{Text, Blob}
 use Rattle.sqlite.specs.Values.{or_null}
-use Rattle.sqlite_value.specs.Order.{Row, column}
+use Rattle.sqlite_value.specs.Order.{Row, column, value_cmp}
+use Rattle.sqlite_value.proofs.OrderLemmas.{value_cmp-Text}
 use Rattle.sqlite_value.specs.declared.keys.Key.{Key}
 use Rattle.sqlite.specs.Term.{Term, eval_all}
 use Rattle.sqlite.specs.Command.TheVariants.{Select}
 use Rattle.sqlite.specs.State.{State}
 use Rattle.sqlite.specs.Listing.{reads_listing, understood}
+use Rattle.sqlite_sql.specs.Ops.{binary, from_truth, is_true}
 use Rattle.sqlite_tied.specs.Compute.{everything}
 use Rattle.sqlite.proofs.Callers.{IsPlain, command_of}
 use Rattle.sqlite_schema.specs.declared.schema.Column.{Column}
@@ -24,9 +31,9 @@ use Rattle.sql_tables.proofs.Ordered.{record_first, records_ordered}
 use Rattle.sql_tables.proofs.RowReads.{listed, records_read, rows_shown}
 use Rattle.store_tables.specs.Asks.{AsksRows, AsksFirst, AsksInOrder}
 use Rattle.store_tables.specs.Tables.{store_schema, entry_columns, invocation_columns, meta_columns, sleep_columns, state_columns}
-use Rattle.store_tables.specs.Statements.{arrival_at_text, arrivals_after_text, awake_invocations_text, entries_text, entry_at_text, entry_by_answered_text, entry_by_completion_text, entry_by_second_completion_text, first_sleep_text, invocation_by_id_text, marks_text, open_invocation_text, sleeps_until_text, state_at_text, states_text}
+use Rattle.store_tables.specs.Statements.{arrival_at_text, arrivals_after_text, awake_invocations_text, entries_text, entry_at_text, entry_by_answered_text, entry_by_completion_text, entry_by_second_completion_text, first_invocation_text, first_sleep_text, invocation_after_text, invocation_by_id_text, marks_text, open_invocation_text, sleeps_until_text, state_at_text, states_text}
 use Rattle.store_tables.specs.Records.{EntryRow, FitsEntry, FitsInvocation, FitsMark, FitsSleep, FitsState, Holds, IsMarked, Records, cells_of_mark, ends_by, ends_from, entry_cells, invocation_cells, mark_cells, sleep_cells, state_cells, the_mark}
-use Rattle.store_tables.specs.Questions.{answers, asks_for, asks_second_for, has_id, is_above, is_arrival_after, is_arrival_at, is_at_key, is_at_place, is_awake, is_number, is_of_object, is_open_of, is_text}
+use Rattle.store_tables.specs.Questions.{answers, asks_for, asks_second_for, has_id, is_above, is_arrival_after, is_arrival_at, is_at_key, is_at_place, is_awake, is_before, is_named_after, is_number, is_of_object, is_open_of, is_text}
 use Rattle.store_tables.proofs.Back.{entry_back, entry_back_is, invocation_back, invocation_back_is, mark_back, mark_back_is, mark_fits, sleep_back, sleep_back_is, state_back, state_back_is}
 use Rattle.store_tables.proofs.Matching.{Test, behind, cells_match, column_there, columns_from, columns_shown, equal, from, match_cells, one_test, tests_of, two_tests, until}
 
@@ -107,6 +114,34 @@ selects_awake = record { command = refl; plain = (refl, refl); unlisted = refl }
 
 pub asks_awake : (s : State) → AsksInOrder invocation_cells FitsInvocation (λ r. r.invocations) is_awake (0 ∷ []) awake_invocations_text (flag_cell true ∷ []) s
 asks_awake s = asks_in_order_of 1 22 invocation_cells FitsInvocation (λ r. r.invocations) kept_invocations invocation_columns _ (equal 21 0 ∷ []) (0 ∷ []) selects_awake _ s _ (λ i. one_test _ _ (same_flag i.progress.is_awake))
+
+pub selects_first_invocation : IsFirstSelect first_invocation_text 1 invocation_columns 22 [] (by_columns (1 ∷ []))
+unfolding understood everything
+selects_first_invocation = record { command = refl; plain = (refl, refl); unlisted = refl }
+
+pub asks_first_invocation : (s : State) → AsksFirst invocation_cells FitsInvocation (λ r. r.invocations) (is_named_after None) (0 ∷ []) first_invocation_text [] s
+asks_first_invocation s = asks_first_of 1 22 invocation_cells FitsInvocation (λ r. r.invocations) kept_invocations invocation_columns _ [] (0 ∷ []) selects_first_invocation _ s _ (λ i. refl)
+
+truth_of : (b : Bool) → is_true (from_truth (Some b)) ≡ b
+truth_of true = refl
+truth_of false = refl
+
+turned : (o : Ordering) → is_gt (ordering_reverse o) ≡ is_lt o
+turned Less = refl
+turned Equal = refl
+turned Greater = refl
+
+-- a text is above one that is before it
+above_text : (a b : List ℕ) → is_above_cell (Text a) (Text b) ≡ is_before b a
+unfolding binary
+above_text a b = truth_of (is_gt (value_cmp (Text a) (Text b))) ∙ ap is_gt (value_cmp-Text a b) ∙ ap is_gt (nat_list_cmp_total.antisymm a b) ∙ turned (slice_cmp nat_cmp b a)
+
+pub selects_invocation_after : IsFirstSelect invocation_after_text 1 invocation_columns 22 (behind 0 0 ∷ []) (by_columns (1 ∷ []))
+unfolding understood everything
+selects_invocation_after = record { command = refl; plain = (refl, refl); unlisted = refl }
+
+pub asks_invocation_after : (s : State) (id : List ℕ) → AsksFirst invocation_cells FitsInvocation (λ r. r.invocations) (is_named_after (Some id)) (0 ∷ []) invocation_after_text (Text id ∷ []) s
+asks_invocation_after s id = asks_first_of 1 22 invocation_cells FitsInvocation (λ r. r.invocations) kept_invocations invocation_columns _ (behind 0 0 ∷ []) (0 ∷ []) selects_invocation_after _ s _ (λ i. one_test _ _ (above_text i.id id))
 
 -- ---- entries
 

@@ -18,7 +18,7 @@ use Rattle.sqlite_rules.specs.Lists.{Has}
 use Rattle.sql_tables.proofs.Ordered.{rising_apart, rising_sorted}
 use Rattle.sql_tables.proofs.RowReads.{permuted}
 use Rattle.store_tables.specs.Asks.{AreTold, by_cells}
-use Rattle.store_tables.specs.Orders.{AreApart, moment_cmp, sleep_cmp}
+use Rattle.store_tables.specs.Orders.{AreApart, id_cmp, moment_cmp, sleep_cmp}
 use Rattle.sql_tables.specs.Cells.{short_cell}
 use Rattle.sql_tables.specs.Statements.{IsFirst}
 use Rattle.sqlite.specs.Values.{or_null}
@@ -183,6 +183,11 @@ states_sorted xs up = rising_sorted (by_cells state_cells (1 ∷ [])) xs (states
 
 -- ---- invocations
 
+no_more : (o : Ordering) → ordering_then o Equal ≡ o
+no_more Less = refl
+no_more Equal = refl
+no_more Greater = refl
+
 abbrev pub IsNamedBefore : InvocationRow → InvocationRow → Type 0
 IsNamedBefore a b = by_cells invocation_cells (0 ∷ []) a b ≡ Less
 
@@ -196,12 +201,13 @@ ids_told xs up = rising_apart (by_cells invocation_cells (0 ∷ [])) xs (ids_ris
 pub ids_sorted : (xs : List InvocationRow) → DoAscend (λ (i : InvocationRow). i.id) xs → sort_by (by_cells invocation_cells (0 ∷ [])) xs ≡ xs
 ids_sorted xs up = rising_sorted (by_cells invocation_cells (0 ∷ [])) xs (ids_rise xs up)
 
--- ---- sleeps
+id_order : (a b : InvocationRow) → by_cells invocation_cells (0 ∷ []) a b ≡ id_cmp a b
+id_order a b = no_more _ ∙ value_cmp-Text a.id b.id
 
-no_more : (o : Ordering) → ordering_then o Equal ≡ o
-no_more Less = refl
-no_more Equal = refl
-no_more Greater = refl
+pub first_by_id : (xs : List InvocationRow) (found : Option InvocationRow) → IsFirst (by_cells invocation_cells (0 ∷ [])) xs found → IsFirst id_cmp xs found
+first_by_id xs found first = subst (λ (cmp : InvocationRow → InvocationRow → Ordering). IsFirst cmp xs found) (λ i a b. id_order a b i) first
+
+-- ---- sleeps
 
 -- the order of their cells is theirs
 sleep_order : (a b : SleepRow) → by_cells sleep_cells (1 ∷ 0 ∷ 2 ∷ []) a b ≡ sleep_cmp a b

@@ -17,8 +17,8 @@ use Rattle.sql_tables.specs.Cells.{flag_cell, long_cell, short_cell}
 use Rattle.sql_tables.specs.Statements.{by_columns, first_row_query, program_of, rows_of}
 use Rattle.sql_tables.proofs.Readable.{IsWhole, readable_by}
 use Rattle.store_tables.specs.Tables.{store_schema, entry_columns, invocation_columns, meta_columns, sleep_columns, state_columns}
-use Rattle.store_tables.specs.Statements.{arrival_at_text, arrivals_after_text, awake_invocations_text, entries_text, entry_at_text, entry_by_answered_text, entry_by_completion_text, entry_by_second_completion_text, first_sleep_text, invocation_by_id_text, marks_text, open_invocation_text, sleeps_until_text, state_at_text, states_text}
-use Rattle.store_tables.proofs.Asking.{IsFirstSelect, IsSelect, selects_after, selects_answered, selects_arrival, selects_awake, selects_completion, selects_entries, selects_first_sleep, selects_id, selects_marks, selects_open, selects_place, selects_second, selects_sleeps, selects_state, selects_states}
+use Rattle.store_tables.specs.Statements.{arrival_at_text, arrivals_after_text, awake_invocations_text, entries_text, entry_at_text, entry_by_answered_text, entry_by_completion_text, entry_by_second_completion_text, first_invocation_text, first_sleep_text, invocation_after_text, invocation_by_id_text, marks_text, open_invocation_text, sleeps_until_text, state_at_text, states_text}
+use Rattle.store_tables.proofs.Asking.{IsFirstSelect, IsSelect, selects_after, selects_answered, selects_arrival, selects_awake, selects_completion, selects_entries, selects_first_invocation, selects_first_sleep, selects_id, selects_invocation_after, selects_marks, selects_open, selects_place, selects_second, selects_sleeps, selects_state, selects_states}
 use Rattle.store_tables.proofs.Matching.{Test, behind, columns_from, equal, from, tests_of, until}
 
 module _ (tree : ℕ) (columns : List Column) (width : ℕ) (places : List Test) (order : List (Term × Key)) (sql : List ℕ) (params : Row) where
@@ -149,3 +149,18 @@ whole_first_sleep = (omega arith, refl)
 
 pub reads_first_sleep : (moment : ℕ) → IsReadable store_schema first_sleep_text (long_cell moment ∷ [])
 reads_first_sleep moment = first_readable 4 sleep_columns 3 (from 0 0 ∷ []) (by_columns (1 ∷ [])) first_sleep_text (long_cell moment ∷ []) selects_first_sleep whole_first_sleep refl
+
+whole_first_invocation : IsWhole (understood store_schema first_invocation_text) (length first_invocation_text) 0
+unfolding understood everything
+whole_first_invocation = (omega arith, refl)
+
+pub reads_first_invocation : IsReadable store_schema first_invocation_text []
+reads_first_invocation = first_readable 1 invocation_columns 22 [] (by_columns (1 ∷ [])) first_invocation_text [] selects_first_invocation whole_first_invocation refl
+
+whole_invocation_after : IsWhole (understood store_schema invocation_after_text) (length invocation_after_text) 1
+unfolding understood everything
+whole_invocation_after = (omega arith, refl)
+
+pub reads_invocation_after : (id : List ℕ) → IsReadable store_schema invocation_after_text (Text id ∷ [])
+reads_invocation_after id =
+    first_readable 1 invocation_columns 22 (behind 0 0 ∷ []) (by_columns (1 ∷ [])) invocation_after_text (Text id ∷ []) selects_invocation_after whole_invocation_after refl

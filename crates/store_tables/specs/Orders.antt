@@ -8,8 +8,8 @@ use Rattle.std.specs.List.Sorted.{IsPermutation}
 use Rattle.sqlite_trees.specs.Tree.{Trees, IsAscending}
 use Rattle.sqlite_keyed.specs.Lists.{sort_by}
 use Rattle.sql_tables.specs.Statements.{IsFirst}
-use Rattle.store_tables.specs.Records.{Records, Holds, SleepRow, ends_by, ends_from}
-use Rattle.store_tables.specs.Questions.{DoAscend}
+use Rattle.store_tables.specs.Records.{Records, Holds, InvocationRow, SleepRow, ends_by, ends_from}
+use Rattle.store_tables.specs.Questions.{DoAscend, is_named_after}
 
 -- the records that pass, by ascending keys, are these, whatever records the tables have
 abbrev pub IsArranged : {X : Type 0} → (Records → List X) → (X → Bool) → (X → List ℕ) → Trees → List X → Type 0
@@ -20,6 +20,14 @@ IsArranged {X} records test key db found =
 abbrev pub IsUnarranged : {X : Type 0} → (Records → List X) → (X → Bool) → (X → List ℕ) → Trees → Type 0
 IsUnarranged {X} records test key db =
     (r : Records) → Holds db r → (xs : List X) → IsPermutation (filter test (records r)) xs → DoAscend key xs → ⊥
+
+-- the order of invocations by their ids alone
+abbrev pub id_cmp : InvocationRow → InvocationRow → Ordering
+id_cmp a b = slice_cmp nat_cmp a.id b.id
+
+-- the first of the invocations whose ids are above an id, or of all, if there is one, whatever records the tables have
+abbrev pub IsNextInvocation : Option (List ℕ) → Trees → Option InvocationRow → Type 0
+IsNextInvocation after db found = (r : Records) → Holds db r → IsFirst id_cmp (filter (is_named_after after) r.invocations) found
 
 -- the order of sleeps: by invocation, of one invocation by moment, and of one moment by completion
 abbrev pub sleep_cmp : SleepRow → SleepRow → Ordering

@@ -1,5 +1,5 @@
 -- What is asked of the records.
-use Rattle.std.specs.Prelude.{◌≡◌, ℕ, ◌+◌, ◌≤◌, ◌==◌, ◌&&◌, nat_lt, Bool, false, List, [], ◌∷◌, filter, length, bytes_eq, Option, None, Some, IsTrue, ⊤}
+use Rattle.std.specs.Prelude.{◌≡◌, ℕ, ◌+◌, ◌≤◌, ◌==◌, ◌&&◌, nat_lt, Bool, true, false, List, [], ◌∷◌, filter, length, bytes_eq, Option, None, Some, IsTrue, ⊤}
 use Rattle.std.specs.List.{find}
 use Rattle.std.specs.List.Sorted.{IsPermutation}
 use Rattle.std.specs.Ordering.{is_lt, nat_cmp}
@@ -44,6 +44,11 @@ has_id id i = bytes_eq i.id id
 -- the object's open invocation
 abbrev pub is_open_of : List ℕ → InvocationRow → Bool
 is_open_of object i = is_text object i.progress.open_object
+
+-- an id is above another, or above none
+abbrev pub is_named_after : Option (List ℕ) → InvocationRow → Bool
+is_named_after None i = true
+is_named_after (Some id) i = is_before id i.id
 
 -- what may go on
 abbrev pub is_awake : InvocationRow → Bool

@@ -40,6 +40,12 @@ open_invocation_text = codes "SELECT * FROM invocation WHERE open_object = ?1"
 abbrev pub awake_invocations_text : List ℕ
 awake_invocations_text = codes "SELECT * FROM invocation WHERE awake = ?1 ORDER BY id"
 
+abbrev pub first_invocation_text : List ℕ
+first_invocation_text = codes "SELECT * FROM invocation ORDER BY id LIMIT 1"
+
+abbrev pub invocation_after_text : List ℕ
+invocation_after_text = codes "SELECT * FROM invocation WHERE id > ?1 ORDER BY id LIMIT 1"
+
 abbrev pub entry_at_text : List ℕ
 entry_at_text = codes "SELECT * FROM entry WHERE invocation = ?1 AND place = ?2"
 

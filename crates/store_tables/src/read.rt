@@ -12,7 +12,7 @@ ghost use Rattle.store_tables.specs.Asks.{AreTold, AsksRows, AsksFirst, AsksInOr
 ghost use Rattle.store_tables.specs.Looks.{OnlyAsks};
 ghost use Rattle.sql_tables.specs.Statements.{IsFirst};
 ghost use Rattle.store_tables.specs.Questions.{AreArrivals, AreFound, AreNoArrivals, IsAmbiguous, IsFound, IsJournal, IsNoJournal, answers, asks_for, asks_second_for, has_id, is_arrival_at, is_at_key, is_at_place, is_awake, is_of_object, is_open_of};
-ghost use Rattle.store_tables.specs.Orders.{AreAlike, AreDue, IsArranged, IsFirstSleep, IsUnarranged};
+ghost use Rattle.store_tables.specs.Orders.{AreAlike, AreDue, IsArranged, IsFirstSleep, IsNextInvocation, IsUnarranged};
 ghost use Rattle.store_tables.specs.Records.{Holds, Records};
 ghost use Rattle.store_tables.specs.Steps.{WasAsked};
 ghost use Rattle.store_tables.specs.Tables.{store_schema};
@@ -130,6 +130,37 @@ pub fn awake_invocations<S: Alter>(
         return Err(ReadError::Foreign);
     }
     Ok(records)
+}
+
+/// The invocation with the least id.
+pub fn first_invocation<S: Alter>(
+    tables: &mut StoreTables<S>,
+) -> Result<Option<InvocationRow>, ReadError>
+    ensures found { HasCleanDisk (state S.Store tables.new) → IfOk result (IsNextInvocation None (state S.Store tables.old).now.trees) }
+    ensures foreign { HasCleanDisk (state S.Store tables.new) → IfErr result (λ e. e ≡ ReadError.Foreign → (r : Records) → Holds (state S.Store tables.old).now.trees r → ⊥) }
+    ensures looks { OnlyAsks S.Store tables.old tables.new }
+    ensures cause { IfErr result (TellsReadCause (state S.Store tables.old) (state S.Store tables.new)) }
+    ensures open { HasCleanDisk (state S.Store tables.new) → WasAsked result (state S.Store tables.old) }
+{
+    find_first(tables, "SELECT * FROM invocation ORDER BY id LIMIT 1", &[])
+}
+
+/// The invocation with the least of the ids above one, which need not be there.
+pub fn invocation_after<S: Alter>(
+    tables: &mut StoreTables<S>,
+    id: &ByteStr,
+) -> Result<Option<InvocationRow>, ReadError>
+    ensures found { HasCleanDisk (state S.Store tables.new) → IfOk result (IsNextInvocation (Some id.now) (state S.Store tables.old).now.trees) }
+    ensures foreign { HasCleanDisk (state S.Store tables.new) → IfErr result (λ e. e ≡ ReadError.Foreign → (r : Records) → Holds (state S.Store tables.old).now.trees r → ⊥) }
+    ensures looks { OnlyAsks S.Store tables.old tables.new }
+    ensures cause { IfErr result (TellsReadCause (state S.Store tables.old) (state S.Store tables.new)) }
+    ensures open { HasCleanDisk (state S.Store tables.new) → WasAsked result (state S.Store tables.old) }
+{
+    find_first(
+        tables,
+        "SELECT * FROM invocation WHERE id > ?1 ORDER BY id LIMIT 1",
+        &[text(id)],
+    )
 }
 
 /// The entry at a place, the input at 0.
