@@ -7,7 +7,7 @@ use Rattle.vm_c_values.specs.declared.not_done.NotDone.{NotDone}
 use Rattle.vm_c_values.specs.declared.not_done.NotDone.TheVariants as whys
 use Rattle.vm_c_values.specs.declared.not_done.Unread.TheVariants.{Memory, Malformed}
 use Rattle.vm_types.specs.declared.options.VMOptions.{VMOptions}
-use Rattle.vm_c_machine.specs.Calls.{Makes}
+use Rattle.vm_c_machine.specs.Calls.{MakesMachine}
 use Rattle.vm_c_machine.specs.declared.machine.Machine.{Machine}
 use Rattle.vm_c.specs.declared.held.Held.{Held}
 
@@ -29,14 +29,14 @@ reply_in (Err why) = []
 -- Where there is no machine the status is 1, and nothing is done. Else there is one after the call, and what status and reply tell holds of
 -- the two; a call that is not done has left no reply.
 abbrev pub Over : ((old : Machine) → Result Bytes NotDone → (new : Machine) → Type 0) → (old : Option Held) → (status : ℕ) → (new : Option Held) → Type 0
-Over Does None status new = (status ≡ 1) × (new ≡ None)
-Over Does (Some old) status None = ⊥
-Over Does (Some old) status (Some new) = Does old.machine (done_of status new.reply) new.machine × (reply_in (done_of status new.reply) ≡ new.reply)
+Over Call None status new = (status ≡ 1) × (new ≡ None)
+Over Call (Some old) status None = ⊥
+Over Call (Some old) status (Some new) = Call old.machine (done_of status new.reply) new.machine × (reply_in (done_of status new.reply) ≡ new.reply)
 
 -- a machine is made and has no reply, or the handle has none
 abbrev pub Begun : (content_type : Text) → VMOptions → (status : ℕ) → (new : Option Held) → Type 0
 Begun content_type options status None = status ≡ 0 → ⊥
-Begun content_type options status (Some new) = (status ≡ 0) × Makes content_type options (Ok new.machine) × (new.reply ≡ [])
+Begun content_type options status (Some new) = (status ≡ 0) × MakesMachine content_type options (Ok new.machine) × (new.reply ≡ [])
 
 abbrev pub reply_length : Option Held → ℕ
 reply_length None = 0

@@ -2,7 +2,7 @@
 ghost use Rattle.vm_core.specs.Calls.{SysWriteOutput};
 ghost use Rattle.vm_progress.specs.EndEffects.{EndsAs};
 ghost use Rattle.vm_start.specs.Phases.{kept_error};
-ghost use Rattle.vm_c_machine.specs.Calls.{Does};
+ghost use Rattle.vm_c_machine.specs.Calls.{DoesCall};
 ghost use Rattle.vm_c_values.specs.Options.{payload_options};
 ghost use Rattle.vm_c_values.specs.Records.{value_in};
 ghost use Rattle.vm_c.specs.Calls.{Over};
@@ -20,7 +20,7 @@ pub extern "C" fn hengomaru_vm_sys_write_output(
     failed: u32,
     unstable: u32,
 ) -> u32
-    ensures { Over (Does (SysWriteOutput (value_in failed value.now) (payload_options unstable)) (λ _. tt)) handle.old.value result handle.new.value }
+    ensures { Over (DoesCall (SysWriteOutput (value_in failed value.now) (payload_options unstable)) (λ _. tt)) handle.old.value result handle.new.value }
 {
     match handle.take(alloc) {
         Some(mut held) => {
@@ -34,7 +34,7 @@ pub extern "C" fn hengomaru_vm_sys_write_output(
 /// Ends the invocation.
 #[unsafe(no_mangle)]
 pub extern "C" fn hengomaru_vm_sys_end(alloc: Global, handle: &mut Handle) -> u32
-    ensures { Over (Does (λ old. EndsAs (kept_error old.phase) old) (λ _. tt)) handle.old.value result handle.new.value }
+    ensures { Over (DoesCall (λ old. EndsAs (kept_error old.phase) old) (λ _. tt)) handle.old.value result handle.new.value }
 {
     match handle.take(alloc) {
         Some(mut held) => {

@@ -3,7 +3,7 @@ ghost use Rattle.std.specs.Prelude.{◌≡◌, None};
 ghost use Rattle.vm_feeding.specs.MachineQueries.{TellsReady};
 ghost use Rattle.vm_feeding.specs.EndOfInput.{ClosesInput};
 ghost use Rattle.vm_feeding.specs.InputBytes.{IsFed};
-ghost use Rattle.vm_c_machine.specs.Calls.{Changes, Does, GivesOutput, ReadsInput};
+ghost use Rattle.vm_c_machine.specs.Calls.{Changes, DoesCall, GivesOutput, KeepsReadInput};
 ghost use Rattle.vm_c_machine.specs.Host.{ToldByHost};
 ghost use Rattle.vm_c_values.specs.Options.{is_set};
 ghost use Rattle.vm_c.specs.Calls.{Over};
@@ -84,7 +84,7 @@ pub extern "C" fn hengomaru_vm_is_ready_to_execute(
     handle: &mut Handle,
     ready: &mut u32,
 ) -> u32
-    ensures { Over (Does (λ old made new. TellsReady old.phase made × (new ≡ old)) (λ _. is_set ready.new)) handle.old.value result handle.new.value }
+    ensures { Over (DoesCall (λ old made new. TellsReady old.phase made × (new ≡ old)) (λ _. is_set ready.new)) handle.old.value result handle.new.value }
 {
     match handle.take(alloc) {
         Some(mut held) => {
@@ -102,7 +102,7 @@ pub extern "C" fn hengomaru_vm_sys_input(
     handle: &mut Handle,
     random_seed: &mut u64,
 ) -> u32
-    ensures { Over (ReadsInput random_seed.new) handle.old.value result handle.new.value }
+    ensures { Over (KeepsReadInput random_seed.new) handle.old.value result handle.new.value }
 {
     match handle.take(alloc) {
         Some(mut held) => {

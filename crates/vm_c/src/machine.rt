@@ -2,7 +2,7 @@
 ghost use Rattle.std.specs.Prelude.{◌≡◌};
 ghost use Rattle.std.specs.declared.option.Option.TheVariants.{None};
 ghost use Rattle.vm_c.specs.Calls.{Begun, reply_length};
-ghost use Rattle.vm_c_machine.specs.Calls.{Makes};
+ghost use Rattle.vm_c_machine.specs.Calls.{MakesMachine};
 ghost use Rattle.vm_c_values.specs.Options.{vm_options};
 
 use crate::handle::Handle;

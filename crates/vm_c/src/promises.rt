@@ -1,6 +1,6 @@
 // Promises.
 ghost use Rattle.vm_core.specs.Calls.{SysGetPromise, SysPeekPromise, SysCompletePromise};
-ghost use Rattle.vm_c_machine.specs.Calls.{Does};
+ghost use Rattle.vm_c_machine.specs.Calls.{DoesCall};
 ghost use Rattle.vm_c_values.specs.Options.{payload_options};
 ghost use Rattle.vm_c_values.specs.Records.{value_in};
 ghost use Rattle.vm_c.specs.Calls.{Over};
@@ -17,7 +17,7 @@ pub extern "C" fn hengomaru_vm_sys_get_promise(
     key: &[u8],
     notification: &mut u32,
 ) -> u32
-    ensures { Over (Does (SysGetPromise key.now) (λ _. notification.new)) handle.old.value result handle.new.value }
+    ensures { Over (DoesCall (SysGetPromise key.now) (λ _. notification.new)) handle.old.value result handle.new.value }
 {
     match handle.take(alloc) {
         Some(mut held) => {
@@ -36,7 +36,7 @@ pub extern "C" fn hengomaru_vm_sys_peek_promise(
     key: &[u8],
     notification: &mut u32,
 ) -> u32
-    ensures { Over (Does (SysPeekPromise key.now) (λ _. notification.new)) handle.old.value result handle.new.value }
+    ensures { Over (DoesCall (SysPeekPromise key.now) (λ _. notification.new)) handle.old.value result handle.new.value }
 {
     match handle.take(alloc) {
         Some(mut held) => {
@@ -58,7 +58,7 @@ pub extern "C" fn hengomaru_vm_sys_complete_promise(
     unstable: u32,
     notification: &mut u32,
 ) -> u32
-    ensures { Over (Does (SysCompletePromise key.now (value_in failed value.now) (payload_options unstable)) (λ _. notification.new)) handle.old.value result handle.new.value }
+    ensures { Over (DoesCall (SysCompletePromise key.now (value_in failed value.now) (payload_options unstable)) (λ _. notification.new)) handle.old.value result handle.new.value }
 {
     match handle.take(alloc) {
         Some(mut held) => {

@@ -3,7 +3,7 @@ ghost use Rattle.vm_proposals.specs.RunCallEffects.{CallsRun};
 ghost use Rattle.vm_proposals.specs.ProposalEffects.{ProposesRun};
 ghost use Rattle.vm_refusals.specs.declared.retries.RetryPolicy.{RetryPolicy};
 ghost use Rattle.vm_refusals.specs.declared.runs.RunExitResult.{RunExitResult};
-ghost use Rattle.vm_c_machine.specs.Calls.{Does};
+ghost use Rattle.vm_c_machine.specs.Calls.{DoesCall};
 ghost use Rattle.vm_c_values.specs.Options.{is_set};
 ghost use Rattle.vm_c_values.specs.Records.{failure_in};
 ghost use Rattle.vm_c.specs.Calls.{Over};
@@ -22,7 +22,7 @@ pub extern "C" fn hengomaru_vm_sys_run(
     replayed: &mut u32,
     notification: &mut u32,
 ) -> u32
-    ensures { Over (Does (CallsRun name.now) (λ _. record { replayed = is_set replayed.new; handle = notification.new })) handle.old.value result handle.new.value }
+    ensures { Over (DoesCall (CallsRun name.now) (λ _. record { replayed = is_set replayed.new; handle = notification.new })) handle.old.value result handle.new.value }
 {
     match handle.take(alloc) {
         Some(mut held) => {
@@ -41,7 +41,7 @@ pub extern "C" fn hengomaru_vm_propose_run_success(
     notification: u32,
     value: &[u8],
 ) -> u32
-    ensures { Over (Does (ProposesRun notification (RunExitResult.Success value.now) RetryPolicy.Infinite) (λ _. tt)) handle.old.value result handle.new.value }
+    ensures { Over (DoesCall (ProposesRun notification (RunExitResult.Success value.now) RetryPolicy.Infinite) (λ _. tt)) handle.old.value result handle.new.value }
 {
     match handle.take(alloc) {
         Some(mut held) => {
@@ -60,7 +60,7 @@ pub extern "C" fn hengomaru_vm_propose_run_failure(
     notification: u32,
     failure: &[u8],
 ) -> u32
-    ensures { Over (Does (ProposesRun notification (RunExitResult.TerminalFailure (failure_in failure.now)) RetryPolicy.Infinite) (λ _. tt)) handle.old.value result handle.new.value }
+    ensures { Over (DoesCall (ProposesRun notification (RunExitResult.TerminalFailure (failure_in failure.now)) RetryPolicy.Infinite) (λ _. tt)) handle.old.value result handle.new.value }
 {
     match handle.take(alloc) {
         Some(mut held) => {

@@ -14,7 +14,7 @@ use Rattle.vm_c_values.specs.declared.node.Node.{Node}
 use Rattle.vm_c_values.specs.declared.not_done.NotDone.{NotDone}
 use Rattle.vm_c_values.specs.declared.not_done.NotDone.TheVariants.{Unread, Failed, Untold}
 use Rattle.vm_c_machine.specs.Calls.{Fails, Tells, Takes}
-use Rattle.vm_c_machine.specs.Telling.{AwaitsNodes}
+use Rattle.vm_c_machine.specs.Numbers.{AwaitsNodes}
 use Rattle.vm_c_machine.specs.declared.machine.Machine.{Machine}
 
 -- the tree of a future is awaited, and its nodes are these

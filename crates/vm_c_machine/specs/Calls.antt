@@ -20,11 +20,11 @@ abbrev pub Fails : (Error → Type 0) → (is_suspended : Bool) → Machine → 
 Fails Answers is_suspended new = IfSome new.failure (λ error. Answers error × (is_suspended ≡ (error.code.0 == suspended)))
 
 -- A call of the machine, whose answer is told as `told` says; nothing is done where the arguments cannot be read.
-abbrev pub Does : {A : Type 0} → (Call : MachineState → Result A Error → MachineState → Type 0) → (told : Bytes → A) → (old : Machine) → Result Bytes NotDone → (new : Machine) → Type 0
-Does Call told old (Ok reply) new = Call old.vm.state (Ok (told reply)) new.vm.state
-Does Call told old (Err (Unread why)) new = new ≡ old
-Does Call told old (Err (Failed is_suspended)) new = Fails (λ error. Call old.vm.state (Err error) new.vm.state) is_suspended new
-Does Call told old (Err Untold) new = ⊥
+abbrev pub DoesCall : {A : Type 0} → (Call : MachineState → Result A Error → MachineState → Type 0) → (told : Bytes → A) → (old : Machine) → Result Bytes NotDone → (new : Machine) → Type 0
+DoesCall Call told old (Ok reply) new = Call old.vm.state (Ok (told reply)) new.vm.state
+DoesCall Call told old (Err (Unread why)) new = new ≡ old
+DoesCall Call told old (Err (Failed is_suspended)) new = Fails (λ error. Call old.vm.state (Err error) new.vm.state) is_suspended new
+DoesCall Call told old (Err Untold) new = ⊥
 
 -- of one that cannot fail
 abbrev pub Changes : (MachineState → MachineState → Type 0) → (old : Machine) → Result Bytes NotDone → (new : Machine) → Type 0
@@ -41,9 +41,9 @@ Asks Answers old (Err why) new = ⊥
 -- ---- calls of their own
 
 -- a machine is made of the version that the content type names, or none is
-abbrev pub Makes : (content_type : Text) → VMOptions → Result Machine NotDone → Type 0
-Makes content_type options (Ok machine) = BeginsMachine Infallible (λ error. ⊥) (Some content_type) options (Ok machine.vm.state) × (machine.failure ≡ None)
-Makes content_type options (Err why) = Unit {0}
+abbrev pub MakesMachine : (content_type : Text) → VMOptions → Result Machine NotDone → Type 0
+MakesMachine content_type options (Ok machine) = BeginsMachine Infallible (λ error. ⊥) (Some content_type) options (Ok machine.vm.state) × (machine.failure ≡ None)
+MakesMachine content_type options (Err why) = Unit {0}
 
 -- the output is the reply
 abbrev pub GivesOutput : (old : Machine) → Result Bytes NotDone → (new : Machine) → Type 0
@@ -52,11 +52,11 @@ GivesOutput old (Err (Unread why)) new = new.vm.state ≡ old.vm.state
 GivesOutput old (Err why) new = ⊥
 
 -- the input is kept, so that its parts can be told; its bytes are the reply
-abbrev pub ReadsInput : (seed : ℕ) → (old : Machine) → Result Bytes NotDone → (new : Machine) → Type 0
-ReadsInput seed old (Ok reply) new = IfSome new.input (λ input. IsRead old.vm.state (Ok input) new.vm.state × (reply ≡ input.input) × (seed ≡ input.random_seed))
-ReadsInput seed old (Err (Unread why)) new = ⊥
-ReadsInput seed old (Err (Failed is_suspended)) new = Fails (λ error. IsRead old.vm.state (Err error) new.vm.state) is_suspended new
-ReadsInput seed old (Err Untold) new = IfSome new.input (λ input. IsRead old.vm.state (Ok input) new.vm.state)
+abbrev pub KeepsReadInput : (seed : ℕ) → (old : Machine) → Result Bytes NotDone → (new : Machine) → Type 0
+KeepsReadInput seed old (Ok reply) new = IfSome new.input (λ input. IsRead old.vm.state (Ok input) new.vm.state × (reply ≡ input.input) × (seed ≡ input.random_seed))
+KeepsReadInput seed old (Err (Unread why)) new = ⊥
+KeepsReadInput seed old (Err (Failed is_suspended)) new = Fails (λ error. IsRead old.vm.state (Err error) new.vm.state) is_suspended new
+KeepsReadInput seed old (Err Untold) new = IfSome new.input (λ input. IsRead old.vm.state (Ok input) new.vm.state)
 
 -- what was taken, if anything was, is told by its kind and its bytes, or is lost where there is no memory to tell it
 abbrev pub Tells : Option Value → (kind : ℕ) → Result Bytes NotDone → Type 0

@@ -1,3 +1,3 @@
 pub mod Calls
-pub mod Telling
+pub mod Numbers
 pub mod Host

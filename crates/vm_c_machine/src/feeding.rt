@@ -3,7 +3,7 @@ ghost use Rattle.std.specs.Prelude.{◌≡◌, None};
 ghost use Rattle.vm_feeding.specs.MachineQueries.{TellsReady};
 ghost use Rattle.vm_feeding.specs.EndOfInput.{ClosesInput};
 ghost use Rattle.vm_feeding.specs.InputBytes.{IsFed};
-ghost use Rattle.vm_c_machine.specs.Calls.{Changes, Does, GivesOutput, ReadsInput};
+ghost use Rattle.vm_c_machine.specs.Calls.{Changes, DoesCall, GivesOutput, KeepsReadInput};
 ghost use Rattle.vm_c_machine.specs.Host.{IsErrorOfHost, ToldByHost};
 ghost use Rattle.vm_c_values.specs.Options.{is_set};
 
@@ -87,7 +87,7 @@ impl Machine {
 
     /// Whether the start and all entries have come that it announces, so that calls can be made.
     pub fn is_ready_to_execute(&mut self, ready: &mut u32) -> Result<Bytes, NotDone>
-        ensures { Does (λ old made new. TellsReady old.phase made × (new ≡ old)) (λ _. is_set ready.new) self.old result self.new }
+        ensures { DoesCall (λ old made new. TellsReady old.phase made × (new ≡ old)) (λ _. is_set ready.new) self.old result self.new }
     {
         match self.vm.is_ready_to_execute() {
             Ok(is_ready) => {
@@ -100,7 +100,7 @@ impl Machine {
 
     /// Reads the input, which comes before all other calls: the reply has its bytes.
     pub fn sys_input(&mut self, random_seed: &mut u64) -> Result<Bytes, NotDone>
-        ensures { ReadsInput random_seed.new self.old result self.new }
+        ensures { KeepsReadInput random_seed.new self.old result self.new }
     {
         let input = match self.vm.sys_input() {
             Ok(input) => input,

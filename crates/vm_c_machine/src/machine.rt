@@ -1,7 +1,7 @@
 // The machine, and how it is made.
 ghost use Rattle.std.specs.Prelude.{◌≡◌, ◌==◌, Some};
 ghost use Rattle.protocol_errors.specs.Code.{suspended};
-ghost use Rattle.vm_c_machine.specs.Calls.{Makes};
+ghost use Rattle.vm_c_machine.specs.Calls.{MakesMachine};
 ghost use Rattle.vm_c_values.specs.Options.{vm_options};
 ghost use Rattle.vm_c_values.specs.declared.not_done.NotDone.TheVariants.{Failed};
 
@@ -51,7 +51,7 @@ impl Machine {
         fallback_random_seed: u64,
         code: &mut u32,
     ) -> Result<Machine, NotDone>
-        ensures { Makes content_type.now (vm_options options fallback_random_seed) result }
+        ensures { MakesMachine content_type.now (vm_options options fallback_random_seed) result }
     {
         *code = 0;
         let headers = ContentType(copied_text(alloc, content_type)?);

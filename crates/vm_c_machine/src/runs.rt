@@ -4,7 +4,7 @@ ghost use Rattle.vm_proposals.specs.RunCallEffects.{CallsRun};
 ghost use Rattle.vm_proposals.specs.ProposalEffects.{ProposesRun};
 ghost use Rattle.vm_refusals.specs.declared.retries.RetryPolicy.{RetryPolicy};
 ghost use Rattle.vm_refusals.specs.declared.runs.RunExitResult.{RunExitResult};
-ghost use Rattle.vm_c_machine.specs.Calls.{Does};
+ghost use Rattle.vm_c_machine.specs.Calls.{DoesCall};
 ghost use Rattle.vm_c_values.specs.Options.{is_set};
 ghost use Rattle.vm_c_values.specs.Records.{failure_in};
 
@@ -28,7 +28,7 @@ impl Machine {
         replayed: &mut u32,
         notification: &mut u32,
     ) -> Result<Bytes, NotDone>
-        ensures { Does (CallsRun name.now) (λ _. record { replayed = is_set replayed.new; handle = notification.new }) self.old result self.new }
+        ensures { DoesCall (CallsRun name.now) (λ _. record { replayed = is_set replayed.new; handle = notification.new }) self.old result self.new }
     {
         let name = copied_text(self.alloc, name)?;
         match self.vm.sys_run(name) {
@@ -43,7 +43,7 @@ impl Machine {
 
     /// The body of a run has ended with this value.
     pub fn propose_run_success(&mut self, notification: u32, value: &[u8]) -> Result<Bytes, NotDone>
-        ensures { Does (ProposesRun notification (RunExitResult.Success value.now) RetryPolicy.Infinite) (λ _. tt) self.old result self.new }
+        ensures { DoesCall (ProposesRun notification (RunExitResult.Success value.now) RetryPolicy.Infinite) (λ _. tt) self.old result self.new }
     {
         let exit = RunExitResult::Success(copied_bytes(self.alloc, value)?);
         self.propose(notification, exit, RetryPolicy::Infinite)
@@ -55,7 +55,7 @@ impl Machine {
         notification: u32,
         failure: &[u8],
     ) -> Result<Bytes, NotDone>
-        ensures { Does (ProposesRun notification (RunExitResult.TerminalFailure (failure_in failure.now)) RetryPolicy.Infinite) (λ _. tt) self.old result self.new }
+        ensures { DoesCall (ProposesRun notification (RunExitResult.TerminalFailure (failure_in failure.now)) RetryPolicy.Infinite) (λ _. tt) self.old result self.new }
     {
         let exit = RunExitResult::TerminalFailure(terminal_failure(self.alloc, failure)?);
         self.propose(notification, exit, RetryPolicy::Infinite)
@@ -88,7 +88,7 @@ impl Machine {
         exit: RunExitResult,
         policy: RetryPolicy,
     ) -> Result<Bytes, NotDone>
-        ensures { Does (ProposesRun notification exit policy) (λ _. tt) self.old result self.new }
+        ensures { DoesCall (ProposesRun notification exit policy) (λ _. tt) self.old result self.new }
     {
         match self
             .vm

@@ -4,7 +4,8 @@ ghost use Rattle.protocol_types.specs.Version.{version_content_type};
 ghost use Rattle.vm_feeding.specs.MachineQueries.{state_of_phase};
 ghost use Rattle.vm_feeding.specs.Handles.{LooksAtHandle};
 ghost use Rattle.vm_c_machine.specs.Calls.{Asks};
-ghost use Rattle.vm_c_machine.specs.Telling.{TellsError, TellsPart, behavior_number, state_number};
+ghost use Rattle.vm_c_machine.specs.Numbers.{TellsError, TellsPart, state_number};
+ghost use Rattle.vm_start.specs.Failure.{behavior_number};
 ghost use Rattle.vm_c_values.specs.Options.{is_set};
 
 use crate::Machine;

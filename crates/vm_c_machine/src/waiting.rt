@@ -1,8 +1,8 @@
 // Sleeps, awaits and takes.
 ghost use Rattle.std.specs.Prelude.{◌≡◌, ◌==◌, ◌||◌, ◌*◌, nat_le, None};
 ghost use Rattle.vm_core.specs.Calls.{SysSleep, TakeNotification};
-ghost use Rattle.vm_c_machine.specs.Calls.{Does, Takes, Tells};
-ghost use Rattle.vm_c_machine.specs.Telling.{AwaitsNodes, response_told};
+ghost use Rattle.vm_c_machine.specs.Calls.{DoesCall, Takes, Tells};
+ghost use Rattle.vm_c_machine.specs.Numbers.{AwaitsNodes, response_told};
 
 use crate::Machine;
 use bytes::Bytes;
@@ -48,7 +48,7 @@ impl Machine {
         wake_up_millis: u64,
         notification: &mut u32,
     ) -> Result<Bytes, NotDone>
-        ensures { Does (SysSleep name.now (wake_up_millis * 1_000_000) None) (λ _. notification.new) self.old result self.new }
+        ensures { DoesCall (SysSleep name.now (wake_up_millis * 1_000_000) None) (λ _. notification.new) self.old result self.new }
     {
         let name = copied_text(self.alloc, name)?;
         let wake_up = Moment::from_millis(wake_up_millis);
@@ -69,7 +69,7 @@ impl Machine {
         outcome: &mut u32,
         detail: &mut u32,
     ) -> Result<Bytes, NotDone>
-        ensures { Does (AwaitsNodes tree.now) (λ _. response_told outcome.new detail.new) self.old result self.new }
+        ensures { DoesCall (AwaitsNodes tree.now) (λ _. response_told outcome.new detail.new) self.old result self.new }
     {
         let future = future_of(self.alloc, tree)?;
         match self.vm.do_await(future) {

@@ -4,10 +4,9 @@ use Rattle.journal_model.specs.AwaitTree.{AwaitTree}
 use Rattle.journal_model.specs.Notification.{Bytes}
 use Rattle.journal_model.specs.declared.call.Moment.{Moment}
 use Rattle.protocol_errors.specs.declared.error.Error.{Error}
-use Rattle.protocol_errors.specs.declared.error.ErrorBehavior.{ErrorBehavior}
-use Rattle.protocol_errors.specs.declared.error.ErrorBehavior.TheVariants as behaviors
 use Rattle.vm_progress.specs.AwaitEffects.{DoesAwait}
 use Rattle.vm_machine.specs.declared.machine_state.MachineState.{MachineState}
+use Rattle.vm_start.specs.Failure.{behavior_number}
 use Rattle.vm_types.specs.declared.answers.AwaitResponse.{AwaitResponse}
 use Rattle.vm_types.specs.declared.answers.AwaitResponse.TheVariants.{AnyCompleted, WaitingExternalProgress, ExecuteRun, CancelSignalReceived, EphemeralNotificationReady}
 use Rattle.vm_types.specs.declared.answers.State.{State}
@@ -56,11 +55,6 @@ TellsPart part index found old (Err (Unread why)) new = new ≡ old
 TellsPart part index found old (Err why) new = ⊥
 
 -- ---- the error that was answered last
-
-abbrev pub behavior_number : ErrorBehavior → ℕ
-behavior_number behaviors.Retry = 0
-behavior_number behaviors.Pause = 1
-behavior_number behaviors.Fail = 2
 
 abbrev pub ErrorIs : (code behavior : ℕ) → (reply : Bytes) → Option Error → Type 0
 ErrorIs code behavior reply None = (code ≡ 0) × (reply ≡ [])
