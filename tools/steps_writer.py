@@ -47,7 +47,7 @@ class Writer:
         return it[0] == "call" and ((it[1] == ("name", "calls") and it[2] != "alloc") or ("name", "calls") in it[3])
 
     def steps(self, it):
-        name = it[2] if it[1] else self.file.told.get(it[2])
+        name = self.file.methods.get(it[2]) if it[1] else self.file.told.get(it[2])
         if name is None:
             raise Unread(f"`{it[2]}` has no `ensures` with `steps.Makes`")
         if it[1]:
@@ -64,7 +64,7 @@ class Writer:
             of = re.fullmatch(r"Result (.*) TerminalFailure", inner or "")
             return re.sub(r"^\((.*)\)$", r"\1", of[1]) if of and it[1][0] == "try" else inner
         if it[0] == "call" and self.makes(it):
-            return self.file.results.get(it[2]) if it[1] is None else self.file.signatures.get(it[2], (None, None))[1]
+            return self.file.results.get(it[2]) if it[1] is None else self.file.signatures.get(self.file.methods.get(it[2]), (None, None))[1]
         if it[0] == "call" and it[1] is None:
             return self.file.results.get(it[2]) or ("Bytes" if it[2].startswith("Bytes::") else "Text" if it[2].startswith("ByteStr::") else None)
         return "ℕ" if it[0] == "call" and it[2] == "saturating_add" else None

@@ -3,7 +3,7 @@ use Rattle.std.specs.Prelude.{ℕ, [], codes, ◌*◌}
 use Rattle.journal_model.specs.Notification.{Bytes}
 use Rattle.journal_model.specs.declared.handler.Input.{Input}
 use Rattle.straight_line.specs.Steps.{Steps, ◌>>◌, done}
-use Rattle.straight_line.specs.Everyday.{run, sleep_until}
+use Rattle.straight_line.specs.Everyday.{run_effect, sleep_until}
 use Rattle.straight_line.specs.Rounds.{for_rounds}
 
 abbrev pub sleeps-sleep : ℕ → (Unit {0}) → Steps (Unit {0})
@@ -18,7 +18,7 @@ sleeps input = do
 
 abbrev pub effects-effect : ℕ → (Unit {0}) → Steps (Unit {0})
 effects-effect effect state = do
-  run (codes "pay")
+  run_effect (codes "pay")
   done tt
 
 abbrev pub effects : Input → Steps Bytes

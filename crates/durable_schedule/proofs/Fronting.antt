@@ -16,7 +16,7 @@ use Rattle.store_model.specs.Progress.{last_error_of, error_in, first_item}
 use Rattle.store_invocations.specs.Told.{told_from}
 use Rattle.store_invocations.specs.Answered.{value_taken}
 use Rattle.journal_store.specs.Stored.{Stored}
-use Rattle.journal_store.specs.Stands.{Endures, IsStanding, Keeps, Outlasts}
+use Rattle.journal_store.specs.Stands.{Endures, IsStanding, KeepsStanding, Outlasts}
 use Rattle.journal_store.proofs.Leading.{stood}
 use Rattle.schedule_laws.specs.Isolation.{AllStandAlone}
 use Rattle.schedule_laws.specs.Schedules.event
@@ -121,7 +121,7 @@ module _ {H : Type 0} (function : H → Handler) (options : VMOptions) (stand : 
         }
 
     -- of what tables keep
-    kept_first : (replies : List Reply) (trees : Trees) → Keeps g (LeavesFirst function options asked replies) store trees → KeepsFirst function options before asked replies trees
+    kept_first : (replies : List Reply) (trees : Trees) → KeepsStanding g (LeavesFirst function options asked replies) store trees → KeepsFirst function options before asked replies trees
     kept_first replies trees it =
         let first = stood g before store stands in
         let kept = it first.0 first.1.standing in
@@ -147,7 +147,7 @@ module _ {H : Type 0} (function : H → Handler) (options : VMOptions) (stand : 
     pub keeps : (replies : List Reply) (new : Stored S) → Endures g (LeavesFirst function options asked replies) store new
         → Survives (state g store.connection) (state g new.connection) (KeepsFirst function options before asked replies)
     keeps replies new lives =
-        survives_weaker (state g store.connection) (state g new.connection) (Keeps g (LeavesFirst function options asked replies) store) (KeepsFirst function options before asked replies)
+        survives_weaker (state g store.connection) (state g new.connection) (KeepsStanding g (LeavesFirst function options asked replies) store) (KeepsFirst function options before asked replies)
         (λ clean trees it. kept_first replies trees it) lives
 
     pub keeps_written : (replies : List Reply) (new : Stored S) → EnduresUnwritten g asked replies (LeavesFirst function options asked replies) store new → HasCleanDisk (state g new.connection) → (trees : Trees)

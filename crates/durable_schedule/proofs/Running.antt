@@ -9,7 +9,7 @@ use Rattle.journal_model.specs.Notification.{Text}
 use Rattle.journal_model.specs.Run.{Handler}
 use Rattle.vm_types.specs.declared.options.VMOptions.{VMOptions}
 use Rattle.journal_store.specs.Stored.{Stored}
-use Rattle.journal_store.specs.Stands.{IsStanding, Keeps, Endures, Outlasts}
+use Rattle.journal_store.specs.Stands.{IsStanding, KeepsStanding, Endures, Outlasts}
 use Rattle.store_calls.specs.AbstractStore.{Standing}
 use Rattle.schedule_laws.proofs.Schedules.{schedules_grow}
 use Rattle.schedule_laws.specs.Isolation.{AllAnswerAlone, AllKeepState, AllStandAlone}
@@ -95,7 +95,7 @@ module _ {H : Type 0} (function : H → Handler) (options : VMOptions) where
     pub all_kept : {S : Type 0} (g : Ghosts S) (events : List (Event H)) (replies : List Reply) → AllByRecursion FitsEvent events → (old new : Stored S)
         → Endures g (AppliesAnswered function options events replies) old new → Endures g (LeavesFirst function options events replies) old new
     all_kept g events replies fits old new lives =
-        survives_weaker (state g old.connection) (state g new.connection) (Keeps g (AppliesAnswered function options events replies) old) (Keeps g (LeavesFirst function options events replies) old)
+        survives_weaker (state g old.connection) (state g new.connection) (KeepsStanding g (AppliesAnswered function options events replies) old) (KeepsStanding g (LeavesFirst function options events replies) old)
         (λ clean db it s is. let kept = it s is in (kept.0, first_left events replies fits s kept.0 kept.1, kept.2)) lives
 
     pub all_written : {S : Type 0} (g : Ghosts S) (events : List (Event H)) (replies : List Reply) → AllByRecursion FitsEvent events → (old new : Stored S)

@@ -9,7 +9,7 @@ use Rattle.vm_types.specs.declared.options.VMOptions.{VMOptions}
 use Rattle.store_refusals.specs.declared.refusal.Refusal.{Refusal}
 use Rattle.store_refusals.specs.Refused.{is_circumstance}
 use Rattle.journal_store.specs.Stored.{Stored}
-use Rattle.journal_store.specs.Stands.{Endures, Keeps, Outlasts}
+use Rattle.journal_store.specs.Stands.{Endures, KeepsStanding, Outlasts}
 use Rattle.store_calls.specs.AbstractStore.{Standing}
 use Rattle.schedule_laws.proofs.Schedules.{schedules_grow}
 use Rattle.schedule_laws.specs.Schedules.event
@@ -138,7 +138,7 @@ module _ {H : Type 0} (function : H → Handler) (options : VMOptions) where
       abbrev Left : Type 0
       Left =
           (NoneWritten (events ++ one ∷ []) (replies ++ answer ∷ []) × (state g first.connection).may_leave trees)
-          ⊎ Keeps g (AppliesAnswered function options (events ++ one ∷ []) (replies ++ answer ∷ [])) first trees
+          ⊎ KeepsStanding g (AppliesAnswered function options (events ++ one ∷ []) (replies ++ answer ∷ [])) first trees
 
       -- it was written: all lasts
       written : IsWrittenSo one answer → Left

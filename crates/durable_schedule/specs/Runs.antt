@@ -19,7 +19,7 @@ use Rattle.store_calls.specs.AbstractStore.{Standing}
 use Rattle.store_refusals.specs.declared.refusal.Refusal.{Refusal}
 use Rattle.store_refusals.specs.Refused.{is_circumstance}
 use Rattle.journal_store.specs.Stored.{Stored}
-use Rattle.journal_store.specs.Stands.{Keeps}
+use Rattle.journal_store.specs.Stands.{KeepsStanding}
 use Rattle.schedule_laws.specs.Isolation.{IsAlike}
 use Rattle.schedule_laws.specs.Laws.{IsClosedByEnd, RefuseNoFrame}
 use Rattle.schedule_laws.specs.Schedules.scheduled
@@ -108,7 +108,7 @@ module _ {H : Type 0} (function : H → Handler) (options : VMOptions) where
 abbrev pub EnduresUnwritten : {H S : Type 0} → Ghosts S → List (scheduled.Event H) → List Reply → (Standing → Standing → Type 0) → (old new : Stored S) → Type 0
 EnduresUnwritten g events replies Relation old new =
     HasCleanDisk (state g new.connection) → (trees : Trees) → (state g new.connection).may_leave trees
-    → (NoneWritten events replies × (state g old.connection).may_leave trees) ⊎ Keeps g Relation old trees
+    → (NoneWritten events replies × (state g old.connection).may_leave trees) ⊎ KeepsStanding g Relation old trees
 
 -- ---- apart from others
 

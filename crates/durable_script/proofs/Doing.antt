@@ -11,7 +11,7 @@ use Rattle.script_lines.specs.declared.fault.ScriptFault.TheVariants.{LineNotUnd
 use Rattle.durable_script.specs.declared.runner.Runner.{Runner}
 use Rattle.durable_script.specs.Line.{DoesLine, DoesSomeLine}
 use Rattle.durable_script.specs.SchedulerChanges.{Reaches}
-use Rattle.durable_script.specs.Runner.{DoesNext, StopsAt}
+use Rattle.durable_script.specs.Runner.{DoesNext, StopsAtLine}
 use Rattle.durable_script.specs.Run.{DoneLine, lines_of, texts_of, AreUnderstood, DoesAll, DoesFirst, HasDone, DoesLines, ComesSoFar}
 use Rattle.durable_script.proofs.SchedulerChanges.{reaches_then}
 
@@ -39,7 +39,7 @@ module _ {S : Type 0} (g : Ghosts S) (lines : List (ℕ × List ℕ)) (start : S
     }
 
     -- the line was not read, or there is no memory for its text
-    pub stops : (number : ℕ) (bytes : List ℕ) (fault : ScriptFault) (old new : Runner S) (rest after : List (ℕ × List ℕ)) (had has : Option (List ℕ)) → StopsAt g number bytes fault old new
+    pub stops : (number : ℕ) (bytes : List ℕ) (fault : ScriptFault) (old new : Runner S) (rest after : List (ℕ × List ℕ)) (had has : Option (List ℕ)) → StopsAtLine g number bytes fault old new
         → HasDone lines (Did old.scheduler) done rest → rest ≡ (number, bytes) ∷ after → Appends had has (texts_of done)
         → DoesLines lines (Did new.scheduler) had has (Err fault)
     stops number bytes (LineNotUnderstood n) old new rest after had has s h e written = record {

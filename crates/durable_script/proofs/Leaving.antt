@@ -8,7 +8,7 @@ use Rattle.built_in_handlers.specs.declared.built_in.BuiltIn.{BuiltIn}
 use Rattle.built_in_handlers.specs.BuiltIn.{function_of}
 use Rattle.vm_types.specs.Options.{default_options}
 use Rattle.journal_store.specs.Stored.{Stored}
-use Rattle.journal_store.specs.Stands.{Endures, IsStanding, Keeps}
+use Rattle.journal_store.specs.Stands.{Endures, IsStanding, KeepsStanding}
 use Rattle.store_calls.specs.AbstractStore.{Standing}
 use Rattle.durable_schedule.proofs.Running.{all_left}
 use Rattle.schedule_laws.specs.Laws as laws
@@ -53,8 +53,8 @@ module _ (law : laws.LeavesHolds function_of) (headline : laws.HoldsHeadline) (c
             schedule_left done s it.0 it.2,
           );
       crash = subst (λ (x : Stored S). Endures g (AreCut done) store x) (sym after_is)
-          (subst (λ (x : Stored S). Survives (state g x.connection) (state g end.store.connection) (Keeps g (AreCut done) store)) store_is
-          (survives_weaker (state g start.store.connection) (state g end.store.connection) (KeepsCut g (DoesFirst done) start) (Keeps g (AreCut done) store)
+          (subst (λ (x : Stored S). Survives (state g x.connection) (state g end.store.connection) (KeepsStanding g (AreCut done) store)) store_is
+          (survives_weaker (state g start.store.connection) (state g end.store.connection) (KeepsCut g (DoesFirst done) start) (KeepsStanding g (AreCut done) store)
           (λ clean db it s standing.
           let kept = it (at_first s) (at_start s standing) in
           let cut = cut_of done (at_first s) kept.0 kept.1 in (

@@ -13,7 +13,7 @@ use Rattle.journal_store.specs.Stored.{Stored}
 use Rattle.scheduler.specs.declared.scheduler.Scheduler.{Scheduler}
 use Rattle.scheduler.specs.Scheduled.{AppliesWith, IsScheduled}
 use Rattle.durable_schedule.specs.Schedules.{FitsEvent, Event, Reply, HeldAttempt, Scheduled, Does, Applies}
-use Rattle.journal_store.specs.Stands.{Endures, Keeps}
+use Rattle.journal_store.specs.Stands.{Endures, KeepsStanding}
 use Rattle.journal_store.proofs.Enduring.{same_endures}
 use Rattle.durable_script.specs.Line.{AppliesOne}
 use Rattle.durable_script.specs.SchedulerChanges.{KeepsCut, LeavesCut, Reaches, Nowhere}
@@ -30,7 +30,7 @@ module _ {S : Type 0} (g : Ghosts S) where
   -- nothing was done to the store
   same_leaves : (C : Scheduled BuiltIn → Scheduled BuiltIn → Type 0) (a : Scheduler BuiltIn S) → LeavesCut g C a a
   same_leaves C a =
-      survives_weaker (state g a.store.connection) (state g a.store.connection) (Keeps g (λ s t. ⊥) a.store) (KeepsCut g C a)
+      survives_weaker (state g a.store.connection) (state g a.store.connection) (KeepsStanding g (λ s t. ⊥) a.store) (KeepsCut g C a)
       (λ clean db it before at. absurd ((it before.standing at.scheduled.standing).1)) (same_endures g (λ s t. ⊥) a.store)
 
   -- nothing was done
@@ -89,7 +89,7 @@ module _ {S : Type 0} (g : Ghosts S) where
       → FitsEvent one → new.options ≡ old.options → Reaches g (Applied one) (AppliesOne one reply) old new
   reaches_applied one reply old new endures does fits options =
       reaches_promised (Applied one) one reply old new
-      (survives_weaker (state g old.store.connection) (state g new.store.connection) (Keeps g (AppliesWith function_of old.options one old.held) old.store) (KeepsCut g (Applied one) old)
+      (survives_weaker (state g old.store.connection) (state g new.store.connection) (KeepsStanding g (AppliesWith function_of old.options one old.held) old.store) (KeepsCut g (Applied one) old)
       (λ clean db it before at.
       let kept = it before.standing at.scheduled.standing in
       let by_options = subst (λ (o : VMOptions). Does function_of o one before.standing old.held kept.1.0 kept.0 kept.1.1) at.options kept.1.2 in (

@@ -26,9 +26,9 @@ module _ {S : Type 0} (g : Ghosts S) where
     pub does : Reaches g (DoesSomeLine line) (DoesLine line text) old.scheduler new.scheduler
 
   -- the line is not understood, or memory to read it was refused, and nothing was done; or it was done, and memory for its text was refused
-  abbrev pub StopsAt : ℕ → List ℕ → ScriptFault → Runner S → Runner S → Type 0
-  StopsAt number bytes (LineNotUnderstood n) old new = (n ≡ number) × IsNotUnderstood bytes × (new ≡ old)
-  StopsAt number bytes LineOutOfMemory old new = new ≡ old
-  StopsAt number bytes TextOutOfMemory old new = (text : List ℕ) × DoesNext bytes text old new
-  StopsAt number bytes ScriptUnreadable old new = ⊥
-  StopsAt number bytes OutputUnwritable old new = ⊥
+  abbrev pub StopsAtLine : ℕ → List ℕ → ScriptFault → Runner S → Runner S → Type 0
+  StopsAtLine number bytes (LineNotUnderstood n) old new = (n ≡ number) × IsNotUnderstood bytes × (new ≡ old)
+  StopsAtLine number bytes LineOutOfMemory old new = new ≡ old
+  StopsAtLine number bytes TextOutOfMemory old new = (text : List ℕ) × DoesNext bytes text old new
+  StopsAtLine number bytes ScriptUnreadable old new = ⊥
+  StopsAtLine number bytes OutputUnwritable old new = ⊥

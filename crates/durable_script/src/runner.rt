@@ -5,7 +5,7 @@ ghost use Rattle.vm_types.specs.Options.{default_options};
 ghost use Rattle.durable_script.specs.SchedulerChanges.{Nowhere, Reaches};
 ghost use Rattle.durable_script.specs.Printed.{MakesText};
 ghost use Rattle.durable_script.specs.Line.{brought, new_invocation, goes_on, IsBegin, DoesEvent, DoesSomeEvent, TakesTurn, TakesTurns, TookTurns, DoesLine, DoesSomeLine};
-ghost use Rattle.durable_script.specs.Runner.{DoesNext, StopsAt};
+ghost use Rattle.durable_script.specs.Runner.{DoesNext, StopsAtLine};
 
 use crate::due::show_due;
 use crate::outcome::run_outcome;
@@ -274,7 +274,7 @@ impl<S: Alter + Drop> Runner<S> {
     /// Does a line, and answers what is to be written.
     pub fn do_line(&mut self, number: usize, bytes: &[u8]) -> Result<String, ScriptFault>
         ensures ok { IfOk result (λ text. DoesNext S.Store bytes.now (string_bytes text) self.old self.new) }
-        ensures err { IfErr result (λ fault. StopsAt S.Store number bytes.now fault self.old self.new) }
+        ensures err { IfErr result (λ fault. StopsAtLine S.Store number bytes.now fault self.old self.new) }
     {
         let alloc = self.scheduler.alloc;
         match parse_line(alloc, bytes)? {

@@ -5,7 +5,7 @@ use Rattle.journal_model.specs.declared.handler.Input.{Input}
 use Rattle.straight_line.specs.Steps.{Steps, ◌>>=◌, ◌>>◌, done, fail, on_failure, by_result}
 use Rattle.straight_line.specs.Calls.{begin_run, begin_signal}
 use Rattle.straight_line.specs.Combinators.{or_timeout}
-use Rattle.straight_line.specs.Everyday.{result_of, run, sleep_until}
+use Rattle.straight_line.specs.Everyday.{result_of, run_effect, sleep_until}
 use Rattle.straight_line.specs.Rounds.{Flow, Leave, Next, for_until}
 use Rattle.example_straight.specs.Values.{later, not_paid}
 
@@ -31,7 +31,7 @@ abbrev pub confirm : Input → Steps Bytes
 confirm input = do
   confirmed ← begin_signal (codes "confirmed")
   on_failure (or_timeout confirmed (later input.input 3_600_000)) λ failure. do
-    run (codes "refund")
+    run_effect (codes "refund")
     fail failure
 
 abbrev pub pay_and_confirm : Input → Steps Bytes
@@ -42,7 +42,7 @@ pay_and_confirm input = do
 
 abbrev pub order : Input → Steps Bytes
 order input = do
-  run (codes "reserve")
+  run_effect (codes "reserve")
   on_failure (pay_and_confirm input) λ failure. do
-    run (codes "release")
+    run_effect (codes "release")
     fail failure

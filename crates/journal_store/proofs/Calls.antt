@@ -19,8 +19,8 @@ use Rattle.store_live.specs.Attempts.{Attempts, ByInvocation, attempt_of, IsNow,
 use Rattle.store_live_laws.specs.Agrees.{Agrees, has_number, cause_of_stale, CausesOfStale}
 use Rattle.store_live_laws.proofs.Tests.{live_told, stale_told}
 use Rattle.store_calls.specs.AbstractStore.{Standing, StaysStanding, Refuses}
-use Rattle.store_calls.specs.Calls.{HandsOut, ClosesInput, Pushes, Stops}
-use Rattle.store_calls.specs.Frames.{Steps}
+use Rattle.store_calls.specs.Calls.{HandsOut, ClosesStoredInput, Pushes, Stops}
+use Rattle.store_calls.specs.Frames.{StepsAttempt}
 use Rattle.journal_store.specs.Stored.{stored}
 use Rattle.journal_store.specs.Stands.{Stands, IsStanding, Leads}
 use Rattle.journal_store.specs.Attempts.{HasRead, IsStale, has_closed, has_rest}
@@ -48,7 +48,7 @@ module _ (id : Text) (n : ℕ) (why : Refusal) (s t : Standing) (d : IsDead id n
     stays = d.stays;
   }
 
-  pub close_dead : ClosesInput id n (Err why) s t
+  pub close_dead : ClosesStoredInput id n (Err why) s t
   close_dead = record { cause = stale_refused why (cause_of_stale s.events id) (causes_of s.events (Event.Close id n)) d.causes.of_close d.told; stays = d.stays }
 
   pub push_dead : (bytes : Bytes) → Pushes id n bytes (Err why) s t
@@ -57,7 +57,7 @@ module _ (id : Text) (n : ℕ) (why : Refusal) (s t : Standing) (d : IsDead id n
   pub stop_dead : Stops id n (Err why) s t
   stop_dead = record { dead = d.dead; cause = stop_refused; stays = d.stays }
 
-  pub step_dead : Steps id n (Err why) s t
+  pub step_dead : StepsAttempt id n (Err why) s t
   step_dead = inl (record { dead = d.dead; refuses = record { cause = stop_refused; stays = d.stays } })
 
 module _ {S : Type 0} (g : Ghosts S) (a b : Held S) (live : Attempts) (id : Text) (n : ℕ) where
@@ -141,7 +141,7 @@ module _ {S : Type 0} (g : Ghosts S) (tables : Held S) (before : Attempts) (id :
 
   pub closes : (after : Attempts) → has_rest (attempt_of before.attempts id) ≡ false → has_closed (attempt_of before.attempts id) ≡ false → ChangesLive id after_close before.attempts after.attempts
       → (s : Standing) → HasRead s.events id (attempt_of before.attempts id) → IsStanding g s (stored tables before)
-      → (t : Standing) × IsStanding g t (stored tables after) × ClosesInput id n (Ok tt) s t
+      → (t : Standing) × IsStanding g t (stored tables after) × ClosesStoredInput id n (Ok tt) s t
   closes after rest opened changed s read is =
       let did = stands_closed s.events (state g tables) before.attempts after.attempts id n is.stands here read rest opened changed in
       adds g s (stored tables before) (stored tables after) is (Event.Close id n) did.2 (closed_waits id before.attempts after.attempts changed)
@@ -157,13 +157,13 @@ module _ {S : Type 0} (g : Ghosts S) (tables : Held S) (before : Attempts) (id :
       (refuses_still (Event.Feed id n most) refusal.OutOfMemory after same (λ events stands. inr refl))
 
   pub closes_rest : has_rest (attempt_of before.attempts id) ≡ true → (s : Standing) → HasRead s.events id (attempt_of before.attempts id) → IsStanding g s (stored tables before)
-      → (t : Standing) × IsStanding g t (stored tables before) × ClosesInput id n (Err (refusal.Cause Cause.InputRemains)) s t
+      → (t : Standing) × IsStanding g t (stored tables before) × ClosesStoredInput id n (Err (refusal.Cause Cause.InputRemains)) s t
   closes_rest rest s read is =
       (s, is, record { cause = close_remains s.events (state g tables) before.attempts id n is.stands here read rest; stays = record { events = refl; outputs = λ one. refl } })
 
   pub closes_closed : has_rest (attempt_of before.attempts id) ≡ false → has_closed (attempt_of before.attempts id) ≡ true
       → (s : Standing) → HasRead s.events id (attempt_of before.attempts id) → IsStanding g s (stored tables before)
-      → (t : Standing) × IsStanding g t (stored tables before) × ClosesInput id n (Err (refusal.Cause Cause.InputAlreadyClosed)) s t
+      → (t : Standing) × IsStanding g t (stored tables before) × ClosesStoredInput id n (Err (refusal.Cause Cause.InputAlreadyClosed)) s t
   closes_closed rest closed s read is =
       (s, is, record { cause = close_closed s.events (state g tables) before.attempts id n is.stands here read rest closed; stays = record { events = refl; outputs = λ one. refl } })
 

@@ -21,7 +21,7 @@ use Rattle.store_calls.specs.AbstractStore.{Standing, Adds}
 use Rattle.store_calls.proofs.Landing.{begun}
 use Rattle.journal_store.specs.Attempts.{BeginsSome}
 use Rattle.journal_store.specs.Stored.{Stored}
-use Rattle.journal_store.specs.Stands.{Leads, Keeps, KeepsOf, Endures, EnduresAlways, IsQuiet}
+use Rattle.journal_store.specs.Stands.{Leads, KeepsStanding, KeepsOf, Endures, EnduresAlways, IsQuiet}
 use Rattle.journal_store.proofs.Beginning.{begun_some, other_tests}
 
 module _ {S : Type 0} (g : Ghosts S) where
@@ -29,7 +29,7 @@ module _ {S : Type 0} (g : Ghosts S) where
   pub endures_on : (P M Q R : Standing → Standing → Type 0) (a b c : Stored S) → ((s t : Standing) → P s t → R s t) → ((s m t : Standing) → M s m → Q m t → R s t)
       → Endures g P a b → Leads g M a b → Endures g Q b c → Endures g R a c
   endures_on P M Q R a b c before behind first leads second =
-      survives_then (state g a.connection) (state g b.connection) (state g c.connection) (Keeps g P a) (Keeps g Q b) (Keeps g R a)
+      survives_then (state g a.connection) (state g b.connection) (state g c.connection) (KeepsStanding g P a) (KeepsStanding g Q b) (KeepsStanding g R a)
       (λ clean db it s is. let kept = it s is in (kept.0, before s kept.0 kept.1, kept.2))
       (λ clean db it s is.
       let early : HasCleanDisk (state g b.connection) = omega (arith, second.clean, clean) in
@@ -41,7 +41,7 @@ module _ {S : Type 0} (g : Ghosts S) where
   -- it is said in another way
   pub endures_so : (P Q : Standing → Standing → Type 0) (a b : Stored S) → ((s t : Standing) → P s t → Q s t) → Endures g P a b → Endures g Q a b
   endures_so P Q a b so lives =
-      survives_weaker (state g a.connection) (state g b.connection) (Keeps g P a) (Keeps g Q a)
+      survives_weaker (state g a.connection) (state g b.connection) (KeepsStanding g P a) (KeepsStanding g Q a)
       (λ clean db it s is. let kept = it s is in (kept.0, so s kept.0 kept.1, kept.2)) lives
 
   -- nothing was done
@@ -57,12 +57,12 @@ module _ {S : Type 0} (g : Ghosts S) where
 
   -- a call that commits nothing
   pub quiet_endures : (P : Standing → Standing → Type 0) (old new : Stored S) → IsQuiet g old new → Endures g P old new
-  quiet_endures P old new lives = survives_weaker (state g old.connection) (state g new.connection) (λ _. ⊥) (Keeps g P old) (λ clean db none. absurd none) lives
+  quiet_endures P old new lives = survives_weaker (state g old.connection) (state g new.connection) (λ _. ⊥) (KeepsStanding g P old) (λ clean db none. absurd none) lives
 
   -- whatever the tables kept they keep what the store stood for
   pub always_endures : (P : Standing → Standing → Type 0) (old new : Stored S) → EnduresAlways g P old new → Endures g P old new
   always_endures P old new lives =
-      survives_weaker (state g old.connection) (state g new.connection) (KeepsOf (λ s. IsStoreOf s.events (state g old.connection)) P) (Keeps g P old)
+      survives_weaker (state g old.connection) (state g new.connection) (KeepsOf (λ s. IsStoreOf s.events (state g old.connection)) P) (KeepsStanding g P old)
       (λ clean db keeps s is. keeps s is.stands.kept) lives
 
 -- ---- what an event whose commit has landed makes of what a store stood for

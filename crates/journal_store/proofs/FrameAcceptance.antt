@@ -39,12 +39,12 @@ use Rattle.store_live_laws.proofs.Tests.{live_is_open}
 use Rattle.journal_store.specs.declared.step.SeenFrame.{SeenFrame}
 use Rattle.journal_store.specs.declared.step.FirstSeen.TheVariants as firsts
 use Rattle.store_calls.specs.AbstractStore.{Standing}
-use Rattle.store_calls.specs.Frames.{IsNext, LeavesRefused, RefusesFrame, Steps, TakesNone, TakesOne, frame_in, rest_after}
+use Rattle.store_calls.specs.Frames.{IsNext, LeavesRefused, RefusesFrame, StepsAttempt, TakesNone, TakesOne, frame_in, rest_after}
 use Rattle.store_calls.proofs.Landing.{taken}
 use Rattle.store_calls.proofs.Live.{told_end}
 use Rattle.store_calls.proofs.Taking.{same_stays}
 use Rattle.journal_store.specs.Stored.{Stored, stored}
-use Rattle.journal_store.specs.Stands.{Stands, IsStanding, Leads, Keeps, KeepsAll, Endures, WaitsNow}
+use Rattle.journal_store.specs.Stands.{Stands, IsStanding, Leads, KeepsStanding, KeepsAll, Endures, WaitsNow}
 use Rattle.journal_store.specs.FrameAcceptance.{HasMessage, HasMessageOf, IsEndedBy, IsFirstOf, IsSeen, IsSeenOf, SettlesStep, after_noted, passed}
 use Rattle.journal_store.specs.StoreTransaction.{WritesRows}
 use Rattle.journal_store.specs.Causes.{TriesFrame}
@@ -208,7 +208,7 @@ module _ {S : Type 0} (g : Ghosts S) (a mid b : Held S) (before after : Attempts
 
   -- a step that takes this frame, or is refused
   abbrev pub StepsBy : Result (Option FrameReply) Refusal → Standing → Standing → Type 0
-  StepsBy result s t = Steps id n result s t × OnOk result (t.events ≡ event ∷ s.events)
+  StepsBy result s t = StepsAttempt id n result s t × OnOk result (t.events ≡ event ∷ s.events)
 
   -- what the events say of its attempt
   live_of : (events : List Event) → Stands events (state g a) before.attempts → KnowsLive events id n it.facts
@@ -236,7 +236,7 @@ module _ {S : Type 0} (g : Ghosts S) (a mid b : Held S) (before after : Attempts
   -- it is refused, and with it its attempt where the cause lies in it
   pub seen_refused : (why : Refusal) → OnlyAsks g a mid → IsEndedBy (lies_in_frame why) id before.attempts after.attempts
       → IsPrepared (Err why)
-      → Leads g (Steps id n (Err why)) (stored a before) (stored mid after)
+      → Leads g (StepsAttempt id n (Err why)) (stored a before) (stored mid after)
   seen_refused why looks ends prepared clean s is =
       let it = item_refused g (stored a before) (stored mid after) s is id n one.attempt (message one.seen.message_is) left_of one.found one.seen.first why one.here (prepared clean s.events is.stands.kept n frame (live_of s.events is.stands) (read_of s.events is.stands) one.seen.read)
       (store_still s.events (state g a) (state g mid) (λ _. ⊥) looks.crash looks.kept is.stands.kept) (lies_in_frame why) refl ends in
@@ -288,7 +288,7 @@ module _ {S : Type 0} (g : Ghosts S) (a mid b : Held S) (before after : Attempts
       (stands_still s.events (state g mid) (state g b) (Lands made.writes.items (state g mid)) before.attempts after.attempts wrote.crash wrote.undone same between) same in
       (it.0, it.1, (inr it.2, tt))
 
-  pub steps_so : (result : Result (Option FrameReply) Refusal) → Leads g (StepsBy result) (stored a before) (stored b after) → Leads g (Steps id n result) (stored a before) (stored b after)
+  pub steps_so : (result : Result (Option FrameReply) Refusal) → Leads g (StepsBy result) (stored a before) (stored b after) → Leads g (StepsAttempt id n result) (stored a before) (stored b after)
   steps_so result leads clean s is = let t = leads clean s is in (t.0, t.1, t.2.0)
 
   -- what was answered lasts
@@ -324,7 +324,7 @@ module _ {S : Type 0} (g : Ghosts S) (a mid b : Held S) (before after : Attempts
       → IsPrepared (Ok made)
       → Endures g (TakesOne id n) (stored a before) (stored b after)
   seen_lands made looks lives prepared =
-      survives_then (state g a) (state g mid) (state g b) (λ _. ⊥) (Lands made.writes.items (state g mid)) (Keeps g (TakesOne id n) (stored a before)) (λ _ db none. absurd none)
+      survives_then (state g a) (state g mid) (state g b) (λ _. ⊥) (Lands made.writes.items (state g mid)) (KeepsStanding g (TakesOne id n) (stored a before)) (λ _ db none. absurd none)
       (λ clean db lands s is.
       let early : HasCleanDisk (state g mid) = omega (arith, lives.clean, clean) in
       let ready = ready_of made prepared early s.events is.stands in
@@ -349,7 +349,7 @@ unknown_causes events database attempts id number attempt stands found here =
 module _ {S : Type 0} (g : Ghosts S) (tables : Held S) (before after : Attempts) (id : Text) (n : ℕ) (here : has_number n (attempt_of before.attempts id) ≡ true) where
   -- an unknown header that was seen
   pub header_refused : IsFirstOf (attempt_of before.attempts id) firsts.Unknown → IsNow id None before.attempts after.attempts
-      → Leads g (Steps id n (Err (refusal.Cause Cause.FrameNotAccepted))) (stored tables before) (stored tables after)
+      → Leads g (StepsAttempt id n (Err (refusal.Cause Cause.FrameNotAccepted))) (stored tables before) (stored tables after)
   header_refused first now clean s is =
       let one = this_one n (attempt_of before.attempts id) here in
       let unknown_is = subst (λ (o : Option LiveAttempt). IsFirstOf o firsts.Unknown) one.is first in
@@ -358,7 +358,7 @@ module _ {S : Type 0} (g : Ghosts S) (tables : Held S) (before after : Attempts)
       (it.0, it.1, inr it.2)
 
   -- no whole item waits
-  pub none_waits : after ≡ before → IsFirstOf (attempt_of before.attempts id) firsts.Partial → Leads g (Steps id n (Ok None)) (stored tables before) (stored tables after)
+  pub none_waits : after ≡ before → IsFirstOf (attempt_of before.attempts id) firsts.Partial → Leads g (StepsAttempt id n (Ok None)) (stored tables before) (stored tables after)
   none_waits same first clean s is =
       let one = this_one n (attempt_of before.attempts id) here in
       subst (λ (live : Attempts). (t : Standing) × IsStanding g t (stored tables live) × TakesNone id n s t) (sym same) (
@@ -377,9 +377,9 @@ module _ {S : Type 0} (g : Ghosts S) (tables : Held S) (before after : Attempts)
       partial attempt none = none
 
   -- there is no memory to read one
-  pub no_room : after ≡ before → HasMessageOf (attempt_of before.attempts id) → Leads g (Steps id n (Err refusal.OutOfMemory)) (stored tables before) (stored tables after)
+  pub no_room : after ≡ before → HasMessageOf (attempt_of before.attempts id) → Leads g (StepsAttempt id n (Err refusal.OutOfMemory)) (stored tables before) (stored tables after)
   no_room same whole clean s is =
       let one = this_one n (attempt_of before.attempts id) here in
       let first : HasMessage one.attempt = subst HasMessageOf one.is whole in
       let it = item_refused g (stored tables before) (stored tables before) s is id n one.attempt (message first.0) first.1 one.is first.2 refusal.OutOfMemory here (inr refl) is.stands.kept false refl refl in
-      subst (λ (live : Attempts). (t : Standing) × IsStanding g t (stored tables live) × Steps id n (Err refusal.OutOfMemory) s t) (sym same) (it.0, it.1, inr it.2)
+      subst (λ (live : Attempts). (t : Standing) × IsStanding g t (stored tables live) × StepsAttempt id n (Err refusal.OutOfMemory) s t) (sym same) (it.0, it.1, inr it.2)

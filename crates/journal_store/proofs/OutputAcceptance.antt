@@ -13,7 +13,7 @@ use Rattle.store_steps.specs.declared.frame.FrameReply.{FrameReply}
 use Rattle.store_steps.specs.Taken.{does_end}
 use Rattle.store_calls.specs.AbstractStore.{Standing}
 use Rattle.store_calls.specs.Calls.{Pushes, PutsBehind}
-use Rattle.store_calls.specs.Frames.{Accepts, AcceptsFirst, Steps, TakesEach, TakesFirstFrames, TakesFrames, TakesOne}
+use Rattle.store_calls.specs.Frames.{Accepts, AcceptsFirst, StepsAttempt, TakesEach, TakesFirstFrames, TakesFrames, TakesOne}
 use Rattle.store_calls.proofs.Taking.{goes_on, none_behind, same_stays, takes_first, takes_more}
 use Rattle.journal_store.specs.declared.accept.Accepted.{Accepted}
 use Rattle.journal_store.specs.Stored.{Stored}
@@ -162,16 +162,16 @@ module _ {S : Type 0} (g : Ghosts S) (id : Text) (n : ℕ) (first old new : Stor
 
 module _ {S : Type 0} (g : Ghosts S) (id : Text) (n : ℕ) (old new : Stored S) (before after : List FrameReply) where
   -- a step that took a frame
-  pub next_taken : (reply : FrameReply) (ends : Bool) → does_end reply ≡ ends → after ≡ before ++ reply ∷ [] → Leads g (Steps id n (Ok (Some reply))) old new
+  pub next_taken : (reply : FrameReply) (ends : Bool) → does_end reply ≡ ends → after ≡ before ++ reply ∷ [] → Leads g (StepsAttempt id n (Ok (Some reply))) old new
       → Leads g (TakesNext id n (Ok (not ends)) before after) old new
   next_taken reply true ends more does clean s is = let t = does clean s is in (t.0, t.1, inl (reply, ends, more, t.2))
   next_taken reply false ends more does clean s is = let t = does clean s is in (t.0, t.1, (reply, ends, more, t.2))
 
   -- and one that took none
-  pub next_none : after ≡ before → Leads g (Steps id n (Ok None)) old new → Leads g (TakesNext id n (Ok false) before after) old new
+  pub next_none : after ≡ before → Leads g (StepsAttempt id n (Ok None)) old new → Leads g (TakesNext id n (Ok false) before after) old new
   next_none same does clean s is = let t = does clean s is in (t.0, t.1, inr (same, t.2))
 
-  pub next_refused : (why : Refusal) → after ≡ before → Leads g (Steps id n (Err why)) old new → Leads g (TakesNext id n (Err why) before after) old new
+  pub next_refused : (why : Refusal) → after ≡ before → Leads g (StepsAttempt id n (Err why)) old new → Leads g (TakesNext id n (Err why) before after) old new
   next_refused why same does clean s is =
       let t = does clean s is in (
         t.0,

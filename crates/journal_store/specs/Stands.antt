@@ -72,12 +72,12 @@ module _ {S : Type 0} (g : Ghosts S) where
   -- ---- what a crash leaves
 
   -- the tables keep the events of something in this relation to what the store stood for, whatever that was
-  abbrev pub Keeps : (Standing → Standing → Type 0) → Stored S → Trees → Type 0
-  Keeps Relation store trees = KeepsOf (λ s. IsStanding s store) Relation trees
+  abbrev pub KeepsStanding : (Standing → Standing → Type 0) → Stored S → Trees → Type 0
+  KeepsStanding Relation store trees = KeepsOf (λ s. IsStanding s store) Relation trees
 
   -- What a crash leaves after some calls: what it could leave before them, or such tables.
   abbrev pub Endures : (Standing → Standing → Type 0) → Stored S → Stored S → Type 0
-  Endures Relation old new = Survives (state g old.connection) (state g new.connection) (Keeps Relation old)
+  Endures Relation old new = Survives (state g old.connection) (state g new.connection) (KeepsStanding Relation old)
 
   -- The same whatever attempts are in memory, of a call whose commit does not hang on them: the relation is to whatever events the
   -- tables kept.

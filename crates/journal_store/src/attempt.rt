@@ -4,7 +4,7 @@ ghost use Rattle.journal_model.specs.Event.{Event};
 ghost use Rattle.store_tables.specs.Looks.{OnlyAsks};
 ghost use Rattle.store_invocations.specs.Rows.{IsStoreOf};
 ghost use Rattle.store_refusals.specs.declared.refusal.Refusal.TheVariants.{OutOfMemory};
-ghost use Rattle.store_calls.specs.Calls.{ClosesInput, Pushes, HandsOut, Stops};
+ghost use Rattle.store_calls.specs.Calls.{ClosesStoredInput, Pushes, HandsOut, Stops};
 ghost use Rattle.store_refusals.specs.Prepared.{TellsOrRefuses};
 ghost use Rattle.store_live.specs.Attempts.{ChangesLive};
 ghost use Rattle.journal_store.specs.Attempts.{FitsNext, GivesOneFrame, HasRoomFor, IsStale, IsWanted, ReadsNext, after_wanted, has_closed, has_rest};
@@ -141,7 +141,7 @@ impl<S: Alter + Drop> Store<S> {
 
     /// No more is handed to the attempt. All of its input was: one row at most is read to tell.
     pub fn close_input(&mut self, id: &ByteStr, attempt: u32) -> Result<(), Refusal>
-        ensures does { Leads S.Store (ClosesInput id.now attempt result) self.old self.new }
+        ensures does { Leads S.Store (ClosesStoredInput id.now attempt result) self.old self.new }
         ensures frame { GivesOneFrame S.Store id.now (Ok []) self.old self.new }
         ensures waits { KeepsOutputs self.old.live.attempts self.new.live.attempts }
         ensures kept { AreTablesKept (state S.Store self.old.connection) (state S.Store self.new.connection) }

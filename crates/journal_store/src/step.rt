@@ -3,7 +3,7 @@ ghost use Rattle.std.specs.Prelude.{◌≡◌, ◌≤◌, true, length, option_m
 ghost use Rattle.std.specs.Option.{ForSome};
 ghost use Rattle.store_steps.specs.Taken.{does_end, lies_in_frame};
 ghost use Rattle.store_live.specs.Attempts.{ChangesLive, IsNow};
-ghost use Rattle.store_calls.specs.Frames.{Steps, TakesOne};
+ghost use Rattle.store_calls.specs.Frames.{StepsAttempt, TakesOne};
 ghost use Rattle.journal_store.specs.Stands.{Endures, Leads};
 ghost use Rattle.journal_store.specs.FrameAcceptance.{HasMessage, HasMessageOf, HasRoomToNote, IsEndedBy, IsFirstOf, IsFirstSeen, IsSeenOf, SettlesStep, after_noted, after_room, passed};
 ghost use Rattle.journal_store.specs.Words.{state, AreTablesKept, AreAsBefore, attempt_of, has_number};
@@ -182,7 +182,7 @@ impl<S: Alter + Drop> Store<S> {
     ) -> Result<Option<FrameReply>, Refusal>
         requires live { has_number attempt (attempt_of self.old.live.attempts id.now) ≡ true }
         requires seen { IsSeenOf (attempt_of self.old.live.attempts id.now) seen }
-        ensures does { Leads S.Store (Steps id.now attempt result) self.old self.new }
+        ensures does { Leads S.Store (StepsAttempt id.now attempt result) self.old self.new }
         ensures settled { SettlesStep S.Store id.now attempt result self.old self.new }
         ensures kept { OnErr result (AreTablesKept (state S.Store self.old.connection) (state S.Store self.new.connection)) }
         ensures cause { IfErr result (TellsWhyUnwritten S.Store self.old self.new (TriesFrame id.now attempt)) }
@@ -203,7 +203,7 @@ impl<S: Alter + Drop> Store<S> {
     /// Takes the next frame of the attempt, if a whole one waits: what it asks for is recorded, and its answer is told. A frame that
     /// is refused for a cause of its own ends the attempt; refused for want of memory or of numbers it waits, and is taken again.
     pub fn step(&mut self, id: &ByteStr, attempt: u32) -> Result<Option<FrameReply>, Refusal>
-        ensures does { Leads S.Store (Steps id.now attempt result) self.old self.new }
+        ensures does { Leads S.Store (StepsAttempt id.now attempt result) self.old self.new }
         ensures settled { SettlesStep S.Store id.now attempt result self.old self.new }
         ensures kept { OnErr result (AreTablesKept (state S.Store self.old.connection) (state S.Store self.new.connection)) }
         ensures cause { IfErr result (TellsWhyUnwritten S.Store self.old self.new (TriesFrame id.now attempt)) }

@@ -20,7 +20,7 @@ use Rattle.schedule_model.specs.declared.held.HeldAttempt.{HeldAttempt}
 use Rattle.store_steps.specs.declared.frame.FrameReply.{FrameReply}
 use Rattle.store_calls.specs.declared.begun.BegunAttempt.{BegunAttempt}
 use Rattle.store_calls.specs.AbstractStore.{Standing, StaysStanding}
-use Rattle.store_calls.specs.Calls.{Invokes, CompletesCall, Signals, Cancels, Ticks, BeginsStoredAttempt, BeginsAttempt, HandsOut, ClosesInput, Stops}
+use Rattle.store_calls.specs.Calls.{Invokes, CompletesCall, Signals, Cancels, Ticks, BeginsStoredAttempt, BeginsAttempt, HandsOut, ClosesStoredInput, Stops}
 use Rattle.store_calls.specs.Frames.{Accepts}
 use Rattle.schedule_model.specs.InputFeed.{given_in, FeedsParts}
 use Rattle.schedule_model.specs.Held.{held_of, with_attempt}
@@ -79,8 +79,8 @@ module _ {H : Type 0} where
 
   -- where the store closes its input, it is told
   abbrev pub ClosesOne : HeldAttempt H → Standing → Reply → Standing → Attempt H → Type 0
-  ClosesOne one old reply.Done new changed = ClosesInput one.invocation one.number (Ok tt) old new × attempts.ClosesInput one.attempt changed
-  ClosesOne one old (reply.Refused (refusal.Store why)) new changed = ClosesInput one.invocation one.number (Err why) old new × (changed ≡ one.attempt)
+  ClosesOne one old reply.Done new changed = ClosesStoredInput one.invocation one.number (Ok tt) old new × attempts.ClosesInput one.attempt changed
+  ClosesOne one old (reply.Refused (refusal.Store why)) new changed = ClosesStoredInput one.invocation one.number (Err why) old new × (changed ≡ one.attempt)
   ClosesOne one old _ new changed = ⊥
 
   -- the store ends it, and it is held as before

@@ -24,7 +24,7 @@ use Rattle.script_lines.specs.declared.line.Line.{Line}
 use Rattle.script_lines.specs.declared.line.Line.TheVariants.{Invoke, Result as ResultLine, Signal, Cancel, Tick, Begin, Feed, Close, Turn, Move, Stop, Due, Show, State}
 use Rattle.script_lines.specs.Word.{text_word, IsText, IsWordByte, mode_word, handler_word, target_word, IsTarget, value_word, IsValue, coded_word, IsCoded, outcome_word, IsOutcome}
 use Rattle.script_lines.specs.Line.{words_of, spelled, IsLine, outcome_words}
-use Rattle.script_lines.specs.LineReader.{then_read, invoke_of, result_of, signal_of, cancel_of, tick_of, begin_of, feed_of, close_of, turns_of, turn_line, ending_turn_of, move_of, stop_of, show_of, state_word, of_none, of_one, of_two, of_three, of_six, of_turn, command_of, arguments_of, line_of}
+use Rattle.script_lines.specs.LineReader.{then_read, invoke_of, result_line_of, signal_of, cancel_of, tick_of, begin_of, feed_of, close_of, turns_of, turn_line, ending_turn_of, move_of, stop_of, show_of, state_word, of_none, of_one, of_two, of_three, of_six, of_turn, command_of, arguments_of, line_of}
 use Rattle.script_lines.proofs.WordLaws.{number_32, number_64, text_reading, mode_reading, handler_reading, read_step, chosen, tested}
 use Rattle.script_lines.proofs.TargetLaws.{target_reading}
 use Rattle.script_lines.proofs.ValueLaws.{value_reading}
@@ -55,8 +55,8 @@ invoke_takes id object version state seed input line e =
     let pt = text_reading.takes input p.0 p.1 in
     made _ (Invoke i.0 o.0 v.0 s.0 r.0 p.0) line p.2 (record { is_line = (it.0, ot.0, vt.0, rt.0, pt.0); same = next refl (next it.1 (next ot.1 (next vt.1 (next st.1 (next rt.1 (next pt.1 refl)))))) })
 
-result_takes : (id completion value : List ℕ) (line : Line) → result_of id completion value ≡ Some line → Spells (codes "result" ∷ id ∷ completion ∷ value ∷ []) line
-unfolding result_of
+result_takes : (id completion value : List ℕ) (line : Line) → result_line_of id completion value ≡ Some line → Spells (codes "result" ∷ id ∷ completion ∷ value ∷ []) line
+unfolding result_line_of
 result_takes id completion value line e =
     let c = read_step e in let i = read_step c.2 in let v = read_step i.2 in
     let ct = number_32.takes completion c.0 c.1 in
@@ -265,7 +265,7 @@ retold name words others line e h = record { is_line = h.is_line; same = ap (λ 
 arguments_take : (command : Command) (words : List (List ℕ)) (line : Line) → arguments_of command words ≡ Some line → Spells (command_word command ∷ words) line
 unfolding arguments_of
 arguments_take InvokeCommand words line e = let w = six_words invoke_of words line e in retold _ words _ line w.6 (invoke_takes w.0 w.1 w.2 w.3 w.4 w.5 line w.7)
-arguments_take ResultCommand words line e = let w = three_words result_of words line e in retold _ words _ line w.3 (result_takes w.0 w.1 w.2 line w.4)
+arguments_take ResultCommand words line e = let w = three_words result_line_of words line e in retold _ words _ line w.3 (result_takes w.0 w.1 w.2 line w.4)
 arguments_take CancelCommand words line e = let w = one_words cancel_of words line e in retold _ words _ line w.1 (cancel_takes w.0 line w.2)
 arguments_take SignalCommand words line e = let w = three_words signal_of words line e in retold _ words _ line w.3 (signal_takes w.0 w.1 w.2 line w.4)
 arguments_take TickCommand words line e = let w = one_words tick_of words line e in retold _ words _ line w.1 (tick_takes w.0 line w.2)
@@ -290,7 +290,7 @@ line_takes (word ∷ words) line e =
 -- ---- what is spelled so is read
 
 line_again : (line : Line) → IsLine line → line_of (words_of line) ≡ Some line
-unfolding line_of then_read command_of arguments_of of_none of_one of_two of_three of_six of_turn invoke_of result_of signal_of cancel_of tick_of begin_of feed_of close_of turn_line ending_turn_of move_of stop_of show_of state_word
+unfolding line_of then_read command_of arguments_of of_none of_one of_two of_three of_six of_turn invoke_of result_line_of signal_of cancel_of tick_of begin_of feed_of close_of turn_line ending_turn_of move_of stop_of show_of state_word
 line_again (Invoke id object version state seed input) h =
     rw (text_reading.again id h.0, text_reading.again object h.1, number_32.again version h.2, mode_reading.again state tt, number_64.again seed h.3, text_reading.again input h.4) refl
 line_again (ResultLine id completion value) h = rw (text_reading.again id h.0, number_32.again completion h.1, value_reading.again value h.2) refl

@@ -15,7 +15,7 @@ use Rattle.std.proofs.lemmas.List.Sums.{split_at_first, passes_at_first}
 use Rattle.script_lines.specs.declared.value.LineValue.{LineValue}
 use Rattle.script_lines.specs.declared.value.LineValue.TheVariants.{Void, Value, Failure, InvocationId}
 use Rattle.script_lines.specs.Word.{IsWordByte, IsCoded, coded_word, value_word, IsValue}
-use Rattle.script_lines.specs.LineReader.{then_read, printable_of, at_colon, coded_of, value_in, value_of}
+use Rattle.script_lines.specs.LineReader.{then_read, printable_of, at_colon, coded_of, value_in, line_value_of}
 use Rattle.script_lines.proofs.WordLaws.{IsReading, number_16, printable_takes, printable_again, read_step, chosen}
 
 -- ---- at the first colon
@@ -130,16 +130,16 @@ kind_takes word kind text value split e =
           ]
     ]
 
-value_takes : (word : List ℕ) (value : LineValue) → value_of word ≡ Some value → Takes word value
-unfolding value_of
+value_takes : (word : List ℕ) (value : LineValue) → line_value_of word ≡ Some value → Takes word value
+unfolding line_value_of
 value_takes word value e =
     elim (chosen (bytes_eq word (codes "void")) (Some Void) _ (Some value) e) [
       | inl void ↦ subst (λ (v : LineValue). Takes word v) (same_Some Void value void.1) (tt, (bytes_eq-Decides word (codes "void")).0 void.0)
       | inr other ↦ let p = read_step other.1 in kind_takes word p.0.0 p.0.1 value (colon_takes word p.0 p.1) p.2
     ]
 
-value_again : (value : LineValue) → IsValue value → value_of (value_word value) ≡ Some value
-unfolding value_of value_in then_read
+value_again : (value : LineValue) → IsValue value → line_value_of (value_word value) ≡ Some value
+unfolding line_value_of value_in then_read
 value_again Void h = refl
 value_again (Value bytes) h =
     let parts : at_colon (codes "v:" ++ bytes) ≡ Some (codes "v", bytes) = colon_again (codes "v") bytes (refl, tt) in
@@ -152,5 +152,5 @@ value_again (InvocationId id) h =
     let parts : at_colon (codes "id:" ++ id) ≡ Some (codes "id", id) = colon_again (codes "id") id (refl, (refl, tt)) in
     rw (parts, printable_again id (recursion_from_All IsWordByte id h)) refl
 
-pub value_reading : IsReading value_of value_word IsValue
+pub value_reading : IsReading line_value_of value_word IsValue
 value_reading = record { takes = value_takes; again = value_again }

@@ -8,7 +8,7 @@ use Rattle.script_lines.specs.declared.flaw.LineFlaw.{LineFlaw}
 use Rattle.script_lines.specs.declared.flaw.LineFlaw.TheVariants as flaw
 use Rattle.script_lines.specs.declared.flaw.WordKind.{WordKind}
 use Rattle.script_lines.specs.declared.flaw.WordKind.TheVariants as kind
-use Rattle.script_lines.specs.LineReader.{number_below, mode_of, handler_of, coded_of, value_in, value_of, outcome_in, outcome_of, is_word_byte}
+use Rattle.script_lines.specs.LineReader.{number_below, mode_of, handler_of, coded_of, value_in, line_value_of, outcome_in, outcome_of, is_word_byte}
 
 -- what a word of a kind is, as it is told behind one that is not
 abbrev pub wanted_text : WordKind → List ℕ
@@ -68,7 +68,7 @@ fits kind.LongNumber word = is_some (number_below (2 ^ 64) word)
 fits kind.Turns word = is_positive (number_below (2 ^ 32) word)
 fits kind.StateMode word = is_some (mode_of word)
 fits kind.Handler word = is_some (handler_of word)
-fits kind.Value word = is_some (value_of word)
+fits kind.Value word = is_some (line_value_of word)
 fits kind.Outcome word = is_some (outcome_of word)
 
 -- what the word at this place behind a command stands for

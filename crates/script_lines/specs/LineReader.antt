@@ -94,8 +94,8 @@ value_in kind text =
       id ← printable_of text
       Some (InvocationId id)) else None))
 
-unfoldable pub value_of : List ℕ → Option LineValue
-value_of word = if bytes_eq word (codes "void") then Some Void else (do
+unfoldable pub line_value_of : List ℕ → Option LineValue
+line_value_of word = if bytes_eq word (codes "void") then Some Void else (do
   parts ← at_colon word
   value_in parts.0 parts.1)
 
@@ -144,18 +144,18 @@ invoke_of id object version state seed input = do
   input ← text_read input
   Some (Invoke id object version state seed input)
 
-unfoldable pub result_of : List ℕ → List ℕ → List ℕ → Option Line
-result_of id completion value = do
+unfoldable pub result_line_of : List ℕ → List ℕ → List ℕ → Option Line
+result_line_of id completion value = do
   completion ← number_below (2 ^ 32) completion
   id ← text_read id
-  value ← value_of value
+  value ← line_value_of value
   Some (ResultLine id completion value)
 
 unfoldable pub signal_of : List ℕ → List ℕ → List ℕ → Option Line
 signal_of id target value = do
   id ← text_read id
   target ← target_of target
-  value ← value_of value
+  value ← line_value_of value
   Some (Signal id target value)
 
 unfoldable pub cancel_of : List ℕ → Option Line
@@ -277,7 +277,7 @@ command_of word =
 
 unfoldable pub arguments_of : Command → List (List ℕ) → Option Line
 arguments_of InvokeCommand = of_six invoke_of
-arguments_of ResultCommand = of_three result_of
+arguments_of ResultCommand = of_three result_line_of
 arguments_of SignalCommand = of_three signal_of
 arguments_of CancelCommand = of_one cancel_of
 arguments_of TickCommand = of_one tick_of

@@ -177,7 +177,7 @@ fn is_value_of(kind: &[u8], text: &[u8]) -> bool
     }
 }
 
-#[tactic(auto, unfolding(crate::specs::LineReader::value_of, crate::specs::LineReader::then_read))]
+#[tactic(auto, unfolding(crate::specs::LineReader::line_value_of, crate::specs::LineReader::then_read))]
 fn is_value(word: &[u8]) -> bool
     ensures { result ≡ fits WordKind.Value word.now }
 {

@@ -1,12 +1,12 @@
 //! The lines of a script.
-#![tactic(auto, unfolding(crate::specs::LineReader::then_read, crate::specs::LineReader::invoke_of, crate::specs::LineReader::result_of, crate::specs::LineReader::signal_of, crate::specs::LineReader::cancel_of, crate::specs::LineReader::tick_of, crate::specs::LineReader::begin_of, crate::specs::LineReader::feed_of, crate::specs::LineReader::close_of, crate::specs::LineReader::turns_of, crate::specs::LineReader::turn_line, crate::specs::LineReader::ending_turn_of, crate::specs::LineReader::of_turn, crate::specs::LineReader::move_of, crate::specs::LineReader::stop_of, crate::specs::LineReader::show_of, crate::specs::LineReader::state_word, crate::specs::LineReader::of_none, crate::specs::LineReader::of_one, crate::specs::LineReader::of_two, crate::specs::LineReader::of_three, crate::specs::LineReader::of_six))]
+#![tactic(auto, unfolding(crate::specs::LineReader::then_read, crate::specs::LineReader::invoke_of, crate::specs::LineReader::result_line_of, crate::specs::LineReader::signal_of, crate::specs::LineReader::cancel_of, crate::specs::LineReader::tick_of, crate::specs::LineReader::begin_of, crate::specs::LineReader::feed_of, crate::specs::LineReader::close_of, crate::specs::LineReader::turns_of, crate::specs::LineReader::turn_line, crate::specs::LineReader::ending_turn_of, crate::specs::LineReader::of_turn, crate::specs::LineReader::move_of, crate::specs::LineReader::stop_of, crate::specs::LineReader::show_of, crate::specs::LineReader::state_word, crate::specs::LineReader::of_none, crate::specs::LineReader::of_one, crate::specs::LineReader::of_two, crate::specs::LineReader::of_three, crate::specs::LineReader::of_six))]
 
 ghost use Rattle.std.specs.Prelude.{◌≡◌, ◌==◌, map, IfOk};
 ghost use Rattle.std.specs.List.{slice_split};
 ghost use Rattle.script_lines.specs.Word.{ReadsWord};
 ghost use Rattle.script_lines.specs.Line.{spelled, IsLine};
 ghost use Rattle.script_lines.specs.declared.line.Line.TheVariants as line;
-ghost use Rattle.script_lines.specs.LineReader.{Gives, invoke_of, result_of, signal_of, cancel_of, tick_of, begin_of, feed_of, close_of, turns_of, turn_line, ending_turn_of, move_of, stop_of, show_of, state_word, of_none, of_one, of_two, of_three, of_six, of_turn, line_of};
+ghost use Rattle.script_lines.specs.LineReader.{Gives, invoke_of, result_line_of, signal_of, cancel_of, tick_of, begin_of, feed_of, close_of, turns_of, turn_line, ending_turn_of, move_of, stop_of, show_of, state_word, of_none, of_one, of_two, of_three, of_six, of_turn, line_of};
 
 use crate::outcome::{LineOutcome, parse_outcome};
 use crate::target::parse_target;
@@ -136,7 +136,7 @@ fn parse_invocation(
 }
 
 fn parse_arrival(alloc: Global, arguments: &[&[u8]]) -> Result<Line, LineError>
-    ensures { Gives result (of_three result_of (map (λ word. word.now) arguments.now)) }
+    ensures { Gives result (of_three result_line_of (map (λ word. word.now) arguments.now)) }
 {
     let [id, completion, value] = arguments else {
         return Err(LineError::NotUnderstood);

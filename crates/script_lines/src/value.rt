@@ -2,7 +2,7 @@
 
 ghost use Rattle.std.specs.Prelude.{◌≡◌, ◌==◌, ◌<◌, None, Some, IfSome, MatchOption, length};
 ghost use Rattle.std.specs.List.{position};
-ghost use Rattle.script_lines.specs.LineReader.{Gives, at_colon, coded_of, value_of, value_in};
+ghost use Rattle.script_lines.specs.LineReader.{Gives, at_colon, coded_of, line_value_of, value_in};
 
 use crate::word::{LineError, parse_printable, parse_u16};
 use bytes::{ByteStr, Bytes};
@@ -70,9 +70,9 @@ fn parse_kind(alloc: Global, kind: &[u8], text: &[u8]) -> Result<LineValue, Line
 }
 
 /// The value that a word spells.
-#[tactic(auto, unfolding(crate::specs::LineReader::value_of, crate::specs::LineReader::then_read))]
+#[tactic(auto, unfolding(crate::specs::LineReader::line_value_of, crate::specs::LineReader::then_read))]
 pub fn parse_value(alloc: Global, word: &[u8]) -> Result<LineValue, LineError>
-    ensures { Gives result (value_of word.now) }
+    ensures { Gives result (line_value_of word.now) }
 {
     if word == b"void".as_slice() {
         return Ok(LineValue::Void);

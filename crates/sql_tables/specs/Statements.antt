@@ -38,20 +38,20 @@ abbrev pub program_of : Query → Program
 program_of q = record { lets = []; body = q }
 
 -- a column equals a parameter
-abbrev pub equals : ℕ → ℕ → Term
-equals column parameter = op2 (Compare Eq Binary) (col 1 column) (col 0 parameter)
+abbrev pub column_equals : ℕ → ℕ → Term
+column_equals column parameter = op2 (Compare Eq Binary) (col 1 column) (col 0 parameter)
 
 -- a column is at most a parameter
-abbrev pub at_most : ℕ → ℕ → Term
-at_most column parameter = op2 (Compare Le Binary) (col 1 column) (col 0 parameter)
+abbrev pub column_at_most : ℕ → ℕ → Term
+column_at_most column parameter = op2 (Compare Le Binary) (col 1 column) (col 0 parameter)
 
 -- a column is at least a parameter
-abbrev pub at_least : ℕ → ℕ → Term
-at_least column parameter = op2 (Compare Ge Binary) (col 1 column) (col 0 parameter)
+abbrev pub column_at_least : ℕ → ℕ → Term
+column_at_least column parameter = op2 (Compare Ge Binary) (col 1 column) (col 0 parameter)
 
 -- a column is above a parameter
-abbrev pub above : ℕ → ℕ → Term
-above column parameter = op2 (Compare Gt Binary) (col 1 column) (col 0 parameter)
+abbrev pub column_above : ℕ → ℕ → Term
+column_above column parameter = op2 (Compare Gt Binary) (col 1 column) (col 0 parameter)
 
 -- by these columns in turn, the least first
 abbrev pub by_columns : List ℕ → List (Term × Key)

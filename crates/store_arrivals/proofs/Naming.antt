@@ -19,7 +19,7 @@ use Rattle.store_frames.specs.declared.first.FirstArrivals.{FirstArrivals}
 use Rattle.store_frames.specs.First.{AreFirst, arrived_state, first_state, or_pending}
 use Rattle.store_frames.proofs.Waking.{leaf_meant}
 use Rattle.store_frames.specs.Awaited.{IsAwaited}
-use Rattle.store_arrivals.specs.Named.{has_leaf, some_has_leaf, is_among, names_any}
+use Rattle.store_arrivals.specs.Named.{has_leaf, some_has_leaf, is_completed_among, names_any}
 
 or_first : (a b : Bool) → (a || b) ≡ false → a ≡ false
 or_first true b e = e
@@ -60,7 +60,7 @@ still_pending Pending e = refl
 still_pending Succeeded e = cc
 still_pending Failed e = cc
 
-unnamed_leaf : (old new : List Arrival) (id : NotificationId) → is_among new id ≡ false → arrived_state (old ++ new) id ≡ arrived_state old id
+unnamed_leaf : (old new : List Arrival) (id : NotificationId) → is_completed_among new id ≡ false → arrived_state (old ++ new) id ≡ arrived_state old id
 unnamed_leaf [] new id none = still_pending (arrived_state new id) none
 unnamed_leaf (arrival ∷ old) new id none = by_test (same_id arrival.id id) (unnamed_leaf old new id none)
   where
@@ -74,13 +74,13 @@ pub unnamed_sleeps : (suspension : Suspension) (future : Future) (old new : List
     → is_woken old (Some suspension) ≡ false → false ≡ is_woken (old ++ new) (Some suspension)
 unnamed_sleeps suspension future old new awaited none asleep =
     sym asleep ∙ sym (awaited old)
-    ∙ sym (same_awake (is_among new) (arrived_state (old ++ new)) (arrived_state old) (unnamed_leaf old new) (future_tree future) none)
+    ∙ sym (same_awake (is_completed_among new) (arrived_state (old ++ new)) (arrived_state old) (unnamed_leaf old new) (future_tree future) none)
     ∙ awaited (old ++ new)
 
 -- ---- whether an id is that of an arrival, as its state tells
 
 pub among_is : (first : FirstArrivals) (arrivals : List Arrival) (id : NotificationId) (state : State) → AreFirst first arrivals → state ≡ or_pending (first_state first id)
-    → is_completed (state_meant state) ≡ is_among arrivals id
+    → is_completed (state_meant state) ≡ is_completed_among arrivals id
 among_is first arrivals id state are is =
     ap (λ (s : State). is_completed (state_meant s)) is ∙ ap is_completed (leaf_meant (first_state first id) arrivals id (are id))
 
@@ -115,16 +115,16 @@ leaves_first test (leaf ∷ leaves) children =
     ap (λ b. test leaf || b) (leaves_first test leaves children) ∙ sym (or_assoc (test leaf) (list_any test leaves) (list_any (has_leaf test) children))
 
 module _ (arrivals : List Arrival) (future : Future) where
-  names_is : names_any arrivals (future_tree future) ≡ (list_any (is_among arrivals) (leaves_in future) || list_any (names_any arrivals) (children_in future))
-  names_is = ap (names_any arrivals) (future_tree_is future) ∙ leaves_first (is_among arrivals) (leaves_in future) (children_in future)
+  names_is : names_any arrivals (future_tree future) ≡ (list_any (is_completed_among arrivals) (leaves_in future) || list_any (names_any arrivals) (children_in future))
+  names_is = ap (names_any arrivals) (future_tree_is future) ∙ leaves_first (is_completed_among arrivals) (leaves_in future) (children_in future)
 
-  pub leaf_names : (i : ℕ) (id : NotificationId) → slice_get (leaves_in future) i ≡ Some id → is_among arrivals id ≡ true → true ≡ names_any arrivals (future_tree future)
+  pub leaf_names : (i : ℕ) (id : NotificationId) → slice_get (leaves_in future) i ≡ Some id → is_completed_among arrivals id ≡ true → true ≡ names_any arrivals (future_tree future)
   leaf_names i id there among =
-      sym (names_is ∙ ap (λ b. b || list_any (names_any arrivals) (children_in future)) (any_at (is_among arrivals) (leaves_in future) i id there among))
+      sym (names_is ∙ ap (λ b. b || list_any (names_any arrivals) (children_in future)) (any_at (is_completed_among arrivals) (leaves_in future) i id there among))
 
   pub child_names : (i : ℕ) (child : AwaitTree NotificationId) → slice_get (children_in future) i ≡ Some child → names_any arrivals child ≡ true → true ≡ names_any arrivals (future_tree future)
   child_names i child there named =
-      sym (names_is ∙ or_last (list_any (is_among arrivals) (leaves_in future)) (any_at (names_any arrivals) (children_in future) i child there named))
+      sym (names_is ∙ or_last (list_any (is_completed_among arrivals) (leaves_in future)) (any_at (names_any arrivals) (children_in future) i child there named))
 
-  pub none_names : list_any (is_among arrivals) (leaves_in future) ≡ false → list_any (names_any arrivals) (children_in future) ≡ false → false ≡ names_any arrivals (future_tree future)
+  pub none_names : list_any (is_completed_among arrivals) (leaves_in future) ≡ false → list_any (names_any arrivals) (children_in future) ≡ false → false ≡ names_any arrivals (future_tree future)
   none_names leaves children = sym (names_is ∙ (λ i. leaves i || children i))

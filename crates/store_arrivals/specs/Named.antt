@@ -15,8 +15,8 @@ abbrev mutual
   some_has_leaf test no_trees = false
   some_has_leaf test (and_trees tree trees) = has_leaf test tree || some_has_leaf test trees
 
-abbrev pub is_among : List Arrival → NotificationId → Bool
-is_among arrivals id = is_completed (arrived_state arrivals id)
+abbrev pub is_completed_among : List Arrival → NotificationId → Bool
+is_completed_among arrivals id = is_completed (arrived_state arrivals id)
 
 abbrev pub names_any : List Arrival → AwaitTree NotificationId → Bool
-names_any arrivals tree = has_leaf (is_among arrivals) tree
+names_any arrivals tree = has_leaf (is_completed_among arrivals) tree

@@ -61,9 +61,9 @@ HandsOut id attempt most (Ok bytes) old new = HandsPart (input_left old.events i
 HandsOut id attempt most (Err why) old new = Refuses (Event.Feed id attempt most) why old new
 
 -- no more is handed to it
-abbrev pub ClosesInput : Text → (attempt : ℕ) → Result (Unit {0}) Refusal → Standing → Standing → Type 0
-ClosesInput id attempt (Ok done) old new = Adds (Event.Close id attempt) old new
-ClosesInput id attempt (Err why) old new = Refuses (Event.Close id attempt) why old new
+abbrev pub ClosesStoredInput : Text → (attempt : ℕ) → Result (Unit {0}) Refusal → Standing → Standing → Type 0
+ClosesStoredInput id attempt (Ok done) old new = Adds (Event.Close id attempt) old new
+ClosesStoredInput id attempt (Err why) old new = Refuses (Event.Close id attempt) why old new
 
 -- ---- what a live attempt cannot be refused
 

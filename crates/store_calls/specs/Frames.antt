@@ -72,10 +72,10 @@ pub record HasNoFrames (id : Text) (attempt : ℕ) (why : Refusal) (old new : St
   pub refuses : Refuses (Event.Stop id attempt) why old new
 
 -- one step
-abbrev pub Steps : Text → (attempt : ℕ) → Result (Option FrameReply) Refusal → Standing → Standing → Type 0
-Steps id attempt (Ok None) old new = TakesNone id attempt old new
-Steps id attempt (Ok (Some reply)) old new = TakesFrame id attempt reply old new
-Steps id attempt (Err why) old new = HasNoFrames id attempt why old new ⊎ RefusesFrame id attempt why old new
+abbrev pub StepsAttempt : Text → (attempt : ℕ) → Result (Option FrameReply) Refusal → Standing → Standing → Type 0
+StepsAttempt id attempt (Ok None) old new = TakesNone id attempt old new
+StepsAttempt id attempt (Ok (Some reply)) old new = TakesFrame id attempt reply old new
+StepsAttempt id attempt (Err why) old new = HasNoFrames id attempt why old new ⊎ RefusesFrame id attempt why old new
 
 -- ---- steps to their end
 

@@ -3,7 +3,7 @@ use Rattle.std.proofs.Common.{◌≡◌, ◌&&◌, ℕ, zero, suc, Bool, true, L
 use Rattle.sqlite.specs.declared.types.Value.TheVariants.{Null}
 use Rattle.sqlite_value.specs.Order.{Row, column}
 use Rattle.sqlite.specs.Term.{Term, col, eval_all, holds}
-use Rattle.sql_tables.specs.Statements.{above, at_least, at_most, equals}
+use Rattle.sql_tables.specs.Statements.{column_above, column_at_least, column_at_most, column_equals}
 use Rattle.sql_tables.proofs.Answers.{passes}
 use Rattle.sql_tables.proofs.Cells.{both_true}
 use Rattle.sql_tables.proofs.RowReads.{listed}
@@ -16,10 +16,10 @@ pub data Test : Type 0 where
   behind : (column parameter : ℕ) → Test
 
 abbrev pub test_of : Test → Term
-test_of (equal at parameter) = equals (suc at) parameter
-test_of (until at parameter) = at_most (suc at) parameter
-test_of (from at parameter) = at_least (suc at) parameter
-test_of (behind at parameter) = above (suc at) parameter
+test_of (equal at parameter) = column_equals (suc at) parameter
+test_of (until at parameter) = column_at_most (suc at) parameter
+test_of (from at parameter) = column_at_least (suc at) parameter
+test_of (behind at parameter) = column_above (suc at) parameter
 
 abbrev pub tests_of : List Test → List Term
 tests_of [] = []

@@ -21,14 +21,14 @@ use Rattle.straight_line.specs.declared.handles.Called.{Called}
 use Rattle.straight_line.specs.declared.handles.Awakeable.{Awakeable}
 use Rattle.straight_line.specs.Steps.{Steps, ◌>>=◌, ◌>>◌, done, fail, astray, make}
 
-abbrev pub handle_in : Answer → Steps ℕ
-handle_in (Answer.Handle handle) = done handle
-handle_in _ = astray
+abbrev pub handle_of_answer : Answer → Steps ℕ
+handle_of_answer (Answer.Handle handle) = done handle
+handle_of_answer _ = astray
 
 abbrev pub handle_for : Call → Steps ℕ
 handle_for call = do
   answer ← make call
-  handle_in answer
+  handle_of_answer answer
 
 abbrev pub done_by : Call → Steps Unit
 done_by call = do
@@ -67,15 +67,15 @@ begin_run name = do
   done (record { handle = handle })
 
 -- other invocations
-abbrev pub called_in : Answer → Steps Called
-called_in (Answer.Handles id_handle result_handle) =
+abbrev pub called_of_answer : Answer → Steps Called
+called_of_answer (Answer.Handles id_handle result_handle) =
     done (record { invocation_id = record { handle = id_handle }; outcome = record { handle = result_handle } })
-called_in _ = astray
+called_of_answer _ = astray
 
 unfoldable pub begin_call : Target → Bytes → Option Text → PayloadOptions → Steps Called
 begin_call target parameter name options = do
   answer ← make (Call.Call target parameter name options)
-  called_in answer
+  called_of_answer answer
 
 unfoldable pub send_with : Target → Bytes → Option Moment → Option Text → PayloadOptions → Steps IdAsked
 send_with target parameter execution_time name options = do
@@ -96,14 +96,14 @@ begin_get_output target = do
   done (record { handle = handle })
 
 -- what the outside completes
-abbrev pub awakeable_in : Answer → Steps Awakeable
-awakeable_in (Answer.Awakeable id handle) = done (record { id = id; outcome = record { handle = handle } })
-awakeable_in _ = astray
+abbrev pub awakeable_of_answer : Answer → Steps Awakeable
+awakeable_of_answer (Answer.Awakeable id handle) = done (record { id = id; outcome = record { handle = handle } })
+awakeable_of_answer _ = astray
 
 unfoldable pub awakeable : Steps Awakeable
 awakeable = do
   answer ← make Call.Awakeable
-  awakeable_in answer
+  awakeable_of_answer answer
 
 unfoldable pub complete_awakeable : Text → NonEmptyValue → PayloadOptions → Steps Unit
 complete_awakeable id value options = done_by (Call.CompleteAwakeable id value options)
@@ -132,79 +132,79 @@ begin_complete_promise key value options = do
   done (record { handle = handle })
 
 -- waiting, and taking what has come
-abbrev pub completed_in : Answer → Steps Bool
-completed_in (Answer.Completed is_completed) = done is_completed
-completed_in _ = astray
+abbrev pub completed_of_answer : Answer → Steps Bool
+completed_of_answer (Answer.Completed is_completed) = done is_completed
+completed_of_answer _ = astray
 
 unfoldable pub is_completed : ℕ → Steps Bool
 is_completed handle = do
   answer ← make (Call.IsCompleted handle)
-  completed_in answer
+  completed_of_answer answer
 
 -- a cancellation, as the handler sees it
 unfoldable pub cancelled : TerminalFailure
 cancelled = record { code = 409; message = codes "cancelled"; metadata = [] }
 
-abbrev pub woken_in : Answer → Steps Unit
-woken_in Answer.Woken = done tt
-woken_in Answer.Cancelled = fail cancelled
-woken_in _ = astray
+abbrev pub woken_of_answer : Answer → Steps Unit
+woken_of_answer Answer.Woken = done tt
+woken_of_answer Answer.Cancelled = fail cancelled
+woken_of_answer _ = astray
 
 unfoldable pub wait_for : AwaitTree ℕ → Steps Unit
 wait_for tree = do
   answer ← make (Call.Await tree)
-  woken_in answer
+  woken_of_answer answer
 
 -- a success without bytes is that of a call that brings nothing else, such as the completion of a promise
-abbrev pub outcome_in : Answer → Steps (Result Bytes TerminalFailure)
-outcome_in (Answer.Taken (Some (Value.Success bytes))) = done (Ok bytes)
-outcome_in (Answer.Taken (Some Value.Void)) = done (Ok [])
-outcome_in (Answer.Taken (Some (Value.Failure failure))) = done (Err failure)
-outcome_in _ = astray
+abbrev pub outcome_of_answer : Answer → Steps (Result Bytes TerminalFailure)
+outcome_of_answer (Answer.Taken (Some (Value.Success bytes))) = done (Ok bytes)
+outcome_of_answer (Answer.Taken (Some Value.Void)) = done (Ok [])
+outcome_of_answer (Answer.Taken (Some (Value.Failure failure))) = done (Err failure)
+outcome_of_answer _ = astray
 
 unfoldable pub take_outcome : ℕ → Steps (Result Bytes TerminalFailure)
 take_outcome handle = do
   answer ← make (Call.Take handle)
-  outcome_in answer
+  outcome_of_answer answer
 
-abbrev pub peeked_in : Answer → Steps (Option (Result Bytes TerminalFailure))
-peeked_in (Answer.Taken (Some (Value.Success bytes))) = done (Some (Ok bytes))
-peeked_in (Answer.Taken (Some (Value.Failure failure))) = done (Some (Err failure))
-peeked_in (Answer.Taken (Some Value.Void)) = done None
-peeked_in _ = astray
+abbrev pub peeked_of_answer : Answer → Steps (Option (Result Bytes TerminalFailure))
+peeked_of_answer (Answer.Taken (Some (Value.Success bytes))) = done (Some (Ok bytes))
+peeked_of_answer (Answer.Taken (Some (Value.Failure failure))) = done (Some (Err failure))
+peeked_of_answer (Answer.Taken (Some Value.Void)) = done None
+peeked_of_answer _ = astray
 
 unfoldable pub take_peeked : ℕ → Steps (Option (Result Bytes TerminalFailure))
 take_peeked handle = do
   answer ← make (Call.Take handle)
-  peeked_in answer
+  peeked_of_answer answer
 
-abbrev pub state_in : Answer → Steps (Option Bytes)
-state_in (Answer.Taken (Some (Value.Success bytes))) = done (Some bytes)
-state_in (Answer.Taken (Some Value.Void)) = done None
-state_in _ = astray
+abbrev pub state_of_answer : Answer → Steps (Option Bytes)
+state_of_answer (Answer.Taken (Some (Value.Success bytes))) = done (Some bytes)
+state_of_answer (Answer.Taken (Some Value.Void)) = done None
+state_of_answer _ = astray
 
 unfoldable pub take_state : ℕ → Steps (Option Bytes)
 take_state handle = do
   answer ← make (Call.Take handle)
-  state_in answer
+  state_of_answer answer
 
-abbrev pub keys_in : Answer → Steps (List Bytes)
-keys_in (Answer.Taken (Some (Value.StateKeys keys))) = done keys
-keys_in _ = astray
+abbrev pub keys_of_answer : Answer → Steps (List Bytes)
+keys_of_answer (Answer.Taken (Some (Value.StateKeys keys))) = done keys
+keys_of_answer _ = astray
 
 unfoldable pub take_keys : ℕ → Steps (List Bytes)
 take_keys handle = do
   answer ← make (Call.Take handle)
-  keys_in answer
+  keys_of_answer answer
 
-abbrev pub id_in : Answer → Steps Text
-id_in (Answer.Taken (Some (Value.InvocationId id))) = done id
-id_in _ = astray
+abbrev pub id_of_answer : Answer → Steps Text
+id_of_answer (Answer.Taken (Some (Value.InvocationId id))) = done id
+id_of_answer _ = astray
 
 unfoldable pub take_id : ℕ → Steps Text
 take_id handle = do
   answer ← make (Call.Take handle)
-  id_in answer
+  id_of_answer answer
 
 -- the result of the invocation; the last one counts
 unfoldable pub output : NonEmptyValue → PayloadOptions → Steps Unit

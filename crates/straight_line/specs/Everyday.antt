@@ -84,8 +84,8 @@ sleep_until wake_up = do
   timer ← told.begin_sleep wake_up []
   slept timer
 
-unfoldable pub run : Text → Steps Bytes
-run name = do
+unfoldable pub run_effect : Text → Steps Bytes
+run_effect name = do
   outcome ← told.begin_run name
   value_of outcome
 

@@ -72,37 +72,37 @@ is_astray (Stops Stop.Astray answers) = true
 is_astray _ = false
 
 -- steps that make this call first, and go astray on no answer of its kind
-pub record Makes {A : Type 0} (call : Call) (steps : Steps A) : Type 0 where
+pub record MakesFirst {A : Type 0} (call : Call) (steps : Steps A) : Type 0 where
   pub first : steps [] ≡ Stops (Stop.Call call) []
   pub answered : (answer : Answer) (answers : List Answer) → kind_of_answer answer ≡ kind_of_call call → is_astray (steps (answer ∷ answers)) ≡ false
 
 -- so does each call, but what takes: there it is what has come that is of another kind
 pub record CallsStayOn : Type 0 where
-  pub gets : (key : Bytes) (name : Option Text) (options : PayloadOptions) → Makes (Call.StateGet key name options) (told.begin_get key name options)
-  pub gets_keys : (name : Option Text) → Makes (Call.StateGetKeys name) (told.begin_get_keys name)
+  pub gets : (key : Bytes) (name : Option Text) (options : PayloadOptions) → MakesFirst (Call.StateGet key name options) (told.begin_get key name options)
+  pub gets_keys : (name : Option Text) → MakesFirst (Call.StateGetKeys name) (told.begin_get_keys name)
   pub sets : (key value : Bytes) (name : Option Text) (options : PayloadOptions)
-      → Makes (Call.StateSet key value name options) (told.set_with key value name options)
-  pub clears : (key : Bytes) (name : Option Text) → Makes (Call.StateClear key name) (told.clear_with key name)
-  pub clears_all : (name : Option Text) → Makes (Call.StateClearAll name) (told.clear_all_with name)
-  pub sleeps : (wake_up : Moment) (name : Text) → Makes (Call.Sleep name wake_up None) (told.begin_sleep wake_up name)
-  pub runs : (name : Text) → Makes (Call.Run name) (told.begin_run name)
+      → MakesFirst (Call.StateSet key value name options) (told.set_with key value name options)
+  pub clears : (key : Bytes) (name : Option Text) → MakesFirst (Call.StateClear key name) (told.clear_with key name)
+  pub clears_all : (name : Option Text) → MakesFirst (Call.StateClearAll name) (told.clear_all_with name)
+  pub sleeps : (wake_up : Moment) (name : Text) → MakesFirst (Call.Sleep name wake_up None) (told.begin_sleep wake_up name)
+  pub runs : (name : Text) → MakesFirst (Call.Run name) (told.begin_run name)
   pub calls : (target : Target) (parameter : Bytes) (name : Option Text) (options : PayloadOptions)
-      → Makes (Call.Call target parameter name options) (told.begin_call target parameter name options)
+      → MakesFirst (Call.Call target parameter name options) (told.begin_call target parameter name options)
   pub sends : (target : Target) (parameter : Bytes) (execution_time : Option Moment) (name : Option Text) (options : PayloadOptions)
-      → Makes (Call.Send target parameter execution_time name options) (told.send_with target parameter execution_time name options)
-  pub cancels : (target_id : Text) → Makes (Call.Cancel target_id) (told.cancel target_id)
-  pub attaches : (target : AttachInvocationTarget) → Makes (Call.Attach target) (told.begin_attach target)
-  pub gets_output : (target : AttachInvocationTarget) → Makes (Call.GetOutput target) (told.begin_get_output target)
-  pub awakens : Makes Call.Awakeable told.awakeable
+      → MakesFirst (Call.Send target parameter execution_time name options) (told.send_with target parameter execution_time name options)
+  pub cancels : (target_id : Text) → MakesFirst (Call.Cancel target_id) (told.cancel target_id)
+  pub attaches : (target : AttachInvocationTarget) → MakesFirst (Call.Attach target) (told.begin_attach target)
+  pub gets_output : (target : AttachInvocationTarget) → MakesFirst (Call.GetOutput target) (told.begin_get_output target)
+  pub awakens : MakesFirst Call.Awakeable told.awakeable
   pub completes_awakeable : (id : Text) (value : NonEmptyValue) (options : PayloadOptions)
-      → Makes (Call.CompleteAwakeable id value options) (told.complete_awakeable id value options)
-  pub signals : (name : Text) → Makes (Call.Signal name) (told.begin_signal name)
+      → MakesFirst (Call.CompleteAwakeable id value options) (told.complete_awakeable id value options)
+  pub signals : (name : Text) → MakesFirst (Call.Signal name) (told.begin_signal name)
   pub completes_signal : (target_id name : Text) (value : NonEmptyValue)
-      → Makes (Call.CompleteSignal target_id name value) (told.complete_signal target_id name value)
-  pub gets_promise : (key : Text) → Makes (Call.GetPromise key) (told.begin_promise key)
-  pub peeks : (key : Text) → Makes (Call.PeekPromise key) (told.begin_peek_promise key)
+      → MakesFirst (Call.CompleteSignal target_id name value) (told.complete_signal target_id name value)
+  pub gets_promise : (key : Text) → MakesFirst (Call.GetPromise key) (told.begin_promise key)
+  pub peeks : (key : Text) → MakesFirst (Call.PeekPromise key) (told.begin_peek_promise key)
   pub completes_promise : (key : Text) (value : NonEmptyValue) (options : PayloadOptions)
-      → Makes (Call.CompletePromise key value options) (told.begin_complete_promise key value options)
-  pub looks : (handle : ℕ) → Makes (Call.IsCompleted handle) (told.is_completed handle)
-  pub waits : (tree : AwaitTree ℕ) → Makes (Call.Await tree) (told.wait_for tree)
-  pub puts_out : (value : NonEmptyValue) (options : PayloadOptions) → Makes (Call.Output value options) (told.output value options)
+      → MakesFirst (Call.CompletePromise key value options) (told.begin_complete_promise key value options)
+  pub looks : (handle : ℕ) → MakesFirst (Call.IsCompleted handle) (told.is_completed handle)
+  pub waits : (tree : AwaitTree ℕ) → MakesFirst (Call.Await tree) (told.wait_for tree)
+  pub puts_out : (value : NonEmptyValue) (options : PayloadOptions) → MakesFirst (Call.Output value options) (told.output value options)

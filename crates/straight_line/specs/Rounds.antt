@@ -5,25 +5,25 @@ use Rattle.journal_model.specs.declared.call.Answer.{Answer}
 use Rattle.straight_line.specs.Steps.{Steps, Goes, ◌>>=◌, ◌>>◌, done}
 
 -- so many rounds from one on, each from its number and what the one before has left
-unfoldable pub rounds : {S : Type 0} → ℕ → (ℕ → S → Steps S) → ℕ → S → Steps S
-rounds zero body round state = done state
-rounds (suc left) body round state = do
+unfoldable pub rounds_left : {S : Type 0} → ℕ → (ℕ → S → Steps S) → ℕ → S → Steps S
+rounds_left zero body round state = done state
+rounds_left (suc left) body round state = do
   next ← body round state
-  rounds left body (round + 1) next
+  rounds_left left body (round + 1) next
 
 -- `for round in from..end`, over mutable variables
 abbrev pub for_rounds : {S : Type 0} → (round end : ℕ) → S → (ℕ → S → Steps S) → Steps S
-for_rounds round end state body = rounds (end - round) body round state
+for_rounds round end state body = rounds_left (end - round) body round state
 
 pub for_rounds-step : {S : Type 0} (round end : ℕ) (state : S) (body : ℕ → S → Steps S) (answers : List Answer)
     → round < end → for_rounds round end state body answers ≡ (body round state >>= λ next. for_rounds (round + 1) end next body) answers
-unfolding rounds
+unfolding rounds_left
 for_rounds-step round end state body answers less =
     let e : end - round ≡ suc (end - (round + 1)) = omega arith in rw e
 
 pub for_rounds-end : {S : Type 0} (round end : ℕ) (state : S) (body : ℕ → S → Steps S) (answers : List Answer)
     → end ≤ round → for_rounds round end state body answers ≡ Goes state answers
-unfolding rounds
+unfolding rounds_left
 for_rounds-end round end state body answers over =
     let e : end - round ≡ 0 = omega arith in rw e
 

@@ -49,9 +49,9 @@ impl<'a> Calls<'a> {
     }
 
     /// Has an effect executed outside, once, and gives what it has brought.
-    #[tactic(auto, unfolding(crate::specs::Everyday::run))]
+    #[tactic(auto, unfolding(crate::specs::Everyday::run_effect))]
     pub fn run(&mut self, name: ByteStr) -> Told<Bytes>
-        ensures { steps.Makes (everyday.run name) self.old result self.new }
+        ensures { steps.Makes (everyday.run_effect name) self.old result self.new }
     {
         let outcome = self.begin_run(name)?;
         self.value_of(outcome)

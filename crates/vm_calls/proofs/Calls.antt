@@ -20,7 +20,7 @@ use Rattle.vm_calls.specs.declared.call_error.NumberError.TheVariants.{IdsExhaus
 use Rattle.vm_awaits.specs.Views.{slots_of}
 use Rattle.vm_calls.specs.Active.{LacksCompletions, HasCompletions}
 use Rattle.vm_calls.specs.Handles.{LacksSignal}
-use Rattle.vm_calls.specs.CommandCalls.{CompletesOne, FailsAs, Makes}
+use Rattle.vm_calls.specs.CommandCalls.{CompletesOne, FailsAs, MakesCommand}
 
 -- a call without options is compared as the machine's option says
 pub unchecked : (checks_off : Bool) → checks_off ≡ (checks_off || false)
@@ -58,8 +58,8 @@ has_signal old id handle = neither id (λ none. handle (one_before (17 + length 
 
 -- a call for which no number was taken fails so
 pub number_fails : {M Taken : Type 0} (checks_off : Bool) (given : Invocation) (m : Machine) (call : Call) (answer : Taken → Answer) (old new : Active) (error : NumberError) (result : Result Taken (CallError M))
-    → (error ≡ IdsExhausted → LacksCompletions (completions_of call) old) → new.output ≡ old.output → result ≡ Err (Number error) → Makes checks_off given m call answer old result new
-number_fails {M} {Taken} checks_off given m call answer old new error result lacks output is = subst (λ (r : Result Taken (CallError M)). Makes checks_off given m call answer old r new) (sym is) (by_error error lacks)
+    → (error ≡ IdsExhausted → LacksCompletions (completions_of call) old) → new.output ≡ old.output → result ≡ Err (Number error) → MakesCommand checks_off given m call answer old result new
+number_fails {M} {Taken} checks_off given m call answer old new error result lacks output is = subst (λ (r : Result Taken (CallError M)). MakesCommand checks_off given m call answer old r new) (sym is) (by_error error lacks)
   where
     by_error : (e : NumberError) → (e ≡ IdsExhausted → LacksCompletions (completions_of call) old) → FailsAs checks_off given m call {M = M} old (Number e) × (new.output ≡ old.output)
     by_error IdsExhausted lacks = (lacks refl, output)

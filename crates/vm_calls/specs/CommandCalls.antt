@@ -75,9 +75,9 @@ module _ (checks_off : Bool) (given : Invocation) (m : Machine) (call : Call) wh
   FailsAs old OutOfMemory = Unit {0}
 
   -- what such a call does, where it makes its answer of what it takes
-  abbrev pub Makes : {M Taken : Type 0} → (Taken → Answer) → (old : Active) → Result Taken (CallError M) → (new : Active) → Type 0
-  Makes answer old (Ok taken) new = Replies (answer taken) old new
-  Makes answer old (Err error) new = FailsAs old error × (new.output ≡ old.output)
+  abbrev pub MakesCommand : {M Taken : Type 0} → (Taken → Answer) → (old : Active) → Result Taken (CallError M) → (new : Active) → Type 0
+  MakesCommand answer old (Ok taken) new = Replies (answer taken) old new
+  MakesCommand answer old (Err error) new = FailsAs old error × (new.output ≡ old.output)
 
 -- a call that puts this one request
 pub record AsksOne (given : Invocation) (m : Machine) (call : Call) (request : Request) : Type 0 where

@@ -3,7 +3,7 @@ ghost use Rattle.std.specs.Prelude.{◌≡◌, ◌+◌, ◌≤◌, ◌<◌, ◌^
 ghost use Rattle.vm_calls.specs.Words.{Call, Answer, Request, Invocation, Machine};
 ghost use Rattle.vm_commands.specs.HeaderEquality.{is_unstable};
 ghost use Rattle.vm_calls.specs.Active.{left_of, still_replays, asking, TellsSame, IsAtCommand, IsActiveSettled, TakesCompletion, LacksCompletions, HasCompletions, PutsIn};
-ghost use Rattle.vm_calls.specs.CommandCalls.{CompletesOne, HasCallBegun, Makes};
+ghost use Rattle.vm_calls.specs.CommandCalls.{CompletesOne, HasCallBegun, MakesCommand};
 ghost use Rattle.vm_calls.specs.Spent.{IsSpent, FindsNone, FailsSpent, KeepsRest};
 ghost use Rattle.vm_calls.specs.MismatchedCommands.{command_place, TellsPut, FindsAs};
 ghost use Rattle.protocol_messages.specs.RecordMessage.{type_of_record};
@@ -171,7 +171,7 @@ impl Active {
     ) -> Result<NotificationHandle, CallError<M>>
         ensures makes { (checks_off : Bool) (given : Invocation) (m : Machine) (call : Call) (request : Request) (old : Active) → M.request_of command ≡ Some request
             → CompletesOne given m call request → ignore_payload_equality ≡ (checks_off || is_unstable call) → HasCallBegun given m handle old self.old
-            → Makes checks_off given m call (λ handle. Answer.Handle handle) old result self.new }
+            → MakesCommand checks_off given m call (λ handle. Answer.Handle handle) old result self.new }
         ensures spent { (request : Request) (taken : ℕ) (old : Active) → M.request_of command ≡ Some request → KeepsRest old self.old → HasCompletions taken old
             → IsSpent old → FailsSpent taken old result self.new }
         ensures found { (ty : MessageType) (old : Active) → type_of_record M.record_type ≡ Some ty → KeepsRest old self.old → FindsAs ty old result self.new }

@@ -3,7 +3,7 @@ ghost use Rattle.std.specs.Prelude.{◌≡◌, ◌||◌, ℕ, Bool, Some};
 ghost use Rattle.vm_calls.specs.Words.{Call, Answer, Request, Invocation, Machine};
 ghost use Rattle.vm_commands.specs.HeaderEquality.{is_unstable};
 ghost use Rattle.vm_calls.specs.Active.{HasCompletions};
-ghost use Rattle.vm_calls.specs.CommandCalls.{Makes};
+ghost use Rattle.vm_calls.specs.CommandCalls.{MakesCommand};
 ghost use Rattle.vm_calls.specs.ImmediateCalls.{DoesOne, HasAsked};
 ghost use Rattle.vm_calls.specs.Spent.{IsSpent, FailsSpent, KeepsRest};
 ghost use Rattle.vm_calls.specs.MismatchedCommands.{FindsAs};
@@ -24,7 +24,7 @@ impl Active {
     ) -> Result<(), CallError<M>>
         ensures makes { (checks_off : Bool) (given : Invocation) (m : Machine) (call : Call) (request : Request) (old : Active) → M.request_of command ≡ Some request
             → DoesOne given m call request → ignore_payload_equality ≡ (checks_off || is_unstable call) → HasAsked given m request old self.old
-            → Makes checks_off given m call (λ done. Answer.Done) old result self.new }
+            → MakesCommand checks_off given m call (λ done. Answer.Done) old result self.new }
         ensures spent { (request : Request) (taken : ℕ) (old : Active) → M.request_of command ≡ Some request → KeepsRest old self.old → HasCompletions taken old
             → IsSpent old → FailsSpent taken old result self.new }
         ensures found { (ty : MessageType) (old : Active) → type_of_record M.record_type ≡ Some ty → KeepsRest old self.old → FindsAs ty old result self.new }

@@ -1,6 +1,6 @@
 // The calls that are about a promise.
 ghost use Rattle.std.specs.Prelude.{◌≡◌, [], Some, None, IfOk};
-ghost use Rattle.vm_calls.specs.CommandCalls.{Makes};
+ghost use Rattle.vm_calls.specs.CommandCalls.{MakesCommand};
 ghost use Rattle.vm_calls.specs.Spent.{IsSpent, FailsSpent};
 ghost use Rattle.vm_calls.specs.MismatchedCommands.{FindsAs};
 ghost use Rattle.vm_calls.specs.Words.{Call, Answer, Request, Invocation, Machine};
@@ -47,7 +47,7 @@ impl Active {
         key: ByteStr,
     ) -> Result<NotificationHandle, CallError<GetPromiseCommandMessage>>
         ensures made { (given : Invocation) (m : Machine) → Sees given self.old m
-            → Makes checks_off given m (Call.GetPromise key) (λ handle. Answer.Handle handle) self.old result self.new }
+            → MakesCommand checks_off given m (Call.GetPromise key) (λ handle. Answer.Handle handle) self.old result self.new }
         ensures spent { IsSpent self.old → FailsSpent 1 self.old result self.new }
         ensures found { FindsAs GetPromiseCommand self.old result self.new }
         ensures told { IsAtCommand GetPromiseCommand [] self.old.journal self.new.journal }
@@ -70,7 +70,7 @@ impl Active {
     ) -> Result<NotificationHandle, CallError<PeekPromiseCommandMessage>>
         ensures told { IsAtCommand PeekPromiseCommand [] self.old.journal self.new.journal }
         ensures made { (given : Invocation) (m : Machine) → Sees given self.old m
-            → Makes checks_off given m (Call.PeekPromise key) (λ handle. Answer.Handle handle) self.old result self.new }
+            → MakesCommand checks_off given m (Call.PeekPromise key) (λ handle. Answer.Handle handle) self.old result self.new }
         ensures spent { IsSpent self.old → FailsSpent 1 self.old result self.new }
         ensures found { FindsAs PeekPromiseCommand self.old result self.new }
     {
@@ -100,7 +100,7 @@ impl Active {
         options: PayloadOptions,
     ) -> Result<NotificationHandle, CallError<CompletePromiseCommandMessage>>
         ensures made { (given : Invocation) (m : Machine) → refusal_of given.version (Call.CompletePromise key value options) ≡ None → Sees given self.old m
-            → Makes checks_off given m (Call.CompletePromise key value options) (λ handle. Answer.Handle handle) self.old result self.new }
+            → MakesCommand checks_off given m (Call.CompletePromise key value options) (λ handle. Answer.Handle handle) self.old result self.new }
         ensures spent { IsSpent self.old → FailsSpent 1 self.old result self.new }
         ensures found { FindsAs CompletePromiseCommand self.old result self.new }
         ensures told { IsAtCommand CompletePromiseCommand [] self.old.journal self.new.journal }

@@ -5,7 +5,7 @@ ghost use Rattle.journal_model.specs.Refusal.{milliseconds, refusal_of};
 ghost use Rattle.journal_model.specs.declared.call.Moment.{Moment};
 ghost use Rattle.protocol_types.specs.declared.message_type.MessageType.TheVariants.{SleepCommand};
 ghost use Rattle.vm_calls.specs.Active.{Sees, IsAtCommand};
-ghost use Rattle.vm_calls.specs.CommandCalls.{Makes};
+ghost use Rattle.vm_calls.specs.CommandCalls.{MakesCommand};
 ghost use Rattle.vm_calls.specs.Spent.{IsSpent, FailsSpent};
 ghost use Rattle.vm_calls.specs.MismatchedCommands.{FindsAs};
 
@@ -27,7 +27,7 @@ impl Active {
     ) -> Result<NotificationHandle, CallError<SleepCommandMessage>>
         ensures made { (given : Invocation) (m : Machine) (wake_up : Moment) (now : Option Moment) → milliseconds wake_up ≡ wake_up_time
             → refusal_of given.version (Call.Sleep name wake_up now) ≡ None → Sees given self.old m
-            → Makes checks_off given m (Call.Sleep name wake_up now) (λ handle. Answer.Handle handle) self.old result self.new }
+            → MakesCommand checks_off given m (Call.Sleep name wake_up now) (λ handle. Answer.Handle handle) self.old result self.new }
         ensures spent { IsSpent self.old → FailsSpent 1 self.old result self.new }
         ensures found { FindsAs SleepCommand self.old result self.new }
         ensures told { IsAtCommand SleepCommand name self.old.journal self.new.journal }

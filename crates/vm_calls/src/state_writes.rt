@@ -5,7 +5,7 @@ ghost use Rattle.journal_model.specs.Run.{name_or_empty};
 ghost use Rattle.protocol_types.specs.declared.message_type.MessageType.TheVariants.{SetStateCommand, ClearStateCommand, ClearAllStateCommand};
 ghost use Rattle.vm_context.specs.StateKnowledge.{Follows};
 ghost use Rattle.vm_calls.specs.Active.{Sees, IsAtCommand};
-ghost use Rattle.vm_calls.specs.CommandCalls.{Makes};
+ghost use Rattle.vm_calls.specs.CommandCalls.{MakesCommand};
 ghost use Rattle.vm_calls.specs.Spent.{IsSpent, FailsSpent};
 ghost use Rattle.vm_calls.specs.MismatchedCommands.{FindsAs};
 
@@ -46,7 +46,7 @@ impl Active {
         options: PayloadOptions,
     ) -> Result<(), CallError<SetStateCommandMessage>>
         ensures made { (given : Invocation) (m : Machine) → Sees given self.old m
-            → Makes checks_off given m (Call.StateSet key value name options) (λ done. Answer.Done) self.old result self.new }
+            → MakesCommand checks_off given m (Call.StateSet key value name options) (λ done. Answer.Done) self.old result self.new }
         ensures spent { IsSpent self.old → FailsSpent 0 self.old result self.new }
         ensures found { FindsAs SetStateCommand self.old result self.new }
         ensures told { IsAtCommand SetStateCommand (name_or_empty name) self.old.journal self.new.journal }
@@ -70,7 +70,7 @@ impl Active {
         name: Option<ByteStr>,
     ) -> Result<(), CallError<ClearStateCommandMessage>>
         ensures made { (given : Invocation) (m : Machine) → Sees given self.old m
-            → Makes checks_off given m (Call.StateClear key name) (λ done. Answer.Done) self.old result self.new }
+            → MakesCommand checks_off given m (Call.StateClear key name) (λ done. Answer.Done) self.old result self.new }
         ensures spent { IsSpent self.old → FailsSpent 0 self.old result self.new }
         ensures found { FindsAs ClearStateCommand self.old result self.new }
         ensures told { IsAtCommand ClearStateCommand (name_or_empty name) self.old.journal self.new.journal }
@@ -92,7 +92,7 @@ impl Active {
         name: Option<ByteStr>,
     ) -> Result<(), CallError<ClearAllStateCommandMessage>>
         ensures made { (given : Invocation) (m : Machine) → Sees given self.old m
-            → Makes checks_off given m (Call.StateClearAll name) (λ done. Answer.Done) self.old result self.new }
+            → MakesCommand checks_off given m (Call.StateClearAll name) (λ done. Answer.Done) self.old result self.new }
         ensures spent { IsSpent self.old → FailsSpent 0 self.old result self.new }
         ensures found { FindsAs ClearAllStateCommand self.old result self.new }
         ensures told { IsAtCommand ClearAllStateCommand (name_or_empty name) self.old.journal self.new.journal }

@@ -7,7 +7,7 @@ ghost use Rattle.vm_calls.specs.Words.{Call, Answer, Invocation, Machine};
 ghost use Rattle.journal_model.specs.Refusal.{refusal_of};
 ghost use Rattle.protocol_types.specs.declared.message_type.MessageType.TheVariants.{OutputCommand, SendSignalCommand, CompleteAwakeableCommand};
 ghost use Rattle.vm_calls.specs.Active.{Sees, IsAtCommand};
-ghost use Rattle.vm_calls.specs.CommandCalls.{Makes};
+ghost use Rattle.vm_calls.specs.CommandCalls.{MakesCommand};
 ghost use Rattle.vm_calls.specs.Spent.{IsSpent, FailsSpent};
 ghost use Rattle.vm_calls.specs.MismatchedCommands.{FindsAs};
 
@@ -48,7 +48,7 @@ impl Active {
         target_id: ByteStr,
     ) -> Result<(), CallError<SendSignalCommandMessage>>
         ensures made { (given : Invocation) (m : Machine) → Sees given self.old m
-            → Makes checks_off given m (Call.Cancel target_id) (λ done. Answer.Done) self.old result self.new }
+            → MakesCommand checks_off given m (Call.Cancel target_id) (λ done. Answer.Done) self.old result self.new }
         ensures spent { IsSpent self.old → FailsSpent 0 self.old result self.new }
         ensures found { FindsAs SendSignalCommand self.old result self.new }
         ensures told { IsAtCommand SendSignalCommand [] self.old.journal self.new.journal }
@@ -67,7 +67,7 @@ impl Active {
         value: NonEmptyValue,
     ) -> Result<(), CallError<SendSignalCommandMessage>>
         ensures made { (given : Invocation) (m : Machine) → refusal_of given.version (Call.CompleteSignal target_id name value) ≡ None
-            → Sees given self.old m → Makes checks_off given m (Call.CompleteSignal target_id name value) (λ done. Answer.Done) self.old result self.new }
+            → Sees given self.old m → MakesCommand checks_off given m (Call.CompleteSignal target_id name value) (λ done. Answer.Done) self.old result self.new }
         ensures spent { IsSpent self.old → FailsSpent 0 self.old result self.new }
         ensures found { FindsAs SendSignalCommand self.old result self.new }
         ensures told { IsAtCommand SendSignalCommand [] self.old.journal self.new.journal }
@@ -92,7 +92,7 @@ impl Active {
         options: PayloadOptions,
     ) -> Result<(), CallError<OutputCommandMessage>>
         ensures made { (given : Invocation) (m : Machine) → refusal_of given.version (Call.Output value options) ≡ None
-            → Sees given self.old m → Makes checks_off given m (Call.Output value options) (λ done. Answer.Done) self.old result self.new }
+            → Sees given self.old m → MakesCommand checks_off given m (Call.Output value options) (λ done. Answer.Done) self.old result self.new }
         ensures spent { IsSpent self.old → FailsSpent 0 self.old result self.new }
         ensures found { FindsAs OutputCommand self.old result self.new }
         ensures told { IsAtCommand OutputCommand [] self.old.journal self.new.journal }
@@ -117,7 +117,7 @@ impl Active {
     ) -> Result<(), CallError<CompleteAwakeableCommandMessage>>
         ensures told { IsAtCommand CompleteAwakeableCommand [] self.old.journal self.new.journal }
         ensures made { (given : Invocation) (m : Machine) → refusal_of given.version (Call.CompleteAwakeable id value options) ≡ None
-            → Sees given self.old m → Makes checks_off given m (Call.CompleteAwakeable id value options) (λ done. Answer.Done) self.old result self.new }
+            → Sees given self.old m → MakesCommand checks_off given m (Call.CompleteAwakeable id value options) (λ done. Answer.Done) self.old result self.new }
         ensures spent { IsSpent self.old → FailsSpent 0 self.old result self.new }
         ensures found { FindsAs CompleteAwakeableCommand self.old result self.new }
     {

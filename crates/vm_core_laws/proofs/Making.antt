@@ -18,7 +18,7 @@ use Rattle.protocol_types.specs.declared.message_type.MessageType.{MessageType}
 use Rattle.vm_awaits.specs.Views.{AsyncResults, slots_of}
 use Rattle.vm_calls.specs.Active.{Sees}
 use Rattle.vm_calls.specs.Handles.{LacksHandle, LacksSignal}
-use Rattle.vm_calls.specs.CommandCalls.{Makes}
+use Rattle.vm_calls.specs.CommandCalls.{MakesCommand}
 use Rattle.vm_calls.specs.Spent.{IsSpent, FailsSpent}
 use Rattle.vm_calls.specs.declared.active.Active.{Active}
 use Rattle.vm_calls.specs.declared.call_error.CallError.{CallError}
@@ -46,7 +46,7 @@ module _ {M Taken : Type 0} (difference : M → M → List ℕ) (call : Call) (w
     (keeps : Keeps old.options.signal_delivery old.active) where
   settled : (replays : Replays old.active) (made : Result Taken (CallError M)) (between : MachineState) (result : Result Taken Error) (new : MachineState) → between ≡ record old { active = between.active }
       → ((given : Invocation) (m : Machine) → IsOf given old → Sees given old.active m
-      → Makes (checks_off old.options.non_determinism_checks) given m call answer old.active made between.active)
+      → MakesCommand (checks_off old.options.non_determinism_checks) given m call answer old.active made between.active)
       → (IsSpent old.active → FailsSpent (completions_of call) old.active made between.active) → Settles difference made between result new → Stands new
   settled replays (Ok taken) between (Err error) new others makes spent settles = absurd settles
   settled replays (Err error) between (Ok taken) new others makes spent settles = absurd settles

@@ -12,7 +12,7 @@ use Rattle.protocol_types.specs.Version.{version_number}
 use Rattle.protocol_types.specs.declared.version.Version.{Version}
 use Rattle.protocol_types.specs.declared.message_type.MessageType.{MessageType}
 use Rattle.vm_calls.specs.Active.{Sees, IsAtCommand}
-use Rattle.vm_calls.specs.CommandCalls.{Makes}
+use Rattle.vm_calls.specs.CommandCalls.{MakesCommand}
 use Rattle.vm_calls.specs.Spent.{IsSpent, FailsSpent}
 use Rattle.vm_calls.specs.MismatchedCommands.{FindsAs}
 use Rattle.vm_calls.specs.declared.active.Active.{Active}
@@ -73,14 +73,14 @@ module _ {Taken : Type 0} (IsDone : MachineState → Result Taken Error → Mach
 -- the call is made by its function of an attempt
 pub made_by : {M Taken : Type 0} (difference : M → M → List ℕ) (call : Call) (answer : Taken → Answer) (ty : MessageType) (name : Text) (off : Bool) (old : MachineState)
     (made : Result Taken (CallError M)) (active : Active) (result : Result Taken Error) (new : MachineState) → off ≡ checks_off old.options.non_determinism_checks
-    → ((given : Invocation) (m : Machine) → IsOf given old → Sees given old.active m → Makes off given m call answer old.active made active)
+    → ((given : Invocation) (m : Machine) → IsOf given old → Sees given old.active m → MakesCommand off given m call answer old.active made active)
     → IsAtCommand ty name old.active.journal active.journal → (IsSpent old.active → FailsSpent (completions_of call) old.active made active) → FindsAs ty old.active made active
     → Settles difference made (record old { active = active }) result new → IsMade difference call answer ty name old result new
 made_by {M = M} {Taken = Taken} difference call answer ty name off old made active result new is makes told spent found settles = record {
   made = made;
   between = record old { active = active };
   others = refl;
-  makes = λ given m is_of sees. subst (λ (off : Bool). Makes off given m call answer old.active made active) is (makes given m is_of sees);
+  makes = λ given m is_of sees. subst (λ (off : Bool). MakesCommand off given m call answer old.active made active) is (makes given m is_of sees);
   spent = spent;
   found = found;
   told = told;

@@ -13,7 +13,7 @@ use Rattle.protocol_types.specs.Version.{version_number}
 use Rattle.protocol_types.specs.declared.version.Version.{Version}
 use Rattle.protocol_types.specs.declared.message_type.MessageType.{MessageType}
 use Rattle.vm_calls.specs.Active.{Sees, IsAtCommand}
-use Rattle.vm_calls.specs.CommandCalls.{Makes}
+use Rattle.vm_calls.specs.CommandCalls.{MakesCommand}
 use Rattle.vm_calls.specs.Spent.{IsSpent, FailsSpent}
 use Rattle.vm_calls.specs.MismatchedCommands.{FindsAs}
 use Rattle.vm_calls.specs.declared.call_error.CallError.{CallError}
@@ -50,7 +50,7 @@ module _ {M Taken : Type 0} (difference : M → M → List ℕ) (call : Call) (a
     pub between : MachineState
     pub others : between ≡ record old { active = between.active }
     pub makes : (given : Invocation) (m : Machine) → IsOf given old → Sees given old.active m
-        → Makes (checks_off old.options.non_determinism_checks) given m call answer old.active made between.active
+        → MakesCommand (checks_off old.options.non_determinism_checks) given m call answer old.active made between.active
     pub spent : IsSpent old.active → FailsSpent (completions_of call) old.active made between.active
     pub found : FindsAs ty old.active made between.active
     pub told : IsAtCommand ty name old.active.journal between.active.journal

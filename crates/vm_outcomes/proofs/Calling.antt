@@ -16,7 +16,7 @@ use Rattle.protocol_stream.specs.declared.encoder.EncodingError.TheVariants as u
 use Rattle.protocol_types.specs.declared.message_type.MessageType.{MessageType}
 use Rattle.vm_awaits.specs.Views.{AsyncResults}
 use Rattle.vm_calls.specs.Active.{Sees, LacksCompletions}
-use Rattle.vm_calls.specs.CommandCalls.{FailsAs, Makes}
+use Rattle.vm_calls.specs.CommandCalls.{FailsAs, MakesCommand}
 use Rattle.vm_calls.specs.declared.active.Active.{Active}
 use Rattle.vm_calls.specs.declared.call_error.CallError.{CallError}
 use Rattle.vm_calls.specs.declared.call_error.CallError.TheVariants.{Number, Put, OutOfMemory}
@@ -104,7 +104,7 @@ module _ (given : Invocation) (m : Machine) (call : Call) (old : MachineState) (
     call_cause difference active asked OutOfMemory told fails causes = no_memory given m call old active asked told causes
 
     call_settles : {M Taken : Type 0} (difference : M → M → List ℕ) (answer : Taken → Answer) (made : Result Taken (CallError M)) (active : Active) (asked : AreRequestsAsked [] old.active.journal active.journal) (result : Result Taken Error) (new : MachineState)
-        → RunsIn m call old runs result → Makes (checks_off old.options.non_determinism_checks) given m call answer old.active made active
+        → RunsIn m call old runs result → MakesCommand (checks_off old.options.non_determinism_checks) given m call answer old.active made active
         → Settles difference made (record over { active = active }) result new → Comes given m call old (answered_as answer result) new
     call_settles {Taken = Taken} difference answer (Ok taken) active asked (Ok got) new keeps makes settles =
         subst (λ (t : Taken). Answers given m call old (answer t) new) (sym settles.0)

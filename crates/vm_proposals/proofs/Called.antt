@@ -12,7 +12,7 @@ use Rattle.protocol_errors.specs.declared.error.Error.{Error}
 use Rattle.protocol_types.specs.declared.message_type.MessageType.TheVariants.{RunCommand}
 use Rattle.vm_calls.specs.Active.{Sees, IsAtCommand}
 use Rattle.vm_calls.specs.MismatchedCommands.{FindsAs}
-use Rattle.vm_calls.specs.CommandCalls.{Makes}
+use Rattle.vm_calls.specs.CommandCalls.{MakesCommand}
 use Rattle.vm_calls.specs.Spent.{IsSpent, FailsSpent}
 use Rattle.vm_calls.specs.declared.active.Active.{Active}
 use Rattle.vm_calls.specs.declared.call_error.CallError.{CallError}
@@ -58,7 +58,7 @@ keeps_settled difference name active runs kept (Err error) old (Err told) new se
 module _ (name : Text) (off : Bool) (old : MachineState) (made : Result RunHandle (CallError RunCommandMessage)) (active : Active) (runs : Runs) (result : Result RunHandle Error) (new : MachineState)
     (off_is : off ≡ checks_off old.options.non_determinism_checks)
     (makes : (given : Invocation) (m : Machine) → refusal_of given.version (Call.Run name) ≡ None → Sees given old.active m
-    → Makes off given m (Call.Run name) (λ run. Answer.Handle run.handle) old.active made active)
+    → MakesCommand off given m (Call.Run name) (λ run. Answer.Handle run.handle) old.active made active)
     (keeps : KeepsRun name old.active old.runs made runs)
     (told : IsAtCommand RunCommand name old.active.journal active.journal) (spent : IsSpent old.active → FailsSpent 1 old.active made active) (found : FindsAs RunCommand old.active made active)
     (settles : Settles run_command_difference made (record old { active = active; runs = runs }) result new) where

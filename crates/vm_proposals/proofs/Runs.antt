@@ -18,7 +18,7 @@ use Rattle.vm_awaits.specs.Calls.{has_come}
 use Rattle.vm_awaits.specs.Views.{AsyncResults, results_of}
 use Rattle.vm_calls.specs.Active.{Sees, TakesCompletion, asking}
 use Rattle.vm_calls.specs.MismatchedCommands.{FindsAs}
-use Rattle.vm_calls.specs.CommandCalls.{CompletesOne, Makes}
+use Rattle.vm_calls.specs.CommandCalls.{CompletesOne, MakesCommand}
 use Rattle.vm_calls.specs.Spent.{FailsSpent}
 use Rattle.vm_calls.specs.declared.active.Active.{Active}
 use Rattle.vm_calls.specs.declared.call_error.CallError.{CallError}
@@ -98,16 +98,16 @@ module _ (name : Text) (old begun : Active) (handle completion : ℕ) (takes : T
 -- ---- the handle, and whether its outcome is known
 
 makes_by : {M : Type 0} (checks_off : Bool) (given : Invocation) (m : Machine) (call : Call) (old new : Active) (known : Bool) (made : Result ℕ (CallError M))
-    → Makes checks_off given m call (λ (handle : ℕ). Answer.Handle handle) old made new
-    → Makes checks_off given m call (λ (run : RunHandle). Answer.Handle run.handle) old (called known made) new
+    → MakesCommand checks_off given m call (λ (handle : ℕ). Answer.Handle handle) old made new
+    → MakesCommand checks_off given m call (λ (run : RunHandle). Answer.Handle run.handle) old (called known made) new
 makes_by checks_off given m call old new known (Ok handle) makes = makes
 makes_by checks_off given m call old new known (Err error) makes = makes
 
 pub makes_called : {M : Type 0} (checks_off : Bool) (given : Invocation) (m : Machine) (call : Call) (old new : Active) (known : Bool) (made : Result ℕ (CallError M)) (result : Result RunHandle (CallError M))
-    → result ≡ called known made → Makes checks_off given m call (λ (handle : ℕ). Answer.Handle handle) old made new
-    → Makes checks_off given m call (λ (run : RunHandle). Answer.Handle run.handle) old result new
+    → result ≡ called known made → MakesCommand checks_off given m call (λ (handle : ℕ). Answer.Handle handle) old made new
+    → MakesCommand checks_off given m call (λ (run : RunHandle). Answer.Handle run.handle) old result new
 makes_called {M} checks_off given m call old new known made result is makes =
-    subst (λ (r : Result RunHandle (CallError M)). Makes checks_off given m call (λ (run : RunHandle). Answer.Handle run.handle) old r new) (sym is)
+    subst (λ (r : Result RunHandle (CallError M)). MakesCommand checks_off given m call (λ (run : RunHandle). Answer.Handle run.handle) old r new) (sym is)
     (makes_by checks_off given m call old new known made makes)
 
 spent_by : {M : Type 0} (old new : Active) (known : Bool) (made : Result ℕ (CallError M)) → FailsSpent 1 old made new → FailsSpent 1 old (called known made) new

@@ -6,7 +6,7 @@ ghost use Rattle.vm_awaits.specs.Calls.{has_come};
 ghost use Rattle.vm_awaits.specs.Views.{results_of};
 ghost use Rattle.vm_calls.specs.Words.{Call, Answer, Invocation, Machine};
 ghost use Rattle.vm_calls.specs.Active.{Sees, IsAtCommand};
-ghost use Rattle.vm_calls.specs.CommandCalls.{Makes};
+ghost use Rattle.vm_calls.specs.CommandCalls.{MakesCommand};
 ghost use Rattle.vm_calls.specs.Spent.{IsSpent, FailsSpent};
 ghost use Rattle.vm_calls.specs.MismatchedCommands.{FindsAs};
 ghost use Rattle.vm_proposals.specs.RunRegistration.{last_run_asked, Inserts, Keeps, KeepsRun, called};
@@ -79,7 +79,7 @@ pub fn run(
     name: ByteStr,
 ) -> Result<RunHandle, CallError<RunCommandMessage>>
     ensures made { (given : Invocation) (m : Machine) → refusal_of given.version (Call.Run name) ≡ None → Sees given active.old m
-        → Makes checks_off given m (Call.Run name) (λ run. Answer.Handle run.handle) active.old result active.new }
+        → MakesCommand checks_off given m (Call.Run name) (λ run. Answer.Handle run.handle) active.old result active.new }
     ensures keeps { KeepsRun name active.old runs.old result runs.new }
     ensures spent { IsSpent active.old → FailsSpent 1 active.old result active.new }
     ensures found { FindsAs RunCommand active.old result active.new }

@@ -7,7 +7,7 @@ use Rattle.journal_model.specs.declared.call.Call.{Call}
 use Rattle.journal_model.specs.declared.call.Moment.{Moment}
 use Rattle.journal_model.specs.declared.call.Target.{Target}
 use Rattle.vm_calls.specs.Words.{Machine}
-use Rattle.vm_calls.specs.CommandCalls.{Makes}
+use Rattle.vm_calls.specs.CommandCalls.{MakesCommand}
 use Rattle.vm_calls.specs.Spent.{FailsSpent}
 use Rattle.vm_calls.specs.MismatchedCommands.{FindsAs}
 use Rattle.protocol_types.specs.declared.message_type.MessageType.{MessageType}
@@ -29,15 +29,15 @@ pub moment_passes : (version : ℕ) (target : Target) (execution_time : Option M
 moment_passes version target execution_time h = passed (target_tests version target []) (send_tests execution_time) h
 
 -- the handle alone is answered
-makes_put : {M : Type 0} (checks_off : Bool) (given : Invocation) (m : Machine) (call : Call) (old new : Active) (put : Result ℕ (CallError M)) → Makes checks_off given m call (λ (handle : ℕ). Answer.Handle handle) old put new
-    → Makes checks_off given m call (λ (made : SendHandle). Answer.Handle made.invocation_id_notification_handle) old (sent put) new
+makes_put : {M : Type 0} (checks_off : Bool) (given : Invocation) (m : Machine) (call : Call) (old new : Active) (put : Result ℕ (CallError M)) → MakesCommand checks_off given m call (λ (handle : ℕ). Answer.Handle handle) old put new
+    → MakesCommand checks_off given m call (λ (made : SendHandle). Answer.Handle made.invocation_id_notification_handle) old (sent put) new
 makes_put checks_off given m call old new (Ok handle) makes = makes
 makes_put checks_off given m call old new (Err error) makes = makes
 
 pub makes_sent : {M : Type 0} (checks_off : Bool) (given : Invocation) (m : Machine) (call : Call) (old new : Active) (put : Result ℕ (CallError M)) (made : Result SendHandle (CallError M)) → made ≡ sent put
-    → Makes checks_off given m call (λ (handle : ℕ). Answer.Handle handle) old put new → Makes checks_off given m call (λ (made : SendHandle). Answer.Handle made.invocation_id_notification_handle) old made new
+    → MakesCommand checks_off given m call (λ (handle : ℕ). Answer.Handle handle) old put new → MakesCommand checks_off given m call (λ (made : SendHandle). Answer.Handle made.invocation_id_notification_handle) old made new
 makes_sent {M} checks_off given m call old new put made is makes =
-    subst (λ (r : Result SendHandle (CallError M)). Makes checks_off given m call (λ (made : SendHandle). Answer.Handle made.invocation_id_notification_handle) old r new) (sym is)
+    subst (λ (r : Result SendHandle (CallError M)). MakesCommand checks_off given m call (λ (made : SendHandle). Answer.Handle made.invocation_id_notification_handle) old r new) (sym is)
     (makes_put checks_off given m call old new put makes)
 
 spent_put : {M : Type 0} (old new : Active) (put : Result ℕ (CallError M)) → FailsSpent 1 old put new → FailsSpent 1 old (sent put) new

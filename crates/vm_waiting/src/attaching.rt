@@ -4,7 +4,7 @@ ghost use Rattle.journal_model.specs.Refusal.{refusal_of};
 ghost use Rattle.protocol_types.specs.declared.message_type.MessageType.TheVariants.{AttachInvocationCommand, GetInvocationOutputCommand};
 ghost use Rattle.vm_calls.specs.Words.{Call, Answer, Invocation, Machine};
 ghost use Rattle.vm_calls.specs.Active.{Sees, IsAtCommand};
-ghost use Rattle.vm_calls.specs.CommandCalls.{Makes};
+ghost use Rattle.vm_calls.specs.CommandCalls.{MakesCommand};
 ghost use Rattle.vm_calls.specs.Spent.{IsSpent, FailsSpent};
 ghost use Rattle.vm_calls.specs.MismatchedCommands.{FindsAs};
 
@@ -24,7 +24,7 @@ pub fn attach(
     target: AttachInvocationTarget,
 ) -> Result<NotificationHandle, CallError<AttachInvocationCommandMessage>>
     ensures made { (given : Invocation) (m : Machine) → refusal_of given.version (Call.Attach target) ≡ None → Sees given active.old m
-        → Makes checks_off given m (Call.Attach target) (λ handle. Answer.Handle handle) active.old result active.new }
+        → MakesCommand checks_off given m (Call.Attach target) (λ handle. Answer.Handle handle) active.old result active.new }
     ensures spent { IsSpent active.old → FailsSpent 1 active.old result active.new }
     ensures found { FindsAs AttachInvocationCommand active.old result active.new }
     ensures told { IsAtCommand AttachInvocationCommand [] active.old.journal active.new.journal }
@@ -51,7 +51,7 @@ pub fn get_output(
 ) -> Result<NotificationHandle, CallError<GetInvocationOutputCommandMessage>>
     ensures made { (given : Invocation) (m : Machine) → refusal_of given.version (Call.GetOutput target) ≡ None
         → Sees given active.old m
-        → Makes checks_off given m (Call.GetOutput target) (λ handle. Answer.Handle handle) active.old result active.new }
+        → MakesCommand checks_off given m (Call.GetOutput target) (λ handle. Answer.Handle handle) active.old result active.new }
     ensures spent { IsSpent active.old → FailsSpent 1 active.old result active.new }
     ensures found { FindsAs GetInvocationOutputCommand active.old result active.new }
     ensures told { IsAtCommand GetInvocationOutputCommand [] active.old.journal active.new.journal }

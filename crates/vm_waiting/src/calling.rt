@@ -9,7 +9,7 @@ ghost use Rattle.vm_commands.specs.HeaderEquality.{is_unstable};
 ghost use Rattle.protocol_messages.specs.RecordMessage.{type_of_record};
 ghost use Rattle.vm_calls.specs.Words.{Call, Answer, Request, Invocation, Machine};
 ghost use Rattle.vm_calls.specs.Active.{Sees, asking, IsAtCommand, TellsSame, LacksCompletions, HasCompletions};
-ghost use Rattle.vm_calls.specs.CommandCalls.{Makes, AsksOne, IsReadyToPut};
+ghost use Rattle.vm_calls.specs.CommandCalls.{MakesCommand, AsksOne, IsReadyToPut};
 ghost use Rattle.vm_calls.specs.Spent.{IsSpent, FailsSpent, KeepsRest};
 ghost use Rattle.vm_calls.specs.MismatchedCommands.{FindsAs};
 ghost use Rattle.vm_calls.specs.declared.call_error.NumberError.TheVariants.{IdsExhausted};
@@ -148,7 +148,7 @@ pub(crate) fn put_call<M: Command, T: Copy>(
     ensures journal { active.new.journal ≡ active.old.journal }
     ensures makes { (checks_off : Bool) (given : Invocation) (m : Machine) (call : Call) (request : Request) (old : Active) → M.request_of command ≡ Some request
         → (answer : T → Answer) → AsksOne given m call request → ignore ≡ (checks_off || is_unstable call) → IsReadyToPut given m call request old active.old
-        → answer_by given.input.invocation_id (next_slot m) m.signals call ≡ answer handles → Makes checks_off given m call answer old result active.new }
+        → answer_by given.input.invocation_id (next_slot m) m.signals call ≡ answer handles → MakesCommand checks_off given m call answer old result active.new }
     ensures spent { (request : Request) (taken : ℕ) (old : Active) → M.request_of command ≡ Some request → KeepsRest old active.old → HasCompletions taken old
         → IsSpent old → FailsSpent taken old result active.new }
     ensures found { (ty : MessageType) (old : Active) → type_of_record M.record_type ≡ Some ty → KeepsRest old active.old → FindsAs ty old result active.new }
@@ -177,7 +177,7 @@ pub fn call(
 ) -> Result<CallHandle, CallError<CallCommandMessage>>
     ensures made { (given : Invocation) (m : Machine) → refusal_of given.version (Call.Call target parameter name options) ≡ None
         → given.options.implicit_cancellation ≡ cancellation → Sees given active.old m
-        → Makes checks_off given m (Call.Call target parameter name options)
+        → MakesCommand checks_off given m (Call.Call target parameter name options)
         (λ made. Answer.Handles made.invocation_id_notification_handle made.call_notification_handle) active.old result active.new }
     ensures spent { IsSpent active.old → FailsSpent 2 active.old result active.new }
     ensures found { FindsAs MessageType.CallCommand active.old result active.new }

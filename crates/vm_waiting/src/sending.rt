@@ -7,7 +7,7 @@ ghost use Rattle.protocol_types.specs.declared.message_type.MessageType.TheVaria
 ghost use Rattle.protocol_laws.specs.Requests.{request_of_one_way_call};
 ghost use Rattle.vm_calls.specs.Words.{Call, Answer, Request, Invocation, Machine};
 ghost use Rattle.vm_calls.specs.Active.{Sees, IsAtCommand};
-ghost use Rattle.vm_calls.specs.CommandCalls.{Makes};
+ghost use Rattle.vm_calls.specs.CommandCalls.{MakesCommand};
 ghost use Rattle.vm_calls.specs.Spent.{IsSpent, FailsSpent};
 ghost use Rattle.vm_calls.specs.MismatchedCommands.{FindsAs};
 
@@ -78,7 +78,7 @@ pub fn send(
     ensures made { (given : Invocation) (m : Machine) (moment : Option Moment) → invoke_time moment ≡ execution_time
         → refusal_of given.version (Call.Send target parameter moment name options) ≡ None
         → given.options.implicit_cancellation ≡ cancellation → Sees given active.old m
-        → Makes checks_off given m (Call.Send target parameter moment name options) (λ handle. Answer.Handle handle) active.old result active.new }
+        → MakesCommand checks_off given m (Call.Send target parameter moment name options) (λ handle. Answer.Handle handle) active.old result active.new }
     ensures spent { IsSpent active.old → FailsSpent 1 active.old result active.new }
     ensures found { FindsAs OneWayCallCommand active.old result active.new }
     ensures told { IsAtCommand OneWayCallCommand (name_or_empty name) active.old.journal active.new.journal }

@@ -1,6 +1,6 @@
 use Rattle.std.proofs.Common.{inl, inr, sym, ap, subst, ◌∙◌, List, [], ◌∷◌, ◌++◌, Option, Ok}
 use Rattle.store_steps.specs.declared.frame.FrameReply.{FrameReply}
-use Rattle.store_calls.specs.Frames.{Steps}
+use Rattle.store_calls.specs.Frames.{StepsAttempt}
 use Rattle.journal_store.specs.Stands.{Leads}
 use Rattle.journal_store.specs.FrameAcceptance.{SettlesStep}
 use Rattle.journal_store.proofs.OutputAcceptance.{more_behind, next_none, next_refused, next_taken, next_unroomed}
@@ -18,14 +18,14 @@ returns-in-Ok-Some-clause-does g c =
     let reply = c.in-Ok-Some.reply in
     next_taken g.S.Store c.args.id.now c.args.attempt old new c.args.replies.now.items c.push_reserved.new.self.items reply c.ends_attempt.result (sym c.ends_attempt.ensures.value)
     (c.push_reserved.ensures.items ∙ ap (λ (all : List FrameReply). all ++ reply ∷ []) c.reserve.ensures.items)
-    (subst (λ (o : Option FrameReply). Leads g.S.Store (Steps c.args.id.now c.args.attempt (Ok o)) old new) c.in-Ok-Some.field-0-is c.in-Ok-Some.ensures.does)
+    (subst (λ (o : Option FrameReply). Leads g.S.Store (StepsAttempt c.args.id.now c.args.attempt (Ok o)) old new) c.in-Ok-Some.field-0-is c.in-Ok-Some.ensures.does)
 
 pub returns-in-Ok-None-clause-does : goal.returns-in-Ok-None-clause-does
 returns-in-Ok-None-clause-does g c =
     let old = c.args.store.now in
     let new = c.step.new.self in
     next_none g.S.Store c.args.id.now c.args.attempt old new c.args.replies.now.items c.reserve.new.self.items c.reserve.ensures.items
-    (subst (λ (o : Option FrameReply). Leads g.S.Store (Steps c.args.id.now c.args.attempt (Ok o)) old new) c.in-Ok-None.field-0-is c.in-Ok-None.ensures.does)
+    (subst (λ (o : Option FrameReply). Leads g.S.Store (StepsAttempt c.args.id.now c.args.attempt (Ok o)) old new) c.in-Ok-None.field-0-is c.in-Ok-None.ensures.does)
 
 pub returns-in-Err-clause-does : goal.returns-in-Err-clause-does
 returns-in-Err-clause-does g c =

@@ -7,14 +7,14 @@ use Rattle.protocol_records.specs.declared.future.Future.{out-Future}
 use Rattle.protocol_trees.specs.Future.{children_in, future_tree, id_meant, leaves_in, shape_in}
 use Rattle.protocol_trees.specs.FutureShape.{future_shaped}
 use Rattle.protocol_trees.proofs.Forests.{child_smaller}
-use Rattle.store_arrivals.specs.Named.{is_among, names_any}
+use Rattle.store_arrivals.specs.Named.{is_completed_among, names_any}
 use Rattle.store_arrivals.proofs.Naming.{among_is, child_names, leaf_names, none_more, none_names}
 use Rattle.store_arrivals.proofs.named.+names_any.Goals as goal
 
 pub loop-index-preserved : goal.loop-index-preserved
 loop-index-preserved t c = λ arrivals are.
     let id = id_meant c.leaf.result in
-    none_more (is_among arrivals) (leaves_in c.args.awaited.now) c.loop-index.index id c.leaf.ensures (c.loop-index.invariant arrivals are)
+    none_more (is_completed_among arrivals) (leaves_in c.args.awaited.now) c.loop-index.index id c.leaf.ensures (c.loop-index.invariant arrivals are)
     (sym (among_is c.args.first.now arrivals id c.state.result are c.state.ensures) ∙ sym c.has_come.ensures ∙ c.if-has_come.false)
 
 pub returns-then-has_come : goal.returns-then-has_come
@@ -44,5 +44,5 @@ returns t c = λ arrivals are.
     let leaves : take c.loop-index.index (leaves_in f) ≡ leaves_in f = take_all c.loop-index.index (leaves_in f) (omega (arith, c.loop-index-test.false, c.leaf_count-index-end.ensures)) in
     let children : take c.loop-place.place (children_in f) ≡ children_in f = take_all c.loop-place.place (children_in f) (omega (arith, c.loop-place-test.false, c.child_count-place-end.ensures)) in
     none_names arrivals f
-    (subst (λ (ids : List NotificationId). list_any (is_among arrivals) ids ≡ false) leaves (c.loop-index.invariant arrivals are))
+    (subst (λ (ids : List NotificationId). list_any (is_completed_among arrivals) ids ≡ false) leaves (c.loop-index.invariant arrivals are))
     (subst (λ (trees : List (AwaitTree NotificationId)). list_any (names_any arrivals) trees ≡ false) children (c.loop-place.invariant arrivals are))

@@ -5,7 +5,7 @@ use Rattle.store_refusals.specs.Refused.{IsRefused}
 use Rattle.store_refusals.proofs.Causes.{cause_by}
 use Rattle.store_live.specs.Attempts.{attempt_of}
 use Rattle.store_live_laws.specs.Agrees.{has_number}
-use Rattle.store_calls.specs.Calls.{ClosesInput}
+use Rattle.store_calls.specs.Calls.{ClosesStoredInput}
 use Rattle.journal_store.specs.Attempts.{has_closed, has_rest}
 use Rattle.journal_store.specs.Stored.{stored}
 use Rattle.journal_store.proofs.Calls.{dead, close_dead, closes, closes_rest, closes_closed, none_read}
@@ -15,7 +15,7 @@ use Rattle.journal_store.proofs.store.Store.close_input.Goals as goal
 
 pub returns-then-not-is_live-clause-does : goal.returns-then-not-is_live-clause-does
 returns-then-not-is_live-clause-does g c =
-    rw (← c.self.view_is) (dead g.S.Store c.self.inside.tables c.stale_refusal.new.tables c.self.inside.live c.args.id.now c.args.attempt (λ why. ClosesInput c.args.id.now c.args.attempt (Err why)) (close_dead c.args.id.now c.args.attempt) c.stale_refusal.result (search rules) c.stale_refusal.ensures.looks c.stale_refusal.ensures.told)
+    rw (← c.self.view_is) (dead g.S.Store c.self.inside.tables c.stale_refusal.new.tables c.self.inside.live c.args.id.now c.args.attempt (λ why. ClosesStoredInput c.args.id.now c.args.attempt (Err why)) (close_dead c.args.id.now c.args.attempt) c.stale_refusal.result (search rules) c.stale_refusal.ensures.looks c.stale_refusal.ensures.told)
 
 pub returns-then-not-is_live-clause-frame : goal.returns-then-not-is_live-clause-frame
 returns-then-not-is_live-clause-frame g c =
@@ -26,7 +26,7 @@ returns-then-not-is_live-clause-frame g c =
 
 pub returns-in_err-read_next-clause-does : goal.returns-in_err-read_next-clause-does
 returns-in_err-read_next-clause-does g c =
-    rw (← c.self.view_is) (none_read (λ r. ClosesInput c.args.id.now c.args.attempt r) (Event.Close c.args.id.now c.args.attempt) c.from_residual.result c.from_residual.ensures.1
+    rw (← c.self.view_is) (none_read (λ r. ClosesStoredInput c.args.id.now c.args.attempt r) (Event.Close c.args.id.now c.args.attempt) c.from_residual.result c.from_residual.ensures.1
     (λ why s t refused. refused) g.S.Store c.self.inside.tables c.read_next.new.tables c.self.inside.live c.read_next.new.live c.in_err-read_next.ensures.stays c.read_next.ensures.looks
     (λ why gives clean s is. subst (IsRefused []) (sym gives) (c.in_err-read_next.ensures.reads clean s is)))
 

@@ -1,7 +1,7 @@
 use Rattle.std.proofs.Common.{rules, ◌≡◌, true, refl, Err}
 use Rattle.store_live.specs.Attempts.{attempt_of}
 use Rattle.store_live_laws.specs.Agrees.{has_number}
-use Rattle.store_calls.specs.Frames.{Steps}
+use Rattle.store_calls.specs.Frames.{StepsAttempt}
 use Rattle.journal_store.specs.Stored.{stored}
 use Rattle.journal_store.specs.Causes.{TriesFrame}
 use Rattle.journal_store.proofs.Calls.{dead, step_dead}
@@ -28,7 +28,7 @@ returns-in-Err-clause-does g c =
 
 pub returns-then-not-is_live-clause-does : goal.returns-then-not-is_live-clause-does
 returns-then-not-is_live-clause-does g c =
-    rw (← c.self.view_is) (dead g.S.Store c.self.inside.tables c.stale_refusal.new.tables c.self.inside.live c.args.id.now c.args.attempt (λ why. Steps c.args.id.now c.args.attempt (Err why)) (step_dead c.args.id.now c.args.attempt) c.stale_refusal.result (search rules) c.stale_refusal.ensures.looks c.stale_refusal.ensures.told)
+    rw (← c.self.view_is) (dead g.S.Store c.self.inside.tables c.stale_refusal.new.tables c.self.inside.live c.args.id.now c.args.attempt (λ why. StepsAttempt c.args.id.now c.args.attempt (Err why)) (step_dead c.args.id.now c.args.attempt) c.stale_refusal.result (search rules) c.stale_refusal.ensures.looks c.stale_refusal.ensures.told)
 
 pub returns-in-Ok-Frame-clause-does : goal.returns-in-Ok-Frame-clause-does
 returns-in-Ok-Frame-clause-does g c = c.take_seen.ensures.does
