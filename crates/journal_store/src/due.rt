@@ -1,6 +1,6 @@
 // Which invocations are due, and when the next sleep ends.
 ghost use Rattle.std.specs.Prelude.{◌≡◌, not, filter, is_some, IfErr};
-ghost use Rattle.journal_model.specs.Attempt.{due as due_after};
+ghost use Rattle.journal_model.specs.Attempt.{due};
 ghost use Rattle.due_laws.specs.NextMoment.{IsNextMoment};
 ghost use Rattle.journal_store.specs.Stands.{IsQuiet, TellsAlways};
 ghost use Rattle.journal_store.specs.Words.{attempt_of};
@@ -24,7 +24,7 @@ impl<S: Alter + Drop> Store<S> {
     /// The invocations that are due, by id: open ones of which no attempt is live, and which an attempt begun now may go on, by what the
     /// last one was not handed. No journal is read for it: it costs what it lists and the live attempts, however many invocations are open.
     pub fn due(&mut self) -> Result<Vec<ByteStr>, Refusal>
-        ensures told { TellsAlways S.Store (λ events ids. ids.items ≡ due_after events) result self.old self.new }
+        ensures told { TellsAlways S.Store (λ events ids. ids.items ≡ due events) result self.old self.new }
         ensures live { self.new.live ≡ self.old.live }
         ensures cause { IfErr result (TellsWhy S.Store self.old self.new) }
         ensures crash { IsQuiet S.Store self.old self.new }

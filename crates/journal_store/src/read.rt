@@ -1,6 +1,6 @@
 // What a store tells of an invocation, and of an object.
 ghost use Rattle.std.specs.Prelude.{◌≡◌, map, IfErr};
-ghost use Rattle.journal_model.specs.Journal.{is_open as is_open_after, object_state};
+ghost use Rattle.journal_model.specs.Journal.{is_open, object_state};
 ghost use Rattle.store_model.specs.Kept.{state_row};
 ghost use Rattle.store_model.specs.Progress.{last_error_of};
 ghost use Rattle.store_invocations.specs.Told.{entries_told};
@@ -50,7 +50,7 @@ impl<S: Alter + Drop> Store<S> {
 
     /// Whether an invocation is open.
     pub fn is_open(&mut self, id: &ByteStr) -> Result<bool, Refusal>
-        ensures told { TellsOf S.Store id.now (λ events answer. answer ≡ is_open_after events id.now) result self.old self.new }
+        ensures told { TellsOf S.Store id.now (λ events answer. answer ≡ is_open events id.now) result self.old self.new }
         ensures live { self.new.live ≡ self.old.live }
         ensures cause { IfErr result (TellsWhy S.Store self.old self.new) }
         ensures crash { IsQuiet S.Store self.old self.new }

@@ -25,11 +25,11 @@ pub struct HeldAttempts<H> {
 impl<H> Model for HeldAttempts<H> {
     ghost use Rattle.std.specs.Prelude.{List};
     ghost use Rattle.std.specs.Coded.{coded_list};
-    ghost use Rattle.schedule_model.specs.declared.held.HeldAttempt.{HeldAttempt as Held};
+    ghost use Rattle.schedule_model.specs.declared.held.HeldAttempt.{HeldAttempt};
     ghost use Rattle.schedule_model.specs.HeldCode.{held_code};
     ghost use Rattle.schedule_model.specs.Indexed.{IsIndexed};
 
-    ghost Value = { List (Held H) };
+    ghost Value = { List (HeldAttempt H) };
 
     ghost coded = { coded_list (held_code H.code) };
 

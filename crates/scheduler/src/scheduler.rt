@@ -2,9 +2,9 @@
 ghost use Rattle.std.specs.Prelude.{◌≡◌, ◌<◌, ◌^◌, [], map, IfErr, IfSome};
 ghost use Rattle.sqlite.specs.Held.{state};
 ghost use Rattle.sqlite.specs.State.{HasCleanDisk};
-ghost use Rattle.journal_model.specs.Attempt.{due as due_after};
+ghost use Rattle.journal_model.specs.Attempt.{due};
 ghost use Rattle.journal_model.specs.Event as model;
-ghost use Rattle.journal_model.specs.Journal.{is_open as is_open_after, object_state};
+ghost use Rattle.journal_model.specs.Journal.{is_open, object_state};
 ghost use Rattle.due_laws.specs.NextMoment.{IsNextMoment};
 ghost use Rattle.store_model.specs.Kept.{state_row};
 ghost use Rattle.store_model.specs.Progress.{last_error_of};
@@ -310,7 +310,7 @@ impl<H: Handler + Drop, S: Alter + Drop> Scheduler<H, S> {
 
     /// Whether an invocation is open.
     pub fn is_open(&mut self, id: &ByteStr) -> Result<bool, Refusal>
-        ensures told { TellsOf S.Store id.now (λ events is_open. is_open ≡ is_open_after events id.now) result self.old self.new }
+        ensures told { TellsOf S.Store id.now (λ events answer. answer ≡ is_open events id.now) result self.old self.new }
         ensures kept { self.new ≡ record self.old { store = self.new.store } }
         ensures cause { IfErr result (TellsWhy S.Store self.old.store self.new.store) }
         ensures crash { IsQuiet S.Store self.old.store self.new.store }
@@ -331,7 +331,7 @@ impl<H: Handler + Drop, S: Alter + Drop> Scheduler<H, S> {
     /// The invocations that are due, by id: of each an attempt that is begun now may go on. After a store was opened these are also those
     /// whose attempts were live when it was left.
     pub fn due(&mut self) -> Result<Vec<ByteStr>, Refusal>
-        ensures told { TellsAlways S.Store (λ events ids. ids.items ≡ due_after events) result self.old self.new }
+        ensures told { TellsAlways S.Store (λ events ids. ids.items ≡ due events) result self.old self.new }
         ensures kept { self.new ≡ record self.old { store = self.new.store } }
         ensures cause { IfErr result (TellsWhy S.Store self.old.store self.new.store) }
         ensures crash { IsQuiet S.Store self.old.store self.new.store }

@@ -4,7 +4,7 @@ use Rattle.std.specs.List.{AllByRecursion}
 use Rattle.sqlite_value.specs.Order.{Row}
 use Rattle.sqlite_value.specs.declared.value.Value.TheVariants.{Text}
 use Rattle.sqlite_trees.specs.Tree.{Trees}
-use Rattle.sqlite_schema.specs.declared.schema.Constraint.TheVariants.{Unique as UniqueRule}
+use Rattle.sqlite_schema.specs.declared.schema.Constraint.TheVariants.{Unique}
 use Rattle.sqlite_schema.specs.declared.schema.Index.{Index}
 use Rattle.sqlite_schema.specs.declared.command.Command.{Command}
 use Rattle.sqlite_schema.specs.declared.command.Returning.{Returning}
@@ -145,9 +145,9 @@ pub record IsIndexable (schema : Schema) (sql : List ℕ) (table : Table) (index
 
 -- tables without rows break no rule
 keep_none : (schema : Schema) (db : Trees) (tables : List Table) → AllByRecursion (λ t. db t.tree ≡ []) tables
-    → AllByRecursion (λ t. AllByRecursion (λ row. passes UniqueRule schema db t row ≡ true) (db t.tree)) tables
+    → AllByRecursion (λ t. AllByRecursion (λ row. passes Unique schema db t row ≡ true) (db t.tree)) tables
 keep_none schema db [] bare = tt
-keep_none schema db (t ∷ tables) bare = (subst (AllByRecursion (λ row. passes UniqueRule schema db t row ≡ true)) (sym bare.0) tt, keep_none schema db tables bare.1)
+keep_none schema db (t ∷ tables) bare = (subst (AllByRecursion (λ row. passes Unique schema db t row ≡ true)) (sym bare.0) tt, keep_none schema db tables bare.1)
 
 module _ (schema : Schema) (sql : List ℕ) (at : ℕ) (table : Table) (index : Index) (makes : IsIndexing schema sql at table index) (it : IsIndexable schema sql table index) where
   same_index : (i : Index) → index_defined_by table sql ≡ Ok i → i ≡ index

@@ -3,7 +3,7 @@
 ghost use Rattle.std.specs.Prelude.{◌≡◌, IfSome, IsUtf8};
 ghost use Rattle.sqlite.specs.Values.{bound_value, or_null};
 ghost use Rattle.sqlite_value.specs.Value.{owned};
-ghost use Rattle.sqlite_value.specs.declared.value.Value.TheVariants.{Blob, Text as Words};
+ghost use Rattle.sqlite_value.specs.declared.value.Value.TheVariants.{Blob, Text};
 ghost use Rattle.sql_tables.specs.Cells.{IsLong, IsShort, flag_cell, long_cell, short_cell};
 
 use bytes::{ByteStr, Bytes};
@@ -11,7 +11,7 @@ use sqlite::types::{ToSql, ValueRef};
 
 /// A text as a text of SQL.
 pub fn text(text: &ByteStr) -> ValueRef<'_>
-    ensures cell { bound_value (owned result) ≡ Words text.now }
+    ensures cell { bound_value (owned result) ≡ Text text.now }
     ensures fits { IsUtf8 text.now }
 {
     ValueRef::Text(text.as_bytes().as_slice())
@@ -49,7 +49,7 @@ pub fn flag<'a>(b: bool) -> ValueRef<'a>
 
 /// A text, or NULL for none.
 pub fn text_or_null(value: &Option<ByteStr>) -> ValueRef<'_>
-    ensures cell { bound_value (owned result) ≡ or_null Words value.now }
+    ensures cell { bound_value (owned result) ≡ or_null Text value.now }
     ensures fits { IfSome value.now IsUtf8 }
 {
     match value {

@@ -4,7 +4,7 @@ ghost use Rattle.std.specs.Prelude.{◌≡◌, false, IfErr, IfOk, IsTrue, OnOk}
 ghost use Rattle.sqlite.specs.Held.{state};
 ghost use Rattle.sqlite.specs.State.{HasCleanDisk, KeepsCommit, Survives};
 ghost use Rattle.sqlite.specs.Values.{bound};
-ghost use Rattle.sqlite.specs.declared.error.Error.{Error as SqlError};
+ghost use Rattle.sqlite.specs.declared.error.Error.{Error};
 ghost use Rattle.sql_tables.specs.QueryAnswers.{HasRun, IsAnswer, AreTablesKept};
 ghost use Rattle.sql_tables.specs.Causes.{IsQuestion, RefusesToRun, TellsReadCause};
 
@@ -20,7 +20,7 @@ pub fn rows_by<S: Alter>(
 ) -> Result<Vec<Row>, ReadError>
     requires { (state S.Store conn.old).in_transaction ≡ false }
     ensures answers { HasCleanDisk (state S.Store conn.new) → IfOk result (λ rows. IsTrue (state S.Store conn.old).is_open × IsAnswer sql.now (bound params.now) (state S.Store conn.old) rows.items) }
-    ensures refused { IfErr result (λ e. (cause : SqlError) × (e ≡ ReadError.Refused cause)) }
+    ensures refused { IfErr result (λ e. (cause : Error) × (e ≡ ReadError.Refused cause)) }
     ensures cause { IsQuestion sql.now (bound params.now) (state S.Store conn.old) → IfErr result (TellsReadCause (state S.Store conn.old) (state S.Store conn.new)) }
     ensures kept { AreTablesKept (state S.Store conn.old) (state S.Store conn.new) }
     ensures idle { (state S.Store conn.new).in_transaction ≡ false }

@@ -2,7 +2,7 @@
 
 ghost use Rattle.std.specs.Prelude.{◌≡◌, ◌<◌, ◌↔◌, ⊤, length, IfErr, IfOk, IfSome, IsTrue, IsUtf8};
 ghost use Rattle.sqlite.specs.Values.{or_null};
-ghost use Rattle.sqlite_value.specs.declared.value.Value.TheVariants.{Blob, Null, Text as Words};
+ghost use Rattle.sqlite_value.specs.declared.value.Value.TheVariants.{Blob, Null, Text};
 ghost use Rattle.sqlite_value.specs.Order.{column};
 ghost use Rattle.sql_tables.specs.Cells.{IsLong, IsShort, flag_cell, long_cell, short_cell};
 ghost use Rattle.sql_tables.specs.CellReads.{IsCell, IsForeign};
@@ -59,8 +59,8 @@ impl From<RowError> for ReadError {
 
 /// A text of SQL that is UTF-8.
 pub fn text_at(alloc: Global, row: &Row, at: usize) -> Result<ByteStr, RowError>
-    ensures ok { IfOk result (IsCell Words IsUtf8 row.now at) }
-    ensures foreign { IfErr result (λ e. e ≡ RowError.Foreign → IsForeign Words IsUtf8 row.now at) }
+    ensures ok { IfOk result (IsCell Text IsUtf8 row.now at) }
+    ensures foreign { IfErr result (λ e. e ≡ RowError.Foreign → IsForeign Text IsUtf8 row.now at) }
 {
     match row.get_ref(at) {
         Ok(ValueRef::Text(bytes)) => match std::str::from_utf8(bytes) {
@@ -124,8 +124,8 @@ fn is_null_at(row: &Row, at: usize) -> bool
 
 /// A text, or none for NULL.
 pub fn text_or_none_at(alloc: Global, row: &Row, at: usize) -> Result<Option<ByteStr>, RowError>
-    ensures ok { IfOk result (IsCell (or_null Words) (λ o. IfSome o IsUtf8) row.now at) }
-    ensures foreign { IfErr result (λ e. e ≡ RowError.Foreign → IsForeign (or_null Words) (λ o. IfSome o IsUtf8) row.now at) }
+    ensures ok { IfOk result (IsCell (or_null Text) (λ o. IfSome o IsUtf8) row.now at) }
+    ensures foreign { IfErr result (λ e. e ≡ RowError.Foreign → IsForeign (or_null Text) (λ o. IfSome o IsUtf8) row.now at) }
 {
     if is_null_at(row, at) {
         return Ok(None);

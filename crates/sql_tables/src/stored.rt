@@ -6,7 +6,7 @@ ghost use Rattle.std.specs.Option.{option_to_list};
 ghost use Rattle.sqlite.specs.Held.{state};
 ghost use Rattle.sqlite.specs.State.{HasCleanDisk, Survives};
 ghost use Rattle.sqlite.specs.Values.{bound};
-ghost use Rattle.sqlite_value.specs.Order.{Row as Cells};
+ghost use Rattle.sqlite_value.specs.Order.{Row};
 ghost use Rattle.sql_tables.specs.QueryAnswers.{IsAnswer, AreTablesKept, IsOtherRow};
 ghost use Rattle.sql_tables.specs.Causes.{IsQuestion, TellsReadCause};
 
@@ -19,7 +19,7 @@ use std::alloc::{AllocError, Global};
 /// A record that is kept as a row.
 pub trait Stored: Drop + Sized {
     // The cells of its row, and what each value of the type is.
-    ghost cells: { Self → Cells };
+    ghost cells: { Self → Row };
 
     ghost fits: { Self → Type 0 };
 

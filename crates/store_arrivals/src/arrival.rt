@@ -2,7 +2,7 @@
 
 ghost use Rattle.std.specs.Prelude.{◌≡◌, ◌+◌, ◌<◌, ◌^◌, ◌∷◌, [], IfErr, IfOk};
 ghost use Rattle.journal_model.specs.Spelling.{notification_payload};
-ghost use Rattle.store_tables.specs.declared.row.Write.{Write as RowWrite};
+ghost use Rattle.store_tables.specs.declared.row.Write.{Write};
 ghost use Rattle.store_model.specs.Kept.{answered_by};
 ghost use Rattle.store_model.specs.Steps.{grown};
 ghost use Rattle.store_refusals.specs.Causes.{IsUnasked};
@@ -88,7 +88,7 @@ fn two_writes(
     id: ByteStr,
     progress: Progress,
 ) -> Result<Vec<Write>, AllocError>
-    ensures { IfOk result (λ writes. writes.items ≡ RowWrite.AddEntry entry ∷ RowWrite.SetProgress id progress ∷ []) }
+    ensures { IfOk result (λ writes. writes.items ≡ Write.AddEntry entry ∷ Write.SetProgress id progress ∷ []) }
 {
     let mut writes = Vec::new(alloc);
     writes.push(Write::AddEntry(entry))?;
@@ -98,7 +98,7 @@ fn two_writes(
 
 fn writes_of(alloc: Global, row: InvocationRow, entry: EntryRow) -> Result<Vec<Write>, AllocError>
     requires { row.progress.entries + 1 < 2 ^ 32 }
-    ensures { HasFewArrivals row.progress → IfOk result (λ writes. writes.items ≡ RowWrite.AddEntry entry ∷ RowWrite.SetProgress row.id (grown 1 1 row.progress) ∷ []) }
+    ensures { HasFewArrivals row.progress → IfOk result (λ writes. writes.items ≡ Write.AddEntry entry ∷ Write.SetProgress row.id (grown 1 1 row.progress) ∷ []) }
 {
     let InvocationRow {
         id,

@@ -9,7 +9,7 @@ ghost use Rattle.protocol_types.specs.MessageType.{named_type};
 ghost use Rattle.store_tables.specs.Looks.{OnlyAsks};
 ghost use Rattle.store_refusals.specs.Prepared.{TellsOrRefuses};
 ghost use Rattle.store_invocations.specs.Rows.{IsStoreOf};
-ghost use Rattle.store_arrivals.specs.Asked.{as_second, completion_asked_by, completion_for, first_type as the_first_type, is_run_command, second_type as the_second_type, type_for};
+ghost use Rattle.store_arrivals.specs.Asked.{as_second, completion_asked_by, completion_for, first_type, is_run_command, second_type, type_for};
 ghost use Rattle.store_refusals.specs.Causes.{TellsCause};
 
 use bytes::ByteStr;
@@ -72,7 +72,7 @@ fn first_type<S: Alter>(
     id: &ByteStr,
     completion: u32,
 ) -> Result<Option<MessageType>, Refusal>
-    ensures told { HasCleanDisk (state S.Store tables.new) → (events : List Event) → IsStoreOf events (state S.Store tables.old) → TellsOrRefuses (λ ty. ty ≡ option_and_then (the_first_type completion) (request_asking (entries_of events id.now) completion)) result }
+    ensures told { HasCleanDisk (state S.Store tables.new) → (events : List Event) → IsStoreOf events (state S.Store tables.old) → TellsOrRefuses (λ ty. ty ≡ option_and_then (first_type completion) (request_asking (entries_of events id.now) completion)) result }
     ensures looks { OnlyAsks S.Store tables.old tables.new }
     ensures cause { IfErr result (TellsCause (state S.Store tables.old) (state S.Store tables.new)) }
 {
@@ -88,7 +88,7 @@ fn second_type<S: Alter>(
     id: &ByteStr,
     completion: u32,
 ) -> Result<Option<MessageType>, Refusal>
-    ensures told { HasCleanDisk (state S.Store tables.new) → (events : List Event) → IsStoreOf events (state S.Store tables.old) → TellsOrRefuses (λ ty. ty ≡ option_and_then (the_second_type completion) (request_asking (entries_of events id.now) completion)) result }
+    ensures told { HasCleanDisk (state S.Store tables.new) → (events : List Event) → IsStoreOf events (state S.Store tables.old) → TellsOrRefuses (λ ty. ty ≡ option_and_then (second_type completion) (request_asking (entries_of events id.now) completion)) result }
     ensures looks { OnlyAsks S.Store tables.old tables.new }
     ensures cause { IfErr result (TellsCause (state S.Store tables.old) (state S.Store tables.new)) }
 {

@@ -1,7 +1,7 @@
 //! The ends of the sleeps of one invocation: their entries, and how far the invocation is then.
 
 ghost use Rattle.std.specs.Prelude.{◌≡◌, ◌+◌, ◌<◌, ◌≤◌, ◌^◌, ◌++◌, ◌∷◌, [], true, false, length, map, IfErr, IfOk, OnOk};
-ghost use Rattle.store_tables.specs.declared.row.Write.{Write as RowWrite};
+ghost use Rattle.store_tables.specs.declared.row.Write.{Write};
 ghost use Rattle.store_model.specs.Steps.{grown};
 ghost use Rattle.store_refusals.specs.Causes.{IsUnasked};
 ghost use Rattle.store_invocations.specs.Rows.{Decides};
@@ -59,7 +59,7 @@ fn end_each(
 ) -> Result<(), AllocError>
     requires room { place + length completions.now < 2 ^ 32 }
     requires few { before ≤ place }
-    ensures { OnOk result (writes.new.items ≡ writes.old.items ++ map RowWrite.AddEntry (end_rows id.now place before completions.now)) }
+    ensures { OnOk result (writes.new.items ≡ writes.old.items ++ map Write.AddEntry (end_rows id.now place before completions.now)) }
 {
     let mut next = place;
     let mut known = before;
@@ -94,7 +94,7 @@ fn lacks_places(entries: u32, more: usize) -> bool
 
 /// How far the invocation is then, written behind the ends of its sleeps.
 fn set_progress(id: ByteStr, progress: Progress, writes: &mut Vec<Write>) -> Result<(), AllocError>
-    ensures { OnOk result (writes.new.items ≡ writes.old.items ++ RowWrite.SetProgress id progress ∷ []) }
+    ensures { OnOk result (writes.new.items ≡ writes.old.items ++ Write.SetProgress id progress ∷ []) }
 {
     writes.push(Write::SetProgress { id, progress })?;
     Ok(())

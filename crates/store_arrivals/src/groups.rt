@@ -1,7 +1,7 @@
 //! The sleeps that are due, those of an invocation side by side, as one group an invocation.
 
 ghost use Rattle.std.specs.Prelude.{◌≡◌, ◌∷◌, [], map, IfOk, OnOk};
-ghost use Rattle.store_arrivals.specs.Groups.{grouped, put_first as put_before};
+ghost use Rattle.store_arrivals.specs.Groups.{grouped, put_first};
 ghost use Rattle.store_arrivals.specs.Grouped.{as_group, is_first, groups_joined};
 
 use bytes::ByteStr;
@@ -53,7 +53,7 @@ fn put_first(
     groups: &mut VecDeque<SleepGroup>,
     row: SleepRow,
 ) -> Result<(), AllocError>
-    ensures { OnOk result (map as_group groups.new.items ≡ put_before row (map as_group groups.old.items)) }
+    ensures { OnOk result (map as_group groups.new.items ≡ put_first row (map as_group groups.old.items)) }
 {
     let SleepRow {
         moment: _,

@@ -6,7 +6,7 @@ ghost use Rattle.journal_model.specs.AwaitTree.{is_completed};
 ghost use Rattle.protocol_trees.specs.Shape.{state_meant};
 ghost use Rattle.protocol_trees.specs.Future.{future_tree};
 ghost use Rattle.store_frames.specs.First.{AreFirst};
-ghost use Rattle.store_arrivals.specs.Named.{names_any as tree_names_any};
+ghost use Rattle.store_arrivals.specs.Named.{names_any};
 
 use protocol_records::Future;
 use protocol_trees::{AwaitState, AwaitTree};
@@ -21,7 +21,7 @@ fn has_come(state: AwaitState) -> bool
 
 /// Whether a leaf of a future's tree is the id of one of these arrivals.
 pub(crate) fn names_any(awaited: &Future, first: &FirstArrivals) -> bool
-    ensures { (arrivals : List Arrival) → AreFirst first.now arrivals → result ≡ tree_names_any arrivals (future_tree awaited.now) }
+    ensures { (arrivals : List Arrival) → AreFirst first.now arrivals → result ≡ names_any arrivals (future_tree awaited.now) }
 {
     for index in 0..awaited.leaf_count() {
         if has_come(first.state(awaited.leaf(index))) {

@@ -3,7 +3,7 @@
 ghost use Rattle.std.specs.Prelude.{◌≡◌, List, IfErr};
 ghost use Rattle.sqlite.specs.Held.{state};
 ghost use Rattle.sqlite.specs.State.{HasCleanDisk};
-ghost use Rattle.journal_model.specs.declared.notification.NotificationId.TheVariants.{CompletionId as ModelId};
+ghost use Rattle.journal_model.specs.declared.notification.NotificationId.TheVariants.{CompletionId};
 ghost use Rattle.journal_model.specs.Event.{Event};
 ghost use Rattle.journal_model.specs.Journal.{entries_of};
 ghost use Rattle.journal_model.specs.Attempt.{notification_type};
@@ -35,7 +35,7 @@ fn type_of_result<S: Alter>(
     brought: &NotificationResult,
 ) -> Result<MessageType, Refusal>
     ensures decided { HasCleanDisk (state S.Store tables.new) → (events : List Event) → IsStoreOf events (state S.Store tables.old)
-        → Decides (completion_tests events id.now completion brought.now) (λ ty. ty ≡ notification_type (entries_of events id.now) (ModelId completion)) result }
+        → Decides (completion_tests events id.now completion brought.now) (λ ty. ty ≡ notification_type (entries_of events id.now) (CompletionId completion)) result }
     ensures looks { OnlyAsks S.Store tables.old tables.new }
     ensures cause { IfErr result (TellsCause (state S.Store tables.old) (state S.Store tables.new)) }
 {

@@ -6,11 +6,11 @@ ghost use Rattle.sqlite.specs.State.{HasCleanDisk};
 ghost use Rattle.journal_model.specs.Event.{Event};
 ghost use Rattle.journal_model.specs.Journal.{is_open};
 ghost use Rattle.store_tables.specs.Looks.{OnlyAsks};
-ghost use Rattle.store_model.specs.Sleeps.{due_until as the_last_due};
+ghost use Rattle.store_model.specs.Sleeps.{due_until};
 ghost use Rattle.store_refusals.specs.Prepared.{Prepares};
 ghost use Rattle.store_arrivals.specs.Grouped.{as_group};
 ghost use Rattle.store_invocations.specs.Rows.{Decides, IsOpenRow, IsStoreOf};
-ghost use Rattle.store_arrivals.specs.Woken.{ends_of as the_ends_of, row_then};
+ghost use Rattle.store_arrivals.specs.Woken.{ends_of, row_then};
 ghost use Rattle.store_arrivals.specs.Made.{AreEndsOf, AreGroupsEnded, AreOpen, IsEndedUntil, IsGroupEnded, IsTickReady, closed_until, group_tests, room_tests, tests_of};
 ghost use Rattle.store_refusals.specs.Causes.{TellsCause};
 
@@ -36,14 +36,14 @@ pub struct PreparedTick {
 
 /// The last moment by which a tick at this one ends sleeps: a later one is never due.
 fn due_until(now: u64) -> u64
-    ensures { result ≡ the_last_due now }
+    ensures { result ≡ due_until now }
 {
     now.min(NEVER - 1)
 }
 
 /// The ends of these sleeps, as they arrive.
 fn ends_of(alloc: Global, completions: &[u32]) -> Result<Vec<Notification>, AllocError>
-    ensures { IfOk result (λ ends. ends.items ≡ the_ends_of completions.now) }
+    ensures { IfOk result (λ ends. ends.items ≡ ends_of completions.now) }
 {
     completions
         .iter()
@@ -62,7 +62,7 @@ fn end_open<S: Alter>(
     writes: &mut Vec<Write>,
 ) -> Result<(), Refusal>
     ensures decided { HasCleanDisk (state S.Store tables.new) → (events : List Event) → (id : List ℕ) → IsStoreOf events (state S.Store tables.old) → IsOpenRow events id row
-        → Decides (room_tests row.progress.entries (length completions.now)) (λ _. AreEndsOf (row_then events id (the_ends_of completions.now) row) completions.now writes.old.items writes.new.items) result }
+        → Decides (room_tests row.progress.entries (length completions.now)) (λ _. AreEndsOf (row_then events id (ends_of completions.now) row) completions.now writes.old.items writes.new.items) result }
     ensures looks { OnlyAsks S.Store tables.old tables.new }
     ensures cause { IfErr result (TellsCause (state S.Store tables.old) (state S.Store tables.new)) }
 {

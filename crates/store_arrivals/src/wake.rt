@@ -6,7 +6,7 @@ ghost use Rattle.sqlite.specs.State.{HasCleanDisk};
 ghost use Rattle.journal_model.specs.Notification.{Arrival};
 ghost use Rattle.journal_model.specs.Event.{Event, Frame, Suspension};
 ghost use Rattle.journal_model.specs.Journal.{recorded_arrivals};
-ghost use Rattle.journal_model.specs.Attempt.{is_woken as is_model_woken};
+ghost use Rattle.journal_model.specs.Attempt.{is_woken};
 ghost use Rattle.protocol_types.specs.Version.{version_number};
 ghost use Rattle.protocol_trees.specs.Future.{future_tree};
 ghost use Rattle.store_frames.specs.Answer.{KeepsSuspension};
@@ -18,7 +18,7 @@ ghost use Rattle.store_tables.specs.Looks.{OnlyAsks};
 ghost use Rattle.store_refusals.specs.Prepared.{TellsOrRefuses};
 ghost use Rattle.store_invocations.specs.Rows.{IsStoreOf};
 ghost use Rattle.store_arrivals.specs.Woken.{AreRowsOf, fault_refusal};
-ghost use Rattle.store_arrivals.specs.Named.{names_any as tree_names_any};
+ghost use Rattle.store_arrivals.specs.Named.{names_any};
 ghost use Rattle.store_refusals.specs.Causes.{IsUnasked, TellsCause};
 
 use crate::named::names_any;
@@ -100,7 +100,7 @@ fn heard_after<S: Alter>(
 /// Whether what was heard, if it was, wakes what is awaited.
 fn woken_by(awaited: Future, heard: Result<FirstArrivals, Refusal>) -> Result<bool, Refusal>
     ensures told { (suspension : Suspension) (arrivals : List Arrival) → IsAwaited suspension awaited → TellsOrRefuses (λ first. AreFirst first arrivals) heard
-        → TellsOrRefuses (λ woken. woken ≡ is_model_woken arrivals (Some suspension)) result }
+        → TellsOrRefuses (λ woken. woken ≡ is_woken arrivals (Some suspension)) result }
     ensures refused { IfErr result (λ why. heard ≡ Err why) }
 {
     match heard {
@@ -129,7 +129,7 @@ pub fn is_woken<S: Alter>(
 ) -> Result<bool, Refusal>
     ensures told { HasCleanDisk (state S.Store tables.new) → (events : List Event) → IsStoreOf events (state S.Store tables.old)
         → (waits : Suspension) → IsFrameRead (version_number version) (Frame.Suspend (Some waits)) → KeepsSuspension waits suspension.now
-        → TellsOrRefuses (λ woken. woken ≡ is_model_woken (without heard (recorded_arrivals events id.now) ++ new.now) (Some waits)) result }
+        → TellsOrRefuses (λ woken. woken ≡ is_woken (without heard (recorded_arrivals events id.now) ++ new.now) (Some waits)) result }
     ensures looks { OnlyAsks S.Store tables.old tables.new }
     ensures cause { IfErr result (TellsCause (state S.Store tables.old) (state S.Store tables.new)) }
 {
@@ -144,7 +144,7 @@ pub fn is_woken<S: Alter>(
 
 /// Whether a leaf of what is awaited is the id of one of these arrivals.
 fn is_named(alloc: Global, awaited: &Future, new: &[Notification]) -> Result<bool, Refusal>
-    ensures told { TellsOrRefuses (λ named. named ≡ tree_names_any new.now (future_tree awaited.now)) result }
+    ensures told { TellsOrRefuses (λ named. named ≡ names_any new.now (future_tree awaited.now)) result }
     ensures unasked { IfErr result IsUnasked }
 {
     match with_new(Ok(FirstArrivals::new(alloc)), new) {
@@ -166,8 +166,8 @@ fn woken_by_new<S: Alter>(
     new: &[Notification],
 ) -> Result<bool, Refusal>
     ensures told { HasCleanDisk (state S.Store tables.new) → (events : List Event) → IsStoreOf events (state S.Store tables.old)
-        → (waits : Suspension) → IsAwaited waits awaited → is_model_woken (without heard (recorded_arrivals events id.now)) (Some waits) ≡ false
-        → TellsOrRefuses (λ woken. woken ≡ is_model_woken (without heard (recorded_arrivals events id.now) ++ new.now) (Some waits)) result }
+        → (waits : Suspension) → IsAwaited waits awaited → is_woken (without heard (recorded_arrivals events id.now)) (Some waits) ≡ false
+        → TellsOrRefuses (λ woken. woken ≡ is_woken (without heard (recorded_arrivals events id.now) ++ new.now) (Some waits)) result }
     ensures looks { OnlyAsks S.Store tables.old tables.new }
     ensures cause { IfErr result (TellsCause (state S.Store tables.old) (state S.Store tables.new)) }
 {
@@ -199,8 +199,8 @@ pub(crate) fn is_woken_by_new<S: Alter>(
 ) -> Result<bool, Refusal>
     ensures told { HasCleanDisk (state S.Store tables.new) → (events : List Event) → IsStoreOf events (state S.Store tables.old)
         → (waits : Suspension) → IsFrameRead (version_number version) (Frame.Suspend (Some waits)) → KeepsSuspension waits suspension.now
-        → is_model_woken (without heard (recorded_arrivals events id.now)) (Some waits) ≡ false
-        → TellsOrRefuses (λ woken. woken ≡ is_model_woken (without heard (recorded_arrivals events id.now) ++ new.now) (Some waits)) result }
+        → is_woken (without heard (recorded_arrivals events id.now)) (Some waits) ≡ false
+        → TellsOrRefuses (λ woken. woken ≡ is_woken (without heard (recorded_arrivals events id.now) ++ new.now) (Some waits)) result }
     ensures looks { OnlyAsks S.Store tables.old tables.new }
     ensures cause { IfErr result (TellsCause (state S.Store tables.old) (state S.Store tables.new)) }
 {

@@ -14,7 +14,7 @@ use Rattle.sqlite_trees.specs.declared.store.Shape.TheVariants.{Absent, Table as
 use Rattle.sqlite_schema.specs.declared.schema.Schema.{Schema}
 use Rattle.sqlite_schema.specs.declared.schema.Table.{Table}
 use Rattle.sqlite_schema.specs.declared.schema.Index.{Index}
-use Rattle.sqlite_schema.specs.declared.schema.View.{View as Stored}
+use Rattle.sqlite_schema.specs.declared.schema.View.{View}
 use Rattle.sqlite_value.specs.Order.{Row}
 use Rattle.sqlite_catalog.specs.Listing.{IsSound, Lists, IsTableRow, IsIndexRow, IsViewRow, is_table_row, is_index_row, is_view_row}
 use Rattle.sqlite_store.specs.declared.catalog.Wanted.{Wanted}
@@ -37,7 +37,7 @@ none_of : {A B : Type 0} (R : A → B → Type 0) (ys : List B) → AllZip R [] 
 none_of R [] all = refl
 none_of R (y ∷ ys) all = absurd all
 
-one_of : (tables : List Table) (indexes : List Index) (views : List Stored) → tables ≡ [] → indexes ≡ [] → views ≡ []
+one_of : (tables : List Table) (indexes : List Index) (views : List View) → tables ≡ [] → indexes ≡ [] → views ≡ []
     → record { tables = tables; indexes = indexes; views = views } ≡ no_schema
 one_of tables indexes views a b c = rw a (rw b (rw c refl))
 
@@ -51,7 +51,7 @@ pub bare : (schema : Schema) (trees : Trees) → trees catalog_tree ≡ [] → I
 bare schema trees empty sound = listed_none (trees catalog_tree) schema empty sound.lists
 
 -- there are tables, indexes or views, or there are none
-one_or_not : (tables : List Table) (indexes : List Index) (views : List Stored)
+one_or_not : (tables : List Table) (indexes : List Index) (views : List View)
     → (record { tables = tables; indexes = indexes; views = views } ≡ no_schema) ⊎ (record { tables = tables; indexes = indexes; views = views } ≡ no_schema → ⊥)
 one_or_not [] [] [] = inl refl
 one_or_not [] [] (view ∷ views) = inr (λ e. let same = ap (λ (s : Schema). s.views) e in cc)

@@ -6,7 +6,7 @@ use Rattle.sqlite_pool.specs.Pool.{files}
 use Rattle.sqlite_schema.specs.declared.schema.Schema.{Schema}
 use Rattle.sqlite_schema.specs.declared.schema.Table.{Table}
 use Rattle.sqlite_schema.specs.declared.schema.Index.{Index}
-use Rattle.sqlite_schema.specs.declared.schema.View.{View as Stored}
+use Rattle.sqlite_schema.specs.declared.schema.View.{View}
 use Rattle.sqlite_catalog.specs.Listing.{IsSound, Lists, IsTableRow, IsIndexRow, IsViewRow}
 use Rattle.sqlite_trees.specs.Objects.{catalog_tree}
 use Rattle.sqlite_trees.specs.Tree.{Trees}
@@ -40,7 +40,7 @@ beside_none : {A B : Type 0} (R : A → B → Type 0) (others : List B) → AllZ
 beside_none R [] all = refl
 beside_none R (other ∷ others) all = absurd all
 
-of_none : (tables : List Table) (indexes : List Index) (views : List Stored) → tables ≡ [] → indexes ≡ [] → views ≡ []
+of_none : (tables : List Table) (indexes : List Index) (views : List View) → tables ≡ [] → indexes ≡ [] → views ≡ []
     → record { tables = tables; indexes = indexes; views = views } ≡ no_schema
 of_none tables indexes views a b c = rw a (rw b (rw c refl))
 

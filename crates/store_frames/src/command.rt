@@ -1,6 +1,6 @@
 // What a command is read as.
 ghost use Rattle.std.specs.Prelude.{◌≡◌, Option, None, IfOk, true, option_map};
-ghost use Rattle.protocol_wire.specs.declared.record.TheConstants.{LEVELS as the_levels};
+ghost use Rattle.protocol_wire.specs.declared.record.TheConstants.{LEVELS};
 ghost use Rattle.journal_model.specs.Request.{Request};
 ghost use Rattle.store_frames.specs.Commands.{SpellsRequests, asked_for};
 ghost use Rattle.store_frames.specs.Told.{told_as, told_command, told_request};
@@ -113,7 +113,7 @@ pub(crate) fn read_command<R: CommandRecord>(
     alloc: Global,
     payload: &[u8],
 ) -> Result<AttemptFrame, AllocError>
-    ensures { IfOk result (λ frame. frame ≡ told_as R.record_type (λ fs. told_request (R.request_of (R.of the_levels fs))) payload.now) }
+    ensures { IfOk result (λ frame. frame ≡ told_as R.record_type (λ fs. told_request (R.request_of (R.of LEVELS fs))) payload.now) }
 {
     match decode::<R>(alloc, payload) {
         Ok(one) => {

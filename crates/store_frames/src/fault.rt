@@ -1,8 +1,8 @@
 // Payloads with which something is wrong.
 ghost use Rattle.std.specs.Prelude.{◌≡◌};
 ghost use Rattle.protocol_wire.specs.Check.{payload_fault};
-ghost use Rattle.protocol_wire.specs.declared.record.TheConstants.{LEVELS as the_levels};
-ghost use Rattle.store_frames.specs.Kind.{record_of as the_record_of};
+ghost use Rattle.protocol_wire.specs.declared.record.TheConstants.{LEVELS};
+ghost use Rattle.store_frames.specs.Kind.{record_of};
 ghost use Rattle.store_frames.specs.Told.{told_faulty, told_if_record, told_unless_faulty};
 
 use crate::frame::AttemptFrame;
@@ -21,7 +21,7 @@ pub(crate) fn faulty(fault: Fault) -> AttemptFrame
 
 /// The frame, of whose record nothing is kept, unless its payload has a fault.
 pub(crate) fn unless_faulty(of: RecordType, payload: &[u8], frame: AttemptFrame) -> AttemptFrame
-    ensures { result ≡ told_unless_faulty (payload_fault the_levels of payload.now) frame }
+    ensures { result ≡ told_unless_faulty (payload_fault LEVELS of payload.now) frame }
 {
     match fault_in(of, &Payload::new(payload), LEVELS) {
         None => frame,
@@ -34,7 +34,7 @@ pub(crate) fn unless_faulty(of: RecordType, payload: &[u8], frame: AttemptFrame)
 
 /// The frame, of whose record nothing is kept, unless its payload has a fault. A custom entry is never accepted.
 pub(crate) fn read_other(ty: MessageType, payload: &[u8], frame: AttemptFrame) -> AttemptFrame
-    ensures { result ≡ told_if_record (the_record_of ty) (λ fs. frame) payload.now }
+    ensures { result ≡ told_if_record (record_of ty) (λ fs. frame) payload.now }
 {
     match record_of(ty) {
         Some(of) => unless_faulty(of, payload, frame),

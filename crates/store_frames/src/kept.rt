@@ -8,7 +8,7 @@ ghost use Rattle.protocol_wire.specs.Wire.{Field};
 ghost use Rattle.protocol_wire.specs.Listed.{coming};
 ghost use Rattle.protocol_wire.specs.Seen.{field};
 ghost use Rattle.store_frames.specs.First.{IsPut, first_state, await_state_of};
-ghost use Rattle.store_frames.specs.Kept.{AreBoth, Names, ReadsKept, SignalFits, completion_in, state_by as the_state_by};
+ghost use Rattle.store_frames.specs.Kept.{AreBoth, Names, ReadsKept, SignalFits, completion_in, state_by};
 
 use crate::first::FirstArrivals;
 use crate::kept_fault::KeptFault;
@@ -30,7 +30,7 @@ fn both_fields<'a>(all: Fields<'a>) -> Option<(ScannedField<'a>, ScannedField<'a
 
 /// What the field with this number carries comes to.
 fn state_by(number: u32) -> AwaitState
-    ensures { result ≡ the_state_by number }
+    ensures { result ≡ state_by number }
 {
     if number == FAILURE.number {
         AwaitState::Failed

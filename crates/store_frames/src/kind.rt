@@ -1,6 +1,6 @@
 // What frames attempts write.
 ghost use Rattle.std.specs.Prelude.{◌≡◌};
-ghost use Rattle.store_frames.specs.Kind.{frame_kind, record_of as the_record_of};
+ghost use Rattle.store_frames.specs.Kind.{frame_kind, record_of};
 
 use protocol_stream::MessageType;
 use protocol_wire::RecordType;
@@ -53,7 +53,7 @@ pub(crate) fn kind_of(ty: MessageType) -> FrameKind
 
 /// The record that payloads of this type are, if any. Of frames that attempts may write, payloads have readers of their own.
 pub(crate) fn record_of(ty: MessageType) -> Option<RecordType>
-    ensures { result ≡ the_record_of ty }
+    ensures { result ≡ record_of ty }
 {
     match ty {
         MessageType::Start => Some(RecordType::Start),

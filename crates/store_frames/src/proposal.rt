@@ -1,8 +1,8 @@
 // What the proposal of a run's outcome is read as.
 ghost use Rattle.std.specs.Prelude.{◌≡◌, IfOk};
 ghost use Rattle.journal_model.specs.Value.{result_of_value};
-ghost use Rattle.protocol_table.specs.declared.table.RecordType.TheVariants.{ProposeRunCompletion as proposal_type};
-ghost use Rattle.protocol_wire.specs.declared.record.TheConstants.{LEVELS as the_levels};
+ghost use Rattle.protocol_table.specs.declared.table.RecordType.TheVariants.{ProposeRunCompletion};
+ghost use Rattle.protocol_wire.specs.declared.record.TheConstants.{LEVELS};
 ghost use Rattle.protocol_controls.specs.ProposeRunCompletion.{propose_run_completion_of};
 ghost use Rattle.store_frames.specs.Requests.{outcome_told};
 ghost use Rattle.store_frames.specs.Told.{told_as, told_proposal};
@@ -59,7 +59,7 @@ pub(crate) fn read_proposal(
     is_acknowledged: bool,
     payload: &[u8],
 ) -> Result<AttemptFrame, AllocError>
-    ensures { IfOk result (λ frame. frame ≡ told_as proposal_type (λ fs. told_proposal is_acknowledged (propose_run_completion_of the_levels fs)) payload.now) }
+    ensures { IfOk result (λ frame. frame ≡ told_as ProposeRunCompletion (λ fs. told_proposal is_acknowledged (propose_run_completion_of LEVELS fs)) payload.now) }
 {
     match decode::<ProposeRunCompletionMessage>(alloc, payload) {
         Ok(one) => to_frame(alloc, one, is_acknowledged),

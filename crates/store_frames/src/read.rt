@@ -1,12 +1,12 @@
 // Reading a message from an attempt.
 ghost use Rattle.std.specs.Prelude.{◌≡◌, IfOk};
-ghost use Rattle.protocol_wire.specs.declared.record.TheConstants.{LEVELS as the_levels};
+ghost use Rattle.protocol_wire.specs.declared.record.TheConstants.{LEVELS};
 ghost use Rattle.protocol_types.specs.declared.feature.Feature.TheVariants.{AwaitTree};
 ghost use Rattle.protocol_types.specs.Feature.{lacks_feature};
 ghost use Rattle.protocol_types.specs.Version.{version_number};
 ghost use Rattle.store_frames.specs.Answer.{IsFrame};
 ghost use Rattle.store_frames.specs.Kind.{frame_kind};
-ghost use Rattle.store_frames.specs.FrameMeanings.{asks_ack as header_asks_ack, frame_of};
+ghost use Rattle.store_frames.specs.FrameMeanings.{asks_ack, frame_of};
 ghost use Rattle.store_frames.specs.Told.{told_as, told_by, told_suspension};
 
 use crate::commands::read_by_type;
@@ -27,7 +27,7 @@ fn read_as<R: FrameRecord>(
     version: Version,
     payload: &[u8],
 ) -> Result<AttemptFrame, AllocError>
-    ensures { IfOk result (λ frame. frame ≡ told_as R.record_type (λ fs. R.told (version_number version) (R.of the_levels fs)) payload.now) }
+    ensures { IfOk result (λ frame. frame ≡ told_as R.record_type (λ fs. R.told (version_number version) (R.of LEVELS fs)) payload.now) }
 {
     match decode::<R>(alloc, payload) {
         Ok(one) => {
@@ -76,7 +76,7 @@ fn read_payload(
 
 /// Whether a header asks for an acknowledgement.
 fn asks_ack(header: MessageHeader) -> bool
-    ensures { result ≡ header_asks_ack header }
+    ensures { result ≡ asks_ack header }
 {
     header.requested_ack().unwrap_or(false)
 }

@@ -5,7 +5,7 @@ ghost use Rattle.protocol_trees.specs.Future.{future_tree};
 ghost use Rattle.protocol_types.specs.Feature.{lacks_feature};
 ghost use Rattle.protocol_types.specs.declared.feature.Feature.TheVariants.{AtLeast};
 ghost use Rattle.protocol_wire.specs.Parts.{payload_of};
-ghost use Rattle.store_frames.specs.declared.frame.AttemptFrame.{AttemptFrame as Frames};
+ghost use Rattle.store_frames.specs.declared.frame.AttemptFrame.{AttemptFrame};
 ghost use Rattle.protocol_types.specs.Version.{version_number};
 ghost use Rattle.store_frames.specs.Told.{told_behavior, told_number};
 
@@ -20,7 +20,7 @@ use std::alloc::{AllocError, Global};
 
 /// A record that a frame of an attempt is the payload of, other than a command.
 pub(crate) trait FrameRecord: Record {
-    ghost told: { ℕ → Self → Frames };
+    ghost told: { ℕ → Self → AttemptFrame };
 
     /// What is kept of it, in this version.
     fn to_frame(&self, alloc: Global, version: Version) -> Result<AttemptFrame, AllocError>

@@ -2,7 +2,7 @@
 
 ghost use Rattle.std.specs.Prelude.{◌≡◌, List, Some};
 ghost use Rattle.journal_model.specs.Notification.{Arrival};
-ghost use Rattle.journal_model.specs.AwaitTree.{is_awake as is_tree_awake};
+ghost use Rattle.journal_model.specs.AwaitTree.{is_awake};
 ghost use Rattle.journal_model.specs.Event.{Frame, Suspension};
 ghost use Rattle.protocol_types.specs.Version.{version_number};
 ghost use Rattle.protocol_trees.specs.Future.{future_tree};
@@ -10,7 +10,7 @@ ghost use Rattle.store_frames.specs.Answer.{KeepsSuspension};
 ghost use Rattle.store_frames.specs.Read.{IsFrameRead};
 ghost use Rattle.store_frames.specs.First.{AreFirst, arrived_state};
 ghost use Rattle.store_frames.specs.Kept.{ReadsKept};
-ghost use Rattle.store_frames.specs.Awaited.{IsAwaited, any_of as the_any_of, TellsLists, TellsTree};
+ghost use Rattle.store_frames.specs.Awaited.{IsAwaited, any_of, TellsLists, TellsTree};
 
 use crate::first::FirstArrivals;
 use crate::kept_fault::KeptFault;
@@ -40,7 +40,7 @@ fn read_tree(alloc: Global, payload: &[u8]) -> Result<Future, KeptFault>
 
 /// A tree that any of these ids completes.
 fn any_of(alloc: Global, one: SuspensionMessageV6) -> Future
-    ensures { result ≡ the_any_of one }
+    ensures { result ≡ any_of one }
 {
     let SuspensionMessageV6 {
         waiting_completions,
@@ -83,7 +83,7 @@ pub fn awaited(alloc: Global, version: Version, payload: &[u8]) -> Result<Future
 
 /// Whether these arrivals wake what is waited for: each leaf goes by its first.
 pub fn is_woken(awaited: &Future, first: &FirstArrivals) -> bool
-    ensures { (arrivals : List Arrival) → AreFirst first.now arrivals → result ≡ is_tree_awake (future_tree awaited.now) (arrived_state arrivals) }
+    ensures { (arrivals : List Arrival) → AreFirst first.now arrivals → result ≡ is_awake (future_tree awaited.now) (arrived_state arrivals) }
 {
     is_awake(awaited, |leaf| first.state(leaf))
 }

@@ -7,10 +7,10 @@ ghost use Rattle.journal_model.specs.Event.{Event};
 ghost use Rattle.journal_model.specs.Journal.{is_busy};
 ghost use Rattle.protocol_types.specs.Version.{version_number};
 ghost use Rattle.store_tables.specs.Looks.{OnlyAsks};
-ghost use Rattle.store_tables.specs.declared.row.Write.{Write as RowWrite};
+ghost use Rattle.store_tables.specs.declared.row.Write.{Write};
 ghost use Rattle.store_model.specs.Writes.{writes_of};
 ghost use Rattle.store_refusals.specs.Prepared.{Prepares, TellsOrRefuses};
-ghost use Rattle.store_invocations.specs.New.{entry_of_input, first_progress, first_row, first_writes, id_tests, input_tests, is_nameless as is_nameless_new, object_tests};
+ghost use Rattle.store_invocations.specs.New.{entry_of_input, first_progress, first_row, first_writes, id_tests, input_tests, is_nameless, object_tests};
 ghost use Rattle.store_invocations.specs.Rows.{Decides, IsStoreOf};
 ghost use Rattle.store_refusals.specs.Causes.{IsUnasked, TellsCause};
 
@@ -25,7 +25,7 @@ use store_refusals::{Cause, Refusal};
 use store_tables::{EntryRow, InvocationRow, Progress, StoreTables, Write, open_invocation};
 
 fn is_nameless(new: &NewInvocation) -> bool
-    ensures { result ≡ is_nameless_new new.now }
+    ensures { result ≡ is_nameless new.now }
 {
     new.id.is_empty() || new.object.is_empty()
 }
@@ -127,7 +127,7 @@ fn input_entry(new: &NewInvocation, payload: Bytes) -> Result<EntryRow, AllocErr
 }
 
 fn two_writes(alloc: Global, row: InvocationRow, entry: EntryRow) -> Result<Vec<Write>, AllocError>
-    ensures { IfOk result (λ writes. writes.items ≡ RowWrite.AddInvocation row ∷ RowWrite.AddEntry entry ∷ []) }
+    ensures { IfOk result (λ writes. writes.items ≡ Write.AddInvocation row ∷ Write.AddEntry entry ∷ []) }
 {
     let mut writes = Vec::new(alloc);
     writes.push(Write::AddInvocation(row))?;
@@ -141,7 +141,7 @@ fn writes_with(
     version: Version,
     payload: Bytes,
 ) -> Result<Vec<Write>, AllocError>
-    ensures { IfOk result (λ writes. writes.items ≡ RowWrite.AddInvocation (first_row version new.now) ∷ RowWrite.AddEntry (entry_of_input new.now payload) ∷ []) }
+    ensures { IfOk result (λ writes. writes.items ≡ Write.AddInvocation (first_row version new.now) ∷ Write.AddEntry (entry_of_input new.now payload) ∷ []) }
 {
     let entry = input_entry(new, payload)?;
     let row = row_at_first(new, version);

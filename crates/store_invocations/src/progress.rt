@@ -4,7 +4,7 @@ ghost use Rattle.std.specs.Prelude.{◌≡◌, List, IfErr};
 ghost use Rattle.sqlite.specs.Held.{state};
 ghost use Rattle.sqlite.specs.State.{HasCleanDisk};
 ghost use Rattle.journal_model.specs.Event.{Event};
-ghost use Rattle.journal_model.specs.Journal.{is_open as is_open_after};
+ghost use Rattle.journal_model.specs.Journal.{is_open};
 ghost use Rattle.store_tables.specs.Looks.{OnlyAsks};
 ghost use Rattle.store_model.specs.Progress.{last_error_of};
 ghost use Rattle.store_invocations.specs.Rows.{Decides, IsStoreOf, known_tests};
@@ -26,7 +26,7 @@ fn error_of(row: InvocationRow) -> Option<LastError>
 
 /// Whether an invocation is not closed.
 pub fn is_open<S: Alter>(tables: &mut StoreTables<S>, id: &ByteStr) -> Result<bool, Refusal>
-    ensures told { HasCleanDisk (state S.Store tables.new) → (events : List Event) → IsStoreOf events (state S.Store tables.old) → Decides (known_tests events id.now) (λ answer. answer ≡ is_open_after events id.now) result }
+    ensures told { HasCleanDisk (state S.Store tables.new) → (events : List Event) → IsStoreOf events (state S.Store tables.old) → Decides (known_tests events id.now) (λ answer. answer ≡ is_open events id.now) result }
     ensures looks { OnlyAsks S.Store tables.old tables.new }
     ensures cause { IfErr result (TellsCause (state S.Store tables.old) (state S.Store tables.new)) }
 {

@@ -9,7 +9,7 @@ ghost use Rattle.journal_model.specs.Event.{Event};
 ghost use Rattle.journal_model.specs.Journal.{object_state};
 ghost use Rattle.store_model.specs.Kept.{state_row};
 ghost use Rattle.store_tables.specs.Looks.{OnlyAsks};
-ghost use Rattle.store_tables.specs.declared.row.StateRow.{StateRow as Row};
+ghost use Rattle.store_tables.specs.declared.row.StateRow.{StateRow};
 ghost use Rattle.store_refusals.specs.Prepared.{TellsOrRefuses};
 ghost use Rattle.store_invocations.specs.Rows.{IsStoreOf};
 ghost use Rattle.store_refusals.specs.Causes.{TellsCause};
@@ -31,7 +31,7 @@ fn is_text(key: &Bytes) -> bool
 
 /// Whether the keys are text, as those are that a store writes.
 fn are_keys_text(states: &[StateRow]) -> bool
-    ensures { result ≡ list_all (λ (row : Row). is_utf8 row.key) states.now }
+    ensures { result ≡ list_all (λ (row : StateRow). is_utf8 row.key) states.now }
 {
     for row in states {
         if !is_text(&row.key) {

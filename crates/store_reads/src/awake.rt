@@ -6,7 +6,7 @@ ghost use Rattle.sqlite.specs.State.{HasCleanDisk};
 ghost use Rattle.journal_model.specs.Event.{Event};
 ghost use Rattle.journal_model.specs.Attempt.{due, is_none, live_attempt};
 ghost use Rattle.store_tables.specs.Looks.{OnlyAsks};
-ghost use Rattle.store_tables.specs.declared.row.InvocationRow.{InvocationRow as Row};
+ghost use Rattle.store_tables.specs.declared.row.InvocationRow.{InvocationRow};
 ghost use Rattle.store_refusals.specs.Prepared.{TellsOrRefuses};
 ghost use Rattle.store_invocations.specs.Rows.{IsStoreOf};
 ghost use Rattle.store_refusals.specs.Causes.{TellsCause};
@@ -18,7 +18,7 @@ use store_refusals::Refusal;
 use store_tables::{InvocationRow, StoreTables, awake_invocations};
 
 fn ids_of(alloc: Global, rows: Vec<InvocationRow>) -> Result<Vec<ByteStr>, AllocError>
-    ensures { IfOk result (λ ids. ids.items ≡ map (λ (row : Row). row.id) rows.items) }
+    ensures { IfOk result (λ ids. ids.items ≡ map (λ (row : InvocationRow). row.id) rows.items) }
 {
     rows.into_iter()
         .map(|InvocationRow {

@@ -6,7 +6,7 @@ ghost use Rattle.sqlite.specs.State.{HasCleanDisk};
 ghost use Rattle.journal_model.specs.Event.{Event};
 ghost use Rattle.due_laws.specs.NextMoment.{IsNextMoment};
 ghost use Rattle.store_tables.specs.Looks.{OnlyAsks};
-ghost use Rattle.store_tables.specs.declared.row.SleepRow.{SleepRow as Row};
+ghost use Rattle.store_tables.specs.declared.row.SleepRow.{SleepRow};
 ghost use Rattle.store_refusals.specs.Prepared.{TellsOrRefuses};
 ghost use Rattle.store_invocations.specs.Rows.{IsStoreOf};
 ghost use Rattle.store_refusals.specs.Causes.{TellsCause};
@@ -17,7 +17,7 @@ use store_refusals::Refusal;
 use store_tables::{SleepRow, StoreTables, first_sleep};
 
 fn moment_of(found: Option<SleepRow>) -> Option<u64>
-    ensures { result ≡ option_map (λ (sleep : Row). sleep.moment) found }
+    ensures { result ≡ option_map (λ (sleep : SleepRow). sleep.moment) found }
 {
     match found {
         Some(

@@ -3,15 +3,15 @@
 ghost use Rattle.std.specs.Prelude.{◌≡◌, ◌+◌, ◌<◌, ◌-◌, ◌^◌, ◌∷◌, List, map, IfOk, IfSome, IfErr};
 ghost use Rattle.sqlite.specs.Held.{state};
 ghost use Rattle.sqlite.specs.State.{HasCleanDisk};
-ghost use Rattle.journal_model.specs.declared.notification.NotificationResult.{NotificationResult as Brought};
+ghost use Rattle.journal_model.specs.declared.notification.NotificationResult.{NotificationResult};
 ghost use Rattle.journal_model.specs.Delivery.{value_or_void};
 ghost use Rattle.journal_model.specs.Event.{Event};
 ghost use Rattle.journal_model.specs.Journal.{completion as arrival_of, object_state};
 ghost use Rattle.journal_model.specs.Spelling.{notification_payload};
 ghost use Rattle.journal_model.specs.State.{state_keys, value_of_key};
 ghost use Rattle.store_tables.specs.Looks.{OnlyAsks};
-ghost use Rattle.store_tables.specs.declared.row.StateRow.{StateRow as Row};
-ghost use Rattle.store_tables.specs.declared.row.Write.{Write as RowWrite};
+ghost use Rattle.store_tables.specs.declared.row.StateRow.{StateRow};
+ghost use Rattle.store_tables.specs.declared.row.Write.{Write};
 ghost use Rattle.store_refusals.specs.Prepared.{TellsOrRefuses};
 ghost use Rattle.store_invocations.specs.Rows.{Decides, IsStoreOf, payload_tests};
 ghost use Rattle.store_steps.specs.Reads.{IsReadMade, answer_told, with_read};
@@ -63,7 +63,7 @@ fn value_of<S: Alter>(
 
 /// The keys among rows of a state, in their order.
 fn keys_in(alloc: Global, states: Vec<StateRow>) -> Result<Vec<Bytes>, AllocError>
-    ensures { IfOk result (λ keys. keys.items ≡ map (λ (row : Row). row.key) states.items) }
+    ensures { IfOk result (λ keys. keys.items ≡ map (λ (row : StateRow). row.key) states.items) }
 {
     states
         .into_iter()
@@ -80,7 +80,7 @@ fn keys_of<S: Alter>(
     tables: &mut StoreTables<S>,
     object: &ByteStr,
 ) -> Result<NotificationResult, Refusal>
-    ensures told { HasCleanDisk (state S.Store tables.new) → (events : List Event) → IsStoreOf events (state S.Store tables.old) → TellsOrRefuses (λ keys. keys ≡ Brought.StateKeys (state_keys (object_state events object.now))) result }
+    ensures told { HasCleanDisk (state S.Store tables.new) → (events : List Event) → IsStoreOf events (state S.Store tables.old) → TellsOrRefuses (λ keys. keys ≡ NotificationResult.StateKeys (state_keys (object_state events object.now))) result }
     ensures looks { OnlyAsks S.Store tables.old tables.new }
     ensures cause { IfErr result (TellsCause (state S.Store tables.old) (state S.Store tables.new)) }
 {
@@ -150,7 +150,7 @@ fn record_read(
 
 /// The write of an entry, and these behind it.
 fn with_entry(entry: EntryRow, mut behind: Vec<Write>) -> Result<Vec<Write>, AllocError>
-    ensures { IfOk result (λ writes. writes.items ≡ RowWrite.AddEntry entry ∷ behind.items) }
+    ensures { IfOk result (λ writes. writes.items ≡ Write.AddEntry entry ∷ behind.items) }
 {
     behind.insert(0, Write::AddEntry(entry))?;
     Ok(behind)

@@ -5,7 +5,7 @@ ghost use Rattle.store_tables.specs.declared.row.Write.TheVariants.{AddEntry, Op
 ghost use Rattle.store_model.specs.Steps.{payload_or};
 ghost use Rattle.protocol_types.specs.Version.{version_number};
 ghost use Rattle.protocol_stream.specs.CommandFacts.{facts_of};
-ghost use Rattle.store_steps.specs.Told.{HasRoom, after_end, after_error, after_recorded, after_suspension, asked, closing_writes, command_row, does_fail, keeps_moment as keeps_a_moment, number_of_behavior, puts_out as puts_value_out, reply_to_told, sleep_told, state_told, value_put_out, writes_of_told};
+ghost use Rattle.store_steps.specs.Told.{HasRoom, after_end, after_error, after_recorded, after_suspension, asked, closing_writes, command_row, does_fail, keeps_moment, number_of_behavior, puts_out, reply_to_told, sleep_told, state_told, value_put_out, writes_of_told};
 
 use crate::frame::{FrameReply, LiveFacts};
 use bytes::{ByteStr, Bytes};
@@ -48,7 +48,7 @@ fn greatest_of(last: u32, first: Option<u32>, second: Option<u32>) -> u32
 
 /// Whether a command puts a value out.
 fn puts_out(command: &RecordedCommand) -> bool
-    ensures { result ≡ puts_value_out (facts_of command.now.kind) }
+    ensures { result ≡ puts_out (facts_of command.now.kind) }
 {
     match CommandFacts::of(command.kind) {
         Some(facts) => facts.kept.is_answer(),
@@ -105,7 +105,7 @@ pub(crate) fn entry_of(id: ByteStr, place: u32, command: RecordedCommand) -> Ent
 
 /// Whether a command keeps a moment, at which it is due.
 fn keeps_moment(command: &RecordedCommand) -> bool
-    ensures { result ≡ keeps_a_moment (facts_of command.now.kind) }
+    ensures { result ≡ keeps_moment (facts_of command.now.kind) }
 {
     match CommandFacts::of(command.kind) {
         Some(facts) => facts.kept.is_moment(),

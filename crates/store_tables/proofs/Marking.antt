@@ -25,7 +25,7 @@ use Rattle.sqlite.specs.declared.error.Error.{Error}
 use Rattle.sqlite_tied.specs.Compute.{everything}
 use Rattle.sql_tables.specs.Causes.{IsCause, IsRefusedFor, RefusesToRun, TellsErrorCause}
 use Rattle.sql_tables.proofs.Places.{insert_stops}
-use Rattle.sql_tables.proofs.Refusals.{StopsEdit, told as told_as}
+use Rattle.sql_tables.proofs.Refusals.{StopsEdit, told}
 use Rattle.sql_tables.proofs.Unrefused.{alone}
 use Rattle.store_tables.specs.Tables.{meta, meta_columns, store_schema}
 use Rattle.store_tables.specs.Statements.{mark_text}
@@ -98,7 +98,7 @@ unfolding IsCause
 ruled a b e made refused =
     let it = insert_stops store_schema none_refers a.step_limit (alone mark_text) a.now made.schema adds.plain 3 meta.name meta_columns [] [] 2 refl e refused mark_terms 3 mark_cells adds.command accepts_mark adds.values mark_casts in
     elim it.2 [
-      | inl (set, met) ↦ inr (inr (inr (it.1 ∙ ap told_as met, set)))
+      | inl (set, met) ↦ inr (inr (inr (it.1 ∙ ap told met, set)))
       | inr stops ↦
           let first : next_rowid (a.now.trees 3) ≡ pos 1 = ap next_rowid made.bare.1.1.0 in
           absurd (goes_in a.now.trees made.bare it.0 (subst (λ id. StopsEdit store_schema Enforced a.now.trees (record { table = meta; gone = []; news = (Int id ∷ mark_cells) ∷ [] }) it.0) first stops))
@@ -107,4 +107,4 @@ ruled a b e made refused =
 pub mark_told : (a b : State) → Survives a b (λ _. ⊥) → (HasCleanDisk a → AreTablesMade store_schema a) → (e : Error) → (HasCleanDisk b → RefusesToRun mark_text [] a b e) → TellsErrorCause a b e
 mark_told a b on made e refused clean =
     let has = made (omega (arith, on.clean, clean)) in
-    cause_of store_schema mark_text marking a b e (λ opened. has.schema) has.inside (λ opened told. ruled a b e has told) (refused clean)
+    cause_of store_schema mark_text marking a b e (λ opened. has.schema) has.inside (λ opened said. ruled a b e has said) (refused clean)

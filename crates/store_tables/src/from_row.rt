@@ -8,7 +8,7 @@ ghost use Rattle.protocol_types.specs.Version.{version_number};
 ghost use Rattle.sql_tables.specs.Cells.{short_cell};
 ghost use Rattle.store_tables.specs.Kinds.{kept_kind};
 ghost use Rattle.store_tables.specs.Parts.{AreCounts, IsErrorAt, IsProgressAt};
-ghost use Rattle.store_tables.specs.Records.{FitsEntry, FitsInvocation, FitsSleep, FitsState, FitsMark, InvocationRow as Invocation, EntryRow as Entry, Mark as Own, SleepRow as Sleep, StateRow as State, cells_of_mark, closing_cell, entry_cells, invocation_cells, sleep_cells, state_cells};
+ghost use Rattle.store_tables.specs.Records.{FitsEntry, FitsInvocation, FitsSleep, FitsState, FitsMark, InvocationRow, EntryRow, Mark, SleepRow, StateRow, cells_of_mark, closing_cell, entry_cells, invocation_cells, sleep_cells, state_cells};
 
 use crate::kind::kind_kept;
 use crate::row::{Closing, EntryRow, InvocationRow, LastError, Mark, Progress, SleepRow, StateRow};
@@ -23,7 +23,7 @@ use std::alloc::Global;
 
 fn mark_from(alloc: Global, row: &Row) -> Result<Mark, RowError>
     ensures ok { IfOk result (λ m. (cells_of_mark m ≡ row.now) × FitsMark m) }
-    ensures foreign { IfErr result (λ e. e ≡ RowError.Foreign → (x : Own) → FitsMark x → cells_of_mark x ≢ row.now) }
+    ensures foreign { IfErr result (λ e. e ≡ RowError.Foreign → (x : Mark) → FitsMark x → cells_of_mark x ≢ row.now) }
 {
     if row.column_count() != 2 {
         return Err(RowError::Foreign);
@@ -47,7 +47,7 @@ impl Stored for Mark {
 
 fn state_from(alloc: Global, row: &Row) -> Result<StateRow, RowError>
     ensures ok { IfOk result (λ s. (state_cells s ≡ row.now) × FitsState s) }
-    ensures foreign { IfErr result (λ e. e ≡ RowError.Foreign → (x : State) → FitsState x → state_cells x ≢ row.now) }
+    ensures foreign { IfErr result (λ e. e ≡ RowError.Foreign → (x : StateRow) → FitsState x → state_cells x ≢ row.now) }
 {
     if row.column_count() != 3 {
         return Err(RowError::Foreign);
@@ -73,7 +73,7 @@ impl Stored for StateRow {
 
 fn sleep_from(alloc: Global, row: &Row) -> Result<SleepRow, RowError>
     ensures ok { IfOk result (λ s. (sleep_cells s ≡ row.now) × FitsSleep s) }
-    ensures foreign { IfErr result (λ e. e ≡ RowError.Foreign → (x : Sleep) → FitsSleep x → sleep_cells x ≢ row.now) }
+    ensures foreign { IfErr result (λ e. e ≡ RowError.Foreign → (x : SleepRow) → FitsSleep x → sleep_cells x ≢ row.now) }
 {
     if row.column_count() != 3 {
         return Err(RowError::Foreign);
@@ -102,7 +102,7 @@ impl Stored for SleepRow {
 
 fn kind_from(row: &Row) -> Result<MessageType, RowError>
     ensures ok { IfOk result (λ kind. (short_cell (kept_kind kind) ≡ column row.now 2) × (type_number kind < 2 ^ 16)) }
-    ensures foreign { IfErr result (λ e. e ≡ RowError.Foreign → (x : Entry) → FitsEntry x → entry_cells x ≢ row.now) }
+    ensures foreign { IfErr result (λ e. e ≡ RowError.Foreign → (x : EntryRow) → FitsEntry x → entry_cells x ≢ row.now) }
 {
     let number = short_at(row, 2)?;
     match kind_kept(number) {
@@ -113,7 +113,7 @@ fn kind_from(row: &Row) -> Result<MessageType, RowError>
 
 fn entry_from(alloc: Global, row: &Row) -> Result<EntryRow, RowError>
     ensures ok { IfOk result (λ e. (entry_cells e ≡ row.now) × FitsEntry e) }
-    ensures foreign { IfErr result (λ e. e ≡ RowError.Foreign → (x : Entry) → FitsEntry x → entry_cells x ≢ row.now) }
+    ensures foreign { IfErr result (λ e. e ≡ RowError.Foreign → (x : EntryRow) → FitsEntry x → entry_cells x ≢ row.now) }
 {
     if row.column_count() != 9 {
         return Err(RowError::Foreign);
@@ -154,7 +154,7 @@ impl Stored for EntryRow {
 
 fn closing_from(row: &Row) -> Result<Option<Closing>, RowError>
     ensures ok { IfOk result (λ o. or_null closing_cell o ≡ column row.now 8) }
-    ensures foreign { IfErr result (λ e. e ≡ RowError.Foreign → (x : Invocation) → FitsInvocation x → invocation_cells x ≢ row.now) }
+    ensures foreign { IfErr result (λ e. e ≡ RowError.Foreign → (x : InvocationRow) → FitsInvocation x → invocation_cells x ≢ row.now) }
 {
     match short_or_none_at(row, 8)? {
         None => Ok(None),
@@ -166,7 +166,7 @@ fn closing_from(row: &Row) -> Result<Option<Closing>, RowError>
 
 fn error_from(alloc: Global, row: &Row) -> Result<Option<LastError>, RowError>
     ensures ok { IfOk result (IsErrorAt row.now) }
-    ensures foreign { IfErr result (λ e. e ≡ RowError.Foreign → (x : Invocation) → FitsInvocation x → invocation_cells x ≢ row.now) }
+    ensures foreign { IfErr result (λ e. e ≡ RowError.Foreign → (x : InvocationRow) → FitsInvocation x → invocation_cells x ≢ row.now) }
 {
     let code = short_or_none_at(row, 10)?;
     let behavior = short_or_none_at(row, 11)?;
@@ -197,7 +197,7 @@ pub struct Counts {
 
 fn counts_from(row: &Row) -> Result<Counts, RowError>
     ensures ok { IfOk result (AreCounts row.now) }
-    ensures foreign { IfErr result (λ e. e ≡ RowError.Foreign → (x : Invocation) → FitsInvocation x → invocation_cells x ≢ row.now) }
+    ensures foreign { IfErr result (λ e. e ≡ RowError.Foreign → (x : InvocationRow) → FitsInvocation x → invocation_cells x ≢ row.now) }
 {
     Ok(Counts {
         attempts: short_at(row, 14)?,
@@ -211,7 +211,7 @@ fn counts_from(row: &Row) -> Result<Counts, RowError>
 
 fn progress_from(alloc: Global, row: &Row) -> Result<Progress, RowError>
     ensures ok { IfOk result (IsProgressAt row.now) }
-    ensures foreign { IfErr result (λ e. e ≡ RowError.Foreign → (x : Invocation) → FitsInvocation x → invocation_cells x ≢ row.now) }
+    ensures foreign { IfErr result (λ e. e ≡ RowError.Foreign → (x : InvocationRow) → FitsInvocation x → invocation_cells x ≢ row.now) }
 {
     let counts = counts_from(row)?;
     let handed = short_or_none_at(row, 7)?;
@@ -242,7 +242,7 @@ fn progress_from(alloc: Global, row: &Row) -> Result<Progress, RowError>
 
 fn version_from(row: &Row) -> Result<Version, RowError>
     ensures ok { IfOk result (λ v. short_cell (version_number v) ≡ column row.now 2) }
-    ensures foreign { IfErr result (λ e. e ≡ RowError.Foreign → (x : Invocation) → FitsInvocation x → invocation_cells x ≢ row.now) }
+    ensures foreign { IfErr result (λ e. e ≡ RowError.Foreign → (x : InvocationRow) → FitsInvocation x → invocation_cells x ≢ row.now) }
 {
     let number = short_at(row, 2)?;
     match Version::with_number(number) {
@@ -253,7 +253,7 @@ fn version_from(row: &Row) -> Result<Version, RowError>
 
 fn invocation_from(alloc: Global, row: &Row) -> Result<InvocationRow, RowError>
     ensures ok { IfOk result (λ i. (invocation_cells i ≡ row.now) × FitsInvocation i) }
-    ensures foreign { IfErr result (λ e. e ≡ RowError.Foreign → (x : Invocation) → FitsInvocation x → invocation_cells x ≢ row.now) }
+    ensures foreign { IfErr result (λ e. e ≡ RowError.Foreign → (x : InvocationRow) → FitsInvocation x → invocation_cells x ≢ row.now) }
 {
     if row.column_count() != 22 {
         return Err(RowError::Foreign);

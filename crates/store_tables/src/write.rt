@@ -5,7 +5,7 @@ ghost use Rattle.sqlite.specs.Held.{state};
 ghost use Rattle.sqlite.specs.State.{HasCleanDisk};
 ghost use Rattle.sqlite.specs.Values.{bound, bound_value, or_null};
 ghost use Rattle.sqlite_value.specs.Value.{owned};
-ghost use Rattle.sqlite_value.specs.declared.value.Value.TheVariants.{Text as Words};
+ghost use Rattle.sqlite_value.specs.declared.value.Value.TheVariants.{Text};
 ghost use Rattle.sql_tables.specs.Causes.{TellsWriteCause};
 ghost use Rattle.sql_tables.specs.Cells.{IsLong, IsShort, long_cell, short_cell};
 ghost use Rattle.store_tables.specs.Looks.{MakesWrites};
@@ -67,7 +67,7 @@ fn error_delay<'a>(error: &Option<LastError>) -> ValueRef<'a>
 }
 
 fn error_message(error: &Option<LastError>) -> ValueRef<'_>
-    ensures cell { bound_value (owned result) ≡ or_null (λ e. Words e.message) error.now }
+    ensures cell { bound_value (owned result) ≡ or_null (λ e. Text e.message) error.now }
     ensures fits { IfSome error.now (λ e. IsUtf8 e.message) }
 {
     match error {
@@ -121,7 +121,7 @@ fn invocation_cells(invocation: &InvocationRow) -> [ValueRef<'_>; 22]
 
 /// The id of an invocation, and what takes the place of its progress.
 fn changed_cells<'a>(id: &'a ByteStr, progress: &'a Progress) -> [ValueRef<'a>; 18]
-    ensures cells { bound result ≡ Words id.now ∷ progress_cells progress.now }
+    ensures cells { bound result ≡ Text id.now ∷ progress_cells progress.now }
     ensures fits { FitsProgress progress.now }
 {
     let mut cells = [ValueRef::Null; 18];

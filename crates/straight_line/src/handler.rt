@@ -1,6 +1,6 @@
 //! A straight-line handler is a handler.
 ghost use Rattle.std.specs.Prelude.{◌≡◌};
-ghost use Rattle.journal_model.specs.Notification.{Bytes as Payload};
+ghost use Rattle.journal_model.specs.Notification.{Bytes};
 ghost use Rattle.journal_model.specs.declared.handler.Input.{Input};
 ghost use Rattle.straight_line.specs.Steps as steps;
 ghost use Rattle.straight_line.specs.Steps.{Steps};
@@ -16,7 +16,7 @@ use std::alloc::{AllocError, Global};
 ///
 /// `makes` is what it does, as steps. It puts out the value that it comes to, or the failure, and ends.
 pub trait StraightLine {
-    ghost makes: { Self → Input → Steps Payload };
+    ghost makes: { Self → Input → Steps Bytes };
 
     fn run(&self, input: &Input, calls: &mut Calls) -> Told<Bytes>
         ensures { steps.Makes (makes self.now input.now) calls.old result calls.new };

@@ -1,7 +1,7 @@
 //! The calls that a list may have, and the handler of a list.
 ghost use Rattle.std.specs.Prelude.{◌≡◌, IfOk};
 ghost use Rattle.journal_model.specs.AwaitTree.{Single, Combined, no_trees, and_trees, AllCompleted};
-ghost use Rattle.journal_model.specs.declared.call.Call.{Call as Calls};
+ghost use Rattle.journal_model.specs.declared.call.Call.{Call};
 ghost use Rattle.test_steps.specs.Steps as stepping;
 
 use bytes::{ByteStr, Bytes};
@@ -145,7 +145,7 @@ fn send(alloc: Global) -> Call
 
 #[tactic(auto, using(journal_model::proofs::TreeLemmas::future_trees))]
 fn await_all(alloc: Global, handle: u32) -> Result<Call, AllocError>
-    ensures { IfOk result (λ call. call ≡ Calls.Await (Combined AllCompleted (and_trees (Single handle) no_trees))) }
+    ensures { IfOk result (λ call. call ≡ Call.Await (Combined AllCompleted (and_trees (Single handle) no_trees))) }
 {
     let mut children = Vec::new(alloc);
     children.push(UnresolvedFuture::Single(NotificationHandle::new(handle)))?;

@@ -3,7 +3,7 @@ use Rattle.std.proofs.Common.{◌≡◌, ◌∙◌, arith, Bool, List, [], ◌�
 use Rattle.vm_attempt_laws.specs.Machine.{are_any, Written, MachineState, IsDriven}
 use Rattle.vm_attempt_laws.specs.InputOfAttempt.{IsRunOf, start_told, Kind, HasStarted, AnswersInput}
 use Rattle.vm_attempt_laws.specs.AttemptSimulation.{HasNumbers, kind_where}
-use Rattle.vm_attempt_laws.specs.Words.{Error, version_number, Version, Input, Entry, Recorded, Arrived, StartState, Invocation, InputMessage, Machine, machine_at_start, with_arrival, with_entry, with_entries, AttemptStart, ShowsStart, entries_carried, with_messages, id_of, VMOptions}
+use Rattle.vm_attempt_laws.specs.Words.{Error, version_number, Version, Input, Entry, Recorded, Arrived, StartState, Invocation, InputMessage, Machine, machine_at_start, with_arrival, with_entry, with_entries, AttemptStart, ShowsStart, entries_carried, with_messages, started_id, VMOptions}
 
 -- ---- what was written
 
@@ -38,7 +38,7 @@ module _ (start : AttemptStart) (shows : ShowsStart start) (version : Version) (
     commands = ap (λ (w : Written). w.has_commands) a.written ∙ sym (ap are_any unwritten);
     id =
         ap (λ (g : Invocation). g.input.invocation_id) of_run.given_is
-        ∙ sym (ap (λ (vm : MachineState). id_of vm.start) a.others ∙ ap id_of h.start_is);
+        ∙ sym (ap (λ (vm : MachineState). started_id vm.start) a.others ∙ ap started_id h.start_is);
     reads = ap (λ (k : Kind). k.reads) a.asked.kind_is;
   }
 

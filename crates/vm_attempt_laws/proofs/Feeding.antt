@@ -18,7 +18,7 @@ use Rattle.vm_attempt_laws.proofs.Over.{serves_by, waits_same}
 use Rattle.vm_attempt_laws.specs.Attempts.{Attempt}
 use Rattle.vm_attempt_laws.specs.Machine.{Sees, are_any, Written, Phase, MachineState, has_failed, IsFed, IsDriven}
 use Rattle.vm_attempt_laws.specs.InputOfAttempt.{bytes_of, IsFedEach, AreWaitedFor, phase_behind, KnowsRuns, TakesFirstMessages, InputsAreKept, FailsForMemory, IsInputOf, start_told, Kind, phase_kind, ReadsOn, JournalsAreRead, IsArrival}
-use Rattle.vm_attempt_laws.specs.Words.{item_at, version_number, Version, AwaitTree, NotificationId, input_bytes, answers_of, Bytes, Arrival, Handler, Invocation, Progress, Ending, GoesOn, Waits, run, InputMessage, piece_of, arrivals_carried, Machine, machine_at_start, with_messages, IsMachineAt, AttemptInRun, handed_bytes, after_reading, id_of, VMOptions}
+use Rattle.vm_attempt_laws.specs.Words.{item_at, version_number, Version, AwaitTree, NotificationId, input_bytes, answers_of, Bytes, Arrival, Handler, Invocation, Progress, Ending, GoesOn, Waits, run, InputMessage, piece_of, arrivals_carried, Machine, machine_at_start, with_messages, IsMachineAt, AttemptInRun, handed_bytes, after_reading, started_id, VMOptions}
 
 -- a run that goes on does not wait
 goes_on : (ending : Ending) (tree : AwaitTree (Option NotificationId)) → ending ≡ GoesOn → ending ≡ Waits tree → ⊥
@@ -138,7 +138,7 @@ module _ {H : Type 0} (function : H → Handler) (next : Handler) (version : Ver
         };
         written = ap (λ (w : Written). w.version) t.kept.output ∙ r.driven.written ∙ ap (λ (k : Kind). k.version) (sym kind_is);
         commands = ap (λ (w : Written). w.has_commands) t.kept.output ∙ r.driven.commands ∙ sym (ap are_any (messages_written live.machine t.some));
-        id = r.driven.id ∙ ap (λ (vm : MachineState). id_of vm.start) (sym t.kept.others);
+        id = r.driven.id ∙ ap (λ (vm : MachineState). started_id vm.start) (sym t.kept.others);
         reads = ap (λ (k : Kind). k.reads) kind_is ∙ r.driven.reads;
       }
 

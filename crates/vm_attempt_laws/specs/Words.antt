@@ -43,6 +43,6 @@ pub use Rattle.run_laws.specs.Keys.{HasTextKeys}
 pub use Rattle.live_laws.specs.Live.{TurnsOfRun}
 pub use Rattle.live_laws.specs.RequestsInFlight.{requests_sent}
 pub use Rattle.live_laws.specs.TurnWrites.{IsNote, notes}
-pub use Rattle.vm_feeding.specs.Handles.{id_of}
+pub use Rattle.vm_feeding.specs.Handles.{started_id}
 pub use Rattle.vm_types.specs.Options.{run_options}
 pub use Rattle.vm_types.specs.declared.options.VMOptions.{VMOptions}

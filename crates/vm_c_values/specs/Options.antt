@@ -2,7 +2,7 @@
 use Rattle.std.specs.Prelude.{ℕ, Bool, true, false, not, ◌==◌, bit_and, if◌then◌else◌}
 use Rattle.journal_model.specs.declared.call.PayloadOptions.{PayloadOptions}
 use Rattle.journal_model.specs.declared.options.ImplicitCancellationOption.{ImplicitCancellationOption}
-use Rattle.journal_model.specs.declared.options.ImplicitCancellationOption.TheVariants.{Disabled as NotImplicit, Enabled as Implicit}
+use Rattle.journal_model.specs.declared.options.ImplicitCancellationOption.TheVariants.{Disabled, Enabled}
 use Rattle.journal_model.specs.declared.options.SignalDelivery.{SignalDelivery}
 use Rattle.journal_model.specs.declared.options.SignalDelivery.TheVariants.{Queued, Overwrite}
 use Rattle.vm_types.specs.declared.options.AwaitingOnPolicy.{AwaitingOnPolicy}
@@ -25,7 +25,7 @@ payload_options unstable = record { unstable_serialization = is_set unstable }
 -- ---- options of a machine: each bit is one that is not as usual
 
 abbrev pub cancellation : ℕ → ImplicitCancellationOption
-cancellation options = if is_set (bit_and options 1) then NotImplicit else Implicit (not (is_set (bit_and options 2))) (is_set (bit_and options 4))
+cancellation options = if is_set (bit_and options 1) then Disabled else Enabled (not (is_set (bit_and options 2))) (is_set (bit_and options 4))
 
 abbrev pub checks : ℕ → NonDeterministicChecksOption
 checks options = if is_set (bit_and options 8) then checked.PayloadChecksDisabled else checked.Enabled

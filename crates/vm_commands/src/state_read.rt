@@ -2,7 +2,7 @@
 ghost use Rattle.std.specs.Prelude.{◌≡◌, List, Some, Ok, drop};
 ghost use Rattle.journal_model.specs.Request.{Request};
 ghost use Rattle.protocol_messages.specs.Decoded.{DecodesTo, HasItsType};
-ghost use Rattle.protocol_stream.specs.declared.decoder.RawMessage.{RawMessage as RawMessages};
+ghost use Rattle.protocol_stream.specs.declared.decoder.RawMessage.{RawMessage};
 ghost use Rattle.vm_commands.specs.NextCommand.{next_of};
 ghost use Rattle.vm_commands.specs.StateReads.{tells_type, ReadsAs, MatchesRead};
 
@@ -43,7 +43,7 @@ fn take_eager<E: EagerRead>(
     expected: E::Lazy,
     ignore_payload_equality: bool,
 ) -> Result<StateRead<E::Known>, StateReadError<E::Lazy, E>>
-    ensures { (m : RawMessages) → DecodesTo E.record_type E.of command_index m (Ok read) → ReadsAs E.record_type E.Lazy.record_type E.of E.Lazy.of E.erased E.Lazy.erased E.known E.bare E.asked command_index ignore_payload_equality expected (Some m) result }
+    ensures { (m : RawMessage) → DecodesTo E.record_type E.of command_index m (Ok read) → ReadsAs E.record_type E.Lazy.record_type E.of E.Lazy.of E.erased E.Lazy.erased E.known E.bare E.asked command_index ignore_payload_equality expected (Some m) result }
 {
     let mut recorded = read;
     let known = recorded.take_known();

@@ -11,7 +11,7 @@ ghost use Rattle.vm_feeding.specs.MachineQueries.{state_of_phase, TellsReady, Ta
 ghost use Rattle.vm_feeding.specs.EndOfInput.{ClosesInput};
 ghost use Rattle.vm_feeding.specs.InputBytes.{IsFed};
 ghost use Rattle.vm_feeding.specs.HostErrors.{IsErrorTold};
-ghost use Rattle.vm_feeding.specs.Handles.{id_of, IsNamed, LooksAtHandle};
+ghost use Rattle.vm_feeding.specs.Handles.{started_id, IsNamed, LooksAtHandle};
 ghost use Rattle.vm_progress.specs.AwaitEffects.{DoesAwait};
 ghost use Rattle.vm_progress.specs.EndEffects.{EndsAs};
 ghost use Rattle.vm_proposals.specs.RunCallEffects.{CallsRun};
@@ -260,7 +260,7 @@ impl VM for CoreVM {
     }
 
     fn sys_awakeable(&mut self) -> VMResult<AwakeableHandle>
-        ensures text { IsNamed (id_of self.old.state.start) self.old.state.active result }
+        ensures text { IsNamed (started_id self.old.state.start) self.old.state.active result }
         ensures steps { SysAwakeable self.old.state result self.new.state }
     {
         vm_feeding::sys_awakeable(&mut self.state)

@@ -39,7 +39,7 @@ use Rattle.vm_machine.specs.declared.admitting.Admission.{Admission}
 use Rattle.vm_machine.specs.declared.admitting.Admission.TheVariants.{Admitted, Elsewhere, Stopped}
 use Rattle.vm_machine.specs.Calls.{IsOf}
 use Rattle.vm_machine.specs.declared.machine_state.MachineState.{MachineState}
-use Rattle.vm_feeding.specs.Handles.{id_of}
+use Rattle.vm_feeding.specs.Handles.{started_id}
 use Rattle.vm_refusals.specs.declared.refusal_error.RefusalError.{RefusalError}
 use Rattle.vm_types.specs.declared.options.JournalMismatchRetryBehavior.{JournalMismatchRetryBehavior}
 use Rattle.vm_core_laws.specs.CallPreconditions.{IsSpokenOf}
@@ -219,7 +219,7 @@ abbrev pub given_of : MachineState → Invocation
 given_of vm = record {
   version = version_number vm.version;
   options = record { implicit_cancellation = vm.options.implicit_cancellation; signal_delivery = vm.options.signal_delivery };
-  input = record { invocation_id = id_of vm.start; key = []; random_seed = 0; headers = []; input = []; scope = None; limit_key = None; idempotency_key = None };
+  input = record { invocation_id = started_id vm.start; key = []; random_seed = 0; headers = []; input = []; scope = None; limit_key = None; idempotency_key = None };
   start = record { is_whole = false; entries = [] };
 }
 

@@ -29,14 +29,14 @@ use Rattle.vm_machine.specs.declared.machine_state.MachineState.{MachineState}
 use Rattle.vm_machine.specs.Causes.{NumberCauses}
 use Rattle.vm_machine.specs.CallAnswers.{Settles}
 use Rattle.vm_feeding.specs.CommandlessCalls.{AnswersBy, IsCalled}
-use Rattle.vm_feeding.specs.Handles.{id_of, MakesSignal, IsNoSignal, MakesAwakeable, IsAwakeableWhere, IsAwakeable, IsNoAwakeableWhere, IsNoAwakeable, TakesFirstResult, TakeCauses}
+use Rattle.vm_feeding.specs.Handles.{started_id, MakesSignal, IsNoSignal, MakesAwakeable, IsAwakeableWhere, IsAwakeable, IsNoAwakeableWhere, IsNoAwakeable, TakesFirstResult, TakeCauses}
 use Rattle.vm_progress.specs.StateReadEffects.{ReadKind, IsRead, MissesNext, SettlesRead, StepsOfRead}
 use Rattle.vm_state_reads.specs.ReadAnswers.{Reads}
 use Rattle.vm_state_reads.specs.Spent.{ReadFailsSpent}
 use Rattle.vm_state_reads.specs.declared.read_error.ReadError.{ReadError}
 use Rattle.vm_types.specs.declared.handles.AwakeableHandle.{AwakeableHandle}
 use Rattle.vm_types.specs.declared.options.JournalReplay.{JournalReplay}
-use Rattle.vm_types.specs.declared.options.JournalReplay.TheVariants.{Enabled as Replayed, Disabled as Unread}
+use Rattle.vm_types.specs.declared.options.JournalReplay.TheVariants.{Enabled, Disabled}
 use Rattle.vm_waiting.proofs.TrackLemmas.{taken_made}
 use Rattle.vm_core_laws.proofs.Keeping.{Keeps, made_like, Replays, Stands, when_active, active_again, IsLike, like_again, results_like, failed, steps_stand, given_of, is_of, machine_in, seen, seen_keeps, seen_replays, counts_on}
 
@@ -140,14 +140,14 @@ awakeable_like id old made new makes =
     }
 
 awakeable_where : (replay : JournalReplay) (old : MachineState) (result : Result AwakeableHandle Error) (new : MachineState) → IsAwakeableWhere replay old result new → Stands old → Stands new
-awakeable_where Replayed old result new is stands =
-    called_stand (MakesAwakeable (id_of old.start)) NumberCauses old (λ made active does. awakeable_like (id_of old.start) old.active made active does) is.made is.active result new is.does is.answers stands
-awakeable_where Unread old (Ok made) new is stands = absurd is
-awakeable_where Unread old (Err told) new is stands = failed _ old told new is
+awakeable_where Enabled old result new is stands =
+    called_stand (MakesAwakeable (started_id old.start)) NumberCauses old (λ made active does. awakeable_like (started_id old.start) old.active made active does) is.made is.active result new is.does is.answers stands
+awakeable_where Disabled old (Ok made) new is stands = absurd is
+awakeable_where Disabled old (Err told) new is stands = failed _ old told new is
 
 no_awakeable_where : (replay : JournalReplay) (old : MachineState) (told : Error) (new : MachineState) → IsNoAwakeableWhere replay old told new → Stands new
-no_awakeable_where Replayed old told new is = missed_stand (LacksSignal old.active) (codes "awakeable") old told new is
-no_awakeable_where Unread old told new is = failed _ old told new is
+no_awakeable_where Enabled old told new is = missed_stand (LacksSignal old.active) (codes "awakeable") old told new is
+no_awakeable_where Disabled old told new is = failed _ old told new is
 
 pub awakeables_stand : (old : MachineState) (result : Result AwakeableHandle Error) (new : MachineState) → Steps IsAwakeable IsNoAwakeable None old result new → Stands old → Stands new
 awakeables_stand old result new steps stands =

@@ -9,7 +9,7 @@ use Rattle.vm_calls.specs.Spent.{IsSpent}
 use Rattle.vm_start.specs.declared.phase.Phase.TheVariants as phases
 use Rattle.vm_machine.specs.Calls.{IsOf}
 use Rattle.vm_machine.specs.declared.machine_state.MachineState.{MachineState}
-use Rattle.vm_feeding.specs.Handles.{id_of}
+use Rattle.vm_feeding.specs.Handles.{started_id}
 use Rattle.vm_types.specs.declared.options.VMOptions.{VMOptions}
 use Rattle.vm_core_laws.specs.HostCalls.{HostCall, DoesEach}
 
@@ -18,7 +18,7 @@ pub record IsSeen (vm : MachineState) : Type 0 where
   pub machine : Machine
   pub given : Invocation
   pub is_of : IsOf given vm
-  pub id : given.input.invocation_id ≡ id_of vm.start
+  pub id : given.input.invocation_id ≡ started_id vm.start
   pub sees : Sees given vm.active machine
 
 -- so it is, or it replays and nothing is left

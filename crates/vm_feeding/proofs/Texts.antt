@@ -10,7 +10,7 @@ use Rattle.vm_calls.specs.declared.call_error.NumberError.{NumberError}
 use Rattle.vm_machine.specs.Causes.{NumberCauses}
 use Rattle.vm_machine.specs.declared.machine_state.MachineState.{MachineState}
 use Rattle.vm_feeding.specs.CommandlessCalls.{AnswersBy}
-use Rattle.vm_feeding.specs.Handles.{id_of, MakesAwakeable, IsAwakeableWhere, IsNamed}
+use Rattle.vm_feeding.specs.Handles.{started_id, MakesAwakeable, IsAwakeableWhere, IsNamed}
 
 answered_text : (id : Bytes) (old : MachineState) (made : Result AwakeableHandle NumberError) (active : Active) (result : Result AwakeableHandle Error) (new : MachineState)
     → MakesAwakeable id old.active made active → AnswersBy NumberCauses made (record old { active = active }) result new → IsNamed id old.active result
@@ -19,7 +19,7 @@ answered_text id old (Err lack) active (Ok answer) new does answers = absurd ans
 answered_text id old (Ok taken) active (Ok answer) new does answers = ap (λ (handle : AwakeableHandle). handle.id) answers.0 ∙ does.2.text
 
 pub made_text : (replay : JournalReplay) (old : MachineState) (result : Result AwakeableHandle Error) (new : MachineState) → IsAwakeableWhere replay old result new
-    → IsNamed (id_of old.start) old.active result
-made_text Enabled old result new made = answered_text (id_of old.start) old made.made made.active result new made.does made.answers
+    → IsNamed (started_id old.start) old.active result
+made_text Enabled old result new made = answered_text (started_id old.start) old made.made made.active result new made.does made.answers
 made_text Disabled old (Ok answer) new made = absurd made
 made_text Disabled old (Err answer) new made = tt

@@ -33,7 +33,7 @@ use Rattle.vm_machine.specs.Causes.{NumberCauses, child_not_id_error}
 use Rattle.vm_machine.specs.Steps.{IsMissed}
 use Rattle.vm_machine.specs.declared.machine_state.MachineState.{MachineState}
 use Rattle.vm_feeding.specs.CommandlessCalls.{IsCalled}
-pub use Rattle.vm_start.specs.Starts.{started_id as id_of}
+pub use Rattle.vm_start.specs.Starts.{started_id}
 
 -- ---- signals
 
@@ -65,7 +65,7 @@ abbrev pub IsUnsupported : (old : MachineState) → Error → (new : MachineStat
 IsUnsupported old answer new = MachineFails (Ok (plain_error unsupported_feature (codes "awakeables need journal replay"))) old answer new
 
 abbrev pub IsAwakeableWhere : JournalReplay → (old : MachineState) → Result AwakeableHandle Error → (new : MachineState) → Type 0
-IsAwakeableWhere Enabled old result new = IsCalled (MakesAwakeable (id_of old.start)) NumberCauses old result new
+IsAwakeableWhere Enabled old result new = IsCalled (MakesAwakeable (started_id old.start)) NumberCauses old result new
 IsAwakeableWhere Disabled old (Ok made) new = ⊥
 IsAwakeableWhere Disabled old (Err answer) new = IsUnsupported old answer new
 

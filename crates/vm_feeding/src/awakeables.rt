@@ -2,7 +2,7 @@
 ghost use Rattle.std.specs.Prelude.{codes, None};
 ghost use Rattle.vm_calls.specs.Handles.{LacksSignal};
 ghost use Rattle.vm_machine.specs.Steps.{IsMissed, Steps};
-ghost use Rattle.vm_feeding.specs.Handles.{id_of, MakesAwakeable, IsNamed, IsUnsupported, IsAwakeable, IsNoAwakeable};
+ghost use Rattle.vm_feeding.specs.Handles.{started_id, MakesAwakeable, IsNamed, IsUnsupported, IsAwakeable, IsNoAwakeable};
 
 use crate::answering::answer;
 use bytes::{ByteStr, Bytes};
@@ -19,7 +19,7 @@ fn named_by(
     alloc: Global,
     start: &Option<StartMessage>,
 ) -> Result<AwakeableHandle, NumberError>
-    ensures { MakesAwakeable (id_of start.now) active.old result active.new }
+    ensures { MakesAwakeable (started_id start.now) active.old result active.new }
 {
     match start {
         Some(start) => active.awakeable(alloc, &start.id),
@@ -74,7 +74,7 @@ fn miss(vm: &mut MachineState) -> Error
 /// Where the journal of earlier attempts is not replayed the machine fails in each of its phases, since the numbers that they have
 /// taken are not known.
 pub fn sys_awakeable(vm: &mut MachineState) -> Result<AwakeableHandle, Error>
-    ensures text { IsNamed (id_of vm.old.start) vm.old.active result }
+    ensures text { IsNamed (started_id vm.old.start) vm.old.active result }
     ensures steps { Steps IsAwakeable IsNoAwakeable None vm.old result vm.new }
 {
     match vm.admit(None) {

@@ -1,6 +1,5 @@
 // A read takes its number: its value is known, or the runtime is asked for it.
 ghost use Rattle.std.specs.Prelude.{◌≡◌, ◌↔◌, OnOk, OnErr, IsErrOf};
-ghost use Rattle.journal_model.specs.declared.value.Value.{Value as Values};
 ghost use Rattle.protocol_stream.specs.Frame.{spelled};
 ghost use Rattle.protocol_stream.specs.declared.encoder.EncodingError.TheVariants.{PayloadTooLong};
 ghost use Rattle.vm_context.specs.Output.{with_frame};

@@ -7,7 +7,7 @@ use Rattle.protocol_stream.specs.Decoder.{ConsumesNext}
 use Rattle.protocol_stream.specs.Frame.{message_of}
 use Rattle.protocol_stream.specs.Item.{Item, item_at, message, unknown}
 use Rattle.protocol_stream.specs.declared.decoder.DecodingError.{DecodingError}
-use Rattle.protocol_stream.specs.declared.decoder.DecodingError.TheVariants.{UnknownMessageType as OfUnknownType, OutOfMemory}
+use Rattle.protocol_stream.specs.declared.decoder.DecodingError.TheVariants.{UnknownMessageType, OutOfMemory}
 use Rattle.protocol_stream.specs.declared.decoder.RawMessage.{RawMessage}
 use Rattle.protocol_types.specs.declared.message_type.MessageType.TheVariants as types
 use Rattle.journal_model.specs.Attempt.{input_bytes}
@@ -143,7 +143,7 @@ module _ (start_kept : StartsAreKept) (keeps : MessagesAreKept) (start : Attempt
         let stays : new ≡ between = same ∙ ap (λ (bytes : List ℕ). with_bytes bytes between) consumes.1 in
         inl (subst (λ (vm : MachineState). Still start kind messages coming vm × (item_at vm.decoder ≡ None)) (sym stays) (still, consumes.0))
     stops_still coming between new still (Ok (Some raw)) rest consumes stops = absurd stops
-    stops_still coming between new still (Err (OfUnknownType ty)) rest consumes unread =
+    stops_still coming between new still (Err (UnknownMessageType ty)) rest consumes unread =
         absurd (unknown_is_none ty (message_of types.Start payload) (found_first coming rest between.decoder (unknown ty) still.bytes consumes).0)
     stops_still coming between new still (Err OutOfMemory) rest consumes unread =
         inr (inr (fails_behind (with_bytes rest between) new (fresh_output between still.awaits)

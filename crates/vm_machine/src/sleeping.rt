@@ -2,7 +2,7 @@
 ghost use Rattle.std.specs.Prelude.{◌≡◌, codes, Option, None};
 ghost use Rattle.journal_model.specs.declared.call.Answer.{Answer};
 ghost use Rattle.journal_model.specs.declared.call.Call.{Call};
-ghost use Rattle.journal_model.specs.declared.call.Moment.{Moment as Moments};
+ghost use Rattle.journal_model.specs.declared.call.Moment.{Moment};
 ghost use Rattle.journal_model.specs.Refusal.{milliseconds, first_refusal, moment_tests};
 ghost use Rattle.protocol_differences.specs.Control.{sleep_command_difference};
 ghost use Rattle.protocol_types.specs.declared.message_type.MessageType.TheVariants.{SleepCommand};
@@ -46,7 +46,7 @@ fn moment_of(version: Version, moment: Moment, event: &'static str) -> (u64, Opt
 impl MachineState {
     // Makes the call.
     fn make_sleep(&mut self, name: ByteStr, time: u64) -> Result<NotificationHandle, Error>
-        ensures { (wake_up : Moments) (now : Option Moments) → milliseconds wake_up ≡ time → first_refusal (moment_tests wake_up) ≡ None
+        ensures { (wake_up : Moment) (now : Option Moment) → milliseconds wake_up ≡ time → first_refusal (moment_tests wake_up) ≡ None
             → IsMade sleep_command_difference (Call.Sleep name wake_up now) (λ handle. Answer.Handle handle) SleepCommand name self.old result self.new }
     {
         let ignoring = checks_off(self.options.non_determinism_checks);

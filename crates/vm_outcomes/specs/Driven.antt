@@ -7,7 +7,7 @@ use Rattle.vm_calls.specs.Active.{Sees, are_any}
 use Rattle.vm_commands.specs.HeaderEquality.{same_header}
 use Rattle.vm_types.specs.Reads.{no_reads}
 use Rattle.vm_start.specs.declared.phase.Phase.TheVariants as phases
-use Rattle.vm_feeding.specs.Handles.{id_of}
+use Rattle.vm_feeding.specs.Handles.{started_id}
 use Rattle.vm_machine.specs.Calls.{checks_off, IsOf}
 use Rattle.vm_machine.specs.declared.machine_state.MachineState.{MachineState}
 
@@ -20,7 +20,7 @@ pub record IsDriven (given : Invocation) (m : Machine) (vm : MachineState) : Typ
   pub written : vm.active.output.version ≡ vm.version
   -- it is known whether the attempt has written a command
   pub commands : vm.active.output.has_commands ≡ are_any m.written
-  pub id : given.input.invocation_id ≡ id_of vm.start
+  pub id : given.input.invocation_id ≡ started_id vm.start
   -- a handler makes no read of which nothing is recorded
   pub reads : vm.reads ≡ no_reads
 

@@ -1,6 +1,6 @@
 // What a handler's call comes to.
 ghost use Rattle.std.specs.Prelude.{◌≡◌, Ok, Err};
-ghost use Rattle.journal_model.specs.declared.call.Answer.{Answer as Answers};
+ghost use Rattle.journal_model.specs.declared.call.Answer.{Answer};
 ghost use Rattle.vm_outcomes.specs.Outcomes.{answered_as, ended_as, awaited_as};
 
 use journal_model::{Answer, NotificationHandle};
@@ -26,7 +26,7 @@ pub enum CallOutcome {
 
 /// Of a call that is answered without a value.
 pub fn done(made: Result<(), Error>) -> CallOutcome
-    ensures { result ≡ answered_as (λ done. Answers.Done) made }
+    ensures { result ≡ answered_as (λ done. Answer.Done) made }
 {
     match made {
         Ok(()) => CallOutcome::Answered(Answer::Done),
@@ -36,7 +36,7 @@ pub fn done(made: Result<(), Error>) -> CallOutcome
 
 /// Of a call that is answered by a handle.
 pub fn handled(made: Result<NotificationHandle, Error>) -> CallOutcome
-    ensures { result ≡ answered_as (λ handle. Answers.Handle handle) made }
+    ensures { result ≡ answered_as (λ handle. Answer.Handle handle) made }
 {
     match made {
         Ok(handle) => CallOutcome::Answered(Answer::Handle(handle)),

@@ -5,7 +5,7 @@ use Rattle.std.specs.List.{flat_map}
 use Rattle.protocol_wire.specs.Parts.{payload_of}
 use Rattle.protocol_types.specs.declared.message_type.MessageType.TheVariants as types
 use Rattle.protocol_types.specs.declared.version.Version.{Version}
-use Rattle.protocol_types.specs.declared.feature.Feature.TheVariants.{AwaitTree as TellsTrees}
+use Rattle.protocol_types.specs.declared.feature.Feature.TheVariants.{AwaitTree}
 use Rattle.protocol_types.specs.Version.{version_number}
 use Rattle.protocol_types.specs.Feature.{lacks_feature}
 use Rattle.journal_model.specs.Request.{Request}
@@ -50,7 +50,7 @@ suspensions_written : SuspensionsAreWritten
 suspensions_written ids old new opens fits allowed shallow is =
     let sends = sends_one (Suspends ids) old.output (with_frame (sent_frame old.output.version (Suspends ids)) old.output) opens refl in
     record {
-      fits = record { told = (suspended_fits (lacks_feature (version_number old.output.version) TellsTrees) ids fits shallow, allowed); short = is.fits opens };
+      fits = record { told = (suspended_fits (lacks_feature (version_number old.output.version) AwaitTree) ids fits shallow, allowed); short = is.fits opens };
       sends = record {
         version = ap (λ (active : Active). active.output.version) is.suspended ∙ sends.version;
         bytes = ap (λ (active : Active). active.output.bytes) is.suspended ∙ sends.bytes;

@@ -1,6 +1,6 @@
 // The end of an attempt.
 ghost use Rattle.std.specs.Prelude.{◌≡◌, []};
-ghost use Rattle.protocol_types.specs.declared.message_type.MessageType.TheVariants.{End as end_type};
+ghost use Rattle.protocol_types.specs.declared.message_type.MessageType.TheVariants.{End};
 ghost use Rattle.vm_start.specs.Phases.{kept_error};
 ghost use Rattle.vm_waiting.specs.SuspensionFrames.{WritesFrame};
 ghost use Rattle.vm_progress.specs.EndEffects.{end_place, ClosesEnd, WritesEnd, EndsAt, EndsAs};
@@ -44,7 +44,7 @@ fn end_place(phase: &Phase, is_replaying: bool) -> EndPlace
 }
 
 fn write_end(output: &mut Output, alloc: Global) -> Result<(), EncodingError>
-    ensures { WritesFrame end_type [] output.old result output.new }
+    ensures { WritesFrame End [] output.old result output.new }
 {
     let message = EndMessage {};
     let sent = output.send(alloc, &message);

@@ -1,6 +1,6 @@
 // A future is awaited.
 ghost use Rattle.std.specs.Prelude.{◌≡◌, ◌∷◌, [], IfOk};
-ghost use Rattle.journal_model.specs.declared.future.UnresolvedFuture.{UnresolvedFuture as futures};
+ghost use Rattle.journal_model.specs.declared.future.UnresolvedFuture.{UnresolvedFuture};
 ghost use Rattle.journal_model.specs.Future.{tree_of};
 ghost use Rattle.journal_model.specs.Await.{with_cancellation, awaited_tree};
 ghost use Rattle.vm_awaits.specs.Views.{results_of};
@@ -51,7 +51,7 @@ fn awaits_nothing(future: &UnresolvedFuture) -> bool
 }
 
 fn cancellation_alone(alloc: Global) -> Result<Sequence<UnresolvedFuture>, AllocError>
-    ensures { IfOk result (λ children. children ≡ futures.Single 1 ∷ []) }
+    ensures { IfOk result (λ children. children ≡ UnresolvedFuture.Single 1 ∷ []) }
 {
     let mut children = Sequence::new(alloc);
     children.push(UnresolvedFuture::Single(CANCEL_NOTIFICATION_HANDLE))?;
@@ -62,7 +62,7 @@ fn beside_cancellation(
     alloc: Global,
     future: UnresolvedFuture,
 ) -> Result<Sequence<UnresolvedFuture>, AllocError>
-    ensures { IfOk result (λ children. children ≡ future ∷ futures.Single 1 ∷ []) }
+    ensures { IfOk result (λ children. children ≡ future ∷ UnresolvedFuture.Single 1 ∷ []) }
 {
     let mut children = Sequence::new(alloc);
     children.push(future)?;
