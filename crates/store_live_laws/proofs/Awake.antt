@@ -1,28 +1,30 @@
 -- The rows that have the flag, among the records that are kept.
-use Rattle.std.proofs.Common.{ℕ, ◌≤◌, arith, ◌≡◌, refl, sym, ap, subst, ◌∙◌, true≢false, Bool, true, false, if◌then◌else◌, List, [], ◌∷◌, length, map, filter, Option, Some, None, option_to_list, option_map, bytes_eq, Ordering, Less, is_eq, is_lt, IsPermutation}
+use Rattle.std.proofs.Common.{ℕ, ◌≤◌, arith, ◌≡◌, refl, sym, ap, subst, ◌∙◌, true≢false, Bool, true, false, if◌then◌else◌, List, [], ◌∷◌, length, map, filter, Option, Some, None, option_to_list, option_map, bytes_eq, Less, is_eq, is_lt, IsPermutation}
 use Rattle.std.specs.List.{AllByRecursion}
-use Rattle.std.specs.Ordering.{nat_cmp}
 use Rattle.std.specs.Cmp.{IsTotalOrder}
-use Rattle.std.specs.Cmp.Lexicographic.{slice_cmp, nat_list_cmp_total}
+use Rattle.std.specs.Cmp.Lexicographic.{nat_list_cmp_total}
 use Rattle.std.proofs.lemmas.Cmp.{on_total}
 use Rattle.std.proofs.lemmas.List.Sorted.{IsPermutation-sym}
 use Rattle.std.proofs.lemmas.Map.Text.{is_eq-slice_cmp}
 use Rattle.std.proofs.lemmas.Slice.Eq.{bytes_eq-Decides}
 use Rattle.sqlite_trees.specs.Tree.{IsAscending}
 use Rattle.sqlite_keyed.specs.Lists.{sort_by}
-use Rattle.sqlite_keyed.proofs.ListLemmas.{all_weaker, all_kept, ascending-filter}
+use Rattle.sqlite_keyed.proofs.ListLemmas.{all_weaker, all_kept, ascending-filter, filter-map}
 use Rattle.sqlite_keyed.proofs.SortLemmas.{IsPermutation-sort_by}
 use Rattle.journal_model.specs.Notification.{Text}
 use Rattle.journal_model.specs.declared.invocation.NewInvocation.{NewInvocation}
 use Rattle.journal_model.specs.Event.{Event}
 use Rattle.journal_model.specs.Journal.{invocation_begun}
 use Rattle.due_laws.specs.Noted.{is_awake_kept}
+use Rattle.store_tables.specs.Orders.{id_cmp}
 use Rattle.store_tables.specs.Questions.{DoAscend, has_id, is_awake}
 use Rattle.store_tables.specs.declared.row.InvocationRow.{InvocationRow}
-use Rattle.store_model.specs.Kept.{begun, invocation_row}
+use Rattle.store_model.specs.Kept.{IsKept, begun, invocation_row}
 use Rattle.store_model.proofs.States.{itself}
-use Rattle.store_model.proofs.Finding.{all_found}
+use Rattle.store_model.proofs.Finding.{named_once}
 use Rattle.store_model.proofs.Sorting.{sorted_rises}
+use Rattle.store_tables.specs.Records.{Records}
+use Rattle.journal_model.specs.Cause.{IsAccepted}
 use Rattle.store_live_laws.specs.Kept.{AwakeAreArranged, DueFromRecords}
 use Rattle.store_live_laws.proofs.Kept.{due_from_rows}
 
@@ -41,15 +43,8 @@ due_from_records events r rows accepted kept ascend those =
 
 -- ---- they have an order
 
-abbrev id_cmp : InvocationRow → InvocationRow → Ordering
-id_cmp a b = slice_cmp nat_cmp a.id b.id
-
-id_cmp_total : IsTotalOrder id_cmp
+pub id_cmp_total : IsTotalOrder id_cmp
 id_cmp_total = on_total (λ (row : InvocationRow). row.id) nat_list_cmp_total
-
-few : (o : Option InvocationRow) → length (option_to_list o) ≤ 1
-few None = omega arith
-few (Some row) = omega arith
 
 -- where one row at most has each id, no two are alike
 apart_by_id : (xs : List InvocationRow) → ((id : Text) → length (filter (has_id id) xs) ≤ 1) → IsAscending (λ a b. is_eq (id_cmp a b) ≡ false) xs
@@ -79,6 +74,23 @@ apart_by_id (x ∷ xs) once = (others (has_id x.id x) (itself x.id) (once x.id),
         (all_kept (λ (y : InvocationRow). ⊥) (has_id x.id) xs (none (filter (has_id x.id) xs) (omega (arith, h))))
     others false e h = absurd (true≢false (sym e))
 
+begun_apart : (events : List Event) → IsAccepted events → IsAscending (λ a b. is_eq (id_cmp a b) ≡ false) (map (invocation_row events) (begun events))
+begun_apart events accepted =
+    apart_by_id (map (invocation_row events) (begun events)) (λ id.
+    subst (λ (rows : List InvocationRow). length rows ≤ 1)
+    (sym (filter-map (has_id id) (invocation_row events) (begun events) ∙ ap (map (invocation_row events)) (named_once events accepted id))) (few (invocation_begun events id)))
+  where
+    few : (o : Option NewInvocation) → length (map (invocation_row events) (option_to_list o)) ≤ 1
+    few None = omega arith
+    few (Some new) = omega arith
+
+all_apart : (events : List Event) (r : Records) → IsAccepted events → IsKept events r → IsAscending (λ a b. is_eq (id_cmp a b) ≡ false) r.invocations
+all_apart events r accepted kept = subst (IsAscending (λ a b. is_eq (id_cmp a b) ≡ false)) (sym kept.invocations) (begun_apart events accepted)
+
+-- in the order of their ids each is before the next
+pub begun_rise : (events : List Event) → IsAccepted events → IsAscending (λ a b. id_cmp a b ≡ Less) (sort_by id_cmp (map (invocation_row events) (begun events)))
+begun_rise events accepted = sorted_rises id_cmp id_cmp_total (map (invocation_row events) (begun events)) (begun_apart events accepted)
+
 ascends : (xs : List InvocationRow) → IsAscending (λ a b. id_cmp a b ≡ Less) xs → DoAscend (λ (row : InvocationRow). row.id) xs
 ascends [] up = tt
 ascends (x ∷ []) up = tt
@@ -88,7 +100,6 @@ pub awake_are_arranged : AwakeAreArranged
 awake_are_arranged events r accepted kept = (
   sort_by id_cmp (filter is_awake r.invocations),
   ascends (sort_by id_cmp (filter is_awake r.invocations)) (sorted_rises id_cmp id_cmp_total (filter is_awake r.invocations)
-      (ascending-filter (λ a b. is_eq (id_cmp a b) ≡ false) is_awake r.invocations
-      (apart_by_id r.invocations (λ id. subst (λ (rows : List InvocationRow). length rows ≤ 1) (sym ((all_found events r accepted kept).invocation id)) (few (option_map (invocation_row events) (invocation_begun events id))))))),
+      (ascending-filter (λ a b. is_eq (id_cmp a b) ≡ false) is_awake r.invocations (all_apart events r accepted kept))),
   IsPermutation-sym (sort_by id_cmp (filter is_awake r.invocations)) (filter is_awake r.invocations) (IsPermutation-sort_by id_cmp id_cmp_total (filter is_awake r.invocations)),
 )
