@@ -1,2 +1,4 @@
 pub mod Finding
 pub mod Deciding
+pub mod PageRows
+pub mod OpenRequests
