@@ -39,7 +39,7 @@ pub use scheduler::{
 pub use sqlite::Alter;
 use std::alloc::Global;
 pub use straight_line::laws::{
-    answers_are_of_kind, calls_come_in_order, calls_stay_on, takes_are_of_kind,
+    answers_are_of_kind, calls_come_in_order, calls_stay_on, never_goes_astray, takes_are_of_kind,
     takes_bring_something, takes_stay_on,
 };
 pub use straight_line::{

@@ -93,6 +93,14 @@ two-awake Pending Failed e f = cc
 two-awake Succeeded b e f = refl
 two-awake Failed b e f = refl
 
+not-one : one Pending ≡ true → ⊥
+not-one e = cc
+
+not-two : (b : AwaitState) → two Pending b ≡ true → b ≡ Pending → ⊥
+not-two Pending e f = cc
+not-two Succeeded e f = cc
+not-two Failed e f = cc
+
 none-pending : (o : Option NotificationResult) → state_of_result o ≡ Pending → o ≡ None
 none-pending None e = refl
 none-pending (Some NotificationResult.Void) e = cc
@@ -135,6 +143,11 @@ module _ (options : RunOptions) (steps : List Step) (arrivals : List Arrival) (f
       ∙ two-awake (seen_by id place) (seen_by other place) awake
       (now other (λ q from_low high. (two-asleep (seen_by id q) (seen_by other q) (asleep q from_low high)).1) ∙ ap state_of_result none))
 
+  not-beside-none : (other : NotificationId) → two Pending (seen_by other place) ≡ true
+      → ((q : ℕ) → from ≤ q → q < place → two Pending (seen_by other q) ≡ false) → at other place ≡ None → ⊥
+  not-beside-none other awake asleep none =
+      not-two (seen_by other place) awake (now other (λ q from_low high. (two-asleep Pending (seen_by other q) (asleep q from_low high)).1) ∙ ap state_of_result none)
+
 -- an await of one handle that is woken finds it in front
 module _ (options : RunOptions) (steps : List Step) (arrivals : List Arrival) (place : ℕ) where
   not-some : (o : Option NotificationResult) → is_some o ≡ false → o ≡ None
@@ -155,6 +168,15 @@ module _ (options : RunOptions) (steps : List Step) (arrivals : List Arrival) (p
       let (awake, low, asleep) = least (is_awake_at options steps arrivals (tree (Enabled calls sends) (Some id)) (place_of steps)) (place_of steps) more place e in
       in-front-beside options steps arrivals (place_of steps) place low id cancel_id awake asleep (not-some (front options steps arrivals place cancel_id) uncancelled)
 
+  no_leaf : (mode : ImplicitCancellationOption) (more : ℕ)
+      → least_from (is_awake_at options steps arrivals (tree mode None) (place_of steps)) (place_of steps) more ≡ Some place
+      → (ends_awaits mode && is_some (front options steps arrivals place cancel_id)) ≡ false → ⊥
+  no_leaf Disabled more e uncancelled =
+      not-one (least (is_awake_at options steps arrivals (tree Disabled None) (place_of steps)) (place_of steps) more place e).0
+  no_leaf (Enabled calls sends) more e uncancelled =
+      let (awake, low, asleep) = least (is_awake_at options steps arrivals (tree (Enabled calls sends) None) (place_of steps)) (place_of steps) more place e in
+      not-beside-none options steps arrivals (place_of steps) place low cancel_id awake asleep (not-some (front options steps arrivals place cancel_id) uncancelled)
+
   by_leaf : (mode : ImplicitCancellationOption) (leaf : Option NotificationId) (id : NotificationId) (more : ℕ) → leaf ≡ Some id
       → least_from (is_awake_at options steps arrivals (tree mode leaf) (place_of steps)) (place_of steps) more ≡ Some place
       → (ends_awaits mode && is_some (front options steps arrivals place cancel_id)) ≡ false → is_some (front options steps arrivals place id) ≡ true
@@ -172,9 +194,10 @@ module _ (options : RunOptions) (steps : List Step) (arrivals : List Arrival) (p
   not_woken None e = cc
   not_woken (Some p) e = cc
 
-  pub woken-front : (handle : ℕ) (id : NotificationId) → stands_for steps handle ≡ Some id → await_outcome options steps arrivals (Single handle) ≡ WokenAt place
-      → is_some (front options steps arrivals place id) ≡ true
-  woken-front handle id stands woken = by_place (awake_place options steps arrivals (awaited_ids options steps (Single handle))) refl woken
+  woken_at : (handle : ℕ) → await_outcome options steps arrivals (Single handle) ≡ WokenAt place
+      → (least_from (is_awake_at options steps arrivals (tree options.implicit_cancellation (stands_for steps handle)) (place_of steps)) (place_of steps) (length arrivals - place_of steps) ≡ Some place)
+      × (is_cancelled_at options steps arrivals place ≡ false)
+  woken_at handle woken = by_place (awake_place options steps arrivals (awaited_ids options steps (Single handle))) refl woken
     where
       by_cancelled : (p : ℕ) (b : Bool) → is_cancelled_at options steps arrivals p ≡ b
           → (if b then cancellation_outcome options steps arrivals (children_place options steps arrivals p) else WokenAt p) ≡ WokenAt place
@@ -183,14 +206,32 @@ module _ (options : RunOptions) (steps : List Step) (arrivals : List Arrival) (p
       by_cancelled p false f e = (let same : p ≡ place = cc in same, f)
 
       by_place : (o : Option ℕ) → awake_place options steps arrivals (awaited_ids options steps (Single handle)) ≡ o
-          → outcome_from options steps arrivals (awaited_ids options steps (Single handle)) o ≡ WokenAt place → is_some (front options steps arrivals place id) ≡ true
+          → outcome_from options steps arrivals (awaited_ids options steps (Single handle)) o ≡ WokenAt place
+          → (least_from (is_awake_at options steps arrivals (tree options.implicit_cancellation (stands_for steps handle)) (place_of steps)) (place_of steps) (length arrivals - place_of steps) ≡ Some place)
+          × (is_cancelled_at options steps arrivals place ≡ false)
       by_place None found e = cc
       by_place (Some p) found e =
-          let (same, uncancelled) = by_cancelled p (is_cancelled_at options steps arrivals p) refl e in
-          by_leaf options.implicit_cancellation (stands_for steps handle) id (length arrivals - place_of steps) stands
-          (ap (λ (some : AwaitTree (Option NotificationId)). least_from (is_awake_at options steps arrivals some (place_of steps)) (place_of steps) (length arrivals - place_of steps))
-          (sym (tree_is options.implicit_cancellation handle)) ∙ found ∙ ap Some same)
-          (ap (is_cancelled_at options steps arrivals) (sym same) ∙ uncancelled)
+          let (same, uncancelled) = by_cancelled p (is_cancelled_at options steps arrivals p) refl e in (
+            ap (λ (some : AwaitTree (Option NotificationId)). least_from (is_awake_at options steps arrivals some (place_of steps)) (place_of steps) (length arrivals - place_of steps))
+                (sym (tree_is options.implicit_cancellation handle)) ∙ found ∙ ap Some same,
+            ap (is_cancelled_at options steps arrivals) (sym same) ∙ uncancelled,
+          )
+
+  pub woken-front : (handle : ℕ) (id : NotificationId) → stands_for steps handle ≡ Some id → await_outcome options steps arrivals (Single handle) ≡ WokenAt place
+      → is_some (front options steps arrivals place id) ≡ true
+  woken-front handle id stands woken =
+      let at_place = woken_at handle woken in
+      by_leaf options.implicit_cancellation (stands_for steps handle) id (length arrivals - place_of steps) stands at_place.0 at_place.1
+
+  -- and so the handle stands for something
+  pub woken-stands : (handle : ℕ) → await_outcome options steps arrivals (Single handle) ≡ WokenAt place → (id : NotificationId) × (stands_for steps handle ≡ Some id)
+  woken-stands handle woken = let at_place = woken_at handle woken in by_id (stands_for steps handle) refl at_place.0 at_place.1
+    where
+      by_id : (o : Option NotificationId) → stands_for steps handle ≡ o
+          → least_from (is_awake_at options steps arrivals (tree options.implicit_cancellation o) (place_of steps)) (place_of steps) (length arrivals - place_of steps) ≡ Some place
+          → is_cancelled_at options steps arrivals place ≡ false → (id : NotificationId) × (stands_for steps handle ≡ Some id)
+      by_id None stands e uncancelled = absurd (no_leaf options.implicit_cancellation (length arrivals - place_of steps) e uncancelled)
+      by_id (Some id) stands e uncancelled = (id, stands)
 
 -- a step that makes no handle, takes nothing and asks for nothing changes neither what is in front nor what a handle stands for
 module _ (options : RunOptions) (steps : List Step) (arrivals : List Arrival) (step : Step)

@@ -5,3 +5,4 @@ pub mod Staying
 pub mod TakenValues
 pub mod AwaitedHandles
 pub mod TakeKinds
+pub mod FittingRuns

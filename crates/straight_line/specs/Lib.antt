@@ -5,3 +5,4 @@ pub mod Combinators
 pub mod Rounds
 pub mod Laws
 pub mod Takes
+pub mod Fitting

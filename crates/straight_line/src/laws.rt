@@ -1,6 +1,7 @@
 //! What holds of every straight-line handler: each function does nothing, and its contract is the law.
 ghost use Rattle.straight_line.specs.Laws as laws;
 ghost use Rattle.straight_line.specs.Takes as takes;
+ghost use Rattle.straight_line.specs.Fitting as fitting;
 
 /// The next call of a handler that makes a call first is that call, until it has an answer, and then the next call of what follows.
 pub fn calls_come_in_order()
@@ -30,4 +31,10 @@ pub fn takes_bring_something()
 /// No take goes astray on a value of its kind.
 pub fn takes_stay_on()
     ensures { takes.TakesStayOn }
+{}
+
+/// A handler that goes astray on no answers that fit its calls never does in a run: all that a run gives fit, where all that came was of
+/// the kind that was asked for.
+pub fn never_goes_astray()
+    ensures { fitting.NeverGoesAstray }
 {}
