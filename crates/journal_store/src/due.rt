@@ -1,17 +1,20 @@
-// Which invocations are due, and when the next sleep ends.
+// Which invocations there are, and which are due, and when the next sleep ends.
 ghost use Rattle.std.specs.Prelude.{◌≡◌, not, filter, is_some, IfErr};
+ghost use Rattle.std.specs.Option.{option_copied};
 ghost use Rattle.journal_model.specs.Attempt.{due};
 ghost use Rattle.due_laws.specs.NextMoment.{IsNextMoment};
 ghost use Rattle.journal_store.specs.Stands.{IsQuiet, TellsAlways};
 ghost use Rattle.journal_store.specs.Words.{attempt_of};
 ghost use Rattle.journal_store.specs.Causes.{TellsWhy};
+ghost use Rattle.store_reads.specs.Page.{invocations_after};
 
 use crate::store::Store;
 use bytes::ByteStr;
 use sqlite::Alter;
 use store_live::LiveAttempts;
-use store_reads::{awake_ids, next_moment};
+use store_reads::{awake_ids, invocations_after, next_moment};
 use store_refusals::Refusal;
+use store_tables::InvocationRow;
 
 /// The ids without those of invocations with a live attempt.
 fn leave_out_live(ids: &mut Vec<ByteStr>, live: &LiveAttempts)
@@ -32,6 +35,28 @@ impl<S: Alter + Drop> Store<S> {
         let mut ids = awake_ids(&mut self.tables)?;
         leave_out_live(&mut ids, &self.live);
         Ok(ids)
+    }
+
+    /// The first so many of the invocations whose ids are above one, or of all: open and closed ones, by id. To list those of a file in
+    /// parts, ask again behind the last id. It costs a look-up for each, and reads no journal.
+    pub fn invocations(
+        &mut self,
+        after: Option<&ByteStr>,
+        most: usize,
+    ) -> Result<Vec<InvocationRow>, Refusal>
+        ensures told { TellsAlways S.Store (λ events rows. rows.items ≡ invocations_after events (option_copied after.entry) most) result self.old self.new }
+        ensures live { self.new.live ≡ self.old.live }
+        ensures cause { IfErr result (TellsWhy S.Store self.old self.new) }
+        ensures crash { IsQuiet S.Store self.old self.new }
+    {
+        invocations_after(&mut self.tables, after, most)
+    }
+
+    /// Whether an attempt of an invocation is live.
+    pub fn is_attempt_live(&self, id: &ByteStr) -> bool
+        ensures { result ≡ is_some (attempt_of self.now.live.attempts id.now) }
+    {
+        self.live.get(id).is_some()
     }
 
     /// The first moment, in milliseconds, at which a tick ends a sleep, if there is one. It is found by one look-up.

@@ -27,6 +27,7 @@ pub use open::NotOpened;
 pub use store::Store;
 pub use store_calls::BegunAttempt;
 pub use store_invocations::{EntryKind, RecordedEntry};
+pub use store_reads::OpenRequest;
 pub use store_refusals::{Cause, Refusal};
 pub use store_steps::FrameReply;
-pub use store_tables::{LastError, StateRow};
+pub use store_tables::{Closing, InvocationRow, LastError, Progress, StateRow};

@@ -5,6 +5,7 @@ ghost use Rattle.store_model.specs.Kept.{state_row};
 ghost use Rattle.store_model.specs.Progress.{last_error_of};
 ghost use Rattle.store_invocations.specs.Told.{entries_told};
 ghost use Rattle.store_invocations.specs.Answered.{answer_told};
+ghost use Rattle.store_reads.specs.OpenRequests.{open_requests};
 ghost use Rattle.journal_store.specs.Stands.{IsQuiet, TellsAlways, TellsOf};
 ghost use Rattle.journal_store.specs.Causes.{TellsWhy};
 
@@ -13,6 +14,7 @@ use bytes::ByteStr;
 use journal_model::NonEmptyValue;
 use sqlite::Alter;
 use store_invocations::{RecordedEntry, answer, entries, failure, is_open, object_states};
+use store_reads::{OpenRequest, open_requests};
 use store_refusals::Refusal;
 use store_tables::{LastError, StateRow};
 
@@ -56,6 +58,18 @@ impl<S: Alter + Drop> Store<S> {
         ensures crash { IsQuiet S.Store self.old self.new }
     {
         is_open(&mut self.tables, id)
+    }
+
+    /// What an open invocation has asked of others and nobody has answered, by place: calls, the ids of what was called or sent to,
+    /// attaching, asking for an output, and promises. A sleep ends by a tick, and a run by the attempt. A closed one asks for nothing more:
+    /// of it no journal is read.
+    pub fn open_requests(&mut self, id: &ByteStr) -> Result<Vec<OpenRequest>, Refusal>
+        ensures told { TellsOf S.Store id.now (λ events requests. requests.items ≡ open_requests events id.now) result self.old self.new }
+        ensures live { self.new.live ≡ self.old.live }
+        ensures cause { IfErr result (TellsWhy S.Store self.old self.new) }
+        ensures crash { IsQuiet S.Store self.old self.new }
+    {
+        open_requests(&mut self.tables, id)
     }
 
     /// The values of an object's state, by ascending keys: what the requests of its invocations, closed ones too, have made of it.
