@@ -1,0 +1,5 @@
+pub mod Escapes
+pub mod WordLaws
+pub mod Spaces
+pub mod RequestLaws
+pub mod Headers

@@ -1,0 +1,5 @@
+pub mod Word
+pub mod WordReader
+pub mod Request
+pub mod RequestReader
+pub mod Reply
