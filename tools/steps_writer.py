@@ -347,11 +347,6 @@ class Writer:
         states = [known for known in self.types if known in changed]
         if any(part[0] == "for" for part in parts(body)):
             raise Unread("a loop stands in a loop: put the inner one into a function of its own")
-        if len(states) > 1 and ("continue",) in list(parts(body)):
-            raise Unread(
-                f"the loop over `{name}` changes {' and '.join(f'`{it}`' for it in states)} and has a `continue`, of which no proof is found by itself: "
-                "choose in a function of values for each, and leave the `continue` out"
-            )
         if ("name", name) not in list(parts(body)) and all(it[0] == "num" and not it[2] for it in (low, high)):
             raise Unread(f"nothing says of which type `{name}` is: write `{low[1]}..{high[1]}u64`")
         is_until = any(part[0] == "return" and not is_failure(part[1]) for part in parts(body))
