@@ -1,5 +1,6 @@
 //! Why a call does not come to its end.
 use anyhow::Error;
+use durable_schedule::Reason;
 use std::fmt;
 
 /// Why a call does not come to its end.
@@ -7,11 +8,11 @@ use std::fmt;
 pub enum Fault {
     /// It was called with other words.
     Usage,
-    /// Another process has the file.
-    InUse(Error),
+    /// The file of this name is not taken.
+    NotTaken(String, Reason),
     /// A job was refused, or did not come as far as it could.
     Refused(Error),
-    /// The file is not taken, or something else failed.
+    /// Something else failed.
     Failed(Error),
 }
 
@@ -20,9 +21,9 @@ impl Fault {
     pub fn status(&self) -> u8 {
         match self {
             Fault::Refused(_) => 1,
-            Fault::Failed(_) => 2,
+            Fault::NotTaken(_, Reason::Held) => 5,
+            Fault::NotTaken(_, _) | Fault::Failed(_) => 2,
             Fault::Usage => 3,
-            Fault::InUse(_) => 5,
         }
     }
 }
@@ -31,7 +32,8 @@ impl fmt::Display for Fault {
     fn fmt<W: fmt::Write>(&self, f: &mut fmt::Formatter<W>) -> fmt::Result {
         match self {
             Fault::Usage => write!(f, "usage: example_runner FILE [NAME [order|confirm]]"),
-            Fault::InUse(why) | Fault::Refused(why) | Fault::Failed(why) => write!(f, "{why}"),
+            Fault::NotTaken(file, reason) => write!(f, "{file}: {reason}"),
+            Fault::Refused(why) | Fault::Failed(why) => write!(f, "{why}"),
         }
     }
 }

@@ -13,8 +13,7 @@ mod values;
 use anyhow::{Error, Result, anyhow, bail};
 use durable_schedule::{
     Alter, ByteStr, Bytes, Event, File, FileStore, NewInvocation, NotificationResult, Outcome,
-    Reason, Reply, Scheduler, Sequence, SignalKey, StateMode, Store, Straight, VMOptions,
-    close_file, open,
+    Reply, Scheduler, Sequence, SignalKey, StateMode, Store, Straight, VMOptions, close_file, open,
 };
 use fault::Fault;
 use job::Job;
@@ -255,11 +254,10 @@ fn run_over<S: Alter + Drop>(
 }
 
 /// The store in a file, or why it is not taken.
-fn open_store(rt: &HostRuntime, file: &str) -> Result<Store<FileStore<File>>, Fault> {
-    match open(rt, file) {
+fn open_store(rt: &HostRuntime, file: String) -> Result<Store<FileStore<File>>, Fault> {
+    match open(rt, &file) {
         Ok(store) => Ok(store),
-        Err(Reason::Held) => Err(Fault::InUse(anyhow!("{file}: {}", Reason::Held))),
-        Err(reason) => Err(Fault::Failed(anyhow!("{file}: {reason}"))),
+        Err(reason) => Err(Fault::NotTaken(file, reason)),
     }
 }
 
@@ -278,7 +276,7 @@ fn close(store: Store<FileStore<File>>) -> Result<()> {
 
 fn run(rt: &HostRuntime) -> Result<(), Fault> {
     let Words { file, task } = read_words(rt)?;
-    let store = open_store(rt, &file)?;
+    let store = open_store(rt, file)?;
     let mut scheduler = Scheduler::new(rt.alloc(), store, VMOptions::default());
     let done = run_over(rt, &mut scheduler, task);
     let closed = close(scheduler.into_store());

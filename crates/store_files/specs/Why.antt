@@ -49,11 +49,12 @@ is_seen reason.NoDatabase = true
 is_seen reason.NotGiven = true
 is_seen _ = false
 
--- Why no connection was opened. Two errors have several causes: that the system gave no files, and that they hold no database or not
--- one that is read, as one with auto_vacuum. Then what stands at the path decides.
+-- Why no connection was opened. Three errors have several causes: that the system gave no files, that they hold no database or not one that
+-- is read, and that it is damaged. Each of the last two is told of a database with auto_vacuum too. Then what stands at the path decides.
 abbrev pub ErrorTells : Error → Reason → Type 0
 ErrorTells (SqliteFailure CannotOpen) why = IsTrue (is_seen why)
 ErrorTells (SqliteFailure NotADatabase) why = (why ≡ reason.NoDatabase) ⊎ ((why ≡ reason.AutoVacuum) ⊎ (why ≡ reason.Damaged))
+ErrorTells (SqliteFailure DatabaseCorrupt) why = (why ≡ reason.AutoVacuum) ⊎ (why ≡ reason.Damaged)
 ErrorTells error why = why ≡ told_by error
 
 -- the question for the mark of a store, of any version

@@ -127,3 +127,13 @@ pub(crate) fn kind_at(rt: &HostRuntime, path: &str) -> Reason
     }
     Reason::Damaged
 }
+
+/// What a file holds of whose pages the library says that they are damaged: it says so of a database with `auto_vacuum` too.
+pub(crate) fn damage_at(rt: &HostRuntime, path: &str) -> Reason
+    ensures { (result ≡ reason.AutoVacuum) ⊎ (result ≡ reason.Damaged) }
+{
+    match kind_at(rt, path) {
+        Reason::AutoVacuum => Reason::AutoVacuum,
+        _ => Reason::Damaged,
+    }
+}

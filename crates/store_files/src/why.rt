@@ -6,7 +6,7 @@ ghost use Rattle.sqlite.specs.declared.error.Error.{Error};
 ghost use Rattle.store_files.specs.Why.{ErrorTells, IsMarkAsked, IsThisVersion, MarkTells, StoreTells, VersionTells, told_by};
 ghost use Rattle.store_files.specs.declared.open.NotTaken.TheVariants.{NoStore, Unopened};
 
-use crate::look::{kind_at, seen_at};
+use crate::look::{damage_at, kind_at, seen_at};
 use crate::open::NotTaken;
 use journal_store::{NotOpened, Refusal};
 use sqlite::{Alter, Connection, Error, ErrorCode, Row};
@@ -109,6 +109,7 @@ fn by_error(rt: &HostRuntime, path: &str, error: Error) -> Reason
     match error {
         Error::SqliteFailure(ErrorCode::CannotOpen) => seen_at(rt, path),
         Error::SqliteFailure(ErrorCode::NotADatabase) => kind_at(rt, path),
+        Error::SqliteFailure(ErrorCode::DatabaseCorrupt) => damage_at(rt, path),
         _ => told(error),
     }
 }
