@@ -6,9 +6,9 @@ use Rattle.journal_model.specs.Journal.{Entry, Recorded, Arrived, entries_of}
 use Rattle.journal_model.specs.Attempt.{notification_type}
 use Rattle.vm_input_laws.proofs.Arrivals.{decodes}
 use Rattle.store_invocations.specs.Told.{entry_told, told_from}
-use Rattle.durable_script.specs.declared.entry.ShownEntry.{ShownEntry}
-use Rattle.durable_script.specs.declared.entry.ShownEntry.TheVariants.{Arrival, Request}
-use Rattle.durable_script.specs.Entries.{AreShown, IsShown, entry_text}
+use Rattle.shown_records.specs.declared.entry.ShownEntry.{ShownEntry}
+use Rattle.shown_records.specs.declared.entry.ShownEntry.TheVariants.{Arrival, Request}
+use Rattle.shown_records.specs.Entries.{AreShown, IsShown, entry_text}
 use Rattle.durable_script.specs.EntriesShown.{EntryFits, line_at, lines_from, EntriesAreShown}
 
 same_ok : {A E : Type 0} (r : Result A E) (x y : A) → r ≡ Ok x → r ≡ Ok y → x ≡ y

@@ -3,7 +3,6 @@ pub mod SchedulerChanges
 pub mod Following
 pub mod Leaving
 pub mod Printing
-pub mod Entries
 pub mod EntriesShown
 pub mod Showing
 pub mod States

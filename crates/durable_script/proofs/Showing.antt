@@ -23,10 +23,11 @@ use Rattle.scheduler.specs.declared.scheduler.Scheduler.{Scheduler}
 use Rattle.scheduler.specs.Scheduled.{IsScheduled}
 use Rattle.durable_schedule.specs.Schedules.{Scheduled}
 use Rattle.script_lines.specs.Text.{refused_text}
-use Rattle.durable_script.specs.declared.entry.ShownEntry.{ShownEntry}
-use Rattle.durable_script.specs.Entries.{AreShown, SomeUnread}
+use Rattle.shown_records.specs.declared.entry.ShownEntry.{ShownEntry}
+use Rattle.shown_records.specs.Entries.{AreShown, SomeUnread}
+use Rattle.shown_records.specs.Invocation.{shown_text}
 use Rattle.durable_script.specs.SchedulerChanges.{Reaches, Nowhere}
-use Rattle.durable_script.specs.Shown.{shown_text, HasEntries, HasRecords, IsKnown, ShowsOnly, RefusesShow, Shows}
+use Rattle.durable_script.specs.Shown.{HasEntries, HasRecords, IsKnown, ShowsOnly, RefusesShow, Shows}
 use Rattle.durable_script.proofs.SchedulerChanges.{reaches_both, reaches_so, reaches_told}
 
 -- ---- what is told, question by question

@@ -1,13 +1,11 @@
 -- What is shown of the state of an object.
 use Rattle.std.proofs.Common.{◌≡◌, ℕ, List, [], ◌∷◌, ◌++◌, map, refl, ap, ◌∙◌, inl, inr}
 use Rattle.std.specs.Prelude.{codes}
-use Rattle.std.specs.List.{flat_map}
 use Rattle.sqlite_trees.specs.declared.store.Store.{Ghosts}
 use Rattle.sqlite.specs.Held.{state}
 use Rattle.sqlite.specs.State.{HasCleanDisk}
 use Rattle.built_in_handlers.specs.declared.built_in.BuiltIn.{BuiltIn}
 use Rattle.journal_model.specs.Notification.{Text}
-use Rattle.journal_model.specs.State.{StateMap}
 use Rattle.journal_model.specs.Event.{Event}
 use Rattle.journal_model.specs.Journal.{object_state}
 use Rattle.store_refusals.specs.declared.refusal.Refusal.{Refusal}
@@ -19,14 +17,10 @@ use Rattle.scheduler.specs.Scheduled.{IsScheduled}
 use Rattle.durable_schedule.specs.Schedules.{Scheduled, StateRow, state_row}
 use Rattle.script_lines.specs.Text.{refused_text}
 use Rattle.durable_script.specs.SchedulerChanges.{Reaches, Nowhere}
-use Rattle.durable_script.specs.Rows.{row_text, rows_text}
-use Rattle.durable_script.specs.Shown.{state_entry, ShowsOnly, TellsState}
+use Rattle.shown_records.specs.Rows.{rows_text}
+use Rattle.durable_script.specs.Shown.{ShowsOnly, TellsState}
+use Rattle.shown_records.proofs.Rows.{rows_shown}
 use Rattle.durable_script.proofs.SchedulerChanges.{reaches_so, reaches_told}
-
--- rows of an object are shown as its values are
-rows_shown : (object : Text) (states : StateMap) → flat_map row_text (map (state_row object) states) ≡ flat_map state_entry states
-rows_shown object [] = refl
-rows_shown object (entry ∷ states) = let rest = rows_shown object states in λ i. state_entry entry ++ rest i
 
 -- these are the values of the object
 abbrev AreStates : Text → List StateRow → List Event → Type 0

@@ -10,8 +10,8 @@ use Rattle.vm_input_laws.specs.Arrivals.{ArrivalFits}
 use Rattle.store_invocations.specs.Told.{entries_told}
 use Rattle.script_lines.specs.Text.{request_line}
 use Rattle.script_lines.specs.Arrival.{arrival_line}
-use Rattle.durable_script.specs.declared.entry.ShownEntry.{ShownEntry}
-use Rattle.durable_script.specs.Entries.{AreShown, brought_words, entry_text, id_word}
+use Rattle.shown_records.specs.declared.entry.ShownEntry.{ShownEntry}
+use Rattle.shown_records.specs.Entries.{AreShown, brought_words, entry_text, id_word}
 
 -- the line of an entry at its place
 abbrev pub line_at : ℕ → Entry → List ℕ

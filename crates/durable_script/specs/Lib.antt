@@ -1,8 +1,6 @@
 pub mod SchedulerChanges
 pub mod Printed
-pub mod Entries
 pub mod EntriesShown
-pub mod Rows
 pub mod Shown
 pub mod Outcome
 pub mod Line

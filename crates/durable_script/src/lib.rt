@@ -2,7 +2,6 @@
 #![tactic(auto)]
 
 mod due;
-mod entry;
 pub mod laws;
 mod outcome;
 mod reply;
@@ -12,6 +11,6 @@ mod show;
 mod state;
 
 pub use durable_schedule::{Event, Reply, Scheduler, run_schedule};
-pub use entry::{ShownEntry, read_entries};
 pub use run::{ScriptEnd, run_script};
 pub use script_lines::fault::ScriptFault;
+pub use shown_records::{ShownEntry, read_entries};

@@ -2,7 +2,7 @@ use Rattle.std.proofs.Common.{◌≡◌, ℕ, List, ◌∷◌, [], ◌++◌, sub
 use Rattle.std.specs.Prelude.{string_bytes, IfOk}
 use Rattle.store_refusals.specs.Names.{refusal_name_of}
 use Rattle.script_lines.specs.Text.{refused_text}
-use Rattle.durable_script.specs.Shown.{shown_text}
+use Rattle.shown_records.specs.Invocation.{shown_text}
 use Rattle.durable_script.proofs.Showing.{records_printed, refusal_printed}
 use Rattle.durable_script.proofs.show.show.Goals as goal
 

@@ -1,7 +1,7 @@
 -- What is printed of the rows of an object's state.
 use Rattle.std.specs.Prelude.{ℕ, List, [], ◌∷◌, ◌++◌, codes}
 use Rattle.std.specs.List.{flat_map}
-use Rattle.durable_schedule.specs.Schedules.{StateRow}
+use Rattle.store_tables.specs.declared.row.StateRow.{StateRow}
 use Rattle.script_lines.specs.Text.{state_line}
 
 abbrev pub row_text : StateRow → List ℕ

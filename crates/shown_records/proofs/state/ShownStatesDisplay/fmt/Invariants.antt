@@ -1,8 +1,8 @@
 use Rattle.std.proofs.Common.{take}
 use Rattle.std.specs.List.{flat_map}
 use Rattle.std.specs.Fmt.{HasWritten, IsPlainFormatter}
-use Rattle.durable_script.specs.Rows.{row_text}
-use Rattle.durable_script.proofs.state.ShownStatesDisplay.fmt.Given as goal
+use Rattle.shown_records.specs.Rows.{row_text}
+use Rattle.shown_records.proofs.state.ShownStatesDisplay.fmt.Given as goal
 
 abbrev pub invariant-loop-row : goal.invariant-loop-row
 invariant-loop-row g l =

@@ -14,8 +14,8 @@ use Rattle.store_invocations.specs.declared.recorded.EntryKind.TheVariants as ki
 use Rattle.store_invocations.specs.declared.recorded.RecordedEntry.{RecordedEntry}
 use Rattle.script_lines.specs.Text.{request_line}
 use Rattle.script_lines.specs.Arrival.{arrival_line, completion_word, failure_words, id_words, keys_words, name_word, signal_word, value_words}
-use Rattle.durable_script.specs.declared.entry.ShownEntry.{ShownEntry}
-use Rattle.durable_script.specs.declared.entry.ShownEntry.TheVariants.{Arrival, Request}
+use Rattle.shown_records.specs.declared.entry.ShownEntry.{ShownEntry}
+use Rattle.shown_records.specs.declared.entry.ShownEntry.TheVariants.{Arrival, Request}
 
 -- what an arrival is for
 abbrev pub id_word : NotificationId → List ℕ

@@ -1,8 +1,8 @@
 use Rattle.std.proofs.Common.{take}
 use Rattle.std.specs.List.{flat_map}
 use Rattle.std.specs.Fmt.{HasWritten, IsPlainFormatter}
-use Rattle.durable_script.specs.Entries.{entry_text}
-use Rattle.durable_script.proofs.show.ShownInvocationDisplay.fmt.Given as goal
+use Rattle.shown_records.specs.Entries.{entry_text}
+use Rattle.shown_records.proofs.invocation.ShownInvocationDisplay.fmt.Given as goal
 
 abbrev pub invariant-loop-entry : goal.invariant-loop-entry
 invariant-loop-entry g l =

@@ -3,10 +3,10 @@ use Rattle.std.proofs.lemmas.Result.{err_from_is_err_and}
 use Rattle.std.proofs.lemmas.Iterator.Consumers.{YieldsList-turn}
 use Rattle.std.proofs.lemmas.Iterator.Adapters.{YieldsList-from_vec}
 use Rattle.store_invocations.specs.declared.recorded.RecordedEntry.{RecordedEntry}
-use Rattle.durable_script.specs.declared.entry.ShownEntry.{ShownEntry}
-use Rattle.durable_script.specs.Entries.{AreShown, IsUnread}
-use Rattle.durable_script.proofs.Entries.{shown_more, unread_at}
-use Rattle.durable_script.proofs.entry.read_entries.Goals as goal
+use Rattle.shown_records.specs.declared.entry.ShownEntry.{ShownEntry}
+use Rattle.shown_records.specs.Entries.{AreShown, IsUnread}
+use Rattle.shown_records.proofs.Entries.{shown_more, unread_at}
+use Rattle.shown_records.proofs.entry.read_entries.Goals as goal
 
 pub returns-in_err-shown-clause-err : goal.returns-in_err-shown-clause-err
 returns-in_err-shown-clause-err c = let p = err_from_is_err_and c.from_residual.result c.from_residual.ensures.1 in rw (p.1, p.2) (inl refl)

@@ -2,8 +2,8 @@
 use Rattle.std.proofs.Common.{ℕ, zero, suc, ◌<◌, List, [], ◌∷◌, ◌++◌, length, get_or, inl, inr, arith}
 use Rattle.store_refusals.specs.declared.refusal.Refusal.{Refusal}
 use Rattle.store_invocations.specs.declared.recorded.RecordedEntry.{RecordedEntry}
-use Rattle.durable_script.specs.declared.entry.ShownEntry.{ShownEntry}
-use Rattle.durable_script.specs.Entries.{AreShown, HasUnread, IsShown, IsUnread}
+use Rattle.shown_records.specs.declared.entry.ShownEntry.{ShownEntry}
+use Rattle.shown_records.specs.Entries.{AreShown, HasUnread, IsShown, IsUnread}
 
 -- one more
 pub shown_more : (entries : List RecordedEntry) (shown : List ShownEntry) (entry : RecordedEntry) (one : ShownEntry) → AreShown entries shown → IsShown entry one

@@ -1,0 +1,4 @@
+pub mod Entries
+pub mod Invocation
+pub mod Rows
+pub mod Shown
