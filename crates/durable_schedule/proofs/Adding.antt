@@ -24,7 +24,8 @@ use Rattle.schedule_laws.specs.Schedules.reply
 use Rattle.schedule_laws.specs.Schedules.refusal
 use Rattle.schedule_laws.specs.Schedules.{Reply, HeldAttempt, held_of, RepliesDone, RepliesPlace, RepliesCount, BeginDoes, FeedsOne, ClosesOne, StopsOne, TurnsOne, MovesOne, IfHeld, UnlessMismatch, tells_mismatch, Does, Scheduled}
 use Rattle.durable_schedule.specs.Runs.{AppliesEach}
-use Rattle.durable_schedule.specs.Front.{AreAcceptedOf, IsAcceptedOf, stop_for}
+use Rattle.durable_schedule.specs.Front.{AreAcceptedOf, IsAcceptedOf}
+use Rattle.durable_schedule.specs.Moved.{stop_for}
 use Rattle.durable_schedule.proofs.Feeding.{are_fed, parts_events, some_parts, stopped_events, sum_given}
 
 -- these were accepted of the event, and put in front
@@ -53,7 +54,7 @@ refused_stop : (lies : Bool) (id : Text) (n : ℕ) (s t : Standing) → LeavesRe
 refused_stop true id n s t it = it.events
 refused_stop false id n s t it = it.events
 
-rests_stop : (id : Text) (n : ℕ) (why : Option Refusal) (s t : Standing) → Rests id n why s t → t.events ≡ stop_for id n why ++ s.events
+pub rests_stop : (id : Text) (n : ℕ) (why : Option Refusal) (s t : Standing) → Rests id n why s t → t.events ≡ stop_for id n why ++ s.events
 rests_stop id n None s t it = elim it [ inl ended ↦ ended.stays.events | inr none ↦ none.stays.events ]
 rests_stop id n (Some why) s t it = elim it [
   | inl room ↦ subst (λ (w : Refusal). t.events ≡ stop_for id n (Some w) ++ s.events) (sym room.memory) room.stays.events

@@ -28,7 +28,9 @@ use Rattle.scheduler.specs.Scheduled.{IsScheduled}
 use Rattle.durable_schedule.specs.Runs.{EnduresUnwritten, LastsBehind, Leaves, LeavesFirst, at_first}
 use Rattle.durable_schedule.specs.Front.{IsFaithful, IsToldAlike, KeepsFirst, KeepsWritten, RecordsFaithfully, StandsFor, without_others}
 use Rattle.durable_schedule.specs.Handed.{AreHandedBy, HandsEach, HandsOne, IsHandedBy}
+use Rattle.durable_schedule.specs.Moved.{AreMovedBy}
 use Rattle.durable_schedule.proofs.Adding.{all_accepted}
+use Rattle.durable_schedule.proofs.Moving.{one_moved}
 use Rattle.durable_schedule.proofs.Written.{behind_more}
 
 -- ---- what came of others
@@ -78,12 +80,20 @@ module _ {H : Type 0} (function : H → Handler) (options : VMOptions) where
   one_handed (event.Feed id number count) (reply.Fed fed why) bytes old new it = it.4
   one_handed one answer bytes old new it = it.1
 
-  all_handed : (asked : List (Asked H)) (replies : List Reply) (added : List (List Event)) (handed : List Bytes) (old new : Scheduled H) → HandsEach function options asked replies added handed old new
+  all_handed : (asked : List (Asked H)) (replies : List Reply) (added : List (List Event)) (handed moved : List Bytes) (old new : Scheduled H) → HandsEach function options asked replies added handed moved old new
       → AreHandedBy asked replies handed
-  all_handed [] [] [] [] old new it = tt
-  all_handed (one ∷ asked) (answer ∷ replies) (some ∷ added) (bytes ∷ handed) old new it =
-      (one_handed one answer bytes old it.0 it.1, all_handed asked replies added handed it.0 new it.3)
-  all_handed _ _ _ _ old new it = absurd it
+  all_handed [] [] [] [] [] old new it = tt
+  all_handed (one ∷ asked) (answer ∷ replies) (some ∷ added) (bytes ∷ handed) (gone ∷ moved) old new it =
+      (one_handed one answer bytes old it.0 it.1, all_handed asked replies added handed moved it.0 new it.3)
+  all_handed _ _ _ _ _ old new it = absurd it
+
+  -- and what is moved
+  all_moved : (asked : List (Asked H)) (replies : List Reply) (added : List (List Event)) (handed moved : List Bytes) (old new : Scheduled H) → HandsEach function options asked replies added handed moved old new
+      → AreMovedBy asked replies moved
+  all_moved [] [] [] [] [] old new it = tt
+  all_moved (one ∷ asked) (answer ∷ replies) (some ∷ added) (bytes ∷ handed) (gone ∷ moved) old new it =
+      (one_moved function options one answer bytes gone old it.0 it.1 it.4, all_moved asked replies added handed moved it.0 new it.3)
+  all_moved _ _ _ _ _ old new it = absurd it
 
 -- ---- a schedule
 
@@ -95,8 +105,11 @@ module _ {H : Type 0} (function : H → Handler) (options : VMOptions) (stand : 
     added = leaves.added;
     told = all_accepted function options asked replies leaves.added (at_first s) new leaves.each;
     handed = leaves.handed;
-    hands = all_handed function options asked replies leaves.added leaves.handed (at_first s) new leaves.hands;
+    hands = all_handed function options asked replies leaves.added leaves.handed leaves.moved (at_first s) new leaves.hands;
     fed = leaves.fed;
+    moved = leaves.moved;
+    moves = all_moved function options asked replies leaves.added leaves.handed leaves.moved (at_first s) new leaves.hands;
+    taken = leaves.taken;
     turns = leaves.turns;
     in_run = λ next id in_line brings holds.
         let it = leaves.in_run next id in_line brings holds in

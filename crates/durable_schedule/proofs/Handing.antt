@@ -16,11 +16,12 @@ use Rattle.schedule_laws.specs.HandedInput.{bytes_handed_out}
 use Rattle.schedule_laws.proofs.HandedInput.{hands_out_input}
 use Rattle.vm_types.specs.declared.options.VMOptions.{VMOptions}
 use Rattle.store_calls.specs.AbstractStore.{Standing}
-use Rattle.schedule_model.specs.Attempts.{Attempt}
+use Rattle.schedule_model.specs.Attempts.{Attempt, output_of}
 use Rattle.schedule_model.specs.Held.{is_held, with_attempt}
 use Rattle.schedule_model.proofs.Firsts.{first_of_other, first_push_other}
 use Rattle.schedule_model.proofs.Holding.{found_is, held_is, not_true, some_is, some_none}
 use Rattle.schedule_laws.proofs.Keeping.{handed_live}
+use Rattle.schedule_laws.specs.Written.{MovesBytes}
 use Rattle.schedule_laws.specs.Schedules.scheduled
 use Rattle.schedule_laws.specs.Schedules.event
 use Rattle.schedule_laws.specs.Schedules.reply
@@ -43,7 +44,7 @@ same_text a b e = (bytes_eq-Decides a b).0 e
 
 module _ (id : Text) where
   -- a live attempt is the last one
-  live_number : (events : List Event) (n : ℕ) → live_attempt events id ≡ Some n → attempts_begun events id ≡ n
+  pub live_number : (events : List Event) (n : ℕ) → live_attempt events id ≡ Some n → attempts_begun events id ≡ n
   live_number [] n e = some_none (sym e)
   live_number (event ∷ earlier) n e = by_begin (begins_attempt id event) (is_of id event && ends_live event) e (live_number earlier n)
     where
@@ -181,7 +182,7 @@ module _ (id : Text) where
       abbrev Handed : Bytes → List Event → List (HeldAttempt H) → Type 0
       Handed before all held = ((held_of held id n ≡ None) × (before ≡ [])) ⊎ WasHanded before all
 
-      changed_unheld : (other : Text) (k : ℕ) (held : List (HeldAttempt H)) (one : HeldAttempt H) (changed : Attempt H) → held_of held other k ≡ Some one → held_of held id n ≡ None
+      pub changed_unheld : (other : Text) (k : ℕ) (held : List (HeldAttempt H)) (one : HeldAttempt H) (changed : Attempt H) → held_of held other k ≡ Some one → held_of held id n ≡ None
           → held_of (with_attempt held one changed) id n ≡ None
       changed_unheld other k held one changed there none =
           first_of_other (is_held one.invocation one.number) (is_held id n)
@@ -200,7 +201,7 @@ module _ (id : Text) where
               let here : held_of held id n ≡ Some one = subst (λ (x : Text). held_of held x n ≡ Some one) text (subst (λ (m : ℕ). held_of held other m ≡ Some one) number there) in
               some_none (sym here ∙ none))
 
-      if_unheld : (Change : HeldAttempt H → Standing → Reply → Standing → Attempt H → Type 0) (other : Text) (k : ℕ) (held more : List (HeldAttempt H)) (s t : Standing) (answer : Reply)
+      pub if_unheld : (Change : HeldAttempt H → Standing → Reply → Standing → Attempt H → Type 0) (other : Text) (k : ℕ) (held more : List (HeldAttempt H)) (s t : Standing) (answer : Reply)
           → IfHeld Change (held_of held other k) s held answer t more → held_of held id n ≡ None → held_of more id n ≡ None
       if_unheld Change other k held more s t answer it none = by_held (held_of held other k) refl it
         where
@@ -208,12 +209,12 @@ module _ (id : Text) where
           by_held None is it = ap (λ (hs : List (HeldAttempt H)). held_of hs id n) it.2 ∙ none
           by_held (Some one) is it = ap (λ (hs : List (HeldAttempt H)). held_of hs id n) it.2 ∙ changed_unheld other k held one it.0 is none
 
-      unless_unheld : (is_mismatch : Bool) (Change : HeldAttempt H → Standing → Reply → Standing → Attempt H → Type 0) (other : Text) (k : ℕ) (held more : List (HeldAttempt H)) (s t : Standing) (answer : Reply)
+      pub unless_unheld : (is_mismatch : Bool) (Change : HeldAttempt H → Standing → Reply → Standing → Attempt H → Type 0) (other : Text) (k : ℕ) (held more : List (HeldAttempt H)) (s t : Standing) (answer : Reply)
           → UnlessMismatch is_mismatch Change (held_of held other k) s held answer t more → held_of held id n ≡ None → held_of more id n ≡ None
       unless_unheld true Change other k held more s t answer it none = ap (λ (hs : List (HeldAttempt H)). held_of hs id n) it.2 ∙ none
       unless_unheld false Change other k held more s t answer it none = if_unheld Change other k held more s t answer it none
 
-      same_unheld : (held more : List (HeldAttempt H)) → more ≡ held → held_of held id n ≡ None → held_of more id n ≡ None
+      pub same_unheld : (held more : List (HeldAttempt H)) → more ≡ held → held_of held id n ≡ None → held_of more id n ≡ None
       same_unheld held more same none = ap (λ (hs : List (HeldAttempt H)). held_of hs id n) same ∙ none
 
       -- ---- what an event does
@@ -387,16 +388,16 @@ module _ (id : Text) where
         of_input all held before accepted (inr was) = was_of_input all before accepted was
 
         -- so it is at each moment of a schedule
-        pub each_handed : (events : List (scheduled.Event H)) (replies : List Reply) (added : List (List Event)) (handed : List Bytes) (old new : Scheduled H) (before : Bytes)
-            → HandsEach function options events replies added handed old new → Handed before old.standing.events old.held → IsHandedInput id n events replies added handed before old.standing.events
-        each_handed [] [] [] [] old new before it at = tt
-        each_handed (one ∷ events) (answer ∷ replies) (some ∷ added) (bytes ∷ handed) old new before it at =
+        pub each_handed : (events : List (scheduled.Event H)) (replies : List Reply) (added : List (List Event)) (handed moved : List Bytes) (old new : Scheduled H) (before : Bytes)
+            → HandsEach function options events replies added handed moved old new → Handed before old.standing.events old.held → IsHandedInput id n events replies added handed before old.standing.events
+        each_handed [] [] [] [] [] old new before it at = tt
+        each_handed (one ∷ events) (answer ∷ replies) (some ∷ added) (bytes ∷ handed) (gone ∷ moved) old new before it at =
             let now : Bytes = before ++ handed_to id n one answer bytes in
             let behind = step one answer bytes old it.0 before it.1 at in (
               subst (λ (es : List Event). AreOfInput id now (while_last id n es)) it.2 (of_input it.0.standing.events it.0.held now it.0.standing.accepted behind),
-              subst (λ (es : List Event). IsHandedInput id n events replies added handed now es) it.2 (each_handed events replies added handed it.0 new now it.3 behind),
+              subst (λ (es : List Event). IsHandedInput id n events replies added handed now es) it.2 (each_handed events replies added handed moved it.0 new now it.3 behind),
             )
-        each_handed _ _ _ _ old new before it at = absurd it
+        each_handed _ _ _ _ _ old new before it at = absurd it
 
 -- ---- what each event hands
 
@@ -411,13 +412,24 @@ module _ {H : Type 0} (function : H → Handler) (options : VMOptions) where
       by_held (Some one) is it = (given_in it.1.0, (one, it.0, it.1.0, is, it.1.1, refl, it.1.2, it.2))
   one_hands one answer old new it = ([], (it, refl))
 
+  -- and which bytes it moves
+  one_moves : (one : scheduled.Event H) (answer : Reply) (old new : Scheduled H) → Applies function options one answer old new → (moved : Bytes) × MovesBytes one answer moved old.held
+  one_moves (event.Move id k count) (reply.Moved bytes frames why) old new it = by_held (held_of old.held id k) refl it
+    where
+      by_held : (o : Option (HeldAttempt H)) → held_of old.held id k ≡ o → IfHeld (MovesOne count) o old.standing old.held (reply.Moved bytes frames why) new.standing new.held
+          → (moved : Bytes) × MovesBytes (event.Move id k count) (reply.Moved bytes frames why) moved old.held
+      by_held None is it = absurd (let e : reply.Moved bytes frames why ≡ reply.Refused refusal.AttemptNotHeld = it.0 in cc)
+      by_held (Some one) is it = (take bytes (output_of one.attempt), (one, is, refl))
+  one_moves one answer old new it = ([], refl)
+
   pub all_hand : (events : List (scheduled.Event H)) (replies : List Reply) (added : List (List Event)) (old new : Scheduled H) → AppliesEach function options events replies added old new
-      → (handed : List Bytes) × HandsEach function options events replies added handed old new
-  all_hand [] [] [] old new it = ([], it)
+      → (handed : List Bytes) × (moved : List Bytes) × HandsEach function options events replies added handed moved old new
+  all_hand [] [] [] old new it = ([], [], it)
   all_hand (one ∷ events) (answer ∷ replies) (some ∷ added) old new it =
       let first = one_hands one answer old it.0 it.1 in
+      let goes = one_moves one answer old it.0 it.1 in
       let rest = all_hand events replies added it.0 new it.4 in
-      (first.0 ∷ rest.0, (it.0, first.1, it.2, rest.1))
+      (first.0 ∷ rest.0, goes.0 ∷ rest.1, (it.0, first.1, it.2, rest.2, goes.1))
   all_hand [] [] (some ∷ added) old new it = absurd it
   all_hand [] (answer ∷ replies) added old new it = absurd it
   all_hand (one ∷ events) [] added old new it = absurd it

@@ -3,6 +3,8 @@ pub mod Growing
 mod Apart
 mod Causing
 mod Handing
+mod Taking
+mod Moving
 mod Telling
 pub mod Running
 pub mod Quieting

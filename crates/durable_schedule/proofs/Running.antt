@@ -24,6 +24,7 @@ use Rattle.journal_store.proofs.Enduring.{endures_on}
 use Rattle.durable_schedule.proofs.Apart.{stands_apart, stands_still}
 use Rattle.durable_schedule.proofs.Growing.{all_add, each_grow}
 use Rattle.durable_schedule.proofs.Handing.{all_hand, each_handed}
+use Rattle.durable_schedule.proofs.Moving.{each_taken}
 use Rattle.durable_schedule.proofs.Telling.{begins_tell}
 
 pub each_more : {A : Type 0} (P : A → Type 0) (xs : List A) (x : A) → AllByRecursion P xs → P x → AllByRecursion P (xs ++ x ∷ [])
@@ -74,10 +75,12 @@ module _ {H : Type 0} (function : H → Handler) (options : VMOptions) where
           isolated = λ id. stands_apart id stand keep answer function options events replies each.0 (at_first s) new each.1;
           untouched = λ id apart. stands_still id stand keep answer function options events replies each.0 (at_first s) new each.1 apart;
           handed = hand.0;
-          hands = hand.1;
-          fed = λ id number. each_handed id number function options events replies each.0 hand.0 (at_first s) new [] hand.1 (inl (refl, refl));
+          moved = hand.1;
+          hands = hand.2;
+          fed = λ id number. each_handed id number function options events replies each.0 hand.0 hand.1 (at_first s) new [] hand.2 (inl (refl, refl));
+          taken = λ id number. each_taken id number function options events replies each.0 hand.0 hand.1 (at_first s) new [] hand.2 (inl (refl, refl));
           turns = λ next id in_line brings before.
-              begins_tell function options next id each_told in_line events replies each.0 hand.0 (at_first s) new (λ number. None) hand.1 fits brings (first_told next options id s before);
+              begins_tell function options next id each_told in_line events replies each.0 hand.0 hand.1 (at_first s) new (λ number. None) hand.2 fits brings (first_told next options id s before);
         }
 
     -- and of the first of the events

@@ -16,7 +16,6 @@ use Rattle.vm_types.specs.Options.{run_options}
 use Rattle.vm_types.specs.declared.options.VMOptions.{VMOptions}
 use Rattle.store_refusals.specs.declared.refusal.Refusal.{Refusal}
 use Rattle.store_refusals.specs.declared.refusal.Refusal.TheVariants.{OutOfMemory}
-use Rattle.store_steps.specs.Taken.{lies_in_frame}
 use Rattle.store_model.specs.Progress.{last_error_of}
 use Rattle.store_invocations.specs.Told.{entries_told}
 use Rattle.store_invocations.specs.Answered.{answer_told}
@@ -33,14 +32,10 @@ use Rattle.schedule_laws.specs.Schedules.{Reply, Scheduled, Brings}
 use Rattle.scheduler.specs.Scheduled.{IsScheduled}
 use Rattle.scheduler.specs.declared.scheduler.Scheduler.{Scheduler}
 use Rattle.durable_schedule.specs.Handed.{AreHandedBy, IsHandedInput}
+use Rattle.durable_schedule.specs.Moved.{AreFramesTaken, AreMovedBy, stop_for}
 use Rattle.durable_schedule.specs.Runs.{AreButLast, LastsBehind, NoneWritten}
 
 -- ---- what was accepted, by the replies
-
--- an attempt is stopped where a frame of it was refused for what lies in the frame
-abbrev pub stop_for : Text → (attempt : ℕ) → Option Refusal → List Event
-stop_for id attempt None = []
-stop_for id attempt (Some why) = if lies_in_frame why then Event.Stop id attempt ∷ [] else []
 
 -- How many bytes are fed of those that are left: as many as are there, up to those that are asked for. Where the store refuses a further part,
 -- one at least.
@@ -124,12 +119,19 @@ module _ {H : Type 0} (function : H → Handler) (options : VMOptions) (before :
     pub handed : List Bytes
     pub hands : AreHandedBy asked replies handed
     pub fed : (id : Text) → (number : ℕ) → IsHandedInput id number asked replies added handed [] before
+    -- The bytes that each event moves from the attempt that it names to the store, as many as its reply tells. The frames that a move takes are
+    -- the first whole items of the torn frame that the store still held and of these bytes, in order; and what is torn then is kept for the next.
+    pub moved : List Bytes
+    pub moves : AreMovedBy asked replies moved
+    pub taken : (id : Text) → (number : ℕ) → AreFramesTaken id number asked replies added moved [] before
     -- Of each attempt that is begun of such an invocation as `in_run` speaks of, each reply to a turn tells what the one uninterrupted run does over
-    -- the bytes that were handed to the attempt by then: a turn that was answered as having executed a body has executed the one that the run
-    -- waits for, and proposes the outcome that the turn was given. And of the frames that are moved from it an outcome is one that it has
-    -- proposed, for that run, and an error the one that a turn has failed by.
+    -- the arrivals that have come whole by then, which are one function of the bytes that were handed to the attempt and of the outcomes that it has
+    -- proposed: a turn that was answered as having executed a body has executed the one that the run waits for, and proposes the outcome that the
+    -- turn was given. It writes whole frames: the requests by which the run goes on, that outcome, the suspension, the end, or the error. What is
+    -- moved is the beginning of what was written and not moved before: as many bytes as were asked for, or all. And of the frames that are taken
+    -- an outcome is one that it has proposed, for that run, and an error the one that a turn has failed by.
     pub turns : (next : Handler) (id : Text) → ReplaysInLine options → AllByRecursion (Brings function id next) asked → HoldsOf next options id before
-        → EachBegunTells next options id asked replies added handed before
+        → EachBegunTells next options id asked replies added handed moved before
     -- Each invocation whose begins all bring one function is in the run of that function, if it was in it before: one that was not begun
     -- before is.
     pub in_run : (next : Handler) (id : Text) → ReplaysInLine options → AllByRecursion (Brings function id next) asked → HoldsOf next options id before → FollowsItsRun next options id events

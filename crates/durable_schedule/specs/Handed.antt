@@ -18,6 +18,7 @@ use Rattle.schedule_laws.specs.Schedules.scheduled
 use Rattle.schedule_laws.specs.Schedules.event
 use Rattle.schedule_laws.specs.Schedules.reply
 use Rattle.schedule_laws.specs.Schedules.{Reply, HeldAttempt, held_of, Scheduled, Applies}
+use Rattle.schedule_laws.specs.Written.{MovesBytes}
 
 -- ---- the input of an attempt, with its start frame
 
@@ -50,12 +51,13 @@ module _ {H : Type 0} (function : H → Handler) (options : VMOptions) where
       × FeedsParts count parts why one old.standing new.standing changed × (new.held ≡ with_attempt old.held one changed)
   HandsOne one answer bytes old new = Applies function options one answer old new × (bytes ≡ [])
 
-  -- events one after another, with their replies; each adds these to the accepted events, and hands these bytes
-  abbrev pub HandsEach : List (scheduled.Event H) → List Reply → (added : List (List Event)) → (handed : List Bytes) → Scheduled H → Scheduled H → Type 0
-  HandsEach [] [] [] [] old new = new ≡ old
-  HandsEach (one ∷ events) (answer ∷ replies) (some ∷ added) (bytes ∷ handed) old new =
-      (between : Scheduled H) × HandsOne one answer bytes old between × (between.standing.events ≡ some ++ old.standing.events) × HandsEach events replies added handed between new
-  HandsEach _ _ _ _ old new = ⊥
+  -- events one after another, with their replies; each adds these to the accepted events, hands these bytes, and moves these
+  abbrev pub HandsEach : List (scheduled.Event H) → List Reply → (added : List (List Event)) → (handed moved : List Bytes) → Scheduled H → Scheduled H → Type 0
+  HandsEach [] [] [] [] [] old new = new ≡ old
+  HandsEach (one ∷ events) (answer ∷ replies) (some ∷ added) (bytes ∷ handed) (gone ∷ moved) old new =
+      (between : Scheduled H) × HandsOne one answer bytes old between × (between.standing.events ≡ some ++ old.standing.events) × HandsEach events replies added handed moved between new
+      × MovesBytes one answer gone old.held
+  HandsEach _ _ _ _ _ old new = ⊥
 
 -- By the replies alone: a feed hands so many bytes as it is answered with, and none is handed but by a begin and a feed. A begin hands the start
 -- frame, which is of the input below.

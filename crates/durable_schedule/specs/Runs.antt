@@ -30,6 +30,7 @@ use Rattle.schedule_laws.specs.Schedules.{Reply, HeldAttempt, Scheduled, Applies
 use Rattle.schedule_laws.specs.InvocationInRun.{ReplaysInLine, HoldsOf, given_of}
 use Rattle.schedule_laws.specs.Turned.{EachBegunTells}
 use Rattle.durable_schedule.specs.Handed.{HandsEach, IsHandedInput}
+use Rattle.durable_schedule.specs.Moved.{AreFramesTaken}
 
 -- ---- its events, one after another
 
@@ -209,20 +210,25 @@ module _ {H : Type 0} (function : H → Handler) (options : VMOptions) where
     -- so what stood of it before stands of it, where no event of the schedule is one of its own or a tick
     pub untouched : (id : Text) → AllByRecursion (IsApart id) events → IsAlike new.standing.events old.standing.events id
     -- The bytes that each event hands to the attempt that it names: its start frame where it is begun, and of each feed as many as its reply
-    -- tells, which the machine of the attempt is fed.
+    -- tells, which the machine of the attempt is fed. And those that it moves from it to the store, as many as its reply tells.
     pub handed : List Bytes
-    pub hands : HandsEach function options events replies added handed old new
+    pub moved : List Bytes
+    pub hands : HandsEach function options events replies added handed moved old new
     -- Of each attempt, whatever its invocation and its number: at each moment of the schedule these, one behind the other, are none, or a
     -- beginning of its start frame, the journal as it was when it was begun, and then each later arrival by place, as far as recorded by
     -- then, and all of that where nothing is left.
     pub fed : (id : Text) → (number : ℕ) → IsHandedInput id number events replies added handed [] old.standing.events
+    -- Of each attempt the frames that a move takes are the first whole items of the torn frame that the store held of it and of the bytes that are
+    -- moved, up to one that ends it or is refused; what is torn then is kept for the next move.
+    pub taken : (id : Text) → (number : ℕ) → AreFramesTaken id number events replies added moved [] old.standing.events
     -- Of each attempt that is begun of such an invocation, live, stopped or overtaken, what each reply to a turn says is what the one
-    -- uninterrupted run of its function does at that turn over the bytes that were handed to the attempt by then. That is said of its start:
+    -- uninterrupted run of its function does at that turn over the arrivals that have come whole by then: one function of the bytes that were
+    -- handed to the attempt and of the outcomes that it has proposed. That is said of its start:
     -- the run of the invocation, with these options and its object's state at its begin, and the journal as it was then; of the replies to its
-    -- turns so far, by how many have answered and what they have proposed; and of whether its input was closed. Of its frames that are moved to
-    -- the store an outcome is one that it has proposed.
+    -- turns so far, by how many have answered and what they have proposed; and of whether its input was closed. It writes frames by that, and what
+    -- is moved is the beginning of what waits of these. Of its frames that are moved to the store an outcome is one that it has proposed.
     pub turns : (next : Handler) (id : Text) → ReplaysInLine options → AllByRecursion (Brings function id next) events → HoldsOf next options id old.standing.events
-        → EachBegunTells next options id events replies added handed old.standing.events
+        → EachBegunTells next options id events replies added handed moved old.standing.events
 
   -- what the first of these events leave, of which the last may have been answered otherwise than it was, and none that was answered as
   -- written is left out

@@ -45,7 +45,8 @@ pub fn run_reopened_schedule<H: Handler + Drop, S: Alter + Drop>(
 /// that list. Of each invocation whose begins all bring one function the recorded requests are a prefix of those that one uninterrupted run of
 /// this function makes over its recorded arrivals, and all of them where an attempt was suspended or ended, over what it was handed; its end
 /// alone closes it, and its answer is the run's; an outcome that is recorded of one of its runs is the one that a turn was given which has
-/// executed the body of that run; and while it is suspended `due` lists it as soon as the run goes on, and from version 7 on only then, where nothing was
+/// executed the body of that run; a move takes the first bytes that its attempt has written and that wait, as many as are asked for or all, and
+/// records the whole frames among them in order; and while it is suspended `due` lists it as soon as the run goes on, and from version 7 on only then, where nothing was
 /// cancelled and all that it awaits has an id. What came of other invocations since it was made changes none of this. All of it lasts, unless memory or a statement was refused last; and a crash anywhere
 /// in it leaves the same of a prefix of the events, in which none is missing that was answered as written.
 pub fn run_new_schedule<H: Handler + Drop, S: Alter + Drop>(

@@ -23,7 +23,7 @@ pub use files::{
     leave_file, let_go, open, open_file, open_in_memory, reason_of,
 };
 pub use front::{run_new_schedule, run_reopened_schedule};
-pub use journal_store::Store;
+pub use journal_store::{Closing, InvocationRow, OpenRequest, Progress, Store};
 pub use laws::reopened_stores_hold;
 pub use schedule_laws::{
     entries_keep_places, frames_are_taken, inputs_are_handed_out, invocations_stand_alone,
@@ -46,6 +46,7 @@ pub use straight_line::{
     Awakeable, Called, Calls, Combinator, DurableFuture, IdAsked, KeysRead, Peeked, StateRead,
     Stop, Straight, StraightLine, Timer, Told, future_over,
 };
+pub use vm_attempt_laws::attempts_follow_runs;
 
 /// Puts a reply behind the others, for which there is room.
 fn put(replies: &mut Vec<Reply>, reply: Reply)
@@ -79,8 +80,9 @@ pub fn run_schedule<H: Handler + Drop, S: Alter + Drop>(
     // is never late, and from version 7 on exact; and none of its frames was refused for a cause that lies in the frame. Of each invocation,
     // whatever its begins bring, at each moment the same stands, and its own events are refused alike, as if only these and the ticks had
     // come since the schedule or it was begun (`isolated`). Of each attempt, at each moment what it was handed is a beginning of its start
-    // frame, the journal and each later arrival (`fed`). And what each reply to a turn says is what the one uninterrupted run does at that
-    // turn, over what its attempt was handed by then, whether that attempt is the live one, was stopped, or was overtaken (`turns`).
+    // frame, the journal and each later arrival (`fed`). The frames that a move takes are the first whole ones of the bytes that it moves, behind the torn
+    // one of the move before (`taken`). And what each reply to a turn says is what the one uninterrupted run does at that
+    // turn, over the arrivals that have come whole to its attempt by then, whether that attempt is the live one, was stopped, or was overtaken (`turns`).
     // All of this list lasts: whatever a crash leaves from then on, up to the next call, the tables keep it. That is so unless memory or a
     // statement was refused in the last event that may have written anything; where none may, what was handed in has to last.
     ensures applies { IfOk result (λ done. HasCleanDisk (state S.Store done.0.store.connection) → (s : Standing) → IsStanding S.Store s store →

@@ -1,5 +1,5 @@
 -- What is done with the live attempt that is held keeps its invocation in the run: it is fed, and its input is closed.
-use Rattle.std.proofs.Common.{◌≡◌, ℕ, ◌<◌, Bool, true, false, true≢false, ◌&&◌, ◌||◌, zero-add, List, [], ◌∷◌, ◌++◌, map, take, Option, Some, None, refl, sym, ap, subst, ◌∙◌, inl, inr, ◌⊎◌, append_assoc}
+use Rattle.std.proofs.Common.{◌≡◌, ℕ, ◌<◌, Bool, true, false, true≢false, ◌&&◌, ◌||◌, zero-add, List, [], ◌∷◌, ◌++◌, map, take, Option, Some, None, refl, sym, ap, subst, ◌∙◌, inl, inr, append_assoc}
 use Rattle.std.specs.List.{AllByRecursion}
 use Rattle.journal_model.specs.declared.invocation.NewInvocation.{NewInvocation}
 use Rattle.journal_model.specs.Notification.{Bytes, Text}
@@ -10,8 +10,6 @@ use Rattle.journal_model.specs.Attempt.{attempts_begun, live_attempt, is_input_c
 use Rattle.journal_model.specs.Cause.{IsAccepted}
 use Rattle.journal_model.specs.Run.{Handler, Invocation}
 use Rattle.journal_model.specs.Headline.{run_of}
-use Rattle.protocol_errors.specs.Code.{internal}
-use Rattle.protocol_errors.specs.declared.error.Error.{Error}
 use Rattle.protocol_types.specs.declared.version.Version.{Version}
 use Rattle.input_laws.proofs.Events.{itself, start_same}
 use Rattle.input_laws.proofs.LiveAttempts.{live_now, closed_now}
@@ -23,39 +21,35 @@ use Rattle.vm_types.specs.Options.{run_options}
 use Rattle.vm_types.specs.declared.options.VMOptions.{VMOptions}
 use Rattle.vm_attempt_laws.specs.Attempts.{Feeds, ClosesInput, output_of, Attempt}
 use Rattle.replay_laws.specs.AttemptWithBodies.{IsLiveExecutor}
-use Rattle.vm_attempt_laws.specs.Bodies.{Executor, NonEmptyValue}
-use Rattle.vm_attempt_laws.specs.Machine.{Written}
+use Rattle.vm_attempt_laws.specs.Bodies.{Executor}
 use Rattle.vm_attempt_laws.specs.OutputOfAttempt.sent
 use Rattle.vm_attempt_laws.specs.OutputOfAttempt.{Sent, sent_stream, sent_frame, frame_meant, IsOfStore}
 use Rattle.vm_attempt_laws.proofs.Stored.{notes_of_store}
-use Rattle.vm_attempt_laws.specs.AttemptInvariants.{early_error, FailsWith, LacksMemory, ClosesEarly, StaysClosed}
+use Rattle.vm_attempt_laws.specs.AttemptInvariants.{LacksMemory, ClosesEarly, StaysClosed}
 use Rattle.vm_attempt_laws.specs.AttemptSimulation.{HasBodies, Serves, machine_failed}
-use Rattle.vm_attempt_laws.proofs.TurnReports.{read_acknowledged}
-use Rattle.vm_attempt_laws.specs.TurnReports.{IsAcknowledgedBy, IsFrameTold, IsLacking, memory, numbers, room}
+use Rattle.vm_attempt_laws.proofs.ArrivalsCome.{read_journal}
+use Rattle.vm_attempt_laws.specs.TurnReports.{IsFrameTold}
 use Rattle.vm_attempt_laws.specs.TurnsInRun.{turns_answered}
-use Rattle.vm_attempt_laws.specs.Words.{item_at, Input}
+use Rattle.vm_attempt_laws.specs.Words.{Input}
 use Rattle.vm_start.specs.FailureReport.{out_of_memory}
 use Rattle.schedule_model.specs.declared.held.HeldAttempt.{HeldAttempt}
 use Rattle.schedule_model.specs.First.{with_first}
 use Rattle.schedule_model.specs.Held.{is_held, held_of}
-use Rattle.schedule_laws.specs.TrackedAttempt.{Tracked, IsClosedEarly, IsServed, Attends, is_over, lacks_memory, closed_early, is_served, is_left}
+use Rattle.vm_attempt_laws.specs.OverAttempts.{IsClosedEarly}
+use Rattle.schedule_laws.specs.TrackedAttempt.{Tracked, IsServed, Attends, is_over, lacks_memory, closed_early, is_served, is_left}
 use Rattle.schedule_laws.specs.InvocationInRun.{given_of, Flies, FollowsBegun, OutcomesFly, ToldOf}
 use Rattle.schedule_laws.proofs.Fits.{may_come}
 use Rattle.schedule_laws.proofs.TrackedAttempt.{with_told}
 use Rattle.schedule_laws.proofs.Outcomes.{fly_on, notes_follow, others_fly, told_none}
 use Rattle.schedule_laws.proofs.InvocationInRun.{IsFlown, flown, flown_still}
 use Rattle.schedule_laws.proofs.Serving.{ServingLaws}
-use Rattle.schedule_laws.proofs.Staying.{over_of, fed_going, fed_failed, fed_over, closed_going, closed_failed, closed_over}
-use Rattle.schedule_laws.proofs.Telling.{told_more}
+use Rattle.vm_attempt_laws.proofs.OverAttempts.{over_of, fed_going, fed_failed, fed_over, closed_going, closed_failed, closed_over, early_code, early_tells}
+use Rattle.vm_attempt_laws.proofs.Telling.{meant_append, told_more}
 use Rattle.schedule_laws.proofs.Unfailed.{frames_early, frames_further}
 
 never : (b : Bool) → (b && false) ≡ false
 never true = refl
 never false = refl
-
-pub meant_append : (version : Version) (coming more : List Sent) → map (frame_meant version) (coming ++ more) ≡ map (frame_meant version) coming ++ map (frame_meant version) more
-meant_append version [] more = refl
-meant_append version (one ∷ coming) more = ap (λ (frames : List Frame). frame_meant version one ∷ frames) (meant_append version coming more)
 
 pub stream_append : (version : Version) (coming more : List Sent) → sent_stream version (coming ++ more) ≡ sent_stream version coming ++ sent_stream version more
 stream_append version [] more = refl
@@ -73,19 +67,6 @@ pub written_behind : (version : Version) (waits before after : Bytes) (coming mo
 written_behind version waits before after coming more e written =
     ap (λ (bytes : Bytes). waits ++ bytes) written ∙ sym (append_assoc waits before (sent_stream version more)) ∙ ap (λ (bytes : Bytes). bytes ++ sent_stream version more) e
     ∙ sym (stream_append version coming more)
-
--- what an attempt fails with whose input is closed too early: that error, or, where its frame would be too long or there is no memory, an
--- internal one
-early_tells : (old : Written) (error : Error) → FailsWith early_error old error ⊎ (error ≡ out_of_memory) → (error.code.0 ≡ early_error.code.0) ⊎ IsLacking error
-early_tells old error (inl (inl same)) = inl (ap (λ (e : Error). e.code.0) same)
-early_tells old error (inl (inr long)) = inr (room (ap (λ (e : Error). e.code.0) long.1))
-early_tells old error (inr lacks) = inr (memory lacks)
-
-early_code : (error : Error) → (error.code.0 ≡ early_error.code.0) ⊎ IsLacking error → (error.code.0 ≡ early_error.code.0) ⊎ (error.code.0 ≡ internal)
-early_code error (inl is) = inl is
-early_code error (inr (numbers is)) = inr is
-early_code error (inr (room is)) = inr is
-early_code error (inr (memory is)) = inr (ap (λ (e : Error). e.code.0) is)
 
 module _ {H : Type 0} (function : H → Handler) (next : Handler) (options : VMOptions) (id : Text) (laws : ServingLaws function next options) (told : ToldOf) where
   module _ (events : List Event) (output : Option Bytes) (held : List (HeldAttempt H)) (new : NewInvocation) (n : ℕ) (one : HeldAttempt H) (waits : Bytes)
@@ -171,6 +152,10 @@ module _ {H : Type 0} (function : H → Handler) (next : Handler) (options : VMO
       fed_attends (is_served so lives s) = fed_served so s
       fed_attends (is_left so not l) = absurd (not live)
 
+      -- it has written nothing
+      pub fed_wrote : output_of changed ≡ output_of one.attempt
+      fed_wrote = (fed_attends at).0
+
       pub fed : FollowsBegun function next options id (with_told told n fed_told) (handing ∷ events) output (changed_to changed) new
       fed =
           let (wrote, attends) = fed_attends at in
@@ -250,17 +235,10 @@ module _ {H : Type 0} (function : H → Handler) (next : Handler) (options : VMO
 
       -- its journal had not come
       early_attends : t.told.over ≡ None → (s : IsServed function next options id events new f.version f.coming t one.attempt) → (early : ClosesEarly function next f.version options s.live one.attempt changed)
-          → IsClosedEarly closed_told changed
-      early_attends so s early = subst (λ (start : AttemptStart). IsClosedEarly (record { start = start; told = record t.told { is_closed = true } }) changed) s.start_is (record {
-        come = record {
-          read = s.live.read;
-          kept = s.live.held;
-          parts = s.is_told.bytes;
-          whole = ap item_at (sym s.serves.bytes) ∙ s.serves.whole;
-          acknowledged = subst (λ (some : List (ℕ × NonEmptyValue)). AllByRecursion (IsAcknowledgedBy some) s.live.read) (sym s.is_told.outcomes)
-              (read_acknowledged next s.live s.proposed s.bodies.executor s.bodies.lives);
-        };
-        unread = λ journal. early.unread (record { later = journal.later; parts = journal.parts });
+          → IsClosedEarly closed_told.start closed_told.told changed
+      early_attends so s early = subst (λ (start : AttemptStart). IsClosedEarly start (record t.told { is_closed = true }) changed) s.start_is (record {
+        unread = λ journal. early.unread
+            (read_journal function next f.version options (is_input_closed events id) s.live one.attempt s.proposed t.told s.bodies s.serves s.is_told journal);
         closed = refl;
         error = early.error;
         failed = early.failed;
@@ -300,7 +278,7 @@ module _ {H : Type 0} (function : H → Handler) (next : Handler) (options : VMO
       closed_attends (closed_early so going early closed) =
           quiet ((laws.over one.attempt (machine_failed early.error early.failed)).closed changed closes).1
           (closed_early so (closed_going one.attempt changed going closes).0
-          (record { come = early.come; unread = early.unread; closed = refl; error = early.error; failed = closed_failed early.error one.attempt changed going early.failed closes; tells = early.tells })
+          (record { unread = early.unread; closed = refl; error = early.error; failed = closed_failed early.error one.attempt changed going early.failed closes; tells = early.tells })
           (λ still_live. closed_now_too))
       closed_attends (is_served so lives s) = closed_served so s
       closed_attends (is_left so not l) = absurd (not live)

@@ -26,7 +26,7 @@ use Rattle.schedule_laws.specs.InvocationInRun.{Flies, FollowsBegun, ToldOf}
 use Rattle.schedule_laws.proofs.TrackedAttempt.{told_of, with_told, with_same_told}
 use Rattle.schedule_laws.proofs.InvocationInRun.{flown, flown_still, quiet_changed, retold}
 use Rattle.schedule_laws.proofs.Serving.{ServingLaws}
-use Rattle.schedule_laws.proofs.Staying.{moved_going, moved_failed, moved_over}
+use Rattle.vm_attempt_laws.proofs.OverAttempts.{moved_going, moved_failed, moved_over}
 use Rattle.schedule_laws.proofs.Unfailed.{IsFurther, same_further}
 
 module _ {H : Type 0} (function : H → Handler) (next : Handler) (options : VMOptions) (id : Text) (laws : ServingLaws function next options) (told : ToldOf) where
@@ -81,7 +81,7 @@ module _ {H : Type 0} (function : H → Handler) (next : Handler) (options : VMO
     moved_attends t (lacks_memory so going lacks) = lacks_memory so ((moved_going before changed moves).0 ∙ going) (moved_failed out_of_memory before changed lacks moves)
     moved_attends t (closed_early so going early closed) =
         closed_early so ((moved_going before changed moves).0 ∙ going)
-        (record { come = early.come; unread = early.unread; closed = early.closed; error = early.error; failed = moved_failed early.error before changed early.failed moves; tells = early.tells }) closed
+        (record { unread = early.unread; closed = early.closed; error = early.error; failed = moved_failed early.error before changed early.failed moves; tells = early.tells }) closed
     moved_attends t (is_served so lives s) = is_served so lives (moved_served t s)
     moved_attends t (is_left so not l) = is_left so not (moved_left t l)
 

@@ -332,6 +332,10 @@ module _ {H : Type 0} (function : H → Handler) (next : Handler) (options : VMO
             (subst (λ (b : Bytes). Flies new answer.version [] b h.attempt) empty begun_flies))
             begun_each
 
+        -- nothing of it waits
+        pub begun_unwritten : (one : HeldAttempt H) × (held_of more id answer.number ≡ Some one) × (output_of one.attempt ≡ [])
+        begun_unwritten = (new_held, ap (λ (some : List (HeldAttempt H)). held_of some id answer.number) h.held ∙ here, has_begun.0)
+
         pub begun_held : FollowsBegun function next options id again (beginning ∷ s.events) (Some []) more new
         begun_held = subst (λ (some : List (HeldAttempt H)). FollowsBegun function next options id again (beginning ∷ s.events) (Some []) some new) (sym h.held) begun_with
 
@@ -365,6 +369,12 @@ module _ {H : Type 0} (function : H → Handler) (next : Handler) (options : VMO
       held_own handler more in_line brings b h new is =
           into_own (with_told told answer.number (record { start = attempt_start_of options id s.events now new; told = told_start (attempt_start_of options id s.events now new) })) more new is b
           (begun_held now moment s new is (own_accepted b) handler answer held more in_line brings b.number b.version b.start h (follows_own new is))
+
+      pub unwritten_own : (handler : H) (more : List (HeldAttempt H)) → ReplaysInLine options → function handler ≡ next → BeginsStoredAttempt id now answer s t → HoldsBegun options id handler answer held more
+          → (one : HeldAttempt H) × (held_of more id answer.number ≡ Some one) × (output_of one.attempt ≡ [])
+      unwritten_own handler more in_line brings b h =
+          let (new, is) = own_begun b in
+          begun_unwritten now moment s new is (own_accepted b) handler answer held more in_line brings b.number b.version b.start h (follows_own new is)
 
     pub unheld : (other : Text) (now : ℕ) (answer : BegunAttempt) (s t : Standing) (held : List (HeldAttempt H)) → now < 2 ^ 64 → BeginsStoredAttempt other now answer s t
         → FollowsTold function next options id told s held → FollowsTold function next options id told t held

@@ -3,9 +3,7 @@ pub mod Beginnings
 pub mod HandedInput
 pub mod OutcomesFit
 pub mod Serving
-pub mod Staying
 pub mod TrackedAttempt
-pub mod Telling
 pub mod Outcomes
 pub mod Unfailed
 pub mod InvocationInRun
@@ -20,6 +18,8 @@ pub mod Moving
 pub mod Feeding
 pub mod Keeping
 pub mod Replying
+pub mod Written
+pub mod Waiting
 pub mod Leaving
 pub mod Schedules
 pub mod Isolation

@@ -31,22 +31,23 @@ use Rattle.vm_attempt_laws.specs.Machine.phases
 use Rattle.vm_attempt_laws.specs.OutputOfAttempt.sent
 use Rattle.vm_attempt_laws.specs.OutputOfAttempt.{Sent, frame_meant, IsOfStore}
 use Rattle.vm_attempt_laws.specs.AttemptSimulation.{AnswersKept, IsOver}
-use Rattle.vm_attempt_laws.specs.TurnReports.{IsFrameTold, Told, HasCome, FailsSo, early, IsLacking, lacks, memory, TurnTells, GoesOnTold}
+use Rattle.vm_attempt_laws.specs.TurnReports.{arrivals_told, IsFrameTold, Told, FailsSo, early, IsLacking, lacks, memory, TurnTells, GoesOnTold}
 use Rattle.vm_attempt_laws.specs.TurnsInRun.{ProposesAs, RunsOne, TurnKeeps, TurnsBehind}
 use Rattle.schedule_model.specs.declared.held.HeldAttempt.{HeldAttempt}
 use Rattle.schedule_model.specs.First.{with_first}
 use Rattle.schedule_model.specs.Held.{is_held, held_of}
 use Rattle.schedule_model.proofs.Holding.{some_is}
-use Rattle.schedule_laws.specs.TrackedAttempt.{Tracked, IsOverBy, by_error, IsClosedEarly, IsServed, IsLeft, Attends, is_over, lacks_memory, closed_early, is_served, is_left}
+use Rattle.vm_attempt_laws.specs.OverAttempts.{by_error, IsClosedEarly, IsOverBy}
+use Rattle.schedule_laws.specs.TrackedAttempt.{Tracked, IsServed, IsLeft, Attends, is_over, lacks_memory, closed_early, is_served, is_left}
 use Rattle.schedule_laws.specs.InvocationInRun.{ReplaysInLine, given_of, FollowsBegun, OutcomesFly, ToldOf}
 use Rattle.schedule_laws.specs.Turned.{TurnTellsNow}
-use Rattle.schedule_laws.proofs.Acting.{all_append, meant_append, written_behind}
+use Rattle.schedule_laws.proofs.Acting.{all_append, written_behind}
 use Rattle.schedule_laws.proofs.TrackedAttempt.{with_told}
 use Rattle.schedule_laws.proofs.Outcomes.{others_fly}
 use Rattle.schedule_laws.proofs.InvocationInRun.{IsFlown, beside, flown, quiet_changed}
 use Rattle.schedule_laws.proofs.Serving.{ServingLaws}
-use Rattle.schedule_laws.proofs.Staying.{ends_by, turned_failed, turned_over}
-use Rattle.schedule_laws.proofs.Telling.{TellsBehind, left_behind, tells_behind}
+use Rattle.vm_attempt_laws.proofs.OverAttempts.{ends_by, turned_failed, turned_over}
+use Rattle.vm_attempt_laws.proofs.Telling.{TellsBehind, left_behind, meant_append, tells_behind}
 use Rattle.schedule_laws.proofs.Unfailed.{among_first, among_last, frames_calm, frames_failed, frames_further, IsFurther, same_further}
 
 module _ {H : Type 0} (function : H → Handler) (next : Handler) (options : VMOptions) (id : Text) (laws : ServingLaws function next options) (told : ToldOf) where
@@ -188,17 +189,17 @@ module _ {H : Type 0} (function : H → Handler) (next : Handler) (options : VMO
       }
 
       -- what was told before is told still
-      told_further : (turned : Turn) (has_come : HasCome s.live.start t.told.bytes t.told.proposed) (now : Told) → TurnTells next s.live.start t.told has_come ran turned now → IsFurther t.told now
-      told_further Turn.RanBody has_come now tells = record {
+      told_further : (turned : Turn) (now : Told) → TurnTells next s.live.start t.told ran turned now → IsFurther t.told now
+      told_further Turn.RanBody now tells = record {
         proposed = λ x among. subst (Among x) (sym (ap (λ (k : Told). k.proposed) tells.3)) (among_first x t.told.proposed ((tells.0.completion, tells.1) ∷ []) among);
         over = inl so;
         closed = λ e. ap (λ (k : Told). k.is_closed) tells.3 ∙ e;
       }
-      told_further Turn.Answered has_come now tells = further_by now tells.0 refl refl
-      told_further Turn.Waiting has_come now tells = further_by now tells.0 refl refl
-      told_further Turn.Suspended has_come now tells = further_by now tells.0 refl refl
-      told_further Turn.Ended has_come now tells = further_by now tells.0 refl refl
-      told_further (Turn.Failed error) has_come now tells = further_by now tells.0 refl refl
+      told_further Turn.Answered now tells = further_by now tells.0 refl refl
+      told_further Turn.Waiting now tells = further_by now tells.0 refl refl
+      told_further Turn.Suspended now tells = further_by now tells.0 refl refl
+      told_further Turn.Ended now tells = further_by now tells.0 refl refl
+      told_further (Turn.Failed error) now tells = further_by now tells.0 refl refl
 
       -- an outcome that it sends is the one of the body that it has executed, and an error the one that it has failed by
       sends_told : (turned : Turn) (k : TurnKeeps function next f.version options (is_input_closed events id) s.live one.attempt s.proposed ran turned changed) (tells : Tells k.sent turned k.behind)
@@ -216,13 +217,13 @@ module _ {H : Type 0} (function : H → Handler) (next : Handler) (options : VMO
       frames_told =
           subst (AllByRecursion (IsFrameTold tells_turn.now)) (sym (meant_append f.version f.coming kept_turn.sent))
           (all_append (IsFrameTold tells_turn.now) (map (frame_meant f.version) f.coming) (map (frame_meant f.version) kept_turn.sent)
-          (frames_further t.told tells_turn.now (told_further turn tells_turn.has_come tells_turn.now tells_turn.tells) (map (frame_meant f.version) f.coming) (f.told_frames n t live is_told))
+          (frames_further t.told tells_turn.now (told_further turn tells_turn.now tells_turn.tells) (map (frame_meant f.version) f.coming) (f.told_frames n t live is_told))
           (sends_told turn kept_turn tells_turn))
 
       -- it tells where the run stands
       turned_tells : TurnTellsNow next t.start t.told t.told.over ran turn tells_turn.now
       turned_tells = subst (λ (over : Option Turn). TurnTellsNow next t.start t.told over ran turn tells_turn.now) (sym so)
-          (inr (subst (λ (start : AttemptStart). (come : HasCome start t.told.bytes t.told.proposed) × TurnTells next start t.told come ran turn tells_turn.now) s.start_is (tells_turn.has_come, tells_turn.tells)))
+          (inr (subst (λ (start : AttemptStart). TurnTells next start t.told ran turn tells_turn.now) s.start_is tells_turn.tells))
 
       turned_flown : IsFlown function next options id told events held new n output waits turned_told (record one { attempt = changed })
       turned_flown =
@@ -287,7 +288,7 @@ module _ {H : Type 0} (function : H → Handler) (next : Handler) (options : VMO
       turned_left = record {
         now = left_tells.now;
         tells = subst (λ (over : Option Turn). TurnTellsNow next t.start t.told over ran turn left_tells.now) (sym so)
-            (inr (subst (λ (start : AttemptStart). (come : HasCome start t.told.bytes t.told.proposed) × TurnTells next start t.told come ran turn left_tells.now) goes.start_is (left_tells.has_come, left_tells.tells)));
+            (inr (subst (λ (start : AttemptStart). TurnTells next start t.told ran turn left_tells.now) goes.start_is left_tells.tells));
         follows = beside function next options id told events held new n one (record one { attempt = changed }) left_told there refl refl output not_live f left_attends;
       }
 
@@ -325,10 +326,10 @@ module _ {H : Type 0} (function : H → Handler) (next : Handler) (options : VMO
         failed_now out_of_memory out_of_memory so going lacks_it (inl refl) is it.3
         (subst (λ (o : Option Turn). TurnTellsNow next t.start t.told o ran turn (record t.told { over = Some (Turn.Failed out_of_memory) })) (sym so) (inl (is, refl)))
 
-    turned_early : t.told.over ≡ None → one.attempt.over ≡ None → IsClosedEarly t one.attempt → TurnedBegun
+    turned_early : t.told.over ≡ None → one.attempt.over ≡ None → IsClosedEarly t.start t.told one.attempt → TurnedBegun
     turned_early so going e =
         let it = turned_failed function ran e.error one.attempt turn changed going e.failed turns in
-        let why : FailsSo next t.start t.told e.come ran it.0 = elim it.2 [
+        let why : FailsSo next t.start t.told (arrivals_told t.start t.told) ran it.0 = elim it.2 [
           | inl same ↦ elim e.tells [
             | inl code ↦ early e.unread e.closed (ap (λ (error : Error). error.code.0) same ∙ code)
             | inr lacking ↦ lacks (subst IsLacking (sym same) lacking)
@@ -337,7 +338,7 @@ module _ {H : Type 0} (function : H → Handler) (next : Handler) (options : VMO
         ] in
         failed_now e.error it.0 so going e.failed it.2 it.1 it.3
         (subst (λ (o : Option Turn). TurnTellsNow next t.start t.told o ran turn (record t.told { over = Some (Turn.Failed it.0) })) (sym so)
-        (inr (e.come, subst (λ (one_turn : Turn). TurnTells next t.start t.told e.come ran one_turn (record t.told { over = Some (Turn.Failed it.0) })) (sym it.1) (refl, why))))
+        (inr (subst (λ (one_turn : Turn). TurnTells next t.start t.told ran one_turn (record t.told { over = Some (Turn.Failed it.0) })) (sym it.1) (refl, why))))
 
     -- ---- any
 

@@ -21,6 +21,7 @@ use Rattle.schedule_laws.specs.Schedules.event
 use Rattle.schedule_laws.specs.Schedules.reply
 use Rattle.schedule_laws.specs.Schedules.{Event, Reply, HeldAttempt, held_of, with_attempt, given_in, FeedsParts, MovesOne, Does, Scheduled, AppliesAll, Brings, FitsEvent}
 use Rattle.schedule_laws.specs.Turned.{TellsAttempt, is_of_attempt, attempt_start_of, TakesAsTold, told_start}
+use Rattle.schedule_laws.specs.Written.{BeginsUnwritten, LeavesHeld, MovesBytes}
 
 -- ---- what is answered of frames
 
@@ -72,10 +73,16 @@ module _ {H : Type 0} (function : H → Handler) where
     -- what is taken of it says what was told
     pub takes : (number : ℕ) (t : Tracked) → told number ≡ Some t → (added : List model.Event) → new.events ≡ added ++ old.events → TakesAsTold id number one answer added t.told
 
+  -- What waits of each of its attempts to be moved is what waited before, with what the event has written of it and without what it moves; and
+  -- nothing waits of one that is begun.
+  pub record KeepsWaiting (next : Handler) (id : Text) (one : Event H) (answer : Reply) (moved : Bytes) (held more : List (HeldAttempt H)) (told : ToldOf) : Type 0 where
+    pub leaves : (number : ℕ) (t : Tracked) → told number ≡ Some t → LeavesHeld next id number t.start t.told one answer moved held more
+    pub begins : BeginsUnwritten id one answer more
+
   abbrev pub ToldByEach : Type 0
-  ToldByEach = (next : Handler) (options : VMOptions) (id : Text) (one : Event H) (answer : Reply) (bytes : Bytes) (old new : Standing) (held more : List (HeldAttempt H)) (told : ToldOf) → ReplaysInLine options
-      → FitsEvent one → Brings function id next one → DoesFeeding function options one answer bytes old held new more → FollowsTold function next options id told old held
-      → KeepsTold next options id one answer bytes old new more told
+  ToldByEach = (next : Handler) (options : VMOptions) (id : Text) (one : Event H) (answer : Reply) (bytes moved : Bytes) (old new : Standing) (held more : List (HeldAttempt H)) (told : ToldOf) → ReplaysInLine options
+      → FitsEvent one → Brings function id next one → DoesFeeding function options one answer bytes old held new more → MovesBytes one answer moved held → FollowsTold function next options id told old held
+      → KeepsTold next options id one answer bytes old new more told × KeepsWaiting next id one answer moved held more told
 
   -- what an event does keeps an invocation in its run, if begins of it bring the run's function
   abbrev pub KeptByEach : Type 0

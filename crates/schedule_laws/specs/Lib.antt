@@ -3,6 +3,7 @@ pub mod HandedInput
 pub mod FittingLaws
 pub mod TrackedAttempt
 pub mod InvocationInRun
+pub mod Written
 pub mod Turned
 pub mod Laws
 pub mod Schedules

@@ -1,5 +1,5 @@
 -- An attempt that is held, by what was told of it so far: it serves, it is over, or its machine has failed and no turn has told that yet.
-use Rattle.std.specs.Prelude.{◌≡◌, ◌⊎◌, ◌≢◌, ℕ, Bool, true, List, map, Option, Some, None}
+use Rattle.std.specs.Prelude.{◌≡◌, ◌≢◌, ℕ, Bool, true, List, map, Option, Some, None}
 use Rattle.journal_model.specs.declared.invocation.NewInvocation.{NewInvocation}
 use Rattle.journal_model.specs.declared.value.NonEmptyValue.{NonEmptyValue}
 use Rattle.journal_model.specs.Notification.{Text}
@@ -7,41 +7,22 @@ use Rattle.journal_model.specs.Event.{Event}
 use Rattle.journal_model.specs.Attempt.{live_attempt, is_input_closed}
 use Rattle.journal_model.specs.Run.{Handler}
 use Rattle.protocol_types.specs.declared.version.Version.{Version}
-use Rattle.protocol_errors.specs.declared.error.Error.{Error}
 use Rattle.live_laws.specs.StartFrame.{AttemptStart}
 use Rattle.live_laws.specs.AttemptWithMachine.{AttemptInRun}
 use Rattle.replay_laws.specs.AttemptWithBodies.{IsLiveExecutor}
 use Rattle.vm_types.specs.Options.{run_options}
 use Rattle.vm_types.specs.declared.options.VMOptions.{VMOptions}
-use Rattle.vm_attempt_laws.specs.Attempts.{again, Attempt, Finish, Turn}
-use Rattle.vm_attempt_laws.specs.AttemptInvariants.{early_error, LacksMemory}
-use Rattle.vm_attempt_laws.specs.Machine.phases
-use Rattle.vm_attempt_laws.specs.Machine.{IsCopy}
+use Rattle.vm_attempt_laws.specs.Attempts.{Attempt, Turn}
+use Rattle.vm_attempt_laws.specs.AttemptInvariants.{LacksMemory}
+use Rattle.vm_attempt_laws.specs.OverAttempts.{IsClosedEarly, IsOverBy}
 use Rattle.vm_attempt_laws.specs.OutputOfAttempt.{Sent, frame_meant}
 use Rattle.vm_attempt_laws.specs.AttemptSimulation.{HasBodies, Serves}
-use Rattle.vm_attempt_laws.specs.TurnReports.{Told, HasCome, HasJournal, IsLacking, IsAttemptTold, GoesOnTold}
+use Rattle.vm_attempt_laws.specs.TurnReports.{Told, IsAttemptTold, GoesOnTold}
 
 -- what an attempt was begun with, and what was told of it
 pub record Tracked : Type 0 where
   pub start : AttemptStart
   pub told : Told
-
--- ---- an attempt that serves no more
-
-module _ {H : Type 0} where
-  -- it is over by this turn
-  pub data IsOverBy (last : Turn) (a : Attempt H) : Type 0 where
-    by_finish : (finish : Finish) → a.over ≡ Some finish → last ≡ again finish → IsOverBy last a
-    by_error : (kept error : Error) → a.over ≡ None → a.vm.state.phase ≡ phases.Failed kept → IsCopy kept error → last ≡ Turn.Failed error → IsOverBy last a
-
-  -- its input was closed before its journal had come, of which it tells so
-  pub record IsClosedEarly (t : Tracked) (a : Attempt H) : Type 0 where
-    pub come : HasCome t.start t.told.bytes t.told.proposed
-    pub unread : HasJournal t.start come.read → ⊥
-    pub closed : t.told.is_closed ≡ true
-    pub error : Error
-    pub failed : a.vm.state.phase ≡ phases.Failed error
-    pub tells : (error.code.0 ≡ early_error.code.0) ⊎ IsLacking error
 
 module _ {H : Type 0} (function : H → Handler) (next : Handler) (options : VMOptions) (id : Text) where
   -- ---- an attempt that serves
@@ -70,7 +51,7 @@ module _ {H : Type 0} (function : H → Handler) (next : Handler) (options : VMO
     pub data Attends (t : Tracked) (a : Attempt H) : Type 0 where
       is_over : (last : Turn) → t.told.over ≡ Some last → IsOverBy last a → Attends t a
       lacks_memory : t.told.over ≡ None → a.over ≡ None → LacksMemory a → Attends t a
-      closed_early : t.told.over ≡ None → a.over ≡ None → IsClosedEarly t a → (live_attempt events id ≡ Some number → is_input_closed events id ≡ true) → Attends t a
+      closed_early : t.told.over ≡ None → a.over ≡ None → IsClosedEarly t.start t.told a → (live_attempt events id ≡ Some number → is_input_closed events id ≡ true) → Attends t a
       is_served : t.told.over ≡ None → live_attempt events id ≡ Some number → IsServed events new version coming t a → Attends t a
       is_left : t.told.over ≡ None → live_attempt events id ≢ Some number → IsLeft t a → Attends t a
 

@@ -1,5 +1,5 @@
--- What each reply to a turn says of the run, of an attempt that is live, that was stopped, or that was overtaken.
-use Rattle.std.specs.Prelude.{◌≡◌, ◌⊎◌, ℕ, ◌==◌, ◌&&◌, Bool, true, false, List, ◌∷◌, ◌++◌, Option, Some, None, bytes_eq}
+-- What each reply to a turn says of the run, and what is moved, of an attempt that is live, that was stopped, or that was overtaken.
+use Rattle.std.specs.Prelude.{◌≡◌, ℕ, ◌==◌, ◌&&◌, Bool, true, false, List, [], ◌∷◌, ◌++◌, Some, bytes_eq}
 use Rattle.std.specs.List.{AllByRecursion}
 use Rattle.journal_model.specs.declared.invocation.NewInvocation.{NewInvocation}
 use Rattle.journal_model.specs.Notification.{Bytes, Text}
@@ -7,33 +7,15 @@ use Rattle.journal_model.specs.Event as model
 use Rattle.journal_model.specs.Journal.{invocation_begun}
 use Rattle.journal_model.specs.Run.{Handler}
 use Rattle.live_laws.specs.StartFrame.{AttemptStart, start_after}
-use Rattle.protocol_errors.specs.declared.error.Error.{Error}
-use Rattle.vm_start.specs.FailureReport.{IsCopy, out_of_memory}
 use Rattle.vm_types.specs.Options.{run_options}
 use Rattle.vm_types.specs.declared.options.VMOptions.{VMOptions}
-use Rattle.vm_attempt_laws.specs.Bodies.{RunOutcome}
-use Rattle.vm_attempt_laws.specs.TurnReports.{Told, told_nothing, HasCome, IsFrameTold, TurnTells}
-use Rattle.schedule_laws.specs.Attempts.{Turn}
+pub use Rattle.vm_attempt_laws.specs.TurnReports.{Told, told_nothing, IsAgain, IsFrameTold, TurnTellsNow}
 use Rattle.schedule_laws.specs.Schedules.event
 use Rattle.schedule_laws.specs.Schedules.reply
 use Rattle.schedule_laws.specs.Schedules.{Event, Reply}
+use Rattle.schedule_laws.specs.Written.{WaitsBehind, is_at_attempt}
 
 -- ---- of one attempt
-
--- One that was suspended or has ended says that again. One that has failed keeps an error: what it has answered and what it answers are copies
--- of that, or say that there was no memory for one.
-abbrev pub IsAgain : (last turn : Turn) → Type 0
-IsAgain (Turn.Failed error) turn = (kept : Error) × (told : Error) × IsCopy kept error × IsCopy kept told × (turn ≡ Turn.Failed told)
-IsAgain last turn = turn ≡ last
-
--- Memory was refused as its input came: it has failed for that.
-abbrev pub TellsNoMemory : Told → Turn → (now : Told) → Type 0
-TellsNoMemory told turn now = (turn ≡ Turn.Failed out_of_memory) × (now ≡ record told { over = Some (Turn.Failed out_of_memory) })
-
--- a turn of an attempt that is over, or is not
-abbrev pub TurnTellsNow : Handler → AttemptStart → (told : Told) → (over : Option Turn) → RunOutcome → Turn → (now : Told) → Type 0
-TurnTellsNow next start told (Some last) ran turn now = IsAgain last turn × (now ≡ told)
-TurnTellsNow next start told None ran turn now = TellsNoMemory told turn now ⊎ ((come : HasCome start told.bytes told.proposed) × TurnTells next start told come ran turn now)
 
 -- What is told of the attempt behind one more event, by its reply: a turn tells where its run stands, it is told that no more of its input comes,
 -- and these bytes of it were fed. Whether the event is its own is said by a number of it.
@@ -61,12 +43,12 @@ abbrev pub TakesAsTold : {H : Type 0} → Text → ℕ → Event H → Reply →
 TakesAsTold id number (event.Move other attempt count) (reply.Moved bytes frames why) added told = other ≡ id → attempt ≡ number → AllByRecursion (IsTakenAsTold told) added
 TakesAsTold id number one answer added told = Unit {0}
 
--- So it is of each event behind its begin.
-abbrev pub TurnsTellEach : {H : Type 0} → Handler → AttemptStart → Text → ℕ → List (Event H) → List Reply → (added : List (List model.Event)) → (handed : List Bytes) → Told → Type 0
-TurnsTellEach next start id number (one ∷ events) (answer ∷ replies) (some ∷ added) (bytes ∷ handed) told =
-    (now : Told) × TellsAttempt next start (is_of_attempt id number one) one answer bytes told now × TakesAsTold id number one answer some told
-    × TurnsTellEach next start id number events replies added handed now
-TurnsTellEach next start id number events replies added handed told = Unit {0}
+-- So it is of each event behind its begin; and these bytes of it wait to be moved.
+abbrev pub TurnsTellEach : {H : Type 0} → Handler → AttemptStart → Text → ℕ → List (Event H) → List Reply → (added : List (List model.Event)) → (handed moved : List Bytes) → Told → (waits : Bytes) → Type 0
+TurnsTellEach next start id number (one ∷ events) (answer ∷ replies) (some ∷ added) (bytes ∷ handed) (gone ∷ moved) told waits =
+    (now : Told) × (behind : Bytes) × TellsAttempt next start (is_of_attempt id number one) one answer bytes told now × TakesAsTold id number one answer some told
+    × WaitsBehind next start (is_at_attempt id number one) one answer gone told waits behind × TurnsTellEach next start id number events replies added handed moved now behind
+TurnsTellEach next start id number events replies added handed moved told waits = Unit {0}
 
 -- ---- of each attempt
 
@@ -78,17 +60,17 @@ attempt_start_of options id earlier now new = start_after (run_options options) 
 abbrev pub told_start : AttemptStart → Told
 told_start start = record told_nothing { bytes = start.frame }
 
--- What the replies behind a begin tell of the attempt that it has begun, behind these accepted events.
-abbrev pub BegunTells : {H : Type 0} → Handler → VMOptions → Text → Event H → Reply → (bytes : Bytes) → (events : List (Event H)) → List Reply → (added : List (List model.Event)) → (handed : List Bytes) → (earlier : List model.Event)
-    → Type 0
-BegunTells next options id (event.Begin other handler now) (reply.Begun number) bytes events replies added handed earlier =
+-- What the replies behind a begin tell of the attempt that it has begun, behind these accepted events. Nothing of it waits then to be moved.
+abbrev pub BegunTells : {H : Type 0} → Handler → VMOptions → Text → Event H → Reply → (bytes : Bytes) → (events : List (Event H)) → List Reply → (added : List (List model.Event)) → (handed moved : List Bytes)
+    → (earlier : List model.Event) → Type 0
+BegunTells next options id (event.Begin other handler now) (reply.Begun number) bytes events replies added handed moved earlier =
     other ≡ id → (new : NewInvocation) → invocation_begun earlier id ≡ Some new
     → (bytes ≡ (attempt_start_of options id earlier now new).frame)
-    × TurnsTellEach next (attempt_start_of options id earlier now new) id number events replies added handed (told_start (attempt_start_of options id earlier now new))
-BegunTells next options id one answer bytes events replies added handed earlier = Unit {0}
+    × TurnsTellEach next (attempt_start_of options id earlier now new) id number events replies added handed moved (told_start (attempt_start_of options id earlier now new)) []
+BegunTells next options id one answer bytes events replies added handed moved earlier = Unit {0}
 
 -- So it is of each begin of the invocation, where each event has added these to the accepted events.
-abbrev pub EachBegunTells : {H : Type 0} → Handler → VMOptions → Text → List (Event H) → List Reply → (added : List (List model.Event)) → (handed : List Bytes) → (earlier : List model.Event) → Type 0
-EachBegunTells next options id (one ∷ events) (answer ∷ replies) (some ∷ added) (bytes ∷ handed) earlier =
-    BegunTells next options id one answer bytes events replies added handed earlier × EachBegunTells next options id events replies added handed (some ++ earlier)
-EachBegunTells next options id events replies added handed earlier = Unit {0}
+abbrev pub EachBegunTells : {H : Type 0} → Handler → VMOptions → Text → List (Event H) → List Reply → (added : List (List model.Event)) → (handed moved : List Bytes) → (earlier : List model.Event) → Type 0
+EachBegunTells next options id (one ∷ events) (answer ∷ replies) (some ∷ added) (bytes ∷ handed) (gone ∷ moved) earlier =
+    BegunTells next options id one answer bytes events replies added handed moved earlier × EachBegunTells next options id events replies added handed moved (some ++ earlier)
+EachBegunTells next options id events replies added handed moved earlier = Unit {0}

@@ -56,7 +56,8 @@ pub fn settled_once_record_the_same()
 
 /// Each event keeps an invocation in its run, whatever is stopped, overtaken or refused, and no frame of it is refused for a cause that
 /// lies in the frame. What each reply to a turn says of an attempt is what the run does, over the bytes that this attempt was handed: of a
-/// live one, of one that was stopped or overtaken, and of one that is over.
+/// live one, of one that was stopped or overtaken, and of one that is over. It writes whole frames by that, and what is moved of it is the
+/// beginning of what it has written and was not moved.
 pub fn schedules_keep<H: Handler>()
     ensures begins { HoldsFollows H.next_call }
     ensures begins_told { HoldsTold H.next_call }

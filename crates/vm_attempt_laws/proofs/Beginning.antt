@@ -66,7 +66,7 @@ bytes_append (one ∷ some) still =
     ∙ sym (append_assoc (piece_of one).bytes (input_bytes (map piece_of some)) (input_bytes (map piece_of still)))
 
 -- messages without bytes are none
-no_bytes : (some : List InputMessage) → AllByRecursion MessageFits some → input_bytes (map piece_of some) ≡ [] → some ≡ []
+pub no_bytes : (some : List InputMessage) → AllByRecursion MessageFits some → input_bytes (map piece_of some) ≡ [] → some ≡ []
 no_bytes [] fit none = refl
 no_bytes (one ∷ some) fit none =
     absurd (some_is_none (message (raw_of one), input_bytes (map piece_of some)) (sym (front one fit.0 (input_bytes (map piece_of some))) ∙ ap item_at none ∙ nothing_at))

@@ -29,4 +29,8 @@ pub mod TurnsInRun
 pub mod Turns
 pub mod Matching
 pub mod Progress
+pub mod ArrivalsCome
 pub mod TurnReports
+pub mod Telling
+pub mod OverAttempts
+pub mod HostedAttempt

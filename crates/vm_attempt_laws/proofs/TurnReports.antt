@@ -1,47 +1,20 @@
 -- What each turn of an attempt tells of the run.
 use Rattle.std.proofs.Common.{◌≡◌, ◌⊎◌, inl, inr, ◌∙◌, ℕ, suc, pred, Bool, false, List, [], ◌∷◌, ◌++◌, map, Option, Some, None, refl, sym, ap, subst}
 use Rattle.journal_model.specs.Run.{GoesOn, RefusedCall, Ended, run, run_requests}
-use Rattle.std.specs.List.{AllByRecursion}
 use Rattle.replay_laws.proofs.Standing.{at}
-use Rattle.replay_laws.specs.ReplayedAttempt.{IsOfJournal}
 use Rattle.attempt_model.specs.Machine.{Mismatch, UncompletedInReplay, EndInReplay, KeysNotText, ChildNotId, Refused}
 use Rattle.vm_attempt_laws.specs.Attempts.{Attempt, Turn}
-use Rattle.vm_attempt_laws.specs.Bodies.{Body, by_policy, Executor, IsBehind, IsReplayed, NonEmptyValue, RunOutcome}
+use Rattle.vm_attempt_laws.specs.Bodies.{Body, by_policy, NonEmptyValue, RunOutcome}
 use Rattle.vm_attempt_laws.specs.Machine.{Cause, ByFault, NoNumber, TooLong, TooDeep, NoReplay, NoMemory}
 use Rattle.vm_attempt_laws.specs.BodyExecution.{BodyCause, BodyToldAs, IsBodyCode, LacksMemory, RunWaitsFor, tried_by, WaitsForOthers, ExecutesFirst}
 use Rattle.vm_attempt_laws.specs.OutputOfAttempt.{Sent, frame_meant}
 use Rattle.vm_attempt_laws.specs.AttemptSimulation.{HasBodies, HasNotRead, HasRead, Serves}
-use Rattle.vm_attempt_laws.specs.TurnReports.{Told, IsAcknowledgedBy, HasCome, HasJournal, ProposesOutcomeOf, FailsSo, refused, of_body, lacks, too_deep, IsLacking, memory, numbers, room, TurnTells, IsAttemptTold, TellsOne, TurnsTell}
+use Rattle.vm_attempt_laws.specs.ArrivalsCome.{HasJournal}
+use Rattle.vm_attempt_laws.specs.TurnReports.{Told, ProposesOutcomeOf, FailsSo, refused, of_body, lacks, too_deep, IsLacking, memory, numbers, room, TurnTellsOver, TurnTells, IsAttemptTold, TellsOne, TurnsTell}
 use Rattle.vm_attempt_laws.specs.TurnsInRun.{RunsOne, turns_answered, IsOwnCause, IsToldAs, FailsBy, FailsFor, FailsForBody, TurnsBehind, TurnServes}
-use Rattle.vm_attempt_laws.specs.Words.{Arrival, arrivals_carried, after_turn, CarriesArrival, CarriesOutcome, CarriesRequest, Error, Handler, HasReadJournal, Input, InputMessage, item_at, AttemptInRun, Request, requests_carried, unsupported_feature, Version, VMOptions}
+use Rattle.vm_attempt_laws.specs.Words.{Arrival, arrivals_carried, after_turn, Error, Handler, HasReadJournal, Input, AttemptInRun, Request, requests_carried, unsupported_feature, Version, VMOptions}
+use Rattle.vm_attempt_laws.proofs.ArrivalsCome.{arrivals_read, read_journal, requests_of_journal, told_journal}
 use Rattle.vm_attempt_laws.proofs.Matching.{code_of_cause, body_code, IsCodeOf, IsOwnCode, IsCode}
-
--- ---- what is acknowledged
-
-front_of_all : {A : Type 0} (P : A → Type 0) (xs ys : List A) → AllByRecursion P (xs ++ ys) → AllByRecursion P xs
-front_of_all P [] ys all = tt
-front_of_all P (x ∷ xs) ys all = (all.0, front_of_all P xs ys all.1)
-
-module _ (proposed : List (ℕ × NonEmptyValue)) where
-  -- a journal acknowledges nothing, and what comes behind it what was proposed
-  behind_acknowledged : (version : ℕ) (later : List InputMessage) → AllByRecursion (IsBehind version proposed) later → AllByRecursion (IsAcknowledgedBy proposed) later
-  behind_acknowledged version [] all = tt
-  behind_acknowledged version (CarriesArrival type arrival ∷ later) all = (tt, behind_acknowledged version later all.1)
-  behind_acknowledged version (CarriesOutcome completion value ∷ later) all = (all.0.1, behind_acknowledged version later all.1)
-  behind_acknowledged version (message ∷ later) all = absurd all.0
-
-  input_acknowledged : (version : ℕ) (journal later : List InputMessage) → AllByRecursion IsOfJournal journal → AllByRecursion (IsBehind version proposed) later
-      → AllByRecursion (IsAcknowledgedBy proposed) (journal ++ later)
-  input_acknowledged version [] later journal behind = behind_acknowledged version later behind
-  input_acknowledged version (CarriesRequest request ∷ messages) later journal behind = (tt, input_acknowledged version messages later journal.1 behind)
-  input_acknowledged version (CarriesArrival type arrival ∷ messages) later journal behind = (tt, input_acknowledged version messages later journal.1 behind)
-  input_acknowledged version (message ∷ messages) later journal behind = absurd journal.0
-
-pub read_acknowledged : (next : Handler) (live : AttemptInRun) (proposed : List (ℕ × NonEmptyValue)) (e : Executor) → IsReplayed next live proposed e → AllByRecursion (IsAcknowledgedBy proposed) live.read
-read_acknowledged next live proposed e lives =
-    front_of_all (IsAcknowledgedBy proposed) live.read live.unread
-    (subst (AllByRecursion (IsAcknowledgedBy proposed)) (sym lives.parts)
-    (tt, input_acknowledged proposed live.start.given.version live.start.journal lives.later lives.start.journal lives.later_are))
 
 -- ---- what a turn tells
 
@@ -69,14 +42,8 @@ module _ (next : Handler) (live : AttemptInRun) (told : Told) (proposed : List (
 
 module _ {H : Type 0} (function : H → Handler) (next : Handler) (version : Version) (options : VMOptions) (is_closed : Bool) (live : AttemptInRun) (before : Attempt H) (proposed : List (ℕ × NonEmptyValue)) (ran : RunOutcome)
     (told : Told) (own : HasBodies next live proposed before) (s : Serves function next version options live is_closed before) (t : IsAttemptTold live before is_closed proposed told) where
-  abbrev pub come : HasCome live.start told.bytes told.proposed
-  come = record {
-    read = live.read;
-    kept = live.held;
-    parts = t.bytes;
-    whole = ap item_at (sym s.bytes) ∙ s.whole;
-    acknowledged = subst (λ (some : List (ℕ × NonEmptyValue)). AllByRecursion (IsAcknowledgedBy some) live.read) (sym t.outcomes) (read_acknowledged next live proposed own.executor own.lives);
-  }
+  abbrev come : List Arrival
+  come = arrivals_carried live.read
 
   -- the first that has answered reads the input
   calls_so : HasNotRead function next version options live is_closed before ⊎ HasRead function next version options live before → pred (turns_answered before.input live.calls) ≡ live.calls
@@ -87,19 +54,30 @@ module _ {H : Type 0} (function : H → Handler) (next : Handler) (version : Ver
   calls_are = ap pred t.answered ∙ calls_so s.stands
 
   -- the body that it has executed, and its outcome, by what was told
-  pub told_outcome : (sent : List Sent) (after : Attempt H) (b : RunsOne function next version options is_closed live before proposed ran sent after)
+  told_outcome : (sent : List Sent) (after : Attempt H) (b : RunsOne function next version options is_closed live before proposed ran sent after)
       → ProposesOutcomeOf next live.start told come ran b.body b.value
   told_outcome sent after b = record {
-    journal = record { later = b.journal.later; parts = b.journal.parts };
+    journal = told_journal function next version options is_closed live before proposed told own s t b.journal;
     first = told_first next live told proposed calls_are t.outcomes b.body b.first;
     written = live.machine.written;
-    behind = ap (λ (calls : ℕ). run_requests next live.start.given (arrivals_carried live.read) (suc calls)) calls_are ∙ b.first.waits.exactly;
+    behind = ap (λ (calls : ℕ). run_requests next live.start.given (arrivals_carried live.read) (suc calls)) calls_are ∙ b.first.waits.exactly
+        ∙ ap (λ (requests : List Request). requests ++ live.machine.written) (requests_of_journal live b.journal s.fed);
     shows = b.shows;
     outcome = b.outcome;
   }
 
   abbrev Tells : Turn → Told → Type 0
-  Tells turn now = TurnTells next live.start told come ran turn now
+  Tells turn now = TurnTellsOver next live.start told come ran turn now
+
+  -- by the arrivals that were read, which are those that have come
+  as_told : (turn : Turn) (now : Told) → Tells turn now → TurnTells next live.start told ran turn now
+  as_told turn now tells =
+      subst (λ (arrivals : List Arrival). TurnTellsOver next live.start told arrivals ran turn now) (sym (arrivals_read function next version options is_closed live before proposed told own s t)) tells
+
+  -- so of one that has executed a body
+  pub told_ran : (sent : List Sent) (after : Attempt H) (b : RunsOne function next version options is_closed live before proposed ran sent after)
+      → TurnTells next live.start told ran Turn.RanBody (record told { proposed = told.proposed ++ (b.body.completion, b.value) ∷ [] })
+  told_ran sent after b = as_told Turn.RanBody (record told { proposed = told.proposed ++ (b.body.completion, b.value) ∷ [] }) (b.body, b.value, told_outcome sent after b, refl)
 
   -- ---- one more answer
 
@@ -177,9 +155,8 @@ module _ {H : Type 0} (function : H → Handler) (next : Handler) (version : Ver
 
   by_turn : (sent : List Sent) (turn : Turn) (after : Attempt H) → TurnsBehind function next version options is_closed live before proposed ran sent turn after → One turn after
   by_turn sent Turn.Answered after b = record {
-    come = come;
     now = record told { answered = suc told.answered };
-    tells = (
+    tells = as_told Turn.Answered (record told { answered = suc told.answered }) (
       refl,
       goes_at b.0 after sent (b.2 ∙ ap suc (sym t.answered)) (at next _ proposed b.3.bodies.executor b.3.bodies.lives).position.going after.input refl
           (λ none. unread_calls _ after b.3.serves.stands none),
@@ -194,9 +171,8 @@ module _ {H : Type 0} (function : H → Handler) (next : Handler) (version : Ver
     });
   }
   by_turn sent Turn.RanBody after b = record {
-    come = come;
     now = record told { proposed = told.proposed ++ (b.body.completion, b.value) ∷ [] };
-    tells = (b.body, b.value, told_outcome sent after b, refl);
+    tells = told_ran sent after b;
     goes_on = inr (record {
       live = after_turn live (map (frame_meant version) sent) live.calls b.machine;
       proposed = proposed ++ (b.body.completion, b.value) ∷ [];
@@ -212,9 +188,8 @@ module _ {H : Type 0} (function : H → Handler) (next : Handler) (version : Ver
     });
   }
   by_turn sent Turn.Waiting after b = record {
-    come = come;
     now = told;
-    tells = (refl, waits b.0);
+    tells = as_told Turn.Waiting told (refl, waits b.0);
     goes_on = inr (record {
       live = after_turn live (map (frame_meant version) sent) live.calls b.1.0;
       proposed = proposed;
@@ -226,24 +201,22 @@ module _ {H : Type 0} (function : H → Handler) (next : Handler) (version : Ver
   }
     where
       waits : (HasReadJournal live → ⊥) ⊎ ((is_closed ≡ false) × WaitsForOthers next live.start.given (arrivals_carried live.read) live.calls (requests_carried live.read ++ live.machine.written) proposed)
-          → (HasJournal live.start live.read → ⊥) ⊎ ((told.is_closed ≡ false) × WaitsForOthers next live.start.given (arrivals_carried live.read) (pred told.answered)
+          → (HasJournal live.start told.bytes → ⊥) ⊎ ((told.is_closed ≡ false) × WaitsForOthers next live.start.given (arrivals_carried live.read) (pred told.answered)
           (run_requests next live.start.given (arrivals_carried live.read) (suc (pred told.answered))) told.proposed)
-      waits (inl unread) = inl (λ journal. unread (record { later = journal.later; parts = journal.parts }))
+      waits (inl unread) = inl (λ journal. unread (read_journal function next version options is_closed live before proposed told own s t journal))
       waits (inr (opened, w)) = inr (t.closed ∙ opened, told_waits next live told proposed calls_are t.outcomes w)
   by_turn sent Turn.Suspended after b = record {
-    come = come;
     now = record told { over = Some Turn.Suspended };
-    tells = (refl, t.closed ∙ b.0, told_waits next live told proposed calls_are t.outcomes b.1);
+    tells = as_told Turn.Suspended (record told { over = Some Turn.Suspended }) (refl, t.closed ∙ b.0, told_waits next live told proposed calls_are t.outcomes b.1);
     goes_on = inl b.2;
   }
   by_turn sent Turn.Ended after b = record {
-    come = come;
     now = record told { over = Some Turn.Ended };
-    tells = (refl, subst (λ (calls : ℕ). (run next live.start.given (arrivals_carried live.read) (suc calls)).ending ≡ Ended) (sym calls_are) b.0.over);
+    tells = as_told Turn.Ended (record told { over = Some Turn.Ended }) (refl, subst (λ (calls : ℕ). (run next live.start.given (arrivals_carried live.read) (suc calls)).ending ≡ Ended) (sym calls_are) b.0.over);
     goes_on = inl b.1;
   }
   by_turn sent (Turn.Failed error) after b =
-      record { come = come; now = record told { over = Some (Turn.Failed error) }; tells = (refl, failed_so error sent after b.0); goes_on = inl b.1 }
+      record { now = record told { over = Some (Turn.Failed error) }; tells = as_told (Turn.Failed error) (record told { over = Some (Turn.Failed error) }) (refl, failed_so error sent after b.0); goes_on = inl b.1 }
 
 pub turns_tell : {H : Type 0} (function : H → Handler) (next : Handler) (version : Version) (options : VMOptions) → TurnServes function next version options → TurnsTell function next version options
 turns_tell function next version options keeps is_closed live before proposed ran turn after told queued b s t turns =

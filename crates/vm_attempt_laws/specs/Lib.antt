@@ -1,4 +1,5 @@
 pub mod AttemptSimulation
+pub mod ArrivalsCome
 pub mod AttemptInvariants
 pub mod BodyExecution
 pub mod TurnsInRun
@@ -10,3 +11,5 @@ pub mod InputOfAttempt
 pub mod Attempts
 pub mod Bodies
 pub mod OutputOfAttempt
+pub mod OverAttempts
+pub mod HostedAttempt

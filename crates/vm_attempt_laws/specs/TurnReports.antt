@@ -1,15 +1,15 @@
 -- What each turn of an attempt tells of the run, by what its turns have told before.
 use Rattle.std.specs.Prelude.{◌≡◌, ◌⊎◌, ℕ, suc, pred, Bool, true, false, List, [], ◌∷◌, ◌++◌, map, Option, Some, None}
-use Rattle.std.specs.List.{AllByRecursion}
 use Rattle.journal_model.specs.Run.{GoesOn, RefusedCall, Ended, run, run_requests}
 use Rattle.vm_attempt_laws.specs.Attempts.{Attempt, Turn, Turns}
-use Rattle.vm_attempt_laws.specs.Machine.{out_of_memory}
+use Rattle.vm_attempt_laws.specs.Machine.{IsCopy, out_of_memory}
 use Rattle.vm_attempt_laws.specs.Bodies.{Among, Body, NonEmptyValue, RunOutcome}
+use Rattle.vm_attempt_laws.specs.ArrivalsCome.{arrivals_come, HasJournal}
 use Rattle.vm_attempt_laws.specs.AttemptInvariants.{early_error, IsNoError, IsNoFailure, TellsErrorBy}
 use Rattle.vm_attempt_laws.specs.BodyExecution.{RunWaitsFor, WaitsForOthers, ExecutesFirst, IsBodyCode, OutcomeIs, tried_of}
 use Rattle.vm_attempt_laws.specs.AttemptSimulation.{HasBodies, IsOver, Serves}
 use Rattle.vm_attempt_laws.specs.TurnsInRun.{turns_answered}
-use Rattle.vm_attempt_laws.specs.Words.{Arrival, arrivals_carried, AttemptStart, Bytes, CarriesInput, CarriesOutcome, Error, Frame, Handler, input_bytes, InputMessage, internal, item_at, AttemptInRun, piece_of, Queued, Refusal, Request, requests_carried, ShowsStart, unsupported_feature, Version, VMOptions}
+use Rattle.vm_attempt_laws.specs.Words.{Arrival, AttemptStart, Bytes, Error, Frame, Handler, input_bytes, internal, AttemptInRun, piece_of, Queued, Refusal, Request, requests_carried, ShowsStart, unsupported_feature, Version, VMOptions}
 
 -- What was told of one attempt by the replies so far: the bytes that it was handed, whether its input was closed, how many of its turns have
 -- answered, the first of which reads the input, which outcomes it has proposed, and the turn by which it is over.
@@ -48,32 +48,11 @@ IsFrameTold told (Frame.Error code message behavior delay) =
     IsNoFailure (Frame.Error code message behavior delay) × (TellsErrorAt told.over (Frame.Error code message behavior delay) ⊎ IsEarly told code)
 IsFrameTold told frame = Unit {0}
 
--- an acknowledgement has the number alone: the value that it stands for is one that the attempt has proposed
-abbrev pub IsAcknowledgedBy : List (ℕ × NonEmptyValue) → InputMessage → Type 0
-IsAcknowledgedBy proposed (CarriesOutcome completion value) = Among (completion, value) proposed
-IsAcknowledgedBy proposed message = Unit {0}
-
--- the messages of its input that have come whole to an attempt that was begun so, and has proposed these outcomes: its start frame is in front
--- of them
-pub record HasCome (start : AttemptStart) (bytes : Bytes) (proposed : List (ℕ × NonEmptyValue)) : Type 0 where
-  pub read : List InputMessage
-  pub kept : Bytes
-  pub parts : bytes ≡ start.frame ++ (input_bytes (map piece_of read) ++ kept)
-  pub whole : item_at kept ≡ None
-  pub acknowledged : AllByRecursion (IsAcknowledgedBy proposed) read
-
--- its input and its journal are among them
-pub record HasJournal (start : AttemptStart) (read : List InputMessage) : Type 0 where
-  pub later : List InputMessage
-  pub parts : read ≡ CarriesInput start.new ∷ (start.journal ++ later)
-
-module _ (next : Handler) (start : AttemptStart) (told : Told) (come : HasCome start told.bytes told.proposed) where
+-- By these arrivals, which have come whole to it.
+module _ (next : Handler) (start : AttemptStart) (told : Told) (arrivals : List Arrival) where
   -- how many calls were answered, and what the run over the arrivals that have come asks for with one more
   abbrev pub calls : ℕ
   calls = pred told.answered
-
-  abbrev pub arrivals : List Arrival
-  arrivals = arrivals_carried come.read
 
   abbrev pub requests : List Request
   requests = run_requests next start.given arrivals (suc calls)
@@ -88,10 +67,10 @@ module _ (next : Handler) (start : AttemptStart) (told : Told) (come : HasCome s
   -- The body has ended with this outcome: the journal had come whole, it is the body that the run waits for first, and the policy says so of how
   -- it has ended, by what was tried before by an attempt that has asked for these requests behind its journal.
   pub record ProposesOutcomeOf (ran : RunOutcome) (body : Body) (value : NonEmptyValue) : Type 0 where
-    pub journal : HasJournal start come.read
+    pub journal : HasJournal start told.bytes
     pub first : First body
     pub written : List Request
-    pub behind : requests ≡ requests_carried come.read ++ written
+    pub behind : requests ≡ requests_carried start.journal ++ written
     pub shows : ShowsStart start
     pub outcome : OutcomeIs ran (tried_of start shows written) value
 
@@ -102,21 +81,43 @@ module _ (next : Handler) (start : AttemptStart) (told : Told) (come : HasCome s
     -- the body that it has executed has ended with that error, or as this version cannot tell
     of_body : (body : Body) → First body → IsBodyCode ran.result error.code.0 ⊎ (error.code.0 ≡ unsupported_feature) → FailsSo ran error
     -- its input was closed before its journal had come
-    early : (HasJournal start come.read → ⊥) → told.is_closed ≡ true → error.code.0 ≡ early_error.code.0 → FailsSo ran error
+    early : (HasJournal start told.bytes → ⊥) → told.is_closed ≡ true → error.code.0 ≡ early_error.code.0 → FailsSo ran error
     -- there was no number or no room for what it makes, or no memory
     lacks : IsLacking error → FailsSo ran error
     -- the run waits, for what is nested too deep to be told
     too_deep : RunWaitsFor next start.given arrivals calls → error.code.0 ≡ unsupported_feature → FailsSo ran error
 
   -- by what a reply tells of a turn, and of what was told then
-  abbrev pub TurnTells : RunOutcome → Turn → (now : Told) → Type 0
-  TurnTells ran Turn.Answered now = (now ≡ record told { answered = suc told.answered }) × ((told.answered ≡ 0) ⊎ ((run next start.given arrivals told.answered).ending ≡ GoesOn))
-  TurnTells ran Turn.RanBody now =
+  abbrev pub TurnTellsOver : RunOutcome → Turn → (now : Told) → Type 0
+  TurnTellsOver ran Turn.Answered now = (now ≡ record told { answered = suc told.answered }) × ((told.answered ≡ 0) ⊎ ((run next start.given arrivals told.answered).ending ≡ GoesOn))
+  TurnTellsOver ran Turn.RanBody now =
       (body : Body) × (value : NonEmptyValue) × ProposesOutcomeOf ran body value × (now ≡ record told { proposed = told.proposed ++ (body.completion, value) ∷ [] })
-  TurnTells ran Turn.Waiting now = (now ≡ told) × ((HasJournal start come.read → ⊥) ⊎ ((told.is_closed ≡ false) × Waits))
-  TurnTells ran Turn.Suspended now = (now ≡ record told { over = Some Turn.Suspended }) × (told.is_closed ≡ true) × Waits
-  TurnTells ran Turn.Ended now = (now ≡ record told { over = Some Turn.Ended }) × ((run next start.given arrivals (suc calls)).ending ≡ Ended)
-  TurnTells ran (Turn.Failed error) now = (now ≡ record told { over = Some (Turn.Failed error) }) × FailsSo ran error
+  TurnTellsOver ran Turn.Waiting now = (now ≡ told) × ((HasJournal start told.bytes → ⊥) ⊎ ((told.is_closed ≡ false) × Waits))
+  TurnTellsOver ran Turn.Suspended now = (now ≡ record told { over = Some Turn.Suspended }) × (told.is_closed ≡ true) × Waits
+  TurnTellsOver ran Turn.Ended now = (now ≡ record told { over = Some Turn.Ended }) × ((run next start.given arrivals (suc calls)).ending ≡ Ended)
+  TurnTellsOver ran (Turn.Failed error) now = (now ≡ record told { over = Some (Turn.Failed error) }) × FailsSo ran error
+
+-- By what was told of it: what it has read is a function of the bytes that it was handed and of the outcomes that it has proposed.
+abbrev pub arrivals_told : AttemptStart → Told → List Arrival
+arrivals_told start told = arrivals_come start told.bytes told.proposed
+
+abbrev pub TurnTells : Handler → AttemptStart → Told → RunOutcome → Turn → (now : Told) → Type 0
+TurnTells next start told ran turn now = TurnTellsOver next start told (arrivals_told start told) ran turn now
+
+-- One that was suspended or has ended says that again. One that has failed keeps an error: what it has answered and what it answers are copies
+-- of that, or say that there was no memory for one.
+abbrev pub IsAgain : (last turn : Turn) → Type 0
+IsAgain (Turn.Failed error) turn = (kept : Error) × (told : Error) × IsCopy kept error × IsCopy kept told × (turn ≡ Turn.Failed told)
+IsAgain last turn = turn ≡ last
+
+-- Memory was refused as its input came: it has failed for that.
+abbrev pub TellsNoMemory : Told → Turn → (now : Told) → Type 0
+TellsNoMemory told turn now = (turn ≡ Turn.Failed out_of_memory) × (now ≡ record told { over = Some (Turn.Failed out_of_memory) })
+
+-- a turn of an attempt that is over, or is not
+abbrev pub TurnTellsNow : Handler → AttemptStart → (told : Told) → (over : Option Turn) → RunOutcome → Turn → (now : Told) → Type 0
+TurnTellsNow next start told (Some last) ran turn now = IsAgain last turn × (now ≡ told)
+TurnTellsNow next start told None ran turn now = TellsNoMemory told turn now ⊎ TurnTells next start told ran turn now
 
 -- what was told of an attempt is so: it was handed its start frame, and the messages that it has read and the bytes that it holds
 pub record IsAttemptTold {H : Type 0} (live : AttemptInRun) (a : Attempt H) (is_closed : Bool) (proposed : List (ℕ × NonEmptyValue)) (told : Told) : Type 0 where
@@ -137,9 +138,8 @@ module _ {H : Type 0} (function : H → Handler) (next : Handler) (version : Ver
 
   -- its turn tells this, of the run over the arrivals that have come to it, and it goes on so, or is over
   pub record TellsOne (start : AttemptStart) (is_closed : Bool) (told : Told) (ran : RunOutcome) (turn : Turn) (after : Attempt H) : Type 0 where
-    pub come : HasCome start told.bytes told.proposed
     pub now : Told
-    pub tells : TurnTells next start told come ran turn now
+    pub tells : TurnTells next start told ran turn now
     pub goes_on : IsOver after ⊎ GoesOnTold start is_closed now after
 
   abbrev pub TurnsTell : Type 0

@@ -5,7 +5,7 @@ pub use Rattle.attempt_model.specs.Requests.{Commands, PutState, put_one, put_al
 pub use Rattle.attempt_model.specs.Results.{Slots, slot_of}
 pub use Rattle.attempt_model.specs.Simulation.{RequestsStand, RepliesAsRun, AreOfKind, Fits, next_call, AnswersNext}
 pub use Rattle.vm_request_laws.specs.Trees.{SlotsFit}
-pub use Rattle.input_laws.specs.Message.{InputMessage, CarriesInput, piece_of, arrivals_carried, CarriesRequest, CarriesArrival, CarriesOutcome, requests_carried}
+pub use Rattle.input_laws.specs.Message.{InputMessage, CarriesInput, piece_of, arrival_carried, arrivals_carried, CarriesRequest, CarriesArrival, CarriesOutcome, requests_carried}
 pub use Rattle.journal_model.specs.Attempt.{input_bytes, arrivals_within}
 pub use Rattle.journal_model.specs.Await.{awaited_tree, child_of}
 pub use Rattle.journal_model.specs.AwaitTree.{AwaitTree}

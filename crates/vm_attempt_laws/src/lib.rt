@@ -10,6 +10,7 @@
 #![tactic(auto)]
 
 ghost use Rattle.vm_attempt_laws.specs.AttemptInvariants.{BeginsServing, ClosesServing, FeedsServing, InputsCome, OversStay, ProposesOnce, StaysServing, TakesServing};
+ghost use Rattle.vm_attempt_laws.specs.HostedAttempt.{AttemptsFollow};
 ghost use Rattle.vm_attempt_laws.specs.Laws.{OfEach};
 ghost use Rattle.vm_attempt_laws.specs.TurnReports.{TurnsTell};
 ghost use Rattle.vm_attempt_laws.specs.TurnsInRun.{TurnServes, TurnsAnswer, TurnsMatch};
@@ -100,4 +101,23 @@ pub fn turns_tell<H: Handler>()
     ensures { OfEach (TurnsTell H.next_call) }
 {
     turns_keep::<H>();
+}
+
+/// An attempt of a host, without a store, follows the run of its handler, whatever bytes it is fed in whatever cuts, whenever its input is
+/// closed, and whatever turns it makes between: each turn tells where the run stands over the arrivals that have come whole; each request that it
+/// writes is a beginning of the run's over these, with all that was asked for before; and where it suspends or ends, all of the run's were
+/// asked for. What the host feeds it has to be asked for by then.
+pub fn attempts_follow_runs<H: Handler>()
+    ensures { OfEach (AttemptsFollow H.next_call) }
+{
+    attempts_replay();
+    attempts_begin::<H>();
+    inputs_come::<H>();
+    events_keep::<H>();
+    feeds_keep::<H>();
+    closes_keep::<H>();
+    takes_keep::<H>();
+    turns_keep::<H>();
+    turns_tell::<H>();
+    overs_stay::<H>();
 }

@@ -3,6 +3,7 @@ use Rattle.schedule_laws.proofs.Beginning.{holds_told, holds_follows, follows_ho
 use Rattle.schedule_laws.proofs.Serving.{serving_laws}
 use Rattle.schedule_laws.proofs.Replying.{feeds_by, told_by}
 use Rattle.schedule_laws.proofs.Leaving.{frames_taken}
+use Rattle.schedule_laws.proofs.Waiting.{waits_by}
 use Rattle.schedule_laws.proofs.schedules_keep.Goals as goal
 
 pub returns-clause-begins : goal.returns-clause-begins
@@ -12,11 +13,12 @@ pub returns-clause-begins_told : goal.returns-clause-begins_told
 returns-clause-begins_told g c = λ next options id s holds. holds_told g.H.Handler.next_call next options id s holds
 
 pub returns-clause-told : goal.returns-clause-told
-returns-clause-told g c = λ next options id one answer bytes old new held more told covered fits brings does follows.
-    told_by g.H.Handler.next_call next options id
-    (serving_laws g.H.Handler.next_call next options c.attempts_begin.ensures c.events_keep.ensures c.feeds_keep.ensures c.closes_keep.ensures c.takes_keep.ensures c.turns_keep.ensures c.turns_tell.ensures c.overs_stay.ensures c.executors_live.ensures.begins c.executors_live.ensures.stays
-    c.live_attempts_replay.ensures.replays c.live_attempts_replay.ensures.stays)
-    told one answer bytes old new held more covered fits brings does follows
+returns-clause-told g c = λ next options id one answer bytes moved old new held more told covered fits brings does moves follows.
+    let laws = serving_laws g.H.Handler.next_call next options c.attempts_begin.ensures c.events_keep.ensures c.feeds_keep.ensures c.closes_keep.ensures c.takes_keep.ensures c.turns_keep.ensures c.turns_tell.ensures c.overs_stay.ensures c.executors_live.ensures.begins c.executors_live.ensures.stays
+    c.live_attempts_replay.ensures.replays c.live_attempts_replay.ensures.stays in (
+      told_by g.H.Handler.next_call next options id laws told one answer bytes old new held more covered fits brings does follows,
+      waits_by g.H.Handler.next_call next options id laws told one answer bytes moved old new held more covered fits brings does moves follows,
+    )
 
 pub returns-clause-each : goal.returns-clause-each
 returns-clause-each g c = λ next options id one answer old new held more covered fits brings does follows.

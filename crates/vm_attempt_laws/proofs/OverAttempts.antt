@@ -1,21 +1,17 @@
 -- An attempt that is over, or whose machine has failed, stays so, and tells it in each turn.
 use Rattle.std.proofs.Common.{◌≡◌, ◌⊎◌, inl, inr, ◌∙◌, Bool, true, false, Option, Some, None, Result, Ok, Err, refl, sym, ap, subst}
 use Rattle.vm_input_laws.proofs.Staying.{failed_fed}
-use Rattle.journal_model.specs.Notification.{Bytes}
-use Rattle.journal_model.specs.Run.{Handler}
-use Rattle.journal_model.specs.declared.handler.Input.{Input}
-use Rattle.protocol_errors.specs.declared.error.Error.{Error}
-use Rattle.vm_start.specs.FailureReport.{IsCopy, out_of_memory}
 use Rattle.vm_attempt_laws.specs.Attempts.finishes
 use Rattle.vm_attempt_laws.specs.Attempts.{Feeds, FeedsUnless, ClosesInput, ClosesUnless, OnlyMoves, again, FinishesBy, TakesOutcome, GivesInput, ReadsOrAsks, TurnsWhere, TurnsUnless, TurnsOn, Turns, ran_or_failed, Attempt, Finish, Turn}
 use Rattle.vm_attempt_laws.specs.Bodies.{RunOutcome}
-use Rattle.vm_attempt_laws.specs.AttemptInvariants.{IsLast}
+use Rattle.vm_attempt_laws.specs.AttemptInvariants.{early_error, FailsWith, IsLast}
 use Rattle.vm_attempt_laws.specs.Machine.outcomes
 use Rattle.vm_attempt_laws.specs.Machine.phases
-use Rattle.vm_attempt_laws.specs.Machine.{CallOutcome, CoreVM, IsFed, TellsReady, MachineState, Phase, is_waiting, input_closed, with_input, ClosesWhere, ClosesInput as ClosesMachine}
+use Rattle.vm_attempt_laws.specs.Machine.{CallOutcome, CoreVM, IsCopy, IsFed, out_of_memory, Written, TellsReady, MachineState, Phase, is_waiting, input_closed, with_input, ClosesWhere, ClosesInput as ClosesMachine}
 use Rattle.vm_attempt_laws.specs.AttemptSimulation.{AnswersKept, IsOver, finished, machine_failed}
-use Rattle.schedule_laws.specs.TrackedAttempt.{IsOverBy, by_finish, by_error}
-use Rattle.schedule_laws.specs.Turned.{IsAgain}
+use Rattle.vm_attempt_laws.specs.Words.{Bytes, Error, Handler, Input, internal}
+use Rattle.vm_attempt_laws.specs.OverAttempts.{IsOverBy, by_finish, by_error}
+use Rattle.vm_attempt_laws.specs.TurnReports.{IsAgain, IsLacking, memory, numbers, room}
 
 same_finish : (a b : Finish) → Some a ≡ Some b → a ≡ b
 same_finish a b e = cc
@@ -185,3 +181,18 @@ module _ {H : Type 0} where
     ends_by before turn after none turns over copies last =
         let on = turns_new before.over before turn after refl none turns in
         by_ready on.ready before turn after none on.turns over copies last
+
+-- ---- closed too early
+
+-- what an attempt fails with whose input is closed too early: that error, or, where its frame would be too long or there is no memory, an
+-- internal one
+pub early_tells : (old : Written) (error : Error) → FailsWith early_error old error ⊎ (error ≡ out_of_memory) → (error.code.0 ≡ early_error.code.0) ⊎ IsLacking error
+early_tells old error (inl (inl same)) = inl (ap (λ (e : Error). e.code.0) same)
+early_tells old error (inl (inr long)) = inr (room (ap (λ (e : Error). e.code.0) long.1))
+early_tells old error (inr lacks) = inr (memory lacks)
+
+pub early_code : (error : Error) → (error.code.0 ≡ early_error.code.0) ⊎ IsLacking error → (error.code.0 ≡ early_error.code.0) ⊎ (error.code.0 ≡ internal)
+early_code error (inl is) = inl is
+early_code error (inr (numbers is)) = inr is
+early_code error (inr (room is)) = inr is
+early_code error (inr (memory is)) = inr (ap (λ (e : Error). e.code.0) is)

@@ -3,16 +3,20 @@ use Rattle.std.proofs.Common.{◌≡◌, ◌⊎◌, inl, inr, ◌∙◌, ℕ, su
 use Rattle.input_laws.proofs.Handed.{bytes_more}
 use Rattle.journal_model.specs.Attempt.{Piece}
 use Rattle.vm_attempt_laws.specs.Attempts.{Attempt, Turn}
-use Rattle.vm_attempt_laws.proofs.TurnReports.{come, told_outcome}
+use Rattle.vm_attempt_laws.proofs.TurnReports.{told_ran}
 use Rattle.vm_attempt_laws.specs.Bodies.{NonEmptyValue, RunOutcome}
 use Rattle.vm_attempt_laws.specs.AttemptInvariants.{IsLast}
 use Rattle.vm_attempt_laws.specs.OutputOfAttempt.{Sent, frame_meant}
 use Rattle.vm_attempt_laws.specs.AttemptSimulation.{AnswersKept, HasBodies, IsOver, Serves}
-use Rattle.vm_attempt_laws.specs.TurnReports.{Told, HasCome, TurnTells, IsAttemptTold, GoesOnTold, TellsOne}
+use Rattle.vm_attempt_laws.specs.TurnReports.{Told, TurnTells, IsAttemptTold, GoesOnTold, TellsOne}
 use Rattle.vm_attempt_laws.specs.TurnsInRun.{turns_answered, TurnsBehind}
-use Rattle.vm_attempt_laws.specs.Words.{after_turn, Bytes, Handler, Input, input_bytes, InputMessage, AttemptInRun, piece_of, Version, VMOptions}
+use Rattle.vm_attempt_laws.specs.Words.{after_turn, Bytes, Frame, Handler, Input, input_bytes, InputMessage, AttemptInRun, piece_of, Version, VMOptions}
 
--- ---- bytes
+-- ---- frames and bytes
+
+pub meant_append : (version : Version) (coming more : List Sent) → map (frame_meant version) (coming ++ more) ≡ map (frame_meant version) coming ++ map (frame_meant version) more
+meant_append version [] more = refl
+meant_append version (one ∷ coming) more = ap (λ (frames : List Frame). frame_meant version one ∷ frames) (meant_append version coming more)
 
 map_more : (xs ys : List InputMessage) → map piece_of (xs ++ ys) ≡ map piece_of xs ++ map piece_of ys
 map_more [] ys = refl
@@ -48,14 +52,12 @@ module _ {H : Type 0} (function : H → Handler) (next : Handler) (version : Ver
   IsToldBehind sent turn after b now = now.over ≡ Some turn
 
   pub record TellsBehind (sent : List Sent) (turn : Turn) (after : Attempt H) (b : Behind sent turn after) : Type 0 where
-    pub has_come : HasCome live.start told.bytes told.proposed
     pub now : Told
-    pub tells : TurnTells next live.start told has_come ran turn now
+    pub tells : TurnTells next live.start told ran turn now
     pub is_told : IsToldBehind sent turn after b now
 
   pub tells_behind : (sent : List Sent) (turn : Turn) (after : Attempt H) (b : Behind sent turn after) → TellsOne function next version options live.start is_closed told ran turn after → TellsBehind sent turn after b
   tells_behind sent Turn.Answered after b one = record {
-    has_come = one.come;
     now = one.now;
     tells = one.tells;
     is_told = (
@@ -69,9 +71,8 @@ module _ {H : Type 0} (function : H → Handler) (next : Handler) (version : Ver
     );
   }
   tells_behind sent Turn.RanBody after b one = record {
-    has_come = come function next version options is_closed live before proposed ran told own s t;
     now = record told { proposed = told.proposed ++ (b.body.completion, b.value) ∷ [] };
-    tells = (b.body, b.value, told_outcome function next version options is_closed live before proposed ran told own s t sent after b, refl);
+    tells = told_ran function next version options is_closed live before proposed ran told own s t sent after b;
     is_told = (
       refl,
       record {
@@ -83,7 +84,6 @@ module _ {H : Type 0} (function : H → Handler) (next : Handler) (version : Ver
     );
   }
   tells_behind sent Turn.Waiting after b one = record {
-    has_come = one.come;
     now = one.now;
     tells = one.tells;
     is_told = (
@@ -96,9 +96,9 @@ module _ {H : Type 0} (function : H → Handler) (next : Handler) (version : Ver
       },
     );
   }
-  tells_behind sent Turn.Suspended after b one = record { has_come = one.come; now = one.now; tells = one.tells; is_told = ap (λ (now : Told). now.over) one.tells.0 }
-  tells_behind sent Turn.Ended after b one = record { has_come = one.come; now = one.now; tells = one.tells; is_told = ap (λ (now : Told). now.over) one.tells.0 }
-  tells_behind sent (Turn.Failed error) after b one = record { has_come = one.come; now = one.now; tells = one.tells; is_told = ap (λ (now : Told). now.over) one.tells.0 }
+  tells_behind sent Turn.Suspended after b one = record { now = one.now; tells = one.tells; is_told = ap (λ (now : Told). now.over) one.tells.0 }
+  tells_behind sent Turn.Ended after b one = record { now = one.now; tells = one.tells; is_told = ap (λ (now : Told). now.over) one.tells.0 }
+  tells_behind sent (Turn.Failed error) after b one = record { now = one.now; tells = one.tells; is_told = ap (λ (now : Told). now.over) one.tells.0 }
 
   -- it is over by this turn, or goes on as it is told now
   pub left_behind : (sent : List Sent) (turn : Turn) (after : Attempt H) (b : Behind sent turn after) (told_now : TellsBehind sent turn after b)
