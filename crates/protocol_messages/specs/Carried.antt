@@ -3,7 +3,6 @@ use Rattle.journal_model.specs.declared.value.NonEmptyValue.{NonEmptyValue}
 use Rattle.protocol_stream.specs.Records.{failure_record}
 use Rattle.protocol_controls.specs.declared.propose_run_completion.ProposeRunCompletionResult.{ProposeRunCompletionResult}
 use Rattle.protocol_controls.specs.declared.propose_run_completion.ProposeRunCompletionResult.TheVariants as proposals
-pub use Rattle.protocol_laws.specs.Records.{promise_completion as completion_record, awakeable_result as awakeable_record, signal_record}
 
 abbrev pub proposed_record : NonEmptyValue → ProposeRunCompletionResult
 proposed_record (NonEmptyValue.Success bytes) = proposals.Value bytes

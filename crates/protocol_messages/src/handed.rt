@@ -1,6 +1,7 @@
 // What handlers hand out, as commands carry it.
 ghost use Rattle.std.specs.Prelude.{◌≡◌, IfOk};
-ghost use Rattle.protocol_messages.specs.Carried.{completion_record, awakeable_record, signal_record, proposed_record};
+ghost use Rattle.protocol_laws.specs.Records.{promise_completion, awakeable_result, signal_record};
+ghost use Rattle.protocol_messages.specs.Carried.{proposed_record};
 
 use journal_model::NonEmptyValue;
 use protocol_calls::{CompleteAwakeableCommandResult, SendSignalCommandResult};
@@ -15,7 +16,7 @@ pub fn to_promise_completion(
     alloc: Global,
     value: NonEmptyValue,
 ) -> Result<CompletePromiseCommandCompletion, AllocError>
-    ensures { IfOk result (λ recorded. recorded ≡ completion_record value) }
+    ensures { IfOk result (λ recorded. recorded ≡ promise_completion value) }
 {
     match value {
         NonEmptyValue::Success(content) => Ok(CompletePromiseCommandCompletion::CompletionValue(
@@ -32,7 +33,7 @@ pub fn to_awakeable_result(
     alloc: Global,
     value: NonEmptyValue,
 ) -> Result<CompleteAwakeableCommandResult, AllocError>
-    ensures { IfOk result (λ recorded. recorded ≡ awakeable_record value) }
+    ensures { IfOk result (λ recorded. recorded ≡ awakeable_result value) }
 {
     match value {
         NonEmptyValue::Success(content) => {

@@ -21,7 +21,7 @@ use Rattle.schedule_model.specs.declared.held.HeldAttempt.{HeldAttempt}
 use Rattle.schedule_model.specs.First.{with_first}
 use Rattle.schedule_model.specs.Held.{is_held, held_of}
 use Rattle.schedule_model.proofs.Holding.{some_is}
-use Rattle.schedule_laws.specs.TrackedAttempt.{Tracked, IsServed, IsLeft, Attends, is_over, lacks_memory, closed_early, is_served, is_left}
+use Rattle.schedule_laws.specs.TrackedAttempt.{Tracked, IsServed, IsAttemptLeft, Attends, is_over, lacks_memory, closed_early, is_served, is_left}
 use Rattle.schedule_laws.specs.InvocationInRun.{Flies, FollowsBegun, ToldOf}
 use Rattle.schedule_laws.proofs.TrackedAttempt.{told_of, with_told, with_same_told}
 use Rattle.schedule_laws.proofs.InvocationInRun.{flown, flown_still, quiet_changed, retold}
@@ -58,7 +58,7 @@ module _ {H : Type 0} (function : H → Handler) (next : Handler) (options : VMO
           is_told = record { bytes = s.is_told.bytes; closed = s.is_told.closed; answered = s.is_told.answered ∙ moved_input s.live.calls; outcomes = s.is_told.outcomes };
         }
 
-    moved_left : (t : Tracked) → IsLeft function next options id t before → IsLeft function next options id t changed
+    moved_left : (t : Tracked) → IsAttemptLeft function next options id t before → IsAttemptLeft function next options id t changed
     moved_left t l =
         let g = l.goes_on in
         let (serves, bodies) = (laws.takes l.version g.live l.is_closed before changed g.serves).taken count takes.0 takes.1 in

@@ -38,7 +38,7 @@ use Rattle.vm_input_laws.proofs.Arrivals.{of_asked}
 use Rattle.vm_input_laws.specs.MessagesBehindJournal.{MessageFits}
 use Rattle.vm_input_laws.specs.InputPhases.{IsEntry}
 use Rattle.vm_start.specs.Starts.{AreText}
-use Rattle.schedule_laws.specs.EventBounds.{AcceptedFits, AllFit}
+use Rattle.schedule_laws.specs.EventBounds.{AcceptedFits, EventsFit}
 use Rattle.schedule_laws.specs.FittingLaws.{CanStart, AttemptsAreFedWell, AttemptsCanStart}
 use Rattle.schedule_laws.proofs.Fits.{EntryFits, entries_fit, invocation_fits, input_short, has_own_id, not_long}
 
@@ -164,7 +164,7 @@ module _ (id : Text) (events : List Event) where
   added_few (Event.Move other attempt frame) causes fits few = few_if all (bytes_eq other id || false) [] (λ e. refl) few
   added_few event causes fits few = few_if all (is_of id event || false) [] (λ e. refl) few
 
-entries_few : (id : Text) (events : List Event) → IsAccepted events → AllFit id events → length (entries_of events id) < 2 ^ 32 - 1
+entries_few : (id : Text) (events : List Event) → IsAccepted events → EventsFit id events → length (entries_of events id) < 2 ^ 32 - 1
 entries_few id [] accepted fits = omega arith
 entries_few id (event ∷ events) accepted fits = by_begins (begins id event) refl (entries_few id events accepted.1 fits.1)
   where
@@ -236,7 +236,7 @@ state_text StateMode.Whole state text = entries_text state text
 state_text StateMode.None state text = tt
 
 module _ (next : Handler) (options : RunOptions) (fallback_seed : ℕ) (id : Text) (now : ℕ) (events : List Event) (new : NewInvocation) (accepted : IsAccepted (Event.Begin id now ∷ events))
-    (is : invocation_begun events id ≡ Some new) (typed : AllFit id events) (moment : now < 2 ^ 64)
+    (is : invocation_begun events id ≡ Some new) (typed : EventsFit id events) (moment : now < 2 ^ 64)
     (begun : IsBegunAs next options fallback_seed (Event.Begin id now ∷ events) id (start_after options fallback_seed events id now new)) where
   abbrev start : AttemptStart
   start = start_after options fallback_seed events id now new

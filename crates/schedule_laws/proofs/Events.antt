@@ -25,7 +25,7 @@ use Rattle.vm_attempt_laws.specs.TurnReports.{IsFrameTold, Told}
 use Rattle.schedule_model.specs.declared.held.HeldAttempt.{HeldAttempt}
 use Rattle.schedule_model.specs.Held.{held_of}
 use Rattle.schedule_model.proofs.Holding.{some_none}
-use Rattle.schedule_laws.specs.EventBounds.{AcceptedFits, AllFit}
+use Rattle.schedule_laws.specs.EventBounds.{AcceptedFits, EventsFit}
 use Rattle.schedule_laws.specs.TrackedAttempt.{Tracked, IsServed, Attends, AttendsAs, is_over, lacks_memory, closed_early, is_served, is_left}
 use Rattle.schedule_laws.specs.InvocationInRun.{FailsNot, given_of, Flies, FollowsBegun, FollowsWhere, FollowsIn, OutcomesFly, ToldOf}
 use Rattle.schedule_laws.proofs.Fits.{may_come}
@@ -50,7 +50,7 @@ module _ {H : Type 0} (function : H → Handler) (next : Handler) (options : VMO
   given_same new = ap (λ (start : StateMap). run_of (run_options options) options.fallback_random_seed new start) (sym (start_same event events id plain.old))
 
   -- the live attempt serves on
-  served_on : (new : NewInvocation) (version : Version) (coming left : List Sent) (t : Tracked) (attempt : Attempt H) → AllFit id events → PassesOn id event (map (frame_meant version) coming) (map (frame_meant version) left)
+  served_on : (new : NewInvocation) (version : Version) (coming left : List Sent) (t : Tracked) (attempt : Attempt H) → EventsFit id events → PassesOn id event (map (frame_meant version) coming) (map (frame_meant version) left)
       → IsServed function next options id events new version coming t attempt → IsServed function next options id (event ∷ events) new version left t attempt
   served_on new version coming left t attempt typed passes s =
       let some = (laws.stays next (run_options options) options.fallback_random_seed id events s.live s.proposed s.bodies.executor accepted s.lives).brings event (map (frame_meant version) left)
@@ -75,7 +75,7 @@ module _ {H : Type 0} (function : H → Handler) (next : Handler) (options : VMO
       }
 
   -- each that is held stands as it did, while none ends
-  attends_on : (new : NewInvocation) (version : Version) (coming left : List Sent) (number : ℕ) (t : Tracked) (attempt : Attempt H) → AllFit id events
+  attends_on : (new : NewInvocation) (version : Version) (coming left : List Sent) (number : ℕ) (t : Tracked) (attempt : Attempt H) → EventsFit id events
       → PassesOn id event (map (frame_meant version) coming) (map (frame_meant version) left) → live_attempt (event ∷ events) id ≡ live_attempt events id
       → Attends function next options id events new version coming number t attempt → Attends function next options id (event ∷ events) new version left number t attempt
   attends_on new version coming left number t attempt typed passes same (is_over last so over) = is_over last so over
@@ -84,7 +84,7 @@ module _ {H : Type 0} (function : H → Handler) (next : Handler) (options : VMO
   attends_on new version coming left number t attempt typed passes same (is_served so live s) = is_served so (same ∙ live) (served_on new version coming left t attempt typed passes s)
   attends_on new version coming left number t attempt typed passes same (is_left so not l) = is_left so (λ live. not (sym same ∙ live)) l
 
-  attends_as : (new : NewInvocation) (version : Version) (coming left : List Sent) (number : ℕ) (t : Option Tracked) (attempt : Attempt H) → AllFit id events
+  attends_as : (new : NewInvocation) (version : Version) (coming left : List Sent) (number : ℕ) (t : Option Tracked) (attempt : Attempt H) → EventsFit id events
       → PassesOn id event (map (frame_meant version) coming) (map (frame_meant version) left) → live_attempt (event ∷ events) id ≡ live_attempt events id
       → AttendsAs function next options id events new version coming number t attempt → AttendsAs function next options id (event ∷ events) new version left number t attempt
   attends_as new version coming left number None attempt typed passes same at = at

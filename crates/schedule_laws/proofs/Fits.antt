@@ -27,7 +27,7 @@ use Rattle.vm_request_laws.specs.RequestBounds.{RequestFits}
 use Rattle.vm_input_laws.proofs.Arrivals.{of_asked}
 use Rattle.vm_input_laws.specs.MessagesBehindJournal.{ArrivalFits, IsCompletionAsked, IsNotificationType, MayCome}
 use Rattle.schedule_model.specs.ArgumentBounds.{InvocationFits, ResultFits, signal_arrival, cancellation}
-use Rattle.schedule_laws.specs.EventBounds.{AcceptedFits, AllFit}
+use Rattle.schedule_laws.specs.EventBounds.{AcceptedFits, EventsFit}
 use Rattle.schedule_laws.specs.FittingLaws.{MessagesMayCome, UnbornFit}
 
 -- ---- ids
@@ -63,8 +63,8 @@ pub unborn_fits : UnbornFit
 unborn_fits id [] accepted unborn = tt
 unborn_fits id (Event.Invoke new ∷ earlier) accepted unborn = by_id (bytes_eq new.id id) refl unborn (unborn_fits id earlier accepted.1)
   where
-    by_id : (b : Bool) → bytes_eq new.id id ≡ b → (if b then Some new else invocation_begun earlier id) ≡ None → (invocation_begun earlier id ≡ None → AllFit id earlier)
-        → AllFit id (Event.Invoke new ∷ earlier)
+    by_id : (b : Bool) → bytes_eq new.id id ≡ b → (if b then Some new else invocation_begun earlier id) ≡ None → (invocation_begun earlier id ≡ None → EventsFit id earlier)
+        → EventsFit id (Event.Invoke new ∷ earlier)
     by_id true e is later = cc
     by_id false e is later = (λ same. absurd (apart new.id id e same), later is)
 unborn_fits id (event ∷ earlier) accepted unborn =
@@ -73,7 +73,7 @@ unborn_fits id (event ∷ earlier) accepted unborn =
 
 -- ---- the invocation itself
 
-pub invocation_fits : (id : Text) (events : List Event) (new : NewInvocation) → AllFit id events → invocation_begun events id ≡ Some new → InvocationFits new
+pub invocation_fits : (id : Text) (events : List Event) (new : NewInvocation) → EventsFit id events → invocation_begun events id ≡ Some new → InvocationFits new
 invocation_fits id [] new fits e = absurd cc
 invocation_fits id (Event.Invoke one ∷ earlier) new fits e = by_name (bytes_eq one.id id) refl e (invocation_fits id earlier new fits.1)
   where
@@ -414,7 +414,7 @@ module _ (id : Text) (events : List Event) where
   added_fit (Event.Move other attempt frame) causes fits before = if_adds (EntryFits (all ++ added_by events id (Event.Move other attempt frame))) (bytes_eq other id || false) [] (λ e. tt)
   added_fit event causes fits before = if_adds (EntryFits (all ++ added_by events id event)) (is_of id event || false) [] (λ e. tt)
 
-pub entries_fit : (id : Text) (events : List Event) → IsAccepted events → AllFit id events → AllByRecursion (EntryFits (entries_of events id)) (entries_of events id)
+pub entries_fit : (id : Text) (events : List Event) → IsAccepted events → EventsFit id events → AllByRecursion (EntryFits (entries_of events id)) (entries_of events id)
 entries_fit id [] accepted fits = tt
 entries_fit id (event ∷ events) accepted fits = by_begins (begins id event) refl (entries_fit id events accepted.1 fits.1)
   where
@@ -434,7 +434,7 @@ arrivals_come among [] fit = tt
 arrivals_come among (Recorded request ∷ entries) fit = arrivals_come among entries fit.1
 arrivals_come among (Arrived arrival ∷ entries) fit = (fit.0, arrivals_come among entries fit.1)
 
-pub recorded_come : (id : Text) (events : List Event) → IsAccepted events → AllFit id events → AllByRecursion (ArrivalCome (entries_of events id)) (recorded_arrivals events id)
+pub recorded_come : (id : Text) (events : List Event) → IsAccepted events → EventsFit id events → AllByRecursion (ArrivalCome (entries_of events id)) (recorded_arrivals events id)
 recorded_come id events accepted fits = arrivals_come (entries_of events id) (entries_of events id) (entries_fit id events accepted fits)
 
 -- an outcome that is acknowledged was taken, so its number can be told

@@ -17,7 +17,7 @@ use Rattle.schedule_model.specs.declared.held.HeldAttempt.{HeldAttempt}
 use Rattle.schedule_model.specs.First.{with_first}
 use Rattle.schedule_model.specs.Held.{is_held, held_of}
 use Rattle.schedule_model.proofs.Holding.{some_is, some_none, held_with, held_other_number}
-use Rattle.schedule_laws.specs.EventBounds.{AllFit}
+use Rattle.schedule_laws.specs.EventBounds.{EventsFit}
 use Rattle.schedule_laws.specs.TrackedAttempt.{Tracked, Attends, AttendsAs}
 use Rattle.schedule_laws.specs.InvocationInRun.{FailsNot, given_of, Flies, FollowsBegun, FollowsWhere, OutcomesFly, ToldOf}
 use Rattle.schedule_laws.proofs.TrackedAttempt.{aside, told_at, told_of, told_other, with_told}
@@ -111,7 +111,7 @@ module _ {H : Type 0} (function : H → Handler) (next : Handler) (options : VMO
               (others_attend n one far (sym (others n far) ∙ there))
 
       -- the live one has changed, or an event came that is done with it
-      pub flown : (before : List Event) (was : Option Bytes) (f : FollowsBegun function next options id told before was held new) (output : Option Bytes) (waits : Bytes) → AllFit id events → AllByRecursion (FailsNot id) events
+      pub flown : (before : List Event) (was : Option Bytes) (f : FollowsBegun function next options id told before was held new) (output : Option Bytes) (waits : Bytes) → EventsFit id events → AllByRecursion (FailsNot id) events
           → ((n : ℕ) → attempts_begun events id < n → (held_of held id n ≡ None) × (told n ≡ None)) → live_attempt events id ≡ Some number → IsFlown number output waits now g
           → FollowsBegun function next options id (with_told told number now) events output more new
       flown before was f output waits typed unfailed numbered live it = record {

@@ -9,7 +9,7 @@ use Rattle.protocol_types.specs.declared.version.Version.{Version}
 use Rattle.vm_types.specs.declared.options.VMOptions.{VMOptions}
 use Rattle.vm_attempt_laws.specs.Attempts.{Attempt}
 use Rattle.vm_attempt_laws.specs.OutputOfAttempt.{Sent}
-use Rattle.schedule_laws.specs.TrackedAttempt.{Tracked, IsServed, IsLeft, Attends, AttendsAs, is_over, lacks_memory, closed_early, is_served, is_left}
+use Rattle.schedule_laws.specs.TrackedAttempt.{Tracked, IsServed, IsAttemptLeft, Attends, AttendsAs, is_over, lacks_memory, closed_early, is_served, is_left}
 use Rattle.schedule_laws.specs.InvocationInRun.{ToldOf}
 
 -- ---- what was told
@@ -44,7 +44,7 @@ module _ {H : Type 0} (function : H → Handler) (next : Handler) (options : VMO
   -- ---- one that is not live
 
   left_of : (events : List Event) (new : NewInvocation) (version : Version) (coming : List Sent) (t : Tracked) (a : Attempt H) → IsServed function next options id events new version coming t a
-      → IsLeft function next options id t a
+      → IsAttemptLeft function next options id t a
   left_of events new version coming t a s = record {
     version = version;
     is_closed = is_input_closed events id;

@@ -38,7 +38,7 @@ use Rattle.schedule_model.specs.First.{with_first}
 use Rattle.schedule_model.specs.Held.{is_held, held_of}
 use Rattle.schedule_model.proofs.Holding.{some_is}
 use Rattle.vm_attempt_laws.specs.OverAttempts.{by_error, IsClosedEarly, IsOverBy}
-use Rattle.schedule_laws.specs.TrackedAttempt.{Tracked, IsServed, IsLeft, Attends, is_over, lacks_memory, closed_early, is_served, is_left}
+use Rattle.schedule_laws.specs.TrackedAttempt.{Tracked, IsServed, IsAttemptLeft, Attends, is_over, lacks_memory, closed_early, is_served, is_left}
 use Rattle.schedule_laws.specs.InvocationInRun.{ReplaysInLine, given_of, FollowsBegun, OutcomesFly, ToldOf}
 use Rattle.schedule_laws.specs.Turned.{TurnTellsNow}
 use Rattle.schedule_laws.proofs.Acting.{all_append, written_behind}
@@ -258,7 +258,7 @@ module _ {H : Type 0} (function : H → Handler) (next : Handler) (options : VMO
 
     -- ---- one that was stopped or overtaken
 
-    module _ (so : t.told.over ≡ None) (not_live : live_attempt events id ≢ Some n) (l : IsLeft function next options id t one.attempt) where
+    module _ (so : t.told.over ≡ None) (not_live : live_attempt events id ≢ Some n) (l : IsAttemptLeft function next options id t one.attempt) where
       abbrev goes : GoesOnTold function next l.version options t.start l.is_closed t.told one.attempt
       goes = l.goes_on
 

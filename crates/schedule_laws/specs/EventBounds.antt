@@ -23,5 +23,5 @@ AcceptedFits id (Event.Begin other now) = other ≡ id → now < 2 ^ 64
 AcceptedFits id (Event.Move other attempt frame) = other ≡ id → FrameFits frame
 AcceptedFits id _ = Unit {0}
 
-abbrev pub AllFit : Text → List Event → Type 0
-AllFit id events = AllByRecursion (AcceptedFits id) events
+abbrev pub EventsFit : Text → List Event → Type 0
+EventsFit id events = AllByRecursion (AcceptedFits id) events

@@ -26,7 +26,7 @@ use Rattle.vm_attempt_laws.specs.TurnReports.{IsFrameTold}
 use Rattle.store_calls.specs.AbstractStore.{Standing}
 use Rattle.schedule_model.specs.declared.held.HeldAttempt.{HeldAttempt}
 use Rattle.schedule_model.specs.Held.{held_of}
-use Rattle.schedule_laws.specs.EventBounds.{AllFit}
+use Rattle.schedule_laws.specs.EventBounds.{EventsFit}
 use Rattle.schedule_laws.specs.TrackedAttempt.{Tracked, AttendsAs}
 
 -- What is asked of the options: the journal is replayed, and signals wait in line. Nothing is asked of a handler.
@@ -47,7 +47,7 @@ FailsNot id event = Unit {0}
 
 -- all events of the invocation are such as calls bring, what is recorded of it is of the run of this function, and no error has closed it
 pub record IsInRun (next : Handler) (options : VMOptions) (id : Text) (events : List Event) (new : NewInvocation) : Type 0 where
-  pub fit : AllFit id events
+  pub fit : EventsFit id events
   pub holds : Holds next (given_of options id events new) id events
   -- no error has closed it
   pub unfailed : AllByRecursion (FailsNot id) events
@@ -80,7 +80,7 @@ module _ {H : Type 0} (function : H → Handler) (next : Handler) (options : VMO
   pub record FollowsBegun (events : List Event) (output : Option Bytes) (held : List (HeldAttempt H)) (new : NewInvocation) : Type 0 where
     pub version : Version
     pub coming : List Sent
-    pub typed : AllFit id events
+    pub typed : EventsFit id events
     pub unfailed : AllByRecursion (FailsNot id) events
     pub fit : sent.AllFit version coming
     pub of_store : AllByRecursion IsOfStore coming

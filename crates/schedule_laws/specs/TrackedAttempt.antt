@@ -40,7 +40,7 @@ module _ {H : Type 0} (function : H → Handler) (next : Handler) (options : VMO
     pub is_told : IsAttemptTold live attempt (is_input_closed events id) proposed t.told
 
   -- it is not the live one any more, or never was again: it serves on as it was told, and nothing more comes to it
-  pub record IsLeft (t : Tracked) (attempt : Attempt H) : Type 0 where
+  pub record IsAttemptLeft (t : Tracked) (attempt : Attempt H) : Type 0 where
     pub version : Version
     pub is_closed : Bool
     pub goes_on : GoesOnTold function next version options t.start is_closed t.told attempt
@@ -53,7 +53,7 @@ module _ {H : Type 0} (function : H → Handler) (next : Handler) (options : VMO
       lacks_memory : t.told.over ≡ None → a.over ≡ None → LacksMemory a → Attends t a
       closed_early : t.told.over ≡ None → a.over ≡ None → IsClosedEarly t.start t.told a → (live_attempt events id ≡ Some number → is_input_closed events id ≡ true) → Attends t a
       is_served : t.told.over ≡ None → live_attempt events id ≡ Some number → IsServed events new version coming t a → Attends t a
-      is_left : t.told.over ≡ None → live_attempt events id ≢ Some number → IsLeft t a → Attends t a
+      is_left : t.told.over ≡ None → live_attempt events id ≢ Some number → IsAttemptLeft t a → Attends t a
 
     -- one of which nothing was told is not held
     abbrev pub AttendsAs : Option Tracked → Attempt H → Type 0

@@ -36,9 +36,9 @@ pub record WritesFrames (version : ℕ) (frames : List Frame) (waits behind : By
 -- ---- the frames that a turn writes
 
 -- the frame tells this error
-abbrev pub TellsError : Error → Frame → Type 0
-TellsError error (Frame.Error code message behavior delay) = (code ≡ error.code.0) × (message ≡ error.message)
-TellsError error frame = ⊥
+abbrev pub IsErrorFrame : Error → Frame → Type 0
+IsErrorFrame error (Frame.Error code message behavior delay) = (code ≡ error.code.0) × (message ≡ error.message)
+IsErrorFrame error frame = ⊥
 
 -- by these arrivals, which have come whole to an attempt that was begun so
 module _ (next : Handler) (start : AttemptStart) (told : Told) (arrivals : List Arrival) where
@@ -52,7 +52,7 @@ module _ (next : Handler) (start : AttemptStart) (told : Told) (arrivals : List 
   abbrev pub WritesError : Error → List Frame → Type 0
   WritesError error frames =
       (error ≡ out_of_memory)
-      ⊎ (((told.is_closed ≡ true) × (HasJournal start told.bytes → ⊥)) ⊎ ((earlier : List Frame) × (last : Frame) × TellsError error last × (frames ≡ earlier ++ last ∷ [])))
+      ⊎ (((told.is_closed ≡ true) × (HasJournal start told.bytes → ⊥)) ⊎ ((earlier : List Frame) × (last : Frame) × IsErrorFrame error last × (frames ≡ earlier ++ last ∷ [])))
 
   -- By what is answered: the requests by which the run goes on, the outcome of the body that was executed, the suspension, the end, or the
   -- error.
@@ -80,7 +80,7 @@ TurnLeaves next start told None ran turn waits behind =
 
 -- where its input is closed it writes nothing, or an error
 abbrev pub CloseLeaves : AttemptStart → (waits behind : Bytes) → Type 0
-CloseLeaves start waits behind = (behind ≡ waits) ⊎ ((error : Error) × (last : Frame) × TellsError error last × WritesFrames start.new.version (last ∷ []) waits behind)
+CloseLeaves start waits behind = (behind ≡ waits) ⊎ ((error : Error) × (last : Frame) × IsErrorFrame error last × WritesFrames start.new.version (last ∷ []) waits behind)
 
 -- What waits of an attempt behind one more event, by its reply, which moves these bytes of it: a turn and the end of its input write frames behind
 -- it; and a move takes the first bytes of it, as many as were asked for, or all there are. Whether the event is its own is said by a number of

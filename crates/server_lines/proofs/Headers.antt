@@ -5,7 +5,7 @@ use Rattle.journal_model.specs.declared.call.Header.{Header}
 use Rattle.script_lines.specs.LineReader.{Gives, then_read}
 use Rattle.script_lines.specs.declared.word.LineError.{LineError}
 use Rattle.script_lines.specs.declared.word.LineError.TheVariants.{NotUnderstood, Memory}
-use Rattle.server_lines.specs.RequestReader.{header_of, headers_of}
+use Rattle.server_lines.specs.RequestReader.{header_read, headers_of}
 
 -- headers that were read, and behind them those of the words that are left
 unfoldable pub behind : List Header → Option (List Header) → Option (List Header)
@@ -23,13 +23,13 @@ one_more front header None = refl
 one_more front header (Some headers) = ap Some (sym (append_assoc front (header ∷ []) headers))
 
 -- a header more was read
-pub header_more : (front : List Header) (key value : List ℕ) (words : List (List ℕ)) (header : Header) → header_of key value ≡ Some header
+pub header_more : (front : List Header) (key value : List ℕ) (words : List (List ℕ)) (header : Header) → header_read key value ≡ Some header
     → behind front (headers_of (key ∷ value ∷ words)) ≡ behind (front ++ header ∷ []) (headers_of words)
 unfolding headers_of then_read
 header_more front key value words header e = rw e (one_more front header (headers_of words))
 
 -- two words are no header
-pub no_header : (front : List Header) (key value : List ℕ) (words : List (List ℕ)) → header_of key value ≡ None → behind front (headers_of (key ∷ value ∷ words)) ≡ None
+pub no_header : (front : List Header) (key value : List ℕ) (words : List (List ℕ)) → header_read key value ≡ None → behind front (headers_of (key ∷ value ∷ words)) ≡ None
 unfolding headers_of then_read behind
 no_header front key value words e = rw e refl
 
@@ -55,13 +55,13 @@ two_words (a ∷ []) d h = absurd (omega arith)
 two_words (a ∷ b ∷ rest) d h = let e : length (a ∷ b ∷ rest) - 2 ≡ length rest = omega arith in rw (e, take-length rest) refl
 
 pub read_on : (all left : List (Bor (List ℕ))) (front back : List Header) (d : Bor (List ℕ)) (header : Header) → 2 ≤ length left → behind front (headers_of (words_in left)) ≡ headers_of (words_in all)
-    → header_of (get_or left 0 d).now (get_or left 1 d).now ≡ Some header → back ≡ front ++ header ∷ [] → behind back (headers_of (words_in (take (length left - 2) (drop 2 left)))) ≡ headers_of (words_in all)
+    → header_read (get_or left 0 d).now (get_or left 1 d).now ≡ Some header → back ≡ front ++ header ∷ [] → behind back (headers_of (words_in (take (length left - 2) (drop 2 left)))) ≡ headers_of (words_in all)
 read_on all left front back d header h so read is =
     let more = header_more front (get_or left 0 d).now (get_or left 1 d).now (words_in (take (length left - 2) (drop 2 left))) header read in
     ap (λ (hs : List Header). behind hs (headers_of (words_in (take (length left - 2) (drop 2 left))))) is ∙ sym more ∙ ap (λ (ws : List (List ℕ)). behind front (headers_of ws)) (sym (two_words left d h)) ∙ so
 
 pub not_read : (all left : List (Bor (List ℕ))) (front : List Header) (d : Bor (List ℕ)) (error : LineError) → 2 ≤ length left → behind front (headers_of (words_in left)) ≡ headers_of (words_in all)
-    → Gives {A = Header} (Err error) (header_of (get_or left 0 d).now (get_or left 1 d).now) → Gives {A = List Header} (Err error) (headers_of (words_in all))
+    → Gives {A = Header} (Err error) (header_read (get_or left 0 d).now (get_or left 1 d).now) → Gives {A = List Header} (Err error) (headers_of (words_in all))
 not_read all left front d NotUnderstood h so none =
     sym so ∙ ap (λ (ws : List (List ℕ)). behind front (headers_of ws)) (two_words left d h) ∙ no_header front (get_or left 0 d).now (get_or left 1 d).now (words_in (take (length left - 2) (drop 2 left))) none
 not_read all left front d Memory h so none = tt

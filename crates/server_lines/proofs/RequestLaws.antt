@@ -9,7 +9,7 @@ use Rattle.script_lines.proofs.WordLaws.{mode_reading, number_32, number_64}
 use Rattle.server_lines.specs.Word.{IsKey, IsText, key_word, text_word}
 use Rattle.server_lines.specs.WordReader.{key_of, name_of, number_key_of}
 use Rattle.server_lines.specs.Request.{IsHeader, IsRequest, ReadsBack, header_words, request_spelling, words_of}
-use Rattle.server_lines.specs.RequestReader.{arguments_of, asking_of, begin_of, bringing_of, cancel_of, close_of, request_command_of, error_of, header_of, headers_of, input_of, invoke_of, list_of, of_invoke, of_list, of_none, of_one, of_three, of_two, output_of, request_spelled, requests_of, result_request_of, show_of, signal_of, state_of, stop_request_of, tick_of}
+use Rattle.server_lines.specs.RequestReader.{arguments_of, asking_of, begin_of, bringing_of, cancel_of, close_of, request_command_of, error_of, header_read, headers_of, input_of, invoke_of, list_of, of_invoke, of_list, of_none, of_one, of_three, of_two, output_request, request_spelled, requests_of, result_request_of, show_of, signal_of, state_of, stop_request_of, tick_of}
 use Rattle.server_lines.specs.declared.request.Request.{Request}
 use Rattle.server_lines.specs.declared.request.Request.TheVariants.{Invoke, Result, Signal, Cancel, Tick, Begin, Input, Output, Close, Stop, Due, Next, Show, State, Error, List as ListRequest, Requests}
 use Rattle.server_lines.proofs.Escapes.{bytes_again, digits_again, text_word-no_sign}
@@ -28,12 +28,12 @@ key_again (ByIndex number) h = rw (number_32.again number h) refl
 key_again (ByName name) h = named name (text_word name) refl h
 
 headers_again : (headers : List Header) → AllByRecursion IsHeader headers → headers_of (header_words headers) ≡ Some headers
-unfolding headers_of header_of then_read
+unfolding headers_of header_read then_read
 headers_again [] h = refl
 headers_again (header ∷ headers) h = rw (text_again header.key h.0.0, text_again header.value h.0.1, headers_again headers h.1) refl
 
 words_again : (request : Request) → IsRequest request → request_spelled (words_of request) ≡ Some request
-unfolding request_spelled then_read request_command_of bringing_of asking_of arguments_of of_none of_one of_two of_three of_invoke of_list list_of requests_of invoke_of result_request_of signal_of cancel_of tick_of begin_of input_of output_of close_of stop_request_of show_of state_of error_of
+unfolding request_spelled then_read request_command_of bringing_of asking_of arguments_of of_none of_one of_two of_three of_invoke of_list list_of requests_of invoke_of result_request_of signal_of cancel_of tick_of begin_of input_of output_request close_of stop_request_of show_of state_of error_of
 words_again (Invoke new) h =
     rw (number_32.again new.version h.version, mode_reading.again new.state tt, number_64.again new.seed h.seed, text_again new.id h.id, text_again new.object h.object, bytes_again new.input h.input, headers_again new.headers h.headers) refl
 words_again (Result id completion value) h = rw (number_32.again completion h.1, text_again id h.0, value_again value h.2) refl

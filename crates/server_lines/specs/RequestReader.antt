@@ -10,8 +10,8 @@ use Rattle.server_lines.specs.declared.request.Request.{Request}
 use Rattle.server_lines.specs.declared.request.Request.TheVariants.{Invoke, Result, Signal, Cancel, Tick, Begin, Input, Output, Close, Stop, Due, Next, Show, State, Error, List as ListRequest, Requests}
 use Rattle.server_lines.specs.WordReader.{word_bytes_of, digits_of, key_of, text_of, word_value_of}
 
-unfoldable pub header_of : List ℕ → List ℕ → Option Header
-header_of key value = do
+unfoldable pub header_read : List ℕ → List ℕ → Option Header
+header_read key value = do
   key ← text_of key
   value ← text_of value
   Some (record { key = key; value = value })
@@ -21,7 +21,7 @@ unfoldable pub headers_of : List (List ℕ) → Option (List Header)
 headers_of [] = Some []
 headers_of (key ∷ []) = None
 headers_of (key ∷ value ∷ words) = do
-  header ← header_of key value
+  header ← header_read key value
   headers ← headers_of words
   Some (header ∷ headers)
 
@@ -73,8 +73,8 @@ input_of id attempt most = do
   id ← text_of id
   Some (Input id attempt most)
 
-unfoldable pub output_of : List ℕ → List ℕ → List ℕ → Option Request
-output_of id attempt bytes = do
+unfoldable pub output_request : List ℕ → List ℕ → List ℕ → Option Request
+output_request id attempt bytes = do
   attempt ← number_below (2 ^ 32) attempt
   id ← text_of id
   bytes ← digits_of bytes
@@ -182,7 +182,7 @@ arguments_of command.Cancel = of_one cancel_of
 arguments_of command.Tick = of_one tick_of
 arguments_of command.Begin = of_two begin_of
 arguments_of command.Input = of_three input_of
-arguments_of command.Output = of_three output_of
+arguments_of command.Output = of_three output_request
 arguments_of command.Close = of_two close_of
 arguments_of command.Stop = of_two stop_request_of
 arguments_of command.Due = of_none Due

@@ -4,7 +4,7 @@ ghost use Rattle.std.specs.Prelude.{◌≡◌, ◌==◌, map, IfOk};
 ghost use Rattle.std.specs.List.{slice_split};
 ghost use Rattle.script_lines.specs.LineReader.{Gives};
 ghost use Rattle.server_lines.specs.declared.request.Request.TheVariants as asked;
-ghost use Rattle.server_lines.specs.RequestReader.{begin_of, cancel_of, close_of, error_of, header_of, headers_of, input_of, invoke_of, list_of, of_invoke, of_list, of_none, of_one, of_three, of_two, output_of, request_spelled, request_of, requests_of, result_request_of, show_of, signal_of, state_of, stop_request_of, tick_of};
+ghost use Rattle.server_lines.specs.RequestReader.{begin_of, cancel_of, close_of, error_of, header_read, headers_of, input_of, invoke_of, list_of, of_invoke, of_list, of_none, of_one, of_three, of_two, output_request, request_spelled, request_of, requests_of, result_request_of, show_of, signal_of, state_of, stop_request_of, tick_of};
 
 use crate::command::{Command, parse_command};
 use crate::word::{parse_bytes, parse_digits, parse_key, parse_text, parse_value};
@@ -95,9 +95,9 @@ pub enum Request {
 }
 
 /// The header that a name and a value spell.
-#[tactic(auto, unfolding(crate::specs::RequestReader::header_of, script_lines::specs::LineReader::then_read))]
+#[tactic(auto, unfolding(crate::specs::RequestReader::header_read, script_lines::specs::LineReader::then_read))]
 fn parse_header(alloc: Global, key: &[u8], value: &[u8]) -> Result<Header, LineError>
-    ensures { Gives result (header_of key.now value.now) }
+    ensures { Gives result (header_read key.now value.now) }
 {
     let key = parse_text(alloc, key)?;
     let value = parse_text(alloc, value)?;
@@ -240,9 +240,9 @@ fn parse_input(alloc: Global, arguments: &[&[u8]]) -> Result<Request, LineError>
     Ok(Request::Input { id, attempt, most })
 }
 
-#[tactic(auto, unfolding(crate::specs::RequestReader::of_three, crate::specs::RequestReader::output_of, script_lines::specs::LineReader::then_read))]
+#[tactic(auto, unfolding(crate::specs::RequestReader::of_three, crate::specs::RequestReader::output_request, script_lines::specs::LineReader::then_read))]
 fn parse_output(alloc: Global, arguments: &[&[u8]]) -> Result<Request, LineError>
-    ensures { Gives result (of_three output_of (map (λ word. word.now) arguments.now)) }
+    ensures { Gives result (of_three output_request (map (λ word. word.now) arguments.now)) }
 {
     let [id, attempt, bytes] = arguments else {
         return Err(LineError::NotUnderstood);

@@ -38,8 +38,8 @@ abbrev pub if_open : OpenRequest → List OpenRequest
 if_open request = if is_some request.completion || is_some request.second_completion then request ∷ [] else []
 
 -- of an entry at its place, where these have come
-abbrev pub request_told : (ℕ → Bool) → ℕ → Request → OpenRequest
-request_told has_come place request = record {
+abbrev pub open_request_of : (ℕ → Bool) → ℕ → Request → OpenRequest
+open_request_of has_come place request = record {
   place = place;
   ty = request_type request;
   payload = request_payload request;
@@ -48,7 +48,7 @@ request_told has_come place request = record {
 }
 
 abbrev pub entry_told : (ℕ → Bool) → ℕ → Entry → List OpenRequest
-entry_told has_come place (Recorded request) = if asks_others request then if_open (request_told has_come place request) else []
+entry_told has_come place (Recorded request) = if asks_others request then if_open (open_request_of has_come place request) else []
 entry_told has_come place (Arrived arrival) = []
 
 -- of entries from a place on

@@ -6,7 +6,7 @@ use Rattle.journal_model.specs.declared.call.Call.{Call}
 use Rattle.journal_model.specs.declared.handler.Input.{Input}
 use Rattle.protocol_errors.specs.declared.error.Error.{Error}
 use Rattle.vm_request_laws.specs.Calls.{IsTypedCall}
-use Rattle.vm_feeding.specs.InputAnswer.{IsRead}
+use Rattle.vm_feeding.specs.InputAnswer.{IsInputRead}
 use Rattle.vm_start.specs.FailureReport.{out_of_memory}
 use Rattle.vm_feeding.specs.MachineQueries.{TellsReady}
 use Rattle.vm_proposals.specs.ProposalEffects.{ProposesRun}
@@ -79,7 +79,7 @@ module _ {H : Type 0} where
   -- the machine reads it
   pub record ReadsInput (before : Attempt H) (turn : Turn) (after : Attempt H) : Type 0 where
     pub read : Result Input Error
-    pub reads : IsRead before.vm.state read after.vm.state
+    pub reads : IsInputRead before.vm.state read after.vm.state
     pub gives : GivesInput read (record before { vm = after.vm }) turn after
 
   -- ---- a turn

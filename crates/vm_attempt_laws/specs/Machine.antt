@@ -3,7 +3,7 @@ pub use Rattle.vm_attempt.specs.MachineInput.{IsFed, IsNew, BeginsAs, is_waiting
 pub use Rattle.vm_attempt.specs.Machine.{CoreVM}
 pub use Rattle.vm_attempt.specs.Outcomes.outcomes
 pub use Rattle.vm_attempt.specs.Outcomes.{IsDriven, Fails, Cause, ByFault, NoNumber, TooLong, TooDeep, NoReplay, NoMemory, HasPut, requests_passed_on, FailsWhen, Answers, Waits, Executes, Suspends, Ends, Comes, CallOutcome}
-pub use Rattle.vm_calls.specs.Active.{Sees, Fits, are_any, writes_frames}
+pub use Rattle.vm_calls.specs.Active.{Sees, RequestFits, are_any, writes_frames}
 pub use Rattle.vm_calls.specs.declared.active.Active.{Active}
 pub use Rattle.vm_context.specs.Output.{Written, with_frame}
 pub use Rattle.vm_start.specs.FailureReport.{FailsNow, FailsAs, TellsFailureCause, TellsError, IsCopy, IsErrorTooLong, WritesError, out_of_memory}

@@ -7,9 +7,9 @@ use Rattle.journal_model.specs.declared.notification.NotificationResult.{Notific
 use Rattle.attempt_model.specs.Results.{Ready}
 use Rattle.vm_awaits.specs.declared.ready.ReadyNotifications.{ReadyNotifications}
 
-abbrev pub listed : Option NotificationResult → List NotificationResult
-listed None = []
-listed (Some result) = result ∷ []
+abbrev pub one_or_none : Option NotificationResult → List NotificationResult
+one_or_none None = []
+one_or_none (Some result) = result ∷ []
 
 -- the deliveries of a key, none where there is nothing of it
 abbrev pub items_of : {A : Type 0} → Option (VecDeque NotificationResult A) → List NotificationResult
@@ -17,7 +17,7 @@ items_of None = []
 items_of (Some deliveries) = deliveries.items
 
 abbrev pub ready_in : ReadyNotifications → Ready
-ready_in ready (CompletionId n) = listed (get nat_eq ready.completions n)
+ready_in ready (CompletionId n) = one_or_none (get nat_eq ready.completions n)
 ready_in ready (SignalId n) = items_of (get nat_eq ready.signals n)
 ready_in ready (SignalName name) = items_of (get bytes_eq ready.names name)
 

@@ -8,7 +8,7 @@ use Rattle.protocol_errors.specs.declared.error.Error.{Error}
 use Rattle.vm_machine.specs.declared.machine_state.MachineState.{MachineState}
 use Rattle.vm_feeding.specs.MachineQueries.{TakesOutput}
 use Rattle.vm_feeding.specs.NewMachine.{BeginsMachine}
-use Rattle.vm_feeding.specs.InputAnswer.{IsRead}
+use Rattle.vm_feeding.specs.InputAnswer.{IsInputRead}
 use Rattle.vm_types.specs.declared.options.VMOptions.{VMOptions}
 use Rattle.vm_c_values.specs.Replies.{kind_of, reply_of}
 use Rattle.vm_c_values.specs.declared.not_done.NotDone.{NotDone}
@@ -53,10 +53,10 @@ GivesOutput old (Err why) new = ⊥
 
 -- the input is kept, so that its parts can be told; its bytes are the reply
 abbrev pub KeepsReadInput : (seed : ℕ) → (old : Machine) → Result Bytes NotDone → (new : Machine) → Type 0
-KeepsReadInput seed old (Ok reply) new = IfSome new.input (λ input. IsRead old.vm.state (Ok input) new.vm.state × (reply ≡ input.input) × (seed ≡ input.random_seed))
+KeepsReadInput seed old (Ok reply) new = IfSome new.input (λ input. IsInputRead old.vm.state (Ok input) new.vm.state × (reply ≡ input.input) × (seed ≡ input.random_seed))
 KeepsReadInput seed old (Err (Unread why)) new = ⊥
-KeepsReadInput seed old (Err (Failed is_suspended)) new = Fails (λ error. IsRead old.vm.state (Err error) new.vm.state) is_suspended new
-KeepsReadInput seed old (Err Untold) new = IfSome new.input (λ input. IsRead old.vm.state (Ok input) new.vm.state)
+KeepsReadInput seed old (Err (Failed is_suspended)) new = Fails (λ error. IsInputRead old.vm.state (Err error) new.vm.state) is_suspended new
+KeepsReadInput seed old (Err Untold) new = IfSome new.input (λ input. IsInputRead old.vm.state (Ok input) new.vm.state)
 
 -- what was taken, if anything was, is told by its kind and its bytes, or is lost where there is no memory to tell it
 abbrev pub Tells : Option Value → (kind : ℕ) → Result Bytes NotDone → Type 0

@@ -14,8 +14,7 @@ use Rattle.protocol_calls.specs.declared.send_signal_command.SendSignalCommandRe
 use Rattle.protocol_calls.specs.declared.send_signal_command.SendSignalCommandSignalId.TheVariants as signal_ids
 use Rattle.protocol_calls.specs.declared.complete_awakeable_command.CompleteAwakeableCommandResult.{CompleteAwakeableCommandResult}
 use Rattle.protocol_stream.specs.Records.{result_record}
-use Rattle.protocol_messages.specs.Carried.{signal_record, awakeable_record}
-use Rattle.protocol_laws.specs.Records.{signal_result, awakeable_result}
+use Rattle.protocol_laws.specs.Records.{signal_record, signal_result, awakeable_result}
 use Rattle.protocol_laws.specs.Requests.{request_of_output, request_of_send_signal, request_of_complete_awakeable}
 use Rattle.protocol_laws.proofs.Told.{requests_told}
 use Rattle.vm_calls.specs.ImmediateCalls.{DoesOne}
@@ -67,12 +66,8 @@ pub output_requested : (value : NonEmptyValue) (carried : OutputCommandResult) (
 output_requested value carried copy is =
     ap (λ (one : OutputCommandResult). request_of_output (record { name = copy; result = Some one })) is ∙ requests_told (Request.Output value copy)
 
-awakeable_carries : (value : NonEmptyValue) → awakeable_record value ≡ awakeable_result value
-awakeable_carries (NonEmptyValue.Success bytes) = refl
-awakeable_carries (NonEmptyValue.Failure failure) = refl
-
-pub awakeable_requested : (awakeable : Text) (value : NonEmptyValue) (carried : CompleteAwakeableCommandResult) (copy : Text) → carried ≡ awakeable_record value
+pub awakeable_requested : (awakeable : Text) (value : NonEmptyValue) (carried : CompleteAwakeableCommandResult) (copy : Text) → carried ≡ awakeable_result value
     → request_of_complete_awakeable (record { awakeable_id = awakeable; result = Some carried; name = copy }) ≡ Some (Request.CompleteAwakeable awakeable value copy)
 awakeable_requested awakeable value carried copy is =
-    ap (λ (one : CompleteAwakeableCommandResult). request_of_complete_awakeable (record { awakeable_id = awakeable; result = Some one; name = copy })) (is ∙ awakeable_carries value)
+    ap (λ (one : CompleteAwakeableCommandResult). request_of_complete_awakeable (record { awakeable_id = awakeable; result = Some one; name = copy })) is
     ∙ requests_told (Request.CompleteAwakeable awakeable value copy)

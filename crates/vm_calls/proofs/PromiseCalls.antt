@@ -11,7 +11,6 @@ use Rattle.attempt_model.specs.Machine.{Machine}
 use Rattle.protocol_commands.specs.declared.complete_promise_command.CompletePromiseCommandCompletion.{CompletePromiseCommandCompletion}
 use Rattle.protocol_laws.specs.Records.{promise_completion}
 use Rattle.protocol_laws.specs.Requests.{request_of_complete_promise}
-use Rattle.protocol_messages.specs.Carried.{completion_record}
 use Rattle.protocol_laws.proofs.Told.{requests_told}
 use Rattle.vm_calls.proofs.Calls.{brings_none}
 use Rattle.vm_calls.specs.CommandCalls.{CompletesOne}
@@ -29,13 +28,9 @@ pub promise_completes : (given : Invocation) (m : Machine) (key : Text) (value :
     → CompletesOne given m (Call.CompletePromise key value options) (Request.CompletePromise key value id copy)
 promise_completes given m key value options copy id refused copied taken = record { asks = record { refused = refused; work = refl; requests = λ i. Request.CompletePromise key value (sym taken i) (sym copied i) ∷ [] }; children = brings_none (Call.CompletePromise key value options) m.completions refl refl refl refl refl given.options.implicit_cancellation; completions = refl; signals = refl; ids = refl; known = refl; keeps = refl; answer = λ text handle signal. refl }
 
-completion_is : (value : NonEmptyValue) → completion_record value ≡ promise_completion value
-completion_is (NonEmptyValue.Success bytes) = refl
-completion_is (NonEmptyValue.Failure failure) = refl
-
 -- the command that holds the value's record is its request's
-pub promise_told : (key : Text) (value : NonEmptyValue) (held : CompletePromiseCommandCompletion) (id : ℕ) (name : Text) → held ≡ completion_record value
+pub promise_told : (key : Text) (value : NonEmptyValue) (held : CompletePromiseCommandCompletion) (id : ℕ) (name : Text) → held ≡ promise_completion value
     → request_of_complete_promise (record { key = key; completion = Some held; result_completion_id = id; name = name }) ≡ Some (Request.CompletePromise key value id name)
 promise_told key value held id name is =
-    ap (λ (one : CompletePromiseCommandCompletion). request_of_complete_promise (record { key = key; completion = Some one; result_completion_id = id; name = name })) (is ∙ completion_is value)
+    ap (λ (one : CompletePromiseCommandCompletion). request_of_complete_promise (record { key = key; completion = Some one; result_completion_id = id; name = name })) is
     ∙ requests_told (Request.CompletePromise key value id name)

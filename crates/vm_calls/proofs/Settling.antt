@@ -16,7 +16,7 @@ use Rattle.vm_calls.specs.declared.active.Active.{Active}
 use Rattle.vm_calls.specs.declared.put_error.PutError.{PutError}
 use Rattle.vm_calls.specs.declared.put_error.PutError.TheVariants.{Replay, Encoding}
 use Rattle.vm_calls.specs.RequestPuts.{Puts, RefusesLong}
-use Rattle.vm_calls.specs.Active.{Fits, has_left, left_of, are_any, writes_frames, still_replays, IsActiveSettled, PutsOne, PutFails}
+use Rattle.vm_calls.specs.Active.{RequestFits, has_left, left_of, are_any, writes_frames, still_replays, IsActiveSettled, PutsOne, PutFails}
 
 while_left : (messages : List RawMessage) → still_replays true messages ≡ has_left (commands_of messages)
 while_left [] = refl
@@ -57,7 +57,7 @@ module _ {M : Type 0} (ignoring : Bool) (request : Request) (written : List Requ
   }
 
   -- what is not refused for its length fits a frame
-  not_long : (result : Result M (PutError M)) → (result ≡ Err (Encoding unsent.PayloadTooLong) → ⊥) → RefusesLong false request old.output result → Fits request
+  not_long : (result : Result M (PutError M)) → (result ≡ Err (Encoding unsent.PayloadTooLong) → ⊥) → RefusesLong false request old.output result → RequestFits request
   not_long result other refuses =
       elim (cases_lt (length (request_payload request)) (2 ^ 32)) [
         | inl lt ↦ lt

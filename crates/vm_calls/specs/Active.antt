@@ -59,8 +59,8 @@ abbrev pub writes_frames : List Request → Written → Written
 writes_frames requests written = record written { bytes = written.bytes ++ flat_map request_frame requests; has_commands = are_any requests || written.has_commands }
 
 -- 32 bits tell how long its frame's payload is
-abbrev pub Fits : Request → Type 0
-Fits request = length (request_payload request) < 2 ^ 32
+abbrev pub RequestFits : Request → Type 0
+RequestFits request = length (request_payload request) < 2 ^ 32
 
 -- ---- the steps
 
@@ -114,7 +114,7 @@ pub record PutsOne (ignoring : Bool) (request : Request) (written : List Request
   pub more : List Request
   pub requests : put.written ≡ written ++ more
   -- what is written fits a frame
-  pub fit : AllByRecursion Fits more
+  pub fit : AllByRecursion RequestFits more
   pub frames : new.output ≡ writes_frames more old.output
   pub others : new ≡ record old { is_replaying = new.is_replaying; commands = new.commands; output = new.output }
 
@@ -125,7 +125,7 @@ PutFails ignoring request written old (Replay (unmatched.Decoding error)) = (put
 PutFails ignoring request written old (Replay (unmatched.Mismatch error)) = put_one (header_equal ignoring) request (left_of old) written ≡ None
 PutFails ignoring request written old (Replay unmatched.OutOfMemory) = Unit {0}
 PutFails ignoring request written old (Encoding unsent.PayloadTooLong) = (left_of old ≡ []) × (2 ^ 32 ≤ length (request_payload request))
-PutFails ignoring request written old (Encoding unsent.OutOfMemory) = (left_of old ≡ []) × Fits request
+PutFails ignoring request written old (Encoding unsent.OutOfMemory) = (left_of old ≡ []) × RequestFits request
 
 abbrev pub PutsIn : {M : Type 0} → (ignoring : Bool) → Request → (written : List Request) → (old : Active) → Result M (PutError M) → (new : Active) → Type 0
 PutsIn ignoring request written old (Ok stands) new = PutsOne ignoring request written old new

@@ -30,7 +30,7 @@ use Rattle.vm_calls.specs.declared.call_error.CallError.TheVariants.{Number, Put
 use Rattle.vm_calls.specs.declared.call_error.NumberError.TheVariants as numbers
 use Rattle.vm_calls.specs.declared.put_error.PutError.{PutError}
 use Rattle.vm_calls.specs.declared.put_error.PutError.TheVariants.{Replay, Encoding}
-use Rattle.vm_calls.specs.Active.{Sees, Fits, has_left, left_of, asking, LacksCompletions, HasCompletions, TakesCompletion, writes_frames}
+use Rattle.vm_calls.specs.Active.{Sees, RequestFits, has_left, left_of, asking, LacksCompletions, HasCompletions, TakesCompletion, writes_frames}
 
 module _ (checks_off : Bool) (given : Invocation) (m : Machine) (call : Call) where
   -- The call is answered as the abstract machine answers it, which is seen afterwards; written are exactly the frames of the
@@ -42,7 +42,7 @@ module _ (checks_off : Bool) (given : Invocation) (m : Machine) (call : Call) wh
     pub more : List Request
     pub written : machine.written ≡ m.written ++ more
     pub frames : new.output ≡ writes_frames more old.output
-    pub fit : AllByRecursion Fits more
+    pub fit : AllByRecursion RequestFits more
     pub has : HasCompletions (completions_of call) old
 
   -- the call's one request is longer than a frame can be
@@ -55,7 +55,7 @@ module _ (checks_off : Bool) (given : Invocation) (m : Machine) (call : Call) wh
   pub record IsShort : Type 0 where
     pub request : Request
     pub requests : requests_by m.start m.done m.left m.completions call ≡ request ∷ []
-    pub fits : Fits request
+    pub fits : RequestFits request
 
   -- Why its request is not put: the abstract machine fails, by what is recorded next; the request would be written, and is too long,
   -- or memory was refused for its frame; or memory was refused for what is recorded.

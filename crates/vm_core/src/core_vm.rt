@@ -3,7 +3,7 @@ ghost use Rattle.std.specs.Prelude.{◌≡◌, ◌-ℤ◌, pos, IfOk, IfErr, opt
 ghost use Rattle.journal_model.specs.Future.{tree_of};
 ghost use Rattle.journal_model.specs.declared.call.Call.{Call};
 ghost use Rattle.vm_feeding.specs.NewMachine.{BeginsMachine, head_of};
-ghost use Rattle.vm_feeding.specs.InputAnswer.{IsRead};
+ghost use Rattle.vm_feeding.specs.InputAnswer.{IsInputRead};
 ghost use Rattle.vm_feeding.specs.EphemeralStateReads.{IsGot, IsReadTaken};
 ghost use Rattle.vm_start.specs.FailureReport.{out_of_memory};
 ghost use Rattle.vm_start.specs.Phases.{kept_error};
@@ -158,7 +158,7 @@ impl VM for CoreVM {
     }
 
     fn sys_input(&mut self) -> VMResult<Input>
-        ensures { IsRead self.old.state result self.new.state }
+        ensures { IsInputRead self.old.state result self.new.state }
     {
         vm_feeding::sys_input(&mut self.state)
     }

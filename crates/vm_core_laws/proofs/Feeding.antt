@@ -13,7 +13,7 @@ use Rattle.protocol_stream.specs.declared.decoder.DecodingError.{DecodingError}
 use Rattle.protocol_stream.specs.declared.decoder.RawMessage.{RawMessage}
 use Rattle.protocol_types.specs.declared.message_type.MessageType.TheVariants.{InputCommand}
 use Rattle.vm_awaits.specs.Views.{AsyncResults, delivery_of, results_of}
-use Rattle.vm_feeding.specs.InputAnswer.{Gives, ReadsAs, AnswersReading, ReadsInputs, IsRead}
+use Rattle.vm_feeding.specs.InputAnswer.{Gives, ReadsAs, AnswersReading, ReadsInputs, IsInputRead}
 use Rattle.vm_feeding.specs.declared.reading.Reading.{Reading}
 use Rattle.vm_feeding.specs.declared.reading.Reading.TheVariants as readings
 use Rattle.vm_calls.specs.Active.{has_left, still_replays}
@@ -279,7 +279,7 @@ module _ (old between : MachineState) (others : between ≡ record old { active 
   read_where true None reading result new is reads answers = elsewhere_stands reading result new reads.0 answers
   read_where false start reading result new is reads answers = elsewhere_stands reading result new reads.0 answers
 
-pub read_stands : (old : MachineState) (result : Result Input Error) (new : MachineState) → IsRead old result new → Stands old → Stands new
+pub read_stands : (old : MachineState) (result : Result Input Error) (new : MachineState) → IsInputRead old result new → Stands old → Stands new
 read_stands old result new steps stands = steps_stand ReadsInputs (IsElsewhere 0 InputCommand []) old new stands make miss None result steps where
   make : (result : Result Input Error) → is_active old.phase ≡ true → ReadsInputs old result new → Stands new
   make result calls is = read_where old is.between is.others calls stands old.active.is_replaying old.start is.reading result new refl is.reads is.answers

@@ -30,7 +30,7 @@ use Rattle.vm_machine.specs.Causes.{NumberCauses}
 use Rattle.vm_machine.specs.CallAnswers.{Settles}
 use Rattle.vm_feeding.specs.CommandlessCalls.{AnswersBy, IsCalled}
 use Rattle.vm_feeding.specs.Handles.{started_id, MakesSignal, IsNoSignal, MakesAwakeable, IsAwakeableWhere, IsAwakeable, IsNoAwakeableWhere, IsNoAwakeable, TakesFirstResult, TakeCauses}
-use Rattle.vm_progress.specs.StateReadEffects.{ReadKind, IsRead, MissesNext, SettlesRead, StepsOfRead}
+use Rattle.vm_progress.specs.StateReadEffects.{ReadKind, IsStateRead, MissesNext, SettlesRead, StepsOfRead}
 use Rattle.vm_state_reads.specs.ReadAnswers.{Reads}
 use Rattle.vm_state_reads.specs.Spent.{ReadFailsSpent}
 use Rattle.vm_state_reads.specs.declared.read_error.ReadError.{ReadError}
@@ -93,8 +93,8 @@ module _ {L E : Type 0} (kind : ReadKind L E) (call : Call) (work : work_of call
 pub reads_stand : {L E : Type 0} (kind : ReadKind L E) (call : Call) → work_of call ≡ ToMake → (known : Active → Bool) (name : Text) (old : MachineState) (result : Result ℕ Error) (new : MachineState)
     → StepsOfRead kind call known name old result new → Stands old → Stands new
 reads_stand kind call work known name old result new steps stands =
-    steps_stand (IsRead kind call known name) (MissesNext kind.ty) old new stands make miss None result steps where
-      make : (result : Result ℕ Error) → is_active old.phase ≡ true → IsRead kind call known name old result new → Stands new
+    steps_stand (IsStateRead kind call known name) (MissesNext kind.ty) old new stands make miss None result steps where
+      make : (result : Result ℕ Error) → is_active old.phase ≡ true → IsStateRead kind call known name old result new → Stands new
       make result calls is =
           let kept = when_active old.phase old.options.signal_delivery old.active calls stands in
           settled_read kind call work old calls kept.0 kept.1 is.made is.between result new is.others is.reads is.spent is.settles

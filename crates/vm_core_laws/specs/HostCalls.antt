@@ -7,7 +7,7 @@ use Rattle.journal_model.specs.declared.handler.Input.{Input}
 use Rattle.journal_model.specs.declared.value.Value.{Value}
 use Rattle.protocol_differences.specs.declared.relationship.CommandRelationship.{CommandRelationship}
 use Rattle.protocol_errors.specs.declared.error.Error.{Error}
-use Rattle.vm_feeding.specs.InputAnswer.{IsRead}
+use Rattle.vm_feeding.specs.InputAnswer.{IsInputRead}
 use Rattle.vm_feeding.specs.EphemeralStateReads.{IsGot, IsReadTaken}
 use Rattle.vm_start.specs.Phases.{kept_error}
 use Rattle.vm_feeding.specs.MachineQueries.{TakesOutput}
@@ -73,7 +73,7 @@ Does (NotifyInput bytes) old new = IsFed bytes old new
 Does NotifyInputClosed old new = ClosesInput old new
 Does (NotifyError error relationship) old new = IsErrorTold error relationship old new
 Does TakeOutput old new = (result : Result (List ℕ) AllocError) × TakesOutput old result new
-Does SysInput old new = (result : Result Input Error) × IsRead old result new
+Does SysInput old new = (result : Result Input Error) × IsInputRead old result new
 Does (EphemeralStateGet key) old new = (result : Result EphemeralCompletionId Error) × IsGot key old result new
 Does (TakeEphemeralNotification id) old new = (result : Result (Option Value) Error) × IsReadTaken id old result new
 Does (ProposeRunCompletion handle exit policy) old new = (result : Result (Unit {0}) Error) × ProposesRun handle exit policy old result new

@@ -54,5 +54,5 @@ pub record ReadsInputs (old : MachineState) (result : Result Input Error) (new :
   pub answers : AnswersReading reading between result new
 
 -- one that has failed answers that again; elsewhere it fails, with the input's command counted
-abbrev pub IsRead : (old : MachineState) → Result Input Error → (new : MachineState) → Type 0
-IsRead old result new = Steps ReadsInputs (IsElsewhere 0 InputCommand []) None old result new
+abbrev pub IsInputRead : (old : MachineState) → Result Input Error → (new : MachineState) → Type 0
+IsInputRead old result new = Steps ReadsInputs (IsElsewhere 0 InputCommand []) None old result new

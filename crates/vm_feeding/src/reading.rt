@@ -1,6 +1,6 @@
 // The input is read.
 ghost use Rattle.std.specs.Prelude.{◌≡◌, None};
-ghost use Rattle.vm_feeding.specs.InputAnswer.{IsRead, Gives, ReadsAs, ReadsInputs};
+ghost use Rattle.vm_feeding.specs.InputAnswer.{IsInputRead, Gives, ReadsAs, ReadsInputs};
 
 use crate::input_of;
 use bytes::ByteStr;
@@ -90,7 +90,7 @@ fn make(vm: &mut MachineState) -> Result<Input, Error>
 ///
 /// Where no start is known the machine is in no state for it either; one that is fed by messages has one then.
 pub fn sys_input(vm: &mut MachineState) -> Result<Input, Error>
-    ensures { IsRead vm.old result vm.new }
+    ensures { IsInputRead vm.old result vm.new }
 {
     match vm.admit(None) {
         Admission::Admitted => make(vm),

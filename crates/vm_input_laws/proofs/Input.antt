@@ -18,7 +18,7 @@ use Rattle.attempt_model.specs.Machine.{Machine, machine_at_start}
 use Rattle.live_laws.specs.StartFrame.{AttemptStart, ShowsStart}
 use Rattle.live_laws.specs.MachinePosition.{with_messages}
 use Rattle.vm_input_laws.specs.InputsAnswered.{HasInput, IsInputReady, IsGiven, LacksMemoryForInput, InputsAreRead}
-use Rattle.vm_feeding.specs.InputAnswer.{IsRead}
+use Rattle.vm_feeding.specs.InputAnswer.{IsInputRead}
 use Rattle.vm_calls.specs.Active.{Sees}
 use Rattle.vm_commands.specs.NextCommand.{next_of}
 use Rattle.vm_machine.specs.StateBeforeInput.{without_input}
@@ -128,7 +128,7 @@ module _ (given_input : InputsAreRead) (start : AttemptStart) (shows : ShowsStar
         output = (fails_for_memory (Err lacks.refused) lacks.between new (lacks.refused, refl) well fails).output ∙ ap ended (lacks.output ∙ h.output);
       }
 
-  answered : IsRead old result new → AnswersInput start kind (with_messages begun read) old result new ⊎ RefusesInput kind.version result new
+  answered : IsInputRead old result new → AnswersInput start kind (with_messages begun read) old result new ⊎ RefusesInput kind.version result new
   answered asks = go (given_input start.given (gathered_all read begun) (with_messages begun (start.journal ++ is.later)).left (without_state (start_told start shows)) (input_record start.new.headers start.new.input) old result new ready asks)
     where
       go : IsGiven start.given (gathered_all read begun) (with_messages begun (start.journal ++ is.later)).left (without_state (start_told start shows)) (input_record start.new.headers start.new.input) old result new ⊎ LacksMemoryForInput old result new

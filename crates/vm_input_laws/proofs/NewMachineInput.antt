@@ -19,7 +19,7 @@ use Rattle.live_laws.specs.StartFrame.{AttemptStart, ShowsStart}
 use Rattle.live_laws.specs.MachinePosition.{with_messages}
 use Rattle.live_laws.proofs.MachinePosition.{only_read}
 use Rattle.vm_feeding.specs.NewMachine.{IsNew}
-use Rattle.vm_feeding.specs.InputAnswer.{IsRead, ReadsInputs}
+use Rattle.vm_feeding.specs.InputAnswer.{IsInputRead, ReadsInputs}
 use Rattle.vm_machine.specs.StartReceipt.{IsFresh}
 use Rattle.vm_start.specs.FailureReport.{out_of_memory, ended}
 use Rattle.vm_start.specs.Phases.{kept_error}
@@ -41,7 +41,7 @@ use Rattle.vm_input_laws.proofs.Messages.{all_behind}
 
 -- one that has failed answers that again, with nothing written
 asked_again : (version : Version) (first old : MachineState) (result : Result Input Error) (new : MachineState) → first.active.output ≡ record { version = version; bytes = []; is_closed = false; has_commands = false }
-    → FailsForMemory first old → IsRead old result new → RefusesInput version result new
+    → FailsForMemory first old → IsInputRead old result new → RefusesInput version result new
 asked_again version first old result new nothing failed steps =
     go steps.admission (subst (λ (kept : Option Error). AdmitsWhere kept None old steps.admission steps.between) (ap kept_error failed.phase) steps.admits) steps.goes_on
   where
@@ -70,7 +70,7 @@ all_read (one ∷ still) held fit bytes none =
 
 module _ (starts : StartsAreRead) (inputs : InputsAreAnswered) (start : AttemptStart) (shows : ShowsStart start) (version : Version) (options : VMOptions) (messages : List InputMessage) (cuts : List Bytes)
     (old fed : MachineState) (result : Result Input Error) (new : MachineState) (of_run : IsRunOf start version options) (e : Executor) (can : CanBegin start shows) (is : IsInputOf start messages) (known : KnowsNoRuns e messages) (is_new : IsNew version options old)
-    (bytes : bytes_of cuts ≡ start.frame ++ input_bytes (map piece_of messages)) (asks : IsRead fed result new) where
+    (bytes : bytes_of cuts ≡ start.frame ++ input_bytes (map piece_of messages)) (asks : IsInputRead fed result new) where
   abbrev Outcome : Type 0
   Outcome = BeginsAttempt start version options messages fed result new ⊎ RefusesInput version result new
 

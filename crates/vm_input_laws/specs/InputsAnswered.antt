@@ -22,7 +22,7 @@ use Rattle.vm_feeding.specs.Input.{input_given}
 use Rattle.vm_machine.specs.MachineFailure.{MachineFails}
 use Rattle.vm_machine.specs.declared.machine_state.MachineState.{MachineState}
 use Rattle.vm_types.specs.declared.options.JournalReplay.TheVariants.{Enabled}
-use Rattle.vm_feeding.specs.InputAnswer.{IsRead}
+use Rattle.vm_feeding.specs.InputAnswer.{IsInputRead}
 
 -- the first command that was recorded is this input's
 pub record HasInput (input : InputCommandMessage) (active : Active) : Type 0 where
@@ -59,4 +59,4 @@ pub record LacksMemoryForInput (old : MachineState) (result : Result Input Error
 
 abbrev pub InputsAreRead : Type 0
 InputsAreRead = (given : Invocation) (m : Machine) (left : List (Option Request)) (told : StartMessage) (input : InputCommandMessage) (old : MachineState) (result : Result Input Error) (new : MachineState)
-    → IsInputReady given m left told input old → IsRead old result new → IsGiven given m left told input old result new ⊎ LacksMemoryForInput old result new
+    → IsInputReady given m left told input old → IsInputRead old result new → IsGiven given m left told input old result new ⊎ LacksMemoryForInput old result new

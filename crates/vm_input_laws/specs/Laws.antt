@@ -17,7 +17,7 @@ use Rattle.vm_runs.specs.KeptBodies.{KeepsBodies}
 use Rattle.live_laws.specs.StartFrame.{AttemptStart, ShowsStart}
 use Rattle.live_laws.specs.MachinePosition.{with_messages}
 use Rattle.vm_feeding.specs.NewMachine.{IsNew}
-use Rattle.vm_feeding.specs.InputAnswer.{IsRead}
+use Rattle.vm_feeding.specs.InputAnswer.{IsInputRead}
 use Rattle.vm_start.specs.FailureReport.{out_of_memory, ended}
 use Rattle.vm_start.specs.declared.phase.Phase.TheVariants as phases
 use Rattle.vm_machine.specs.declared.machine_state.MachineState.{MachineState}
@@ -102,7 +102,7 @@ pub record RefusesInput (version : Version) (result : Result Input Error) (new :
 
 abbrev pub InputsAreAnswered : Type 0
 InputsAreAnswered = (start : AttemptStart) (shows : ShowsStart start) (kind : Kind) (read : List InputMessage) (old : MachineState) (result : Result Input Error) (new : MachineState)
-    → IsRunOf start kind.version kind.options → IsInputOf start read → HasStarted start (start_told start shows) kind read old → IsRead old result new
+    → IsRunOf start kind.version kind.options → IsInputOf start read → HasStarted start (start_told start shows) kind read old → IsInputRead old result new
     → AnswersInput start kind (with_messages (machine_at_start start.shown [] []) read) old result new ⊎ RefusesInput kind.version result new
 
 -- ---- all together
@@ -116,5 +116,5 @@ pub record BeginsAttempt (start : AttemptStart) (version : Version) (options : V
 abbrev pub AttemptsBegin : Type 0
 AttemptsBegin = (start : AttemptStart) (shows : ShowsStart start) (version : Version) (options : VMOptions) (messages : List InputMessage) (cuts : List Bytes) (old fed : MachineState) (result : Result Input Error)
     (new : MachineState) (e : Executor) → IsRunOf start version options → CanBegin start shows → IsInputOf start messages → KnowsNoRuns e messages → IsNew version options old
-    → bytes_of cuts ≡ start.frame ++ input_bytes (map piece_of messages) → IsFedEach cuts old fed → IsRead fed result new
+    → bytes_of cuts ≡ start.frame ++ input_bytes (map piece_of messages) → IsFedEach cuts old fed → IsInputRead fed result new
     → BeginsAttempt start version options messages fed result new ⊎ RefusesInput version result new

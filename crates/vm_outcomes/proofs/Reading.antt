@@ -21,7 +21,7 @@ use Rattle.vm_commands.specs.declared.replay_error.ReplayError.TheVariants as un
 use Rattle.vm_commands.specs.declared.state_read.StateReadError.TheVariants as errors
 use Rattle.vm_context.specs.Journal.{no_id_text}
 use Rattle.vm_progress.specs.Causes.{ReadCauses}
-use Rattle.vm_progress.specs.StateReadEffects.{ReadKind, IsRead, MissesNext, SettlesRead, StepsOfRead}
+use Rattle.vm_progress.specs.StateReadEffects.{ReadKind, IsStateRead, MissesNext, SettlesRead, StepsOfRead}
 use Rattle.vm_state_reads.specs.ReadAnswers.{ReadFailsAs, Reads}
 use Rattle.vm_state_reads.specs.ReadDescriptions.{type_in_replay, type_behind, IsAtRead}
 use Rattle.vm_state_reads.specs.declared.read_error.ReadError.{ReadError}
@@ -87,7 +87,7 @@ module _ (given : Invocation) (m : Machine) (call : Call) (old : MachineState) (
         failed given m call old driven.phase settles.cause active told new (read_cause active asked error settles.cause reads.0 settles.causes) reads.1 settles.fails
 
   module _ {L E : Type 0} (kind : ReadKind L E) (known : Active → Bool) (name : Text) (violates : fixed_code kind.empty ≡ protocol_violation) where
-    read_made : (result : Result ℕ Error) (new : MachineState) → IsRead kind call known name old result new → Comes given m call old (answered_as (λ handle. Answer.Handle handle) result) new
+    read_made : (result : Result ℕ Error) (new : MachineState) → IsStateRead kind call known name old result new → Comes given m call old (answered_as (λ handle. Answer.Handle handle) result) new
     read_made result new read =
         read_settles kind.lazy_difference kind.eager_difference kind.empty violates read.made read.between.active
         (at_read kind.eager kind.lazy old.active.is_replaying (known old.active) name old.active read.between.active read.told) result new (read.reads given m driven.version driven.sees)
@@ -95,7 +95,7 @@ module _ (given : Invocation) (m : Machine) (call : Call) (old : MachineState) (
 
     pub read_comes : (result : Result ℕ Error) (new : MachineState) → StepsOfRead kind call known name old result new → Comes given m call old (answered_as (λ handle. Answer.Handle handle) result) new
     read_comes result new steps =
-        steps_of (IsRead kind call known name) (MissesNext kind.ty) None old driven.phase (λ (r : Result ℕ Error) (vm : MachineState). Comes given m call old (answered_as (λ handle. Answer.Handle handle) r) vm)
+        steps_of (IsStateRead kind call known name) (MissesNext kind.ty) None old driven.phase (λ (r : Result ℕ Error) (vm : MachineState). Comes given m call old (answered_as (λ handle. Answer.Handle handle) r) vm)
         (λ r vm free made. read_made r vm made) (λ error told vm some refused. cc) result new steps
 
 -- a read is carried out

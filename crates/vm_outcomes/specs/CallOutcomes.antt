@@ -10,7 +10,7 @@ use Rattle.journal_model.specs.declared.call.Call.{Call}
 use Rattle.attempt_model.specs.Machine.{Machine, Answered, Finished}
 use Rattle.protocol_errors.specs.declared.error.Error.{Error}
 use Rattle.protocol_types.specs.declared.message_type.MessageType.TheVariants as messages
-use Rattle.vm_calls.specs.Active.{Sees, Fits, writes_frames}
+use Rattle.vm_calls.specs.Active.{Sees, RequestFits, writes_frames}
 use Rattle.vm_calls.specs.declared.active.Active.{Active}
 use Rattle.vm_context.specs.Output.{with_frame}
 use Rattle.vm_start.specs.FailureReport.{FailsNow, IsCopy}
@@ -44,7 +44,7 @@ module _ (given : Invocation) (m : Machine) (call : Call) (old : MachineState) w
     pub written : machine.written ≡ m.written ++ more
     pub frames : new.active.output ≡ writes_frames more old.active.output
     -- each fits its frame, and the numbers that the call takes were left
-    pub fit : AllByRecursion Fits more
+    pub fit : AllByRecursion RequestFits more
     pub numbers : NumbersLeft m call
     pub kept : new.runs ≡ runs_after m call old.active.journal old.runs
     pub runs : KeepsBodiesOf m call old.runs new.runs

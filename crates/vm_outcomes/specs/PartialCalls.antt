@@ -10,7 +10,7 @@ use Rattle.attempt_model.specs.Children.{Child, cancel_requests_for, ChildrenOut
 use Rattle.attempt_model.specs.Machine.{Machine, Work, ToAwait, work_of, is_cancelled}
 use Rattle.attempt_model.specs.Requests.{PutState, put_one, put_all}
 use Rattle.attempt_model.specs.Results.{Resolution, Awake, resolution_of}
-use Rattle.vm_calls.specs.Active.{Fits}
+use Rattle.vm_calls.specs.Active.{RequestFits}
 use Rattle.vm_commands.specs.HeaderEquality.{same_header}
 use Rattle.vm_machine.specs.Calls.{checks_off}
 use Rattle.vm_machine.specs.declared.machine_state.MachineState.{MachineState}
@@ -59,7 +59,7 @@ module _ (given : Invocation) (m : Machine) (call : Call) (vm : MachineState) wh
     pub more : List Request
     pub written : put.written ≡ m.written ++ more
     -- each fits its frame
-    pub fit : AllByRecursion Fits more
+    pub fit : AllByRecursion RequestFits more
 
   -- the next of them, if there is one, is not what is recorded next
   abbrev pub IsUnmatchedNext : (behind : List Request) → PutState → Type 0

@@ -62,7 +62,7 @@ use Rattle.store_frames.specs.Requests.{suspension_of_tree, suspension_of_lists,
 use Rattle.store_frames.proofs.Payloads.{lists_payload as lists_spelled}
 use Rattle.vm_start.specs.Failure.{told_error}
 use Rattle.vm_proposals.specs.ProposalEffects.{proposal, proposal_message}
-use Rattle.vm_waiting.specs.SuspensionFrames.{listed, lists_payload}
+use Rattle.vm_waiting.specs.SuspensionFrames.{leaves_by_node, lists_payload}
 use Rattle.vm_request_laws.specs.Calls.{IsTypedValue}
 use Rattle.vm_request_laws.specs.RequestBounds.{RequestFits}
 use Rattle.vm_request_laws.proofs.Records.{output_fits}
@@ -152,7 +152,7 @@ awaiting_read version tree h allowed short =
     ∙ numbered version tree Frame.AwaitingOn allowed
 
 abbrev lists_record : AwaitTree NotificationId → SuspensionMessageV6
-lists_record tree = record { waiting_completions = listed completions_in tree; waiting_signals = listed signals_in tree; waiting_named_signals = listed names_in tree }
+lists_record tree = record { waiting_completions = leaves_by_node completions_in tree; waiting_signals = leaves_by_node signals_in tree; waiting_named_signals = leaves_by_node names_in tree }
 
 suspension_read : (version : ℕ) (has_lists : Bool) (tree : AwaitTree NotificationId) → SuspendedFits has_lists tree → IsSpoken version tree → length (if has_lists then lists_payload tree else suspension_payload tree) < 2 ^ 32
     → suspension_frame has_lists (lacks_feature version AtLeast) (if has_lists then lists_payload tree else suspension_payload tree) ≡ Frame.Suspend (Some (suspension_told has_lists tree))

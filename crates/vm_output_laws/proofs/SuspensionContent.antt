@@ -11,7 +11,7 @@ use Rattle.journal_model.specs.PrunedTrees.{only_leaves, only_children}
 use Rattle.journal_laws.proofs.Leaving.{or-false}
 use Rattle.protocol_stream.specs.Records.{future_record}
 use Rattle.protocol_trees.specs.Future.{ids_in, future_tree}
-use Rattle.vm_waiting.specs.SuspensionFrames.{below, listed}
+use Rattle.vm_waiting.specs.SuspensionFrames.{below, leaves_by_node}
 use Rattle.run_laws.specs.Suspended.{TellsAwaitedTree, leaf_ids, leaf_ids_of_trees}
 use Rattle.run_laws.proofs.SameTrees.{same_awake}
 use Rattle.run_laws.proofs.Suspending.{tells_leaf, tells_ids}
@@ -95,7 +95,7 @@ module _ (test : NotificationId → Bool) where
       (none_in trees own later)
 
   none_in_tree : (tree : AwaitTree (Option NotificationId))
-      → Silent (listed completions_in (only_leaves (λ leaf. leaf) tree)) (listed signals_in (only_leaves (λ leaf. leaf) tree)) (listed names_in (only_leaves (λ leaf. leaf) tree)) → list_any test (leaf_ids tree) ≡ false
+      → Silent (leaves_by_node completions_in (only_leaves (λ leaf. leaf) tree)) (leaves_by_node signals_in (only_leaves (λ leaf. leaf) tree)) (leaves_by_node names_in (only_leaves (λ leaf. leaf) tree)) → list_any test (leaf_ids tree) ≡ false
   none_in_tree (Single None) h = refl
   none_in_tree (Single (Some (ids.CompletionId n))) h = neither (test (ids.CompletionId n)) false h.completions_silent.0 refl
   none_in_tree (Single (Some (ids.SignalId n))) h = neither (test (ids.SignalId n)) false h.signals_silent.0 refl
@@ -126,14 +126,14 @@ module _ (test : NotificationId → Bool) where
 
   -- so all ids of the tree are among those that are listed
   all_listed : (tree : AwaitTree (Option NotificationId)) (told : AwaitTree NotificationId) → told ≡ only_leaves (λ leaf. leaf) tree → list_any test (leaf_ids tree) ≡ true
-      → list_any test (ids_in (listed completions_in told) (listed signals_in told) (listed names_in told)) ≡ true
-  all_listed tree told is some = by_any (list_any test (ids_in (listed completions_in told) (listed signals_in told) (listed names_in told))) refl
+      → list_any test (ids_in (leaves_by_node completions_in told) (leaves_by_node signals_in told) (leaves_by_node names_in told)) ≡ true
+  all_listed tree told is some = by_any (list_any test (ids_in (leaves_by_node completions_in told) (leaves_by_node signals_in told) (leaves_by_node names_in told))) refl
     where
-      by_any : (b : Bool) → list_any test (ids_in (listed completions_in told) (listed signals_in told) (listed names_in told)) ≡ b → b ≡ true
+      by_any : (b : Bool) → list_any test (ids_in (leaves_by_node completions_in told) (leaves_by_node signals_in told) (leaves_by_node names_in told)) ≡ b → b ≡ true
       by_any true e = refl
       by_any false e =
-          let quiet = silent (listed completions_in told) (listed signals_in told) (listed names_in told) e in
-          absurd (true≢false (sym some ∙ none_in_tree tree (subst (λ (t : AwaitTree NotificationId). Silent (listed completions_in t) (listed signals_in t) (listed names_in t)) is quiet)))
+          let quiet = silent (leaves_by_node completions_in told) (leaves_by_node signals_in told) (leaves_by_node names_in told) e in
+          absurd (true≢false (sym some ∙ none_in_tree tree (subst (λ (t : AwaitTree NotificationId). Silent (leaves_by_node completions_in t) (leaves_by_node signals_in t) (leaves_by_node names_in t)) is quiet)))
 
 -- ---- both
 

@@ -28,7 +28,7 @@ use Rattle.store_frames.specs.declared.kind.FrameKind.TheVariants as kinds
 use Rattle.store_frames.specs.Kind.{frame_kind}
 use Rattle.store_frames.specs.FrameMeanings.{error_frame}
 use Rattle.vm_proposals.specs.ProposalEffects.{proposal, proposal_message}
-use Rattle.vm_waiting.specs.SuspensionFrames.{listed, suspension_payload_in}
+use Rattle.vm_waiting.specs.SuspensionFrames.{leaves_by_node, suspension_payload_in}
 use Rattle.vm_request_laws.specs.Calls.{IsTypedValue}
 use Rattle.vm_request_laws.specs.RequestBounds.{RequestFits}
 use Rattle.vm_request_laws.specs.Trees.{IsSpoken, LeavesFit, TreeFits}
@@ -109,7 +109,7 @@ is_recorded request = is_command (frame_kind (request_type request))
 
 -- from version 7 on a suspension tells the tree, and before that the three lists of its ids
 abbrev pub suspension_told : (has_lists : Bool) → AwaitTree NotificationId → Suspension
-suspension_told true tree = ForAny (ids_in (listed completions_in tree) (listed signals_in tree) (listed names_in tree))
+suspension_told true tree = ForAny (ids_in (leaves_by_node completions_in tree) (leaves_by_node signals_in tree) (leaves_by_node names_in tree))
 suspension_told false tree = ForTree (future_tree (future_record tree))
 
 abbrev pub frame_meant : Version → Sent → Frame

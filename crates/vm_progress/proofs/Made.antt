@@ -18,7 +18,7 @@ use Rattle.vm_machine.specs.declared.admitting.Admission.TheVariants.{Admitted, 
 use Rattle.vm_machine.specs.Calls.{checks_off}
 use Rattle.vm_machine.specs.declared.machine_state.MachineState.{MachineState}
 use Rattle.vm_machine.proofs.Admitted.{steps_made, steps_elsewhere, steps_stopped}
-use Rattle.vm_progress.specs.StateReadEffects.{SettlesRead, MissesNext, ReadKind, IsRead, StepsOfRead}
+use Rattle.vm_progress.specs.StateReadEffects.{SettlesRead, MissesNext, ReadKind, IsStateRead, StepsOfRead}
 
 module _ {L E : Type 0} (kind : ReadKind L E) (call : Call) (known : Active → Bool) (name : Text) (old between : MachineState) where
   pub read_made : (off : Bool) (made : Result ℕ (ReadError L E)) (active : Active) (result : Result ℕ Error) (new : MachineState) → Admits None old Admitted between
@@ -26,7 +26,7 @@ module _ {L E : Type 0} (kind : ReadKind L E) (call : Call) (known : Active → 
       → IsAtRead kind.eager kind.lazy between.active.is_replaying (known between.active) name between.active active
       → (IsSpent between.active → ReadFailsSpent between.active made active) → FindsRead kind.eager kind.lazy between.active made active
       → SettlesRead kind.lazy_difference kind.eager_difference kind.empty made (record between { active = active }) result new → StepsOfRead kind call known name old result new
-  read_made off made active result new admits is reads told spent found settles = steps_made (IsRead kind call known name) (MissesNext kind.ty) None old between result new admits (record {
+  read_made off made active result new admits is reads told spent found settles = steps_made (IsStateRead kind call known name) (MissesNext kind.ty) None old between result new admits (record {
     made = made;
     between = record between { active = active };
     others = refl;
@@ -38,7 +38,7 @@ module _ {L E : Type 0} (kind : ReadKind L E) (call : Call) (known : Active → 
   })
 
   pub read_elsewhere : (told : Error) (new : MachineState) → Admits None old Elsewhere between → MissesNext kind.ty between told new → StepsOfRead kind call known name old (Err told) new
-  read_elsewhere told new admits misses = steps_elsewhere (IsRead kind call known name) (MissesNext kind.ty) None old between told new admits misses
+  read_elsewhere told new admits misses = steps_elsewhere (IsStateRead kind call known name) (MissesNext kind.ty) None old between told new admits misses
 
   pub read_stopped : (told : Error) → Admits None old (Stopped told) between → StepsOfRead kind call known name old (Err told) between
-  read_stopped told admits = steps_stopped (IsRead kind call known name) (MissesNext kind.ty) None old between told admits
+  read_stopped told admits = steps_stopped (IsStateRead kind call known name) (MissesNext kind.ty) None old between told admits

@@ -94,7 +94,7 @@ keys_read = record {
 module _ {L E : Type 0} (kind : ReadKind L E) (call : Call) (known : Active → Bool) (name : Text) where
   -- The read is made as the abstract machine makes it, which was seen before; or the machine fails with why it is not. An error is
   -- about this read, and tells of what is recorded next why it is not.
-  pub record IsRead (old : MachineState) (result : Result ℕ Error) (new : MachineState) : Type 0 where
+  pub record IsStateRead (old : MachineState) (result : Result ℕ Error) (new : MachineState) : Type 0 where
     pub made : Result ℕ (ReadError L E)
     pub between : MachineState
     pub others : between ≡ record old { active = between.active }
@@ -108,4 +108,4 @@ module _ {L E : Type 0} (kind : ReadKind L E) (call : Call) (known : Active → 
 
   -- What stands before the read, and then the read itself.
   abbrev pub StepsOfRead : (old : MachineState) → Result ℕ Error → (new : MachineState) → Type 0
-  StepsOfRead old result new = Steps IsRead (MissesNext kind.ty) None old result new
+  StepsOfRead old result new = Steps IsStateRead (MissesNext kind.ty) None old result new

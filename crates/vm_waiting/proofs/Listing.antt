@@ -20,7 +20,7 @@ use Rattle.protocol_stream.proofs.RecordSpellings.{tree_spelled}
 use Rattle.protocol_messages.specs.Encoded.{suspension_parts_as}
 use Rattle.protocol_messages.specs.Leaves.{own_first, completions_of, signals_of, named_signals_of, three_lists}
 use Rattle.protocol_messages.proofs.Preorder.{completions_is, signals_is, named_signals_is}
-use Rattle.vm_waiting.specs.SuspensionFrames.{below, listed, lists_payload}
+use Rattle.vm_waiting.specs.SuspensionFrames.{below, leaves_by_node, lists_payload}
 
 -- one level of the record of a tree
 abbrev layer_of : AwaitTree NotificationId → Future-F Future
@@ -54,7 +54,7 @@ module _ {Leaf : Type 0} (own : AwaitTrees NotificationId → List Leaf) (field 
   single (SignalName name) = opened (layer_of (Single (SignalName name))) ∙ append-nil _ ∙ owned (Single (SignalName name))
 
   mutual
-    leaves_listed : (tree : AwaitTree NotificationId) → all (future_record tree) ≡ listed own tree
+    leaves_listed : (tree : AwaitTree NotificationId) → all (future_record tree) ≡ leaves_by_node own tree
     leaves_listed (Single leaf) = single leaf
     leaves_listed (Combined combinator children) =
         opened (layer_of (Combined combinator children))
@@ -83,13 +83,13 @@ names_owned (Single (SignalId n)) = refl
 names_owned (Single (SignalName name)) = refl
 names_owned (Combined combinator children) = refl
 
-completions_listed : (tree : AwaitTree NotificationId) → completions_of (future_record tree) ≡ listed completions_in tree
+completions_listed : (tree : AwaitTree NotificationId) → completions_of (future_record tree) ≡ leaves_by_node completions_in tree
 completions_listed tree = leaves_listed completions_in (λ o. o.waiting_completions) completions_of completions_is completions_owned tree
 
-signals_listed : (tree : AwaitTree NotificationId) → signals_of (future_record tree) ≡ listed signals_in tree
+signals_listed : (tree : AwaitTree NotificationId) → signals_of (future_record tree) ≡ leaves_by_node signals_in tree
 signals_listed tree = leaves_listed signals_in (λ o. o.waiting_signals) signals_of signals_is signals_owned tree
 
-names_listed : (tree : AwaitTree NotificationId) → named_signals_of (future_record tree) ≡ listed names_in tree
+names_listed : (tree : AwaitTree NotificationId) → named_signals_of (future_record tree) ≡ leaves_by_node names_in tree
 names_listed tree = leaves_listed names_in (λ o. o.waiting_named_signals) named_signals_of named_signals_is names_owned tree
 
 three_spelled : (lists : SuspensionMessageV6) → payload_of (suspension_v6_parts lists)

@@ -15,7 +15,7 @@ use Rattle.vm_context.specs.Output.{Written}
 use Rattle.vm_calls.specs.declared.active.Active.{Active}
 use Rattle.vm_calls.specs.declared.put_error.PutError.{PutError}
 use Rattle.vm_calls.specs.declared.put_error.PutError.TheVariants.{Replay, Encoding}
-use Rattle.vm_calls.specs.Active.{Fits, IsActiveSettled, left_of, asking, writes_frames, PutsOne, PutFails, PutsIn}
+use Rattle.vm_calls.specs.Active.{RequestFits, IsActiveSettled, left_of, asking, writes_frames, PutsOne, PutFails, PutsIn}
 use Rattle.vm_calls.proofs.Settling.{frames_joined}
 use Rattle.vm_calls.specs.MismatchedCommands.{command_place, TellsPut}
 use Rattle.vm_calls.specs.Spent.{IsSpent, FindsNone}
@@ -85,7 +85,7 @@ module _ (ignoring : Bool) where
       settled = second.settled;
       more = first.more ++ second.more;
       wrote = second.wrote ∙ ap (λ (some : List Request). some ++ second.more) first.wrote ∙ append_assoc written first.more second.more;
-      fit = all_joined Fits first.more second.more first.fit second.fit;
+      fit = all_joined RequestFits first.more second.more first.fit second.fit;
       frames = second.frames ∙ ap (λ (w : Written). writes_frames second.more w) first.frames ∙ sym (frames_joined first.more second.more old.output);
       others = second.others
           ∙ ap (λ (a : Active). record a { is_replaying = new.is_replaying; commands = new.commands; journal = after_cancels back a.journal; output = new.output }) first.others

@@ -27,7 +27,7 @@ use Rattle.vm_commands.specs.declared.replay_error.ReplayError.TheVariants as un
 use Rattle.vm_calls.specs.declared.active.Active.{Active}
 use Rattle.vm_calls.specs.declared.put_error.PutError.{PutError}
 use Rattle.vm_calls.specs.declared.put_error.PutError.TheVariants.{Replay, Encoding}
-use Rattle.vm_calls.specs.Active.{Sees, Fits, IsActiveSettled, writes_frames}
+use Rattle.vm_calls.specs.Active.{Sees, RequestFits, IsActiveSettled, writes_frames}
 use Rattle.vm_calls.specs.CommandCalls.{Replies}
 use Rattle.vm_calls.specs.Spent.{IsSpent}
 use Rattle.vm_waiting.specs.ChildCancellation.{LooksFor, PutsEach, PutsNone}
@@ -164,7 +164,7 @@ module _ (checks_off : Bool) (given : Invocation) (m : Machine) (tree : AwaitTre
     pub more : List Request
     pub written : some.written ≡ m.written ++ more
     pub frames : new.output ≡ writes_frames more old.output
-    pub fit : AllByRecursion Fits more
+    pub fit : AllByRecursion RequestFits more
 
   -- why the next is not put
   abbrev pub StopsFor : {M : Type 0} → PutError M → (left : PutState) → (next : Request) → Type 0
@@ -173,7 +173,7 @@ module _ (checks_off : Bool) (given : Invocation) (m : Machine) (tree : AwaitTre
   StopsFor (Replay (unmatched.Mismatch error)) some next = reply_to (same_header checks_off) given m (Call.Await tree) ≡ FailedBy Mismatch
   StopsFor (Replay unmatched.OutOfMemory) some next = Unit {0}
   StopsFor (Encoding unsent.PayloadTooLong) some next = (some.left ≡ []) × (2 ^ 32 ≤ length (request_payload next))
-  StopsFor (Encoding unsent.OutOfMemory) some next = (some.left ≡ []) × Fits next
+  StopsFor (Encoding unsent.OutOfMemory) some next = (some.left ≡ []) × RequestFits next
 
   abbrev pub FailsCancelling : {M : Type 0} → PutError M → (old new : Active) → Type 0
   FailsCancelling error old new = (stops : StopsCancelling old new) × StopsFor error stops.some stops.next

@@ -16,7 +16,7 @@ use Rattle.vm_calls.specs.declared.active.Active.{Active}
 use Rattle.vm_calls.specs.declared.put_error.PutError.{PutError}
 use Rattle.vm_calls.specs.declared.put_error.PutError.TheVariants.{Replay}
 use Rattle.vm_commands.specs.declared.replay_error.ReplayError.TheVariants as unmatched
-use Rattle.vm_calls.specs.Active.{Fits, IsActiveSettled, left_of, asking, writes_frames, PutFails}
+use Rattle.vm_calls.specs.Active.{RequestFits, IsActiveSettled, left_of, asking, writes_frames, PutFails}
 use Rattle.vm_calls.specs.MismatchedCommands.{command_place, TellsPut}
 use Rattle.vm_waiting.specs.declared.cancelling.CancelError.{CancelError}
 use Rattle.vm_waiting.specs.declared.cancelling.CancelError.TheVariants as uncancelled
@@ -84,7 +84,7 @@ pub record PutsAll (ignoring : Bool) (requests written : List Request) (old new 
   pub more : List Request
   pub wrote : put.written ≡ written ++ more
   -- what is written fits its frames
-  pub fit : AllByRecursion Fits more
+  pub fit : AllByRecursion RequestFits more
   pub frames : new.output ≡ writes_frames more old.output
   pub others : new ≡ record old { is_replaying = new.is_replaying; commands = new.commands; journal = after_cancels requests old.journal; output = new.output }
 

@@ -27,13 +27,13 @@ use Rattle.vm_waiting.specs.declared.suspending.TellError.TheVariants.{TooDeep, 
 
 -- whether there is a leaf in a tree
 abbrev mutual
-  pub has_leaf : {Leaf : Type 0} → AwaitTree Leaf → Bool
-  has_leaf (Single leaf) = true
-  has_leaf (Combined combinator children) = some_has_leaf children
+  pub holds_a_leaf : {Leaf : Type 0} → AwaitTree Leaf → Bool
+  holds_a_leaf (Single leaf) = true
+  holds_a_leaf (Combined combinator children) = some_holds_a_leaf children
 
-  pub some_has_leaf : {Leaf : Type 0} → AwaitTrees Leaf → Bool
-  some_has_leaf no_trees = false
-  some_has_leaf (and_trees tree trees) = has_leaf tree || some_has_leaf trees
+  pub some_holds_a_leaf : {Leaf : Type 0} → AwaitTrees Leaf → Bool
+  some_holds_a_leaf no_trees = false
+  some_holds_a_leaf (and_trees tree trees) = holds_a_leaf tree || some_holds_a_leaf trees
 
 -- whether the nodes of a tree stand in no more than so many levels
 abbrev mutual
@@ -62,15 +62,15 @@ module _ {Leaf : Type 0} (own : AwaitTrees NotificationId → List Leaf) where
   below (and_trees (Combined combinator children) trees) = (own children ++ below children) ++ below trees
 
   -- the leaves of one kind of a tree, in this order
-  abbrev pub listed : AwaitTree NotificationId → List Leaf
-  listed (Single leaf) = own (and_trees (Single leaf) no_trees)
-  listed (Combined combinator children) = own children ++ below children
+  abbrev pub leaves_by_node : AwaitTree NotificationId → List Leaf
+  leaves_by_node (Single leaf) = own (and_trees (Single leaf) no_trees)
+  leaves_by_node (Combined combinator children) = own children ++ below children
 
 -- ---- payloads
 
 -- before version 7 a suspension is a list of the tree's ids for each kind of them
 abbrev pub lists_payload : AwaitTree NotificationId → Bytes
-lists_payload tree = packed_numbers 1 (listed completions_in tree) ++ (packed_numbers 2 (listed signals_in tree) ++ repeated_bytes 3 (listed names_in tree))
+lists_payload tree = packed_numbers 1 (leaves_by_node completions_in tree) ++ (packed_numbers 2 (leaves_by_node signals_in tree) ++ repeated_bytes 3 (leaves_by_node names_in tree))
 
 abbrev pub suspension_payload_in : Version → AwaitTree NotificationId → Bytes
 suspension_payload_in version tree = if lacks_feature (version_number version) features.AwaitTree then lists_payload tree else suspension_payload tree

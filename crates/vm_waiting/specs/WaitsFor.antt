@@ -9,7 +9,7 @@ use Rattle.attempt_model.specs.Machine.{Machine, Reply, AwaitsTree, AwaitsChild}
 use Rattle.attempt_model.specs.Results.{Slots, slot_of}
 use Rattle.vm_awaits.specs.Views.{slots_of}
 use Rattle.vm_calls.specs.declared.active.Active.{Active}
-use Rattle.vm_waiting.specs.SuspensionFrames.{has_leaf}
+use Rattle.vm_waiting.specs.SuspensionFrames.{holds_a_leaf}
 use Rattle.vm_waiting.specs.declared.waits_for.WaitsFor.{WaitsFor}
 use Rattle.vm_waiting.specs.declared.waits_for.WaitsFor.TheVariants.{Future, Child}
 
@@ -23,7 +23,7 @@ awaited_ids active waits = ids_over (slots_of active.results) waits
 
 -- whether there is anything in it: a future without handles waits for reads alone of which nothing is recorded
 abbrev pub waits_for_any : WaitsFor → Bool
-waits_for_any (Future left) = has_leaf (tree_of left)
+waits_for_any (Future left) = holds_a_leaf (tree_of left)
 waits_for_any (Child completion) = true
 
 -- the abstract machine waits for the same
