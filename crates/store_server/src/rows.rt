@@ -1,0 +1,105 @@
+//! Invocations, and what one has asked of others, as lines show them.
+
+use bytes::ByteStr;
+use journal_store::{Closing, InvocationRow, OpenRequest, Refusal, Store};
+use server_lines::reply::{InvocationReply, InvocationStatus, OpenRequestReply};
+use sqlite::Alter;
+use std::alloc::Global;
+use std::fmt;
+
+/// An invocation, and how it stands.
+#[derive(Drop)]
+pub struct ListedInvocation {
+    pub row: InvocationRow,
+    pub status: InvocationStatus,
+}
+
+/// Invocations, a line each.
+#[derive(Drop)]
+pub struct ShownInvocations {
+    pub invocations: Vec<ListedInvocation>,
+}
+
+fn invocation_reply(listed: &ListedInvocation) -> InvocationReply<'_> {
+    let row = &listed.row;
+    InvocationReply {
+        id: row.id.as_bytes(),
+        object: row.object.as_bytes(),
+        status: listed.status,
+        attempts: row.progress.attempts,
+        entries: row.progress.entries,
+    }
+}
+
+impl fmt::Display for ShownInvocations {
+    fn fmt<W: fmt::Write>(&self, f: &mut fmt::Formatter<W>) -> fmt::Result {
+        for listed in &self.invocations {
+            let reply = invocation_reply(listed);
+            write!(f, "{reply}\n")?;
+        }
+        Ok(())
+    }
+}
+
+/// What an invocation has asked of others, a line each.
+#[derive(Drop)]
+pub struct ShownRequests {
+    pub id: ByteStr,
+    pub requests: Vec<OpenRequest>,
+}
+
+fn request_reply<'a>(id: &'a ByteStr, request: &'a OpenRequest) -> OpenRequestReply<'a> {
+    OpenRequestReply {
+        id: id.as_bytes(),
+        place: request.place,
+        completion: request.completion,
+        second_completion: request.second_completion,
+        ty: u16::from(request.ty),
+        payload: request.payload.as_slice(),
+    }
+}
+
+impl fmt::Display for ShownRequests {
+    fn fmt<W: fmt::Write>(&self, f: &mut fmt::Formatter<W>) -> fmt::Result {
+        for request in &self.requests {
+            let reply = request_reply(&self.id, request);
+            write!(f, "{reply}\n")?;
+        }
+        Ok(())
+    }
+}
+
+/// How an invocation stands, of which an attempt is live or not.
+fn status_of(row: &InvocationRow, is_live: bool) -> InvocationStatus {
+    match &row.progress.closing {
+        Some(Closing::Ended) => InvocationStatus::Ended,
+        Some(Closing::Failed) => InvocationStatus::Failed,
+        None => {
+            if is_live {
+                InvocationStatus::Live
+            } else if row.progress.is_awake {
+                InvocationStatus::Due
+            } else {
+                InvocationStatus::Suspended
+            }
+        }
+    }
+}
+
+fn listed_row<S: Alter + Drop>(store: &Store<S>, row: InvocationRow) -> ListedInvocation {
+    let status = status_of(&row, store.is_attempt_live(&row.id));
+    ListedInvocation { row, status }
+}
+
+/// Invocations, each with how it stands.
+pub(crate) fn listed<S: Alter + Drop>(
+    alloc: Global,
+    store: &Store<S>,
+    rows: Vec<InvocationRow>,
+) -> Result<Vec<ListedInvocation>, Refusal> {
+    let mut invocations = Vec::with_capacity(alloc, rows.len())?;
+    for row in rows {
+        invocations.push(listed_row(store, row))?;
+    }
+    Ok(invocations)
+}
