@@ -1,0 +1,42 @@
+"""Builds the package for pip with the standard library alone, so that `pip install ./python` needs no network."""
+import base64
+import hashlib
+import re
+import zipfile
+from pathlib import Path
+
+HERE = Path(__file__).resolve().parent
+
+
+def told(name):
+    return re.search(rf'(?m)^{name} = "(.*)"$', (HERE / "pyproject.toml").read_text())[1]
+
+
+def metadata():
+    about = {"Metadata-Version": "2.1", "Name": told("name"), "Version": told("version"), "Summary": told("description"), "Requires-Python": told("requires-python")}
+    return "".join(f"{name}: {it}\n" for name, it in about.items())
+
+
+def line_of(path, content):
+    digest = base64.urlsafe_b64encode(hashlib.sha256(content).digest()).rstrip(b"=").decode()
+    return f"{path},sha256={digest},{len(content)}\n"
+
+
+def wheel(folder, files):
+    """Writes a wheel of these files, each its content by its path, and returns its name."""
+    name = f"{told('name')}-{told('version')}"
+    info = f"{name}.dist-info"
+    files = {**files, f"{info}/METADATA": metadata().encode(), f"{info}/WHEEL": b"Wheel-Version: 1.0\nGenerator: hengomaru\nRoot-Is-Purelib: true\nTag: py3-none-any\n"}
+    record = "".join(line_of(path, content) for path, content in files.items()) + f"{info}/RECORD,,\n"
+    with zipfile.ZipFile(Path(folder, f"{name}-py3-none-any.whl"), "w", zipfile.ZIP_DEFLATED) as made:
+        for path, content in {**files, f"{info}/RECORD": record.encode()}.items():
+            made.writestr(path, content)
+    return f"{name}-py3-none-any.whl"
+
+
+def build_wheel(wheel_directory, config_settings=None, metadata_directory=None):
+    return wheel(wheel_directory, {f"hengomaru/{it.name}": it.read_bytes() for it in sorted((HERE / "hengomaru").glob("*.py"))})
+
+
+def build_editable(wheel_directory, config_settings=None, metadata_directory=None):
+    return wheel(wheel_directory, {"hengomaru.pth": f"{HERE}\n".encode()})

@@ -1,0 +1,323 @@
+"""The machine of an attempt: each method is one call of c/hengomaru.h, by ctypes."""
+import ctypes as c
+import ctypes.util
+import os
+from pathlib import Path
+
+from . import pb
+
+NO_DELAY = 2**64 - 1
+OK, NO_MACHINE, MEMORY, NOT_READ, FAILED, SUSPENDED, UNTOLD = range(7)
+WHY = {NO_MACHINE: "the machine was let go", MEMORY: "memory was refused", NOT_READ: "an argument cannot be read", UNTOLD: "memory was refused for the reply"}
+# What a tree's node is, what an await has come to, what was taken.
+HANDLE, FIRST_COMPLETED, ALL_COMPLETED, FIRST_SUCCEEDED, ALL_SUCCEEDED, AT_LEAST = range(6)
+COMPLETED, WAITING, EXECUTE_RUN, CANCELLED, EPHEMERAL_READY = range(5)
+NOTHING, VOID, VALUE, FAILURE, KEYS, INVOCATION_ID = range(6)
+STATES = "waiting", "replaying", "processing", "closed"
+# Parts of the input.
+ID, KEY, SCOPE, LIMIT_KEY, IDEMPOTENCY_KEY, HEADER_NAME, HEADER_VALUE = range(1, 8)
+
+
+class AttemptOver(BaseException):
+    """The attempt can do no more. It passes through a handler, which does not catch it."""
+
+
+class Suspended(AttemptOver):
+    """The attempt waits for what has not come."""
+
+
+class MachineFailed(AttemptOver):
+    """The machine has failed, and answers so to every call: `code` as in docs/FORMATS.md, `message`, and `delay` in milliseconds or None."""
+
+    def __init__(self, code, message, delay=None):
+        super().__init__(f"({code}) {message}")
+        self.code, self.message, self.delay = code, message, delay
+
+
+class Handle(c.Structure):
+    _fields_ = [("at", c.c_void_p)]
+
+
+class Node(c.Structure):
+    _fields_ = [("kind", c.c_uint32), ("number", c.c_uint32), ("required", c.c_uint32)]
+
+
+class Policy(c.Structure):
+    """As `hengomaru_policy`."""
+
+    _fields_ = [
+        ("kind", c.c_uint32), ("pause", c.c_uint32), ("interval_millis", c.c_uint64),
+        ("factor_numerator", c.c_uint32), ("factor_denominator", c.c_uint32), ("max_interval_millis", c.c_uint64),
+        ("max_duration_millis", c.c_uint64), ("max_attempts", c.c_uint32),
+    ]
+
+
+def clone():
+    """The clone of the repository that this package stands in, or None where it was installed."""
+    top = Path(__file__).resolve().parents[2]
+    return top if (top / "c/hengomaru.h").is_file() else None
+
+
+def find_library():
+    """The path of the machine as a shared library; FileNotFoundError where there is none."""
+    told, top = os.environ.get("HENGOMARU_LIBRARY"), clone()
+    if told:
+        return told
+    if top and (top / "out/libhengomaru.so").is_file():
+        return str(top / "out/libhengomaru.so")
+    found = ctypes.util.find_library("hengomaru")
+    if not found:
+        raise FileNotFoundError("there is no libhengomaru.so: c/build of the repository makes it in out/; HENGOMARU_LIBRARY tells where another one is")
+    return found
+
+
+def parameters():
+    """Of each call what stands behind the handle."""
+    u16, u32, u64 = c.c_uint16, c.c_uint32, c.c_uint64
+    to32, to64, signed, text = c.POINTER(u32), c.POINTER(u64), c.POINTER(c.c_int64), (c.c_char_p, c.c_size_t)
+    return {
+        "new": (*text, u32, u64, to32), "free": (), "response_head": (to32,), "reply": text,
+        "notify_input": text, "notify_input_closed": (), "notify_error": (u16, *text, u64, u32), "take_output": (),
+        "last_error": (to32, to32, to64, signed), "is_ready_to_execute": (to32,), "state": (to32,), "last_command_index": (signed,),
+        "do_await": (c.POINTER(Node), c.c_size_t, to32, to32), "is_completed": (u32, to32), "take_notification": (u32, to32),
+        "sys_input": (to64,), "input_part": (u32, u32, to32),
+        "sys_state_get": (*text, u32, to32), "sys_state_get_keys": (to32,), "sys_state_set": (*text, *text, u32),
+        "sys_state_clear": text, "sys_state_clear_all": (), "ephemeral_state_get": (*text, to32), "take_ephemeral_notification": (u32, to32),
+        "sys_sleep": (*text, u64, to32), "sys_call": (*text, *text, u32, to32, to32), "sys_send": (*text, *text, u64, u32, to32),
+        "sys_cancel_invocation": text, "sys_attach_invocation": (*text, to32), "sys_get_invocation_output": (*text, to32),
+        "sys_awakeable": (to32,), "sys_complete_awakeable": (*text, *text, u32, u32),
+        "create_signal_handle": (*text, to32), "sys_complete_signal": (*text, *text, *text, u32),
+        "sys_get_promise": (*text, to32), "sys_peek_promise": (*text, to32), "sys_complete_promise": (*text, *text, u32, u32, to32),
+        "sys_run": (*text, to32, to32), "propose_run_success": (u32, *text), "propose_run_failure": (u32, *text),
+        "propose_run_retryable": (u32, u64, u16, *text, c.POINTER(Policy)), "sys_write_output": (*text, u32, u32), "sys_end": (),
+    }
+
+
+def load(path):
+    library = c.CDLL(path)
+    for name, told in parameters().items():
+        function = getattr(library, f"hengomaru_vm_{name}")
+        function.argtypes = (c.POINTER(Handle), *told)
+        function.restype = {"free": None, "reply": c.c_size_t}.get(name, c.c_uint32)
+    return library
+
+
+def nodes_of(tree):
+    """A tree as its nodes, each before its children. A tree is a handle, or (kind, children) or (AT_LEAST, children, required)."""
+    if isinstance(tree, int):
+        return [Node(HANDLE, tree, 0)]
+    kind, children, *required = tree
+    return [Node(kind, len(children), *required), *(node for it in children for node in nodes_of(it))]
+
+
+class Machine:
+    """An attempt's machine, for a content type. Its bytes come and go by the caller: `notify_input`, `take_output`."""
+
+    library = None
+
+    def __init__(self, content_type, options=0, fallback_random_seed=0):
+        if Machine.library is None:
+            Machine.library = load(find_library())
+        self.handle, code = Handle(), c.c_uint32()
+        status = self.ask("new", content_type, options, fallback_random_seed, c.byref(code))
+        if status == FAILED:
+            raise MachineFailed(code.value, f"a content type that is not spoken: {content_type}")
+        if status:
+            raise MemoryError(WHY[status])
+
+    def close(self):
+        """Lets the machine go. Each further call is refused."""
+        self.library.hengomaru_vm_free(c.byref(self.handle))
+
+    def __enter__(self):
+        return self
+
+    def __exit__(self, *_):
+        self.close()
+
+    def __del__(self):
+        if Machine.library is not None:
+            self.close()
+
+    def ask(self, name, *given):
+        """Makes a call, and returns its status. Text and bytes are handed over as a pointer and a length."""
+        handed = []
+        for it in given:
+            it = it.encode() if isinstance(it, str) else it
+            handed += [bytes(it), len(it)] if isinstance(it, (bytes, bytearray)) else [it]
+        return getattr(self.library, f"hengomaru_vm_{name}")(c.byref(self.handle), *handed)
+
+    def call(self, name, *given):
+        """Makes a call that is to be done; Suspended, MachineFailed, MemoryError or ValueError where it is not."""
+        status = self.ask(name, *given)
+        if status == SUSPENDED:
+            raise Suspended
+        if status == FAILED:
+            raise MachineFailed(*self.last_error())
+        if status:
+            raise (ValueError if status == NOT_READ else MemoryError)(WHY[status])
+
+    def told(self, name, *given, kinds=(c.c_uint32,)):
+        """Makes a call, and returns the numbers that it tells: one alone, or a list."""
+        told = [it() for it in kinds]
+        self.call(name, *given, *(c.byref(it) for it in told))
+        return told[0].value if len(told) == 1 else [it.value for it in told]
+
+    def reply(self):
+        """The bytes that the last call has answered."""
+        length = self.ask("reply", b"")
+        room = c.create_string_buffer(max(length, 1))
+        self.library.hengomaru_vm_reply(c.byref(self.handle), room, length)
+        return room.raw[:length]
+
+    def last_error(self):
+        """Code, text, and delay in milliseconds or None, of what was answered last."""
+        code, _, delay, _ = self.told("last_error", kinds=(c.c_uint32, c.c_uint32, c.c_uint64, c.c_int64))
+        return code, self.reply().decode(), None if delay == NO_DELAY else delay
+
+    # ---- what comes in and goes out
+    def response_head(self):
+        """Status and content type."""
+        return self.told("response_head"), self.reply().decode()
+
+    def notify_input(self, came):
+        self.call("notify_input", came)
+
+    def notify_input_closed(self):
+        self.call("notify_input_closed")
+
+    def notify_error(self, code, message, delay=None, pause=False):
+        """The handler has failed: it is tried again after `delay` milliseconds, or paused."""
+        self.call("notify_error", code, message, NO_DELAY if delay is None else delay, pause)
+
+    def take_output(self):
+        self.call("take_output")
+        return self.reply()
+
+    def is_ready_to_execute(self):
+        return bool(self.told("is_ready_to_execute"))
+
+    def state(self):
+        return STATES[self.told("state")]
+
+    def last_command_index(self):
+        return self.told("last_command_index", kinds=(c.c_int64,))
+
+    # ---- waiting
+    def do_await(self, tree):
+        """What the await of a tree has come to, and its detail."""
+        nodes = nodes_of(tree)
+        return self.told("do_await", (Node * len(nodes))(*nodes), len(nodes), kinds=(c.c_uint32, c.c_uint32))
+
+    def is_completed(self, handle):
+        return bool(self.told("is_completed", handle))
+
+    def taken(self, kind):
+        if kind == FAILURE:
+            return kind, pb.read_failure(self.reply())
+        if kind == KEYS:
+            return kind, [content.decode() for number, content in pb.fields(self.reply()) if number == 1]
+        return kind, {VALUE: self.reply(), INVOCATION_ID: self.reply().decode(errors="replace")}.get(kind)
+
+    def take_notification(self, handle):
+        """What has come of a handle: its kind, and bytes of a VALUE, (code, message, metadata), a list of keys, or an id."""
+        return self.taken(self.told("take_notification", handle))
+
+    def take_ephemeral_notification(self, number):
+        return self.taken(self.told("take_ephemeral_notification", number))
+
+    # ---- the handler's calls: each that answers a number answers a handle
+    def sys_input(self):
+        """The input's bytes, and the seed of random numbers that are alike in each attempt."""
+        seed = self.told("sys_input", kinds=(c.c_uint64,))
+        return self.reply(), seed
+
+    def input_part(self, part, index=0):
+        """A text of the input, or None."""
+        return self.reply().decode() if self.told("input_part", part, index) else None
+
+    def headers(self):
+        found = {}
+        while (name := self.input_part(HEADER_NAME, len(found))) is not None:
+            found[name] = self.input_part(HEADER_VALUE, len(found))
+        return found
+
+    def sys_state_get(self, key):
+        return self.told("sys_state_get", key, 0)
+
+    def sys_state_get_keys(self):
+        return self.told("sys_state_get_keys")
+
+    def sys_state_set(self, key, value):
+        self.call("sys_state_set", key, value, 0)
+
+    def sys_state_clear(self, key):
+        self.call("sys_state_clear", key)
+
+    def sys_state_clear_all(self):
+        self.call("sys_state_clear_all")
+
+    def ephemeral_state_get(self, key):
+        return self.told("ephemeral_state_get", key)
+
+    def sys_sleep(self, millis, name=""):
+        return self.told("sys_sleep", name, millis)
+
+    def sys_call(self, target, parameter):
+        """Two handles: of the id of what is called, and of its answer."""
+        return self.told("sys_call", target, parameter, 0, kinds=(c.c_uint32, c.c_uint32))
+
+    def sys_send(self, target, parameter, millis=0):
+        return self.told("sys_send", target, parameter, millis, 0)
+
+    def sys_cancel_invocation(self, target):
+        self.call("sys_cancel_invocation", target)
+
+    def sys_attach_invocation(self, target):
+        return self.told("sys_attach_invocation", target)
+
+    def sys_get_invocation_output(self, target):
+        return self.told("sys_get_invocation_output", target)
+
+    def sys_awakeable(self):
+        """A handle, and the text by which it is completed."""
+        handle = self.told("sys_awakeable")
+        return handle, self.reply().decode()
+
+    def sys_complete_awakeable(self, id, value, failed=False):
+        self.call("sys_complete_awakeable", id, value, failed, 0)
+
+    def create_signal_handle(self, name):
+        return self.told("create_signal_handle", name)
+
+    def sys_complete_signal(self, target, name, value, failed=False):
+        self.call("sys_complete_signal", target, name, value, failed)
+
+    def sys_get_promise(self, key):
+        return self.told("sys_get_promise", key)
+
+    def sys_peek_promise(self, key):
+        return self.told("sys_peek_promise", key)
+
+    def sys_complete_promise(self, key, value, failed=False):
+        return self.told("sys_complete_promise", key, value, failed, 0)
+
+    def sys_run(self, name):
+        """Whether its outcome is recorded, and a handle."""
+        replayed, handle = self.told("sys_run", name, kinds=(c.c_uint32, c.c_uint32))
+        return bool(replayed), handle
+
+    def propose_run_success(self, handle, value):
+        self.call("propose_run_success", handle, value)
+
+    def propose_run_failure(self, handle, failure):
+        self.call("propose_run_failure", handle, failure)
+
+    def propose_run_retryable(self, handle, millis, code, message, policy):
+        self.call("propose_run_retryable", handle, millis, code, message, c.byref(policy))
+
+    def sys_write_output(self, value, failed=False):
+        self.call("sys_write_output", value, failed, 0)
+
+    def sys_end(self):
+        self.call("sys_end")

@@ -1,0 +1,91 @@
+"""Payloads of the protocol's records, in the wire format of Protocol Buffers (docs/FORMATS.md, "Records")."""
+
+
+def varint(number):
+    made = bytearray()
+    while number > 0x7F:
+        made.append(number & 0x7F | 0x80)
+        number >>= 7
+    made.append(number)
+    return bytes(made)
+
+
+def field(number, content):
+    """One field: an int is a varint, text and bytes are their length and they; None is left out."""
+    if content is None:
+        return b""
+    if isinstance(content, int):
+        return varint(number << 3) + varint(content)
+    content = content.encode() if isinstance(content, str) else bytes(content)
+    return varint(number << 3 | 2) + varint(len(content)) + content
+
+
+def record(*fields):
+    """A record of pairs: a field's number, and its content or a list of contents."""
+    return b"".join(field(number, it) for number, content in fields for it in (content if isinstance(content, list) else [content]))
+
+
+def read_varint(payload, at):
+    number = shift = 0
+    while True:
+        byte = payload[at]
+        number, shift, at = number | (byte & 0x7F) << shift, shift + 7, at + 1
+        if byte < 0x80:
+            return number, at
+
+
+def fields(payload):
+    """The fields of a record in their order, each its number and its content, an int or bytes. ValueError where it is no record."""
+    at, found = 0, []
+    try:
+        while at < len(payload):
+            tag, at = read_varint(payload, at)
+            content, at = read_varint(payload, at)
+            if tag & 7 == 2:
+                content, at = payload[at : at + content], at + content
+            elif tag & 7:
+                raise ValueError("a wire type that no record has")
+            found.append((tag >> 3, content))
+    except IndexError:
+        at = len(payload) + 1
+    if at > len(payload):
+        raise ValueError("a record that is cut off")
+    return found
+
+
+def pairs(number, told):
+    """A repeated field of pairs of texts."""
+    return number, [record((1, key), (2, value)) for key, value in dict(told).items()]
+
+
+def read_pairs(number, found):
+    """The pairs of texts of a repeated field."""
+    read = (dict(fields(content)) for tag, content in found if tag == number)
+    return {it.get(1, b"").decode(): it.get(2, b"").decode() for it in read}
+
+
+def failure(code, message, metadata=()):
+    """The record Failure: a code such as HTTP has, a text, and pairs of texts."""
+    return record((1, code or None), (2, message or None), pairs(3, metadata))
+
+
+def read_failure(payload):
+    """Code, message, metadata."""
+    found = fields(payload)
+    last = dict(found)
+    return last.get(1, 0), last.get(2, b"").decode(), read_pairs(3, found)
+
+
+def call_target(service, handler, key=None, idempotency_key=None, headers=()):
+    """The record CallCommand, by which a call or a send names its target."""
+    return record((1, service), (2, handler), pairs(4, headers), (5, key or None), (6, idempotency_key))
+
+
+def frames(stream):
+    """The frames of a stream that is whole: each its type and its payload."""
+    at, found = 0, []
+    while at < len(stream):
+        length = int.from_bytes(stream[at + 4 : at + 8], "big")
+        found.append((int.from_bytes(stream[at : at + 2], "big"), stream[at + 8 : at + 8 + length]))
+        at += 8 + length
+    return found
