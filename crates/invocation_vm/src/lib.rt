@@ -44,3 +44,6 @@ pub use protocol_stream::{CommandType, HeaderMap, Version};
 // `Error`.
 pub use journal_model::{Answer, AwaitedFuture, Call, Handler};
 pub use vm_attempt::{Attempt, RunOutcome, Turn};
+
+// Whatever a host does with an attempt, it follows the run of its handler: a law.
+pub use vm_attempt_laws::attempts_follow_runs;

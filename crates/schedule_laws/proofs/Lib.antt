@@ -3,6 +3,7 @@ pub mod Beginnings
 pub mod HandedInput
 pub mod OutcomesFit
 pub mod Serving
+pub mod FrameSoundness
 pub mod TrackedAttempt
 pub mod Outcomes
 pub mod Unfailed

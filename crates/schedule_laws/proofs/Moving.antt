@@ -30,11 +30,10 @@ use Rattle.schedule_laws.proofs.InvocationInRun.{same_held}
 use Rattle.schedule_laws.proofs.Others.{into, stands_still, other_on}
 use Rattle.schedule_laws.proofs.Outcomes.{first_open}
 use Rattle.schedule_laws.proofs.Schedules.{some_none, held_other_invocation}
-use Rattle.vm_attempt_laws.proofs.InputAndOutput.{none_lie_in_frames}
 use Rattle.schedule_laws.proofs.Serving.{ServingLaws}
 use Rattle.schedule_laws.proofs.Taking.{first_on_its_way}
 use Rattle.schedule_laws.specs.Attempts.{output_of, Attempt}
-use Rattle.vm_output_laws.proofs.FrameSoundness.{lies_as}
+use Rattle.schedule_laws.proofs.FrameSoundness.{lies_as, none_lie_in_frames}
 use Rattle.schedule_laws.specs.Schedules.{HeldAttempt, with_first, is_held, held_of, with_attempt}
 use Rattle.schedule_model.specs.Attempts.{Advances}
 use Rattle.vm_attempt_laws.specs.OutputOfAttempt.{Sent, frame_meant, IsOfStore}

@@ -19,7 +19,7 @@ use Rattle.vm_attempt_laws.specs.Bodies.{outcomes_in}
 use Rattle.vm_attempt_laws.specs.AttemptInvariants.{TellsBy}
 use Rattle.vm_attempt_laws.specs.OutputOfAttempt.{Sent, frame_meant}
 use Rattle.vm_attempt_laws.specs.Words.{Error}
-use Rattle.vm_output_laws.specs.FrameSoundness.{IsOpenOutcome}
+use Rattle.schedule_laws.specs.FrameSoundness.{IsOpenOutcome}
 use Rattle.schedule_laws.specs.InvocationInRun.{OutcomesFly}
 
 -- ---- none is on its way

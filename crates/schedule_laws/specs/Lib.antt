@@ -1,5 +1,6 @@
 pub mod EventBounds
 pub mod HandedInput
+pub mod FrameSoundness
 pub mod FittingLaws
 pub mod TrackedAttempt
 pub mod InvocationInRun

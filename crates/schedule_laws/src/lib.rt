@@ -9,6 +9,7 @@
 
 ghost use Rattle.schedule_laws.specs.EntryPlaces.{EntriesKeepPlaces};
 ghost use Rattle.schedule_laws.specs.HandedInput.{HandsOutInput};
+ghost use Rattle.schedule_laws.specs.FrameSoundness.{NoneLieInFrames};
 ghost use Rattle.schedule_laws.specs.FittingLaws.{AttemptsAreFedWell, AttemptsCanStart, MessagesMayCome};
 ghost use Rattle.schedule_laws.specs.Isolation.{AllAnswerAlone, AllKeepState, AllReplyAlike, AllStandAlone};
 ghost use Rattle.schedule_laws.specs.Laws.{FollowsHolds, FramesAreTaken, HoldsClosed, HoldsFollows, HoldsHeadline, HoldsNeverLate, HoldsTold, HoldsWakesExactly, KeptByEach, LeavesHolds, NoneRefused, ToldByEach};
@@ -52,6 +53,13 @@ pub fn entries_keep_places()
 /// attempt was suspended that had been handed all that is recorded, also where another attempt was begun since.
 pub fn settled_once_record_the_same()
     ensures { SettledOnceTheSame }
+{}
+
+/// A frame of the run that asks for what a store records, by keys that are text, is refused for no cause that lies in the frame: its
+/// payload can be read, its type is accepted, its completions ascend, its input is closed where it suspends, its keys are text, and a run
+/// whose outcome it proposes is open.
+pub fn none_lie_in_frames()
+    ensures { NoneLieInFrames }
 {}
 
 /// Each event keeps an invocation in its run, whatever is stopped, overtaken or refused, and no frame of it is refused for a cause that

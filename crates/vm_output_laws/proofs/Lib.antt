@@ -5,5 +5,4 @@ pub mod Streams
 pub mod Told
 pub mod SuspensionContent
 pub mod WrittenFrames
-pub mod FrameSoundness
 pub mod TurnFrames

@@ -2,5 +2,4 @@ pub mod Sent
 pub mod OutputMeaning
 pub mod SuspensionContent
 pub mod WrittenFrames
-pub mod FrameSoundness
 pub mod TurnFrames

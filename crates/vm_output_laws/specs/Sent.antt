@@ -1,6 +1,7 @@
 -- What an attempt writes: frames as they are spelled, and which frame of an attempt each is.
-use Rattle.std.specs.Prelude.{◌<◌, ◌^◌, ℕ, Bool, true, false, if◌then◌else◌, List, [], length, Some}
-use Rattle.std.specs.List.{AllByRecursion, flat_map}
+use Rattle.std.specs.Prelude.{◌≡◌, ◌<◌, ◌^◌, ℕ, Bool, true, false, if◌then◌else◌, List, [], length, Some}
+use Rattle.std.specs.List.{AllByRecursion, flat_map, list_all}
+use Rattle.std.specs.Str.{is_utf8}
 use Rattle.protocol_wire.specs.Parts.{payload_of}
 use Rattle.protocol_wire.specs.declared.record.TheConstants.{LEVELS}
 use Rattle.protocol_types.specs.declared.message_type.MessageType.{MessageType}
@@ -15,6 +16,7 @@ use Rattle.journal_model.specs.declared.value.NonEmptyValue.{NonEmptyValue}
 use Rattle.journal_model.specs.AwaitTree.{AwaitTree}
 use Rattle.journal_model.specs.Request.{Request}
 use Rattle.journal_model.specs.Event.{Suspension, ForTree, ForAny, Frame}
+use Rattle.journal_model.specs.Cause.{keys_of}
 use Rattle.journal_model.specs.Spelling.{completions_in, signals_in, names_in, request_type, request_payload, awaiting_on_payload, frame_bytes}
 use Rattle.protocol_controls.specs.declared.error.ErrorMessage.{ErrorMessage}
 use Rattle.protocol_controls.specs.Error.{error_parts, ErrorFits}
@@ -106,6 +108,11 @@ is_command _ = false
 
 abbrev pub is_recorded : Request → Bool
 is_recorded request = is_command (frame_kind (request_type request))
+
+-- a request among these is one that the store records, and asks for state, or changes it, by keys that are text
+abbrev pub IsOfStore : Sent → Type 0
+IsOfStore (Asks request) = (is_recorded request ≡ true) × (list_all is_utf8 (keys_of request) ≡ true)
+IsOfStore _ = Unit {0}
 
 -- from version 7 on a suspension tells the tree, and before that the three lists of its ids
 abbrev pub suspension_told : (has_lists : Bool) → AwaitTree NotificationId → Suspension

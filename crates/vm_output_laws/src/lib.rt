@@ -2,7 +2,6 @@
 #![tactic(auto)]
 
 ghost use Rattle.vm_output_laws.specs.OutputMeaning.{ErrorsAreMeant, FramesAreRead, StreamsAreRead, StreamsJoin};
-ghost use Rattle.vm_output_laws.specs.FrameSoundness.{NoneLieInFrames};
 ghost use Rattle.vm_output_laws.specs.SuspensionContent.{SuspensionsTell};
 ghost use Rattle.vm_output_laws.specs.TurnFrames.{TurnsSend};
 ghost use Rattle.vm_output_laws.specs.WrittenFrames.{FramesAreWritten};
@@ -42,11 +41,4 @@ pub fn frames_are_written()
 /// behind them.
 pub fn turns_send()
     ensures { TurnsSend }
-{}
-
-/// A frame of the run that asks for what a store records, by keys that are text, is refused for no cause that lies in the frame: its
-/// payload can be read, its type is accepted, its completions ascend, its input is closed where it suspends, its keys are text, and a run
-/// whose outcome it proposes is open.
-pub fn none_lie_in_frames()
-    ensures { NoneLieInFrames }
 {}

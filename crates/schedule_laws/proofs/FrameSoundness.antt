@@ -25,7 +25,7 @@ use Rattle.store_steps.specs.declared.frame.LiveFacts.{LiveFacts}
 use Rattle.store_steps.specs.declared.frame.PreparedFrame.{PreparedFrame}
 use Rattle.store_steps.specs.Taken.{KnowsLive, TakesAttemptFrame, lies_in_frame}
 use Rattle.vm_output_laws.specs.Sent.{Sent, Asks, Proposes, Awaits, Suspends, Fails, Ends, is_recorded, frame_meant}
-use Rattle.vm_output_laws.specs.FrameSoundness.{IsSentOfRun, NoneLieInFrames}
+use Rattle.schedule_laws.specs.FrameSoundness.{IsSentOfRun, NoneLieInFrames}
 
 -- ---- tests
 

@@ -1,14 +1,13 @@
 -- No frame that an attempt has sent is refused for a cause that lies in it.
 use Rattle.std.specs.Prelude.{◌≡◌, ℕ, true, false, List, Result, IfErr}
-use Rattle.std.specs.List.{list_any, list_all}
-use Rattle.std.specs.Str.{is_utf8}
+use Rattle.std.specs.List.{list_any}
 use Rattle.protocol_types.specs.declared.version.Version.{Version}
 use Rattle.journal_model.specs.Notification.{Text, Arrival}
 use Rattle.journal_model.specs.Run.{Handler, Invocation}
 use Rattle.journal_model.specs.Event.{Event, Frame}
 use Rattle.journal_model.specs.Journal.{Entry, entries_of, open_request, recorded_requests, version_of}
 use Rattle.journal_model.specs.Attempt.{is_input_closed}
-use Rattle.journal_model.specs.Cause.{causes_of, is_of_frame, is_run, keys_of}
+use Rattle.journal_model.specs.Cause.{causes_of, is_of_frame, is_run}
 use Rattle.live_laws.specs.RequestsInFlight.{SendsOneOfRun}
 use Rattle.store_frames.specs.declared.frame.AttemptFrame.{AttemptFrame}
 use Rattle.store_frames.specs.Answer.{IsFrame}
@@ -17,12 +16,7 @@ use Rattle.store_refusals.specs.declared.refusal.Refusal.{Refusal}
 use Rattle.store_steps.specs.declared.frame.LiveFacts.{LiveFacts}
 use Rattle.store_steps.specs.declared.frame.PreparedFrame.{PreparedFrame}
 use Rattle.store_steps.specs.Taken.{KnowsLive, TakesAttemptFrame, lies_in_frame}
-use Rattle.vm_output_laws.specs.Sent.{Sent, Asks, is_recorded, frame_meant}
-
--- a request among these is one that the store records, and asks for state, or changes it, by keys that are text
-abbrev pub IsOfStore : Sent → Type 0
-IsOfStore (Asks request) = (is_recorded request ≡ true) × (list_all is_utf8 (keys_of request) ≡ true)
-IsOfStore _ = Unit {0}
+use Rattle.vm_output_laws.specs.Sent.{Sent, frame_meant, IsOfStore}
 
 -- an outcome is proposed for a run whose outcome is not recorded
 abbrev pub IsOpenOutcome : List Entry → Frame → Type 0
