@@ -27,7 +27,7 @@ use Rattle.vm_waiting.specs.declared.waits_for.WaitsFor.TheVariants.{Future, Chi
 use Rattle.vm_input_laws.proofs.Messages.{all_in_front}
 use Rattle.vm_output_laws.specs.TurnFrames.{leaves_over}
 use Rattle.vm_attempt_laws.proofs.InputAndOutput.{turns_send}
-use Rattle.vm_attempt_laws.specs.Machine.{MachineState, Fits, Active, Written, with_frame, HasPut, Answers, Waits, Suspends, Ends}
+use Rattle.vm_attempt_laws.specs.Machine.{MachineState, RequestFits as FitsFrame, Active, Written, with_frame, HasPut, Answers, Waits, Suspends, Ends}
 use Rattle.vm_attempt_laws.specs.InputOfAttempt.{Kind, MessageFits}
 use Rattle.vm_attempt_laws.specs.OutputOfAttempt.{Sent, Asks, sent_stream, AllFit, is_recorded, frame_meant, IsOfStore, TurnSends}
 use Rattle.vm_attempt_laws.specs.AttemptSimulation.{HasNumbers}
@@ -42,14 +42,14 @@ use Rattle.vm_attempt_laws.proofs.Replies.{Puts, all_put, Grown, Stayed, Grows, 
 
 -- a request that a store records, and that fits where its frame does
 abbrev pub MayBeSent : Request → Type 0
-MayBeSent request = (Fits request → RequestFits request) × (is_recorded request ≡ true)
+MayBeSent request = (FitsFrame request → RequestFits request) × (is_recorded request ≡ true)
 
-both_hold : (requests : List Request) → AllByRecursion (λ request. Fits request → RequestFits request) requests → AllByRecursion (λ request. is_recorded request ≡ true) requests
+both_hold : (requests : List Request) → AllByRecursion (λ request. FitsFrame request → RequestFits request) requests → AllByRecursion (λ request. is_recorded request ≡ true) requests
     → AllByRecursion MayBeSent requests
 both_hold [] fit recorded = tt
 both_hold (request ∷ requests) fit recorded = ((fit.0, recorded.0), both_hold requests fit.1 recorded.1)
 
-sent_fit : (requests : List Request) → AllByRecursion MayBeSent requests → AllByRecursion Fits requests → AllByRecursion RequestFits requests
+sent_fit : (requests : List Request) → AllByRecursion MayBeSent requests → AllByRecursion FitsFrame requests → AllByRecursion RequestFits requests
 sent_fit [] may short = tt
 sent_fit (request ∷ requests) may short = (may.0.0 short.0, sent_fit requests may.1 short.1)
 
@@ -69,13 +69,13 @@ pub passed_of_store : (requests : List Request) → AllByRecursion MayBePassedOn
 passed_of_store [] may = tt
 passed_of_store (request ∷ requests) may = ((may.0.0.1, may.0.1), passed_of_store requests may.1)
 
-cancels_may : (children : List Tracked) (ready : Ready) → AllByRecursion (λ request. Fits request → RequestFits request) (cancel_requests_for ready children)
+cancels_may : (children : List Tracked) (ready : Ready) → AllByRecursion (λ request. FitsFrame request → RequestFits request) (cancel_requests_for ready children)
     → AllByRecursion MayBePassedOn (cancel_requests_for ready children)
 cancels_may [] ready fit = tt
 cancels_may (child ∷ children) ready fit = by_value (child_value ready child) fit (cancels_may children ready)
   where
-    by_value : (known : Option Value) → AllByRecursion (λ request. Fits request → RequestFits request) (cancel_request known ++ cancel_requests_for ready children)
-        → (AllByRecursion (λ request. Fits request → RequestFits request) (cancel_requests_for ready children) → AllByRecursion MayBePassedOn (cancel_requests_for ready children))
+    by_value : (known : Option Value) → AllByRecursion (λ request. FitsFrame request → RequestFits request) (cancel_request known ++ cancel_requests_for ready children)
+        → (AllByRecursion (λ request. FitsFrame request → RequestFits request) (cancel_requests_for ready children) → AllByRecursion MayBePassedOn (cancel_requests_for ready children))
         → AllByRecursion MayBePassedOn (cancel_request known ++ cancel_requests_for ready children)
     by_value (Some (Value.InvocationId id)) fit later = (((fit.0, refl), refl), later fit.1)
     by_value _ fit later = later fit
