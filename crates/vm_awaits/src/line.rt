@@ -2,17 +2,16 @@
 ghost use Rattle.std.specs.Prelude.{◌≡◌, ◌<◌, ◌+◌, ◌^◌, ℕ, [], ◌∷◌, ◌++◌, IfOk, OnOk, OnErr};
 ghost use Rattle.std.specs.List.{list_any};
 ghost use Rattle.std.specs.Option.{option_copied};
-ghost use Rattle.std.specs.Ordering.{nat_cmp};
-ghost use Rattle.std.specs.BTreeMap.{IsOrdered};
 ghost use Rattle.journal_model.specs.Journal.{completes};
 ghost use Rattle.vm_awaits.specs.Calls.{first_in, LooksAtOne};
 ghost use Rattle.vm_awaits.specs.Lines.{completion_of, count_in, OneMore, OneFewer};
 ghost use Rattle.vm_awaits.specs.ReadyViews.{ready_in};
 
 use crate::ReadyNotifications;
+use indexmap::IndexMap;
 use journal_model::{Notification, NotificationId, SignalDelivery};
 use std::alloc::{AllocError, Global};
-use std::collections::{BTreeMap, VecDeque};
+use std::collections::VecDeque;
 use std::marker::Model;
 
 /// The notifications that no await has looked at, in their order.
@@ -22,13 +21,11 @@ use std::marker::Model;
 pub struct Line {
     notifications: VecDeque<Notification>,
     /// How many of them are for each completion.
-    counts: BTreeMap<u32, usize>,
+    counts: IndexMap<u32, usize>,
 }
 
 impl Model for Line {
     ghost use Rattle.std.specs.Prelude.{List};
-    ghost use Rattle.std.specs.Ordering.{nat_cmp};
-    ghost use Rattle.std.specs.BTreeMap.{IsOrdered};
     ghost use Rattle.journal_model.specs.declared.notification.Notification.{Notification};
     ghost use Rattle.vm_awaits.specs.Lines.{Counts};
 
@@ -36,7 +33,7 @@ impl Model for Line {
 
     ghost view = { λ line. line.notifications.items };
 
-    ghost invariant = { λ line. IsOrdered nat_cmp line.counts × Counts line.counts.entries line.notifications.items };
+    ghost invariant = { λ line. Counts line.counts line.notifications.items };
 }
 
 // The completion that a notification is for, if it is for one.
@@ -49,8 +46,8 @@ fn completion_of(id: &NotificationId) -> Option<u32>
     }
 }
 
-fn count_of(counts: &BTreeMap<u32, usize>, completion: u32) -> usize
-    ensures { result ≡ count_in counts.now.entries completion }
+fn count_of(counts: &IndexMap<u32, usize>, completion: u32) -> usize
+    ensures { result ≡ count_in counts.now completion }
 {
     match counts.get(&completion) {
         Some(count) => *count,
@@ -59,12 +56,10 @@ fn count_of(counts: &BTreeMap<u32, usize>, completion: u32) -> usize
 }
 
 // One more is for the completion, if there is one.
-fn add_one(counts: &mut BTreeMap<u32, usize>, completion: Option<u32>) -> Result<(), AllocError>
-    requires fits { (n : ℕ) → count_in counts.old.entries n + 1 < 2 ^ 64 }
-    requires was_ordered { IsOrdered nat_cmp counts.old }
-    ensures ok { OnOk result (OneMore completion counts.old.entries counts.new.entries) }
-    ensures err { OnErr result (counts.new.entries ≡ counts.old.entries) }
-    ensures ordered { IsOrdered nat_cmp counts.new }
+fn add_one(counts: &mut IndexMap<u32, usize>, completion: Option<u32>) -> Result<(), AllocError>
+    requires fits { (n : ℕ) → count_in counts.old n + 1 < 2 ^ 64 }
+    ensures ok { OnOk result (OneMore completion counts.old counts.new) }
+    ensures err { OnErr result ((n : ℕ) → count_in counts.new n ≡ count_in counts.old n) }
 {
     if let Some(number) = completion {
         let count = count_of(counts, number);
@@ -74,10 +69,8 @@ fn add_one(counts: &mut BTreeMap<u32, usize>, completion: Option<u32>) -> Result
 }
 
 // One fewer is.
-fn take_one(counts: &mut BTreeMap<u32, usize>, completion: Option<u32>)
-    requires { IsOrdered nat_cmp counts.old }
-    ensures fewer { OneFewer completion counts.old.entries counts.new.entries }
-    ensures ordered { IsOrdered nat_cmp counts.new }
+fn take_one(counts: &mut IndexMap<u32, usize>, completion: Option<u32>)
+    ensures { OneFewer completion counts.old counts.new }
 {
     if let Some(number) = completion {
         if let Some(count) = counts.get_mut(&number) {
@@ -86,7 +79,7 @@ fn take_one(counts: &mut BTreeMap<u32, usize>, completion: Option<u32>)
                 return;
             }
         }
-        counts.remove(&number);
+        drop(counts.swap_remove(&number));
     }
 }
 
@@ -97,7 +90,7 @@ impl Line {
     {
         Line {
             notifications: VecDeque::new(alloc),
-            counts: BTreeMap::new(alloc),
+            counts: IndexMap::new(alloc),
         }
     }
 
