@@ -1,9 +1,9 @@
--- What waits to be taken, frame by frame, and why a message was not written.
-use Rattle.std.proofs.Common.{◌≡◌, refl, sym, ap, ◌∙◌, ℕ, ◌+◌, ◌^◌, ◌≤◌, ◌↔◌, Bool, true, false, ◌||◌, List, [], ◌∷◌, ◌++◌, length, append-nil, length-append, Result, Ok, Err, OnOk, OnErr, arith}
+-- What waits to be taken, and why a message was not written.
+use Rattle.std.proofs.Common.{◌≡◌, refl, ap, ℕ, ◌^◌, ◌≤◌, ◌↔◌, Bool, true, false, ◌||◌, List, [], ◌++◌, Result, Ok, Err, OnOk, OnErr}
 use Rattle.std.proofs.lemmas.Result.{on_ok_weaker, on_err_weaker}
 use Rattle.protocol_types.specs.declared.version.Version.{Version}
 use Rattle.protocol_stream.specs.declared.encoder.EncodingError.{EncodingError}
-use Rattle.vm_context.specs.Output.{Written, concatenated_frames, with_frame_of, all_taken}
+use Rattle.vm_context.specs.Output.{Written, with_frame_of, all_taken}
 
 abbrev pub written_of : Version → List ℕ → Bool → Bool → Written
 written_of version bytes is_closed has_commands = record { version = version; bytes = bytes; is_closed = is_closed; has_commands = has_commands }
@@ -54,15 +54,3 @@ pub frame_sends : (r : Result (Unit {0}) EncodingError) (u : Unit {0}) (is_close
     → r ≡ Ok u → answer ≡ Ok frame → EncodesLong answer n → IsTooLong r is_closed n
 frame_sends r u is_closed n answer frame was told long =
     ((λ h. absurd cc), (λ p. let too : answer ≡ Err EncodingError.PayloadTooLong = long.1 p.1 in absurd cc))
-
--- ---- what was taken, where at most one frame waited
-
-pub one_frame : (old new : List (List ℕ)) (frame : List ℕ) → old ≡ new ++ frame ∷ [] → length old ≤ 1 → (frame ≡ concatenated_frames old) × (concatenated_frames new ≡ [])
-one_frame old [] frame taken few = (sym (ap concatenated_frames taken ∙ append-nil frame), refl)
-one_frame old (first ∷ new) frame taken few =
-    let count : length old ≡ length ((first ∷ new) ++ frame ∷ []) = ap (λ (frames : List (List ℕ)). length frames) taken in
-    absurd (omega (arith, count, few, length-append new (frame ∷ [])))
-
-pub no_frame : (old new : List (List ℕ)) → old ≡ new ++ [] → length old ≡ 0 → ([] ≡ concatenated_frames old) × (concatenated_frames new ≡ [])
-no_frame [] new taken none = (refl, ap concatenated_frames (sym (append-nil new) ∙ sym taken))
-no_frame (first ∷ old) new taken none = absurd (omega (arith, none))

@@ -1,10 +1,13 @@
 -- What an attempt has written and what of it was not taken.
-use Rattle.std.specs.Prelude.{ℕ, Bool, true, false, ◌||◌, if◌then◌else◌, List, [], ◌++◌, flat_map}
+use Rattle.std.specs.Prelude.{ℕ, Bool, true, false, ◌||◌, if◌then◌else◌, List, [], ◌++◌}
 use Rattle.protocol_types.specs.declared.version.Version.{Version}
+use Rattle.vm_context.specs.declared.output.Waiting.{Waiting}
+use Rattle.vm_context.specs.declared.output.Waiting.TheVariants.{One, Several}
 
--- frames, one behind the other
-abbrev pub concatenated_frames : List (List ℕ) → List ℕ
-concatenated_frames frames = flat_map (λ frame. frame) frames
+-- what waits to be taken
+abbrev pub waiting_bytes : Waiting → List ℕ
+waiting_bytes (One frame) = frame
+waiting_bytes (Several bytes) = bytes.items
 
 pub record Written : Type 0 where
   pub version : Version

@@ -2,81 +2,85 @@
 ghost use Rattle.std.specs.Prelude.{◌≡◌, ◌≤◌, ◌^◌, ◌↔◌, ◌++◌, ◌||◌, [], true, false, length, IsOk, IfOk, OnOk, OnErr, IsErrOf};
 ghost use Rattle.protocol_stream.specs.declared.encoder.EncodingError.TheVariants.{PayloadTooLong};
 ghost use Rattle.protocol_stream.specs.Frame.{spelled};
-ghost use Rattle.vm_context.specs.Output.{concatenated_frames, with_frame_of, with_command, with_frame, all_taken};
+ghost use Rattle.vm_context.specs.Output.{waiting_bytes, with_frame_of, with_command, with_frame, all_taken};
 
-use bytes::{Bytes, BytesMut};
+use bytes::Bytes;
 use protocol_messages::{Encoder, RestateEncodableMessage};
 use protocol_stream::{EncodingError, Version};
 use std::alloc::{AllocError, Global};
 use std::marker::Model;
+use std::mem::replace;
+
+// What waits to be taken: one frame as it was made, or several, each copied once into one buffer. Where none waits the buffer is empty.
+#[derive(Debug, Drop)]
+enum Waiting {
+    One(Bytes),
+    Several(Vec<u8>),
+}
 
 /// The frames that an attempt wrote and that were not taken, whether it writes no more, and whether it has written a command.
 /// Contracts see the frames' bytes.
 #[derive(Debug, Drop)]
 pub struct Output {
     version: Version,
-    frames: Vec<Bytes>,
+    waiting: Waiting,
     is_closed: bool,
     has_commands: bool,
 }
 
 impl Model for Output {
-    ghost use Rattle.vm_context.specs.Output.{Written, concatenated_frames};
+    ghost use Rattle.vm_context.specs.Output.{Written, waiting_bytes};
 
     ghost Value = { Written };
 
-    ghost view = { λ output. record { version = output.version; bytes = concatenated_frames output.frames.items; is_closed = output.is_closed; has_commands = output.has_commands } };
+    ghost view = { λ output. record { version = output.version; bytes = waiting_bytes output.waiting; is_closed = output.is_closed; has_commands = output.has_commands } };
 }
 
-// How many bytes the frames have, or the greatest number.
-fn count_bytes(frames: &[Bytes]) -> usize {
-    let mut count = 0usize;
-    for frame in frames {
-        count = count.saturating_add(frame.len());
-    }
-    count
-}
-
-// The frames one behind the other, each copied once.
-fn join(alloc: Global, frames: &[Bytes]) -> Result<Bytes, AllocError>
-    ensures { IfOk result (λ bytes. bytes ≡ concatenated_frames frames.now) }
+// A frame behind another, each copied once.
+fn join(alloc: Global, first: &[u8], second: &[u8]) -> Result<Vec<u8>, AllocError>
+    ensures { IfOk result (λ bytes. bytes.items ≡ first.now ++ second.now) }
 {
-    let mut bytes = BytesMut::with_capacity(alloc, count_bytes(frames))?;
-    for frame in frames {
-        bytes.extend_from_slice(frame.as_slice())?;
-    }
-    match bytes.freeze() {
-        Ok(bytes) => Ok(bytes),
-        Err(refused) => {
-            drop(refused);
-            Err(AllocError)
+    let mut bytes = Vec::with_capacity(alloc, first.len().saturating_add(second.len()))?;
+    bytes.extend_from_slice(first)?;
+    bytes.extend_from_slice(second)?;
+    Ok(bytes)
+}
+
+// One more frame waits. One alone is kept as it is.
+fn push_frame(alloc: Global, waiting: &mut Waiting, frame: Bytes) -> Result<(), AllocError>
+    ensures ok { OnOk result (waiting_bytes waiting.new ≡ waiting_bytes waiting.old ++ frame) }
+    ensures err { OnErr result (waiting_bytes waiting.new ≡ waiting_bytes waiting.old) }
+{
+    let more = match waiting {
+        Waiting::Several(bytes) => {
+            if !bytes.is_empty() {
+                return bytes.extend_from_slice(frame.as_slice());
+            }
+            Waiting::One(frame)
         }
-    }
-}
-
-// One more frame waits.
-fn push_frame(frames: &mut Vec<Bytes>, frame: Bytes) -> Result<(), AllocError>
-    ensures ok { OnOk result (concatenated_frames frames.new.items ≡ concatenated_frames frames.old.items ++ frame) }
-    ensures err { OnErr result (concatenated_frames frames.new.items ≡ concatenated_frames frames.old.items) }
-{
-    frames.push(frame)?;
+        Waiting::One(first) => {
+            Waiting::Several(join(alloc, first.as_slice(), frame.as_slice())?)
+        }
+    };
+    drop(replace(waiting, more));
     Ok(())
 }
 
-// All that waits, as one piece: one frame alone as it is, more copied once.
-fn take_all(alloc: Global, frames: &mut Vec<Bytes>) -> Result<Bytes, AllocError>
-    ensures bytes { IfOk result (λ bytes. bytes ≡ concatenated_frames frames.old.items) }
-    ensures rest { OnOk result (concatenated_frames frames.new.items ≡ []) }
-    ensures err { OnErr result (concatenated_frames frames.new.items ≡ concatenated_frames frames.old.items) }
+// All that waits, as one piece, none of it copied.
+fn take_all(alloc: Global, waiting: &mut Waiting) -> Result<Bytes, AllocError>
+    ensures bytes { IfOk result (λ bytes. bytes ≡ waiting_bytes waiting.old) }
+    ensures rest { OnOk result (waiting_bytes waiting.new ≡ []) }
+    ensures err { OnErr result (waiting_bytes waiting.new ≡ waiting_bytes waiting.old) }
 {
-    if frames.len() > 1 {
-        let bytes = join(alloc, frames.as_slice())?;
-        frames.clear();
-        return Ok(bytes);
-    }
-    match frames.pop() {
-        Some(frame) => Ok(frame),
-        None => Ok(Bytes::new()),
+    match replace(waiting, Waiting::Several(Vec::new(alloc))) {
+        Waiting::One(frame) => Ok(frame),
+        Waiting::Several(bytes) => match Bytes::from_vec(bytes) {
+            Ok(bytes) => Ok(bytes),
+            Err(refused) => {
+                drop(replace(waiting, Waiting::Several(refused.value)));
+                Err(AllocError)
+            }
+        },
     }
 }
 
@@ -93,7 +97,7 @@ impl Output {
     {
         Output {
             version,
-            frames: Vec::new(alloc),
+            waiting: Waiting::Several(Vec::new(alloc)),
             is_closed: false,
             has_commands: false,
         }
@@ -159,7 +163,7 @@ impl Output {
             return Ok(());
         }
         let frame = Encoder::new(self.version).encode(alloc, message)?;
-        push_frame(&mut self.frames, frame)?;
+        push_frame(alloc, &mut self.waiting, frame)?;
         let told = either(is_command, self.has_commands);
         self.has_commands = told;
         Ok(())
@@ -172,12 +176,12 @@ impl Output {
         self.is_closed = true;
     }
 
-    /// Takes all that waits. One frame alone is handed out as it is, more are copied once, into one piece.
+    /// Takes all that waits, as one piece. Nothing is copied for that.
     pub fn take(&mut self, alloc: Global) -> Result<Bytes, AllocError>
         ensures bytes { IfOk result (λ bytes. bytes ≡ self.old.bytes) }
         ensures rest { OnOk result (self.new ≡ all_taken self.old) }
         ensures err { OnErr result (self.new ≡ self.old) }
     {
-        take_all(alloc, &mut self.frames)
+        take_all(alloc, &mut self.waiting)
     }
 }

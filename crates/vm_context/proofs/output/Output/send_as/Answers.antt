@@ -1,12 +1,11 @@
-use Rattle.std.proofs.Common.{◌∙◌, refl, ap, List, ℕ, ◌++◌, length}
+use Rattle.std.proofs.Common.{◌∙◌, refl, ap, List, ℕ, ◌++◌}
 use Rattle.std.proofs.lemmas.Result.{err_from_is_err_and}
-use Rattle.protocol_stream.specs.Frame.{spelled}
-use Rattle.vm_context.specs.Output.{concatenated_frames}
+use Rattle.vm_context.specs.Output.{waiting_bytes}
 use Rattle.vm_context.proofs.Sending.{closed_stays, open_grows, closed_sends, refused_sends, memory_sends, frame_sends}
 use Rattle.vm_context.proofs.output.Output.send_as.Goals as goal
 
 pub returns-then-self-clause-ok : goal.returns-then-self-clause-ok
-returns-then-self-clause-ok g c = rw (← c.self.view_is) (closed_stays c.args.is_command c.self.inside.version (concatenated_frames c.self.inside.frames.items) _ c.self.inside.is_closed c.self.inside.has_commands c.if-self.true)
+returns-then-self-clause-ok g c = rw (← c.self.view_is) (closed_stays c.args.is_command c.self.inside.version (waiting_bytes c.self.inside.waiting) _ c.self.inside.is_closed c.self.inside.has_commands c.if-self.true)
 
 pub returns-then-self-clause-too_long : goal.returns-then-self-clause-too_long
 returns-then-self-clause-too_long g c = rw (← c.self.view_is) (closed_sends _ tt c.self.inside.is_closed _ refl c.if-self.true)
@@ -27,8 +26,8 @@ pub returns-clause-ok : goal.returns-clause-ok
 returns-clause-ok g c =
     let told = rw c.new.ensures at c.in_ok-frame.ensures in
     rw (← c.self.view_is)
-    (open_grows c.args.is_command c.self.inside.version (concatenated_frames c.self.inside.frames.items) (concatenated_frames c.push_frame.new.frames.items) _ c.self.inside.is_closed c.self.inside.has_commands c.either-told.result c.if-self.false
-    (c.in_ok-push_frame.ensures.ok ∙ ap (λ (frame : List ℕ). concatenated_frames c.self.inside.frames.items ++ frame) told.1) c.either-told.ensures)
+    (open_grows c.args.is_command c.self.inside.version (waiting_bytes c.self.inside.waiting) (waiting_bytes c.push_frame.new.waiting) _ c.self.inside.is_closed c.self.inside.has_commands c.either-told.result c.if-self.false
+    (c.in_ok-push_frame.ensures.ok ∙ ap (λ (frame : List ℕ). waiting_bytes c.self.inside.waiting ++ frame) told.1) c.either-told.ensures)
 
 pub returns-clause-too_long : goal.returns-clause-too_long
 returns-clause-too_long g c =
