@@ -39,8 +39,9 @@ def moment_in(delta):
 
 
 class RunOptions:
-    """When the body of a run that has failed is executed again: after intervals that grow by a factor up to the greatest, at most so many
-    times, and so long. Behind the bound the failure is the outcome, or the invocation is paused."""
+    """When the body of a run that has failed is executed again: after intervals that grow by a factor up to the greatest, until it was
+    tried so often, or so long. Of more attempts than one the first, which records that it is asked for, does not count. Then the failure
+    is the outcome, or the invocation is paused."""
 
     def __init__(
         self, max_attempts=None, max_duration=None, initial_retry_interval=timedelta(milliseconds=50), max_retry_interval=timedelta(seconds=10),

@@ -5,16 +5,19 @@ import json
 from collections import defaultdict
 
 from . import pb
-from .context import from_json
-from .services import Handler, Service, Target, id_of, named, object_of, target_in
+from .services import Handler, Service, Target, id_of, named, object_of, space_of
 from .store import Refused
 
 CALL, SEND, SIGNAL, ATTACH, GET_OUTPUT, AWAKEABLE = 0x040D, 0x040E, 0x040F, 0x0411, 0x0412, 0x0413
-INPUT, GET_PROMISE, PEEK_PROMISE, COMPLETE_PROMISE = 0x0400, 0x0409, 0x040A, 0x040B
+GET_PROMISE, COMPLETE_PROMISE = 0x0409, 0x040B
 CANCEL = 1
 # The signal by which a sender is told that it has sent: it marks the place of what is delivered.
 DELIVERED = "hengomaru.delivered"
+# The header by which a call tells the id of what it calls.
+AS_ID = "hengomaru-id"
 MADE, KNOWN, BUSY = range(3)
+# What the id of an invocation ends in that waits to call another one.
+LATER = "~later"
 
 
 def content_of(payload):
@@ -64,8 +67,9 @@ async def later(ctx, told):
     """Waits for a moment, or for an object that is busy, and calls then: what is sent so is not lost when its sender ends."""
     if told["at"]:
         await ctx._future(ctx._machine.sys_sleep(told["at"]))
-    call = ctx.call(tuple(told["target"][:2]), None, told["target"][2])
-    await call.invocation_id()
+    target = pb.call_target(*told["target"], headers={**told["headers"], AS_ID: told["id"]})
+    id, _ = ctx._machine.sys_call(target, bytes.fromhex(told["body"]))
+    await ctx._future(id)
 
 
 OWN = Service("hengomaru")
@@ -77,13 +81,13 @@ class Delivery:
 
     def forget(self):
         """All that is known without the store, which is asked anew."""
-        self.waiting, self.busy, self.targets, self.promises = defaultdict(set), defaultdict(set), {}, Promises(self.store)
+        self.waiting, self.busy, self.objects, self.promises = defaultdict(set), defaultdict(set), {}, Promises(self.store)
 
     # ---- invocations
     def invoke(self, id, target, body, headers=()):
         """Makes the invocation of an id, where it is not there: MADE, KNOWN, or BUSY where its object has another one that is open."""
         handler = self.app.find(target)
-        object = object_of(handler, target, id)
+        self.objects[id] = object = object_of(handler, target, id)
         try:
             self.store.invoke(id, object, body, {**dict(headers), **target.headers()}, seed=seed_of(id))
             return MADE
@@ -105,13 +109,6 @@ class Delivery:
             if refused.name in ("S2", "S4"):
                 return None
             raise
-
-    def target(self, id):
-        """What an invocation calls."""
-        if id not in self.targets:
-            first = next((it for it in self.store.show(id).requests if it.type == INPUT), None)
-            self.targets[id] = target_in(pb.read_pairs(1, pb.fields(first.payload)) if first else {})
-        return self.targets[id]
 
     # ---- requests that are answered
     def deliver(self, id):
@@ -135,24 +132,15 @@ class Delivery:
         if handler is None:
             return target, None, headers
         key = found[6].decode() if 6 in found else None
-        return target, id_of(handler, target, key) or f"{id}.{request.place}", headers
+        told = headers.pop(AS_ID, None)
+        return target, told or id_of(handler, target, key) or f"{id}.{request.place}", headers
 
     def call(self, id, request, fields, is_last):
-        if self.target(id)[:2] == (OWN.name, "later"):
-            return self.call_late(id, request)
         target, child, headers = self.child(id, request, fields)
         if child is None:
             return self.miss(id, target)
-        body = dict(fields).get(3, b"")
-        return self.call_as(id, request, target, child, body, headers, is_last)
-
-    def call_late(self, id, request):
-        """What an invocation of `later` calls, which its input tells in full."""
-        told = from_json(dict(pb.fields(dict(pb.fields(self.store.show(id).requests[0].payload))[14]))[1])
-        return self.call_as(id, request, Target(*told["target"]), told["id"], bytes.fromhex(told["body"]), told["headers"], False)
-
-    def call_as(self, id, request, target, child, body, headers, is_last):
         if request.first is not None:
+            body = dict(fields).get(3, b"")
             came = self.invoke(child, target, body, headers)
             if came == BUSY:
                 if not is_last:
@@ -175,7 +163,7 @@ class Delivery:
 
     def invoke_later(self, child, target, body, headers, at):
         told = {"at": at, "id": child, "target": target, "body": body.hex(), "headers": headers}
-        self.invoke(f"{child}~later", Target(OWN.name, "later"), json.dumps(told).encode())
+        self.invoke(child + LATER, Target(OWN.name, "later"), json.dumps(told).encode())
 
     def send(self, id, request, fields, is_last):
         target, child, headers = self.child(id, request, fields)
@@ -206,7 +194,7 @@ class Delivery:
 
     def attach(self, id, request, fields, is_last):
         other = self.attached(fields)
-        if self.show(other) is None and not self.is_known(f"{other}~later"):
+        if self.show(other) is None and not self.is_known(other + LATER):
             self.store.result(id, request.first, (404, f"there is no invocation {other}"))
             return True
         return self.bring_answer(id, request.first, other)
@@ -218,16 +206,17 @@ class Delivery:
         return True
 
     def promise(self, id, request, fields, is_last):
-        found, target = dict(fields), self.target(id)
+        found = dict(fields)
         name = found.get(1, b"").decode()
-        came = self.promises.find(target.service, target.key, name)
+        promise = (*space_of(self.objects[id]), name)
+        came = self.promises.find(*promise)
         if request.type == COMPLETE_PROMISE:
             self.store.result(id, request.first, None if came is None else (409, f"the promise {name} is completed"))
             if came is None:
-                self.promises.completed[target.service, target.key, name] = brought(found, None, 2, 3)
-                self.dirty |= self.waiting.pop((target.service, target.key, name), set())
+                self.promises.completed[promise] = brought(found, None, 2, 3)
+                self.dirty |= self.waiting.pop(promise, set())
         elif came is None and request.type == GET_PROMISE:
-            self.waiting[target.service, target.key, name].add(id)
+            self.waiting[promise].add(id)
             return False
         else:
             self.store.result(id, request.first, came)
@@ -256,7 +245,7 @@ class Delivery:
 
     def cancel(self, id):
         """Cancels an invocation, also one that waits for its moment, or for its object."""
-        self.store.cancel(id if self.is_known(id) else f"{id}~later")
+        self.store.cancel(id if self.is_known(id) else id + LATER)
 
     def complete_awakeable(self, awakeable, value):
         """Brings the value that an awakeable waits for, as a store's value, once; whether it was brought."""

@@ -104,6 +104,12 @@ def object_of(handler, target, id):
     return named(target.service, target.key, "", id) if target.key else id
 
 
+def space_of(object):
+    """Service and key of a workflow's invocation, by its object."""
+    service, key, *_ = [*object.split("/"), ""]
+    return unquote(service), unquote(key)
+
+
 def id_of(handler, target, idempotency_key):
     """The id that is the same each time: of a workflow's main handler, and where a key says which call is the same. Else None."""
     if isinstance(handler.service, Workflow) and handler.has_key:

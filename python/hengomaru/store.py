@@ -151,16 +151,16 @@ class Store:
             try:
                 return self.next_moment()
             except StoreGone:
-                why = self.process.stderr.read().decode(errors="replace").strip()
+                why = self.close()
             if HELD not in why or time.monotonic() > ends:
                 raise NotOpened(f"{self.database}: {why or 'the process was ended'}")
             time.sleep(0.02)
 
     def close(self):
-        """Ends the process: all that is recorded is in the file then."""
-        if self.process:
-            self.process.communicate()
-            self.process = None
+        """Ends the process, and returns what it has said: all that is recorded is in the file then."""
+        said = self.process.communicate()[1] if self.process else b""
+        self.process = None
+        return said.decode(errors="replace").strip()
 
     def __enter__(self):
         return self
@@ -177,10 +177,12 @@ class Store:
     def ask(self, *words):
         """Asks one line, and returns the words of the first line of its answer."""
         asked = " ".join(map(str, words))
+        if self.process is None:
+            raise StoreGone
         try:
             self.process.stdin.write(asked.encode() + b"\n")
             self.process.stdin.flush()
-        except (OSError, ValueError):
+        except OSError:
             raise StoreGone from None
         told = self.line()
         if told.startswith("refused "):

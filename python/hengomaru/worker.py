@@ -5,12 +5,13 @@ from datetime import timedelta
 
 from .attempt import Attempt, FrameRefused
 from .context import from_json, to_json
-from .delivery import AWAKEABLE, BUSY, OWN, SIGNAL, Delivery
+from .delivery import AWAKEABLE, BUSY, LATER, OWN, SIGNAL, Delivery
 from .services import App, id_of, object_of, target_of
 from .store import Refused, Store, StoreGone
 
 FIRST_INTERVAL, LAST_INTERVAL = 50, 10_000
 PAUSE = 1
+OPEN = "live", "due", "suspended"
 
 
 def now_in_millis():
@@ -80,7 +81,7 @@ class Worker(Delivery):
         self.retried(self.cancel, id)
 
     def open_ids(self):
-        return [it.id for it in self.retried(lambda: list(self.store.list())) if it.status in ("live", "due", "suspended")]
+        return [it.id for it in self.retried(lambda: list(self.store.list())) if it.status in OPEN]
 
     def retried(self, call, *given):
         """A call that may be repeated where the store's process is gone before it has answered."""
@@ -95,7 +96,8 @@ class Worker(Delivery):
         """Asks the store for all: who waits for whom, and what was recorded and not delivered."""
         self.forget()
         self.failures, self.not_before = {}, {}
-        self.dirty = {it.id for it in self.store.list() if it.status in ("due", "suspended")}
+        self.objects = {it.id: it.object for it in self.store.list() if it.status in OPEN}
+        self.dirty = set(self.objects)
         for id in sorted(self.dirty):
             self.post_again(id)
             self.read_error(id)
@@ -189,11 +191,8 @@ class Worker(Delivery):
         """Goes on with whoever waits for its answer, or for its object."""
         self.failures.pop(id, None)
         self.dirty.discard(id)
-        target = self.targets.pop(id, None) or self.target(id)
-        handler = self.app.find(target)
-        self.dirty |= self.waiting.pop(id, set()) | self.busy.pop(object_of(handler, target, id), set())
-        self.targets.pop(id, None)
-        if self.tell_ended and handler.service is not OWN:
+        self.dirty |= self.waiting.pop(id, set()) | self.busy.pop(self.objects.pop(id), set())
+        if self.tell_ended and not id.endswith(LATER):
             self.tell_ended(id, *answer_in(self.store.show(id).answer))
 
     def next_moment(self):
