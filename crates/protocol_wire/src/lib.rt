@@ -23,7 +23,7 @@ pub use len::{
     len_optional_u64, len_present_bytes, len_present_text, len_present_u32, len_record,
     len_records, len_tagged_bytes, len_text, len_texts, len_u32, len_u64,
 };
-pub use listed::{Fields, Payload};
+pub use listed::{Fields, Payload, Room, empty_room};
 pub use protocol_table::table;
 pub use protocol_table::table::{FieldDescriptor, Kind, RecordType};
 pub use put::{

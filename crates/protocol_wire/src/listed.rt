@@ -5,14 +5,25 @@ ghost use Rattle.protocol_wire.specs.Fields.{fields, are_fields};
 ghost use Rattle.protocol_wire.specs.Seen.{field as seen};
 ghost use Rattle.protocol_wire.specs.Listed.{coming, are_all};
 
-use crate::ScannedField;
 use crate::field::field_at;
+use crate::{Scanned, ScannedField};
 use std::marker::Model;
 
 /// So many fields of a payload are listed. Those behind them are read anew each time, so no payload makes the list grow.
-pub(crate) const LISTED: usize = 16;
+const LISTED: usize = 16;
 
-type Room<'a> = [ScannedField<'a>; LISTED];
+/// Room for the fields of a payload that are listed.
+pub type Room<'a> = [ScannedField<'a>; LISTED];
+
+/// A room with no field of a payload yet.
+pub fn empty_room<'a>() -> Room<'a>
+    ensures { length result ≡ 16 }
+{
+    [ScannedField {
+        number: 0,
+        value: Scanned::Fixed,
+    }; LISTED]
+}
 
 /// The fields of a payload that are still to come, up to where none is read.
 #[derive(Clone, Copy)]
@@ -103,6 +114,18 @@ impl<'a> Payload<'a> {
         }
     }
 
+    /// The payload, whose first fields are listed in the room.
+    pub fn listed_in<'r>(bytes: &'a [u8], room: &'r mut Room<'a>) -> Payload<'r>
+        ensures { result ≡ bytes.now }
+    {
+        let (count, rest) = list_fields(bytes, room);
+        Payload {
+            bytes,
+            listed: &room[..count],
+            rest,
+        }
+    }
+
     /// Its fields, from the first on.
     pub fn fields(&self) -> Fields<'_>
         ensures all { coming result ≡ fields self.now }
@@ -116,8 +139,8 @@ impl<'a> Payload<'a> {
 }
 
 /// Lists the first fields. Tells how many they are, and the bytes behind them.
-pub(crate) fn list_fields<'a>(bytes: &'a [u8], room: &mut Room<'a>) -> (usize, &'a [u8])
-    ensures count { result.0 ≤ length room.new }
+fn list_fields<'a>(bytes: &'a [u8], room: &mut Room<'a>) -> (usize, &'a [u8])
+    ensures count { result.0 ≤ 16 }
     ensures all { map seen (take result.0 room.new) ++ fields result.1.now ≡ fields bytes.now }
     ensures whole { are_fields result.1.now ≡ are_fields bytes.now }
 {

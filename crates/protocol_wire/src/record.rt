@@ -12,9 +12,8 @@ ghost use Rattle.protocol_wire.specs.Selection.{values, texts, joined_bytes as t
 ghost use Rattle.protocol_wire.specs.Decodes.{Decodes, IsRead, ErrIs};
 ghost use Rattle.protocol_table.specs.declared.table.RecordType.{RecordType as RecordTypes};
 
-use crate::listed::{LISTED, list_fields};
-use crate::{Fault, FieldDescriptor, Fields, Payload, Scanned, ScannedField, fault_in};
-use protocol_table::table::RecordType;
+use crate::{Fault, FieldDescriptor, Fields, Payload, Scanned, empty_room, fault_in};
+use protocol_table::table::{RecordType, fields_of};
 use sequence::Sequence;
 use std::alloc::{AllocError, Global};
 
@@ -55,6 +54,19 @@ pub trait Record: Drop + Sized {
     ghost reads: { (levels : ℕ) (r : Self) → fits levels r → length (payload_of (parts r)) < 2 ^ 64 → IsRead levels record_type of (payload_of (parts r)) r };
 }
 
+/// The record that bytes within a record are, where so many levels are left. They are listed, so that each field is selected with
+/// no further look at them; where the record has one field at most, a list would cost more than the one look.
+fn select_within<R: Record>(alloc: Global, bytes: &[u8], levels: u32) -> Result<R, AllocError>
+    requires { payload_fault levels R.record_type bytes.now ≡ None }
+    ensures { IfOk result (λ r. r ≡ R.of levels (fields bytes.now)) }
+{
+    if fields_of(R::record_type()).len() < 2 {
+        return R::select(alloc, &Payload::new(bytes), levels);
+    }
+    let mut room = empty_room();
+    R::select(alloc, &Payload::listed_in(bytes, &mut room), levels)
+}
+
 /// The records of this field, in a record where so many levels are left.
 #[tactic(auto, unfolding(crate::specs::Selection::texts))]
 pub fn records_at<R: Record>(
@@ -71,7 +83,7 @@ pub fn records_at<R: Record>(
     for found in payload.fields() {
         if found.number == field.number {
             if let Scanned::Bytes(bytes) = found.value {
-                all.push(R::select(alloc, &Payload::new(bytes), below)?)?;
+                all.push(select_within(alloc, bytes, below)?)?;
             }
         }
     }
@@ -142,11 +154,11 @@ pub(crate) fn joined_record<R: Record>(
 {
     let below = levels.saturating_sub(1);
     if let Some(bytes) = sole_bytes(all, field) {
-        return Ok(Some(R::select(alloc, &Payload::new(bytes), below)?));
+        return Ok(Some(select_within(alloc, bytes, below)?));
     }
     match joined_bytes(alloc, all, field)? {
         None => Ok(None),
-        Some(bytes) => Ok(Some(R::select(alloc, &Payload::new(bytes.as_slice()), below)?)),
+        Some(bytes) => Ok(Some(select_within(alloc, bytes.as_slice(), below)?)),
     }
 }
 
@@ -188,16 +200,8 @@ pub fn decode<R: Record>(alloc: Global, payload: &[u8]) -> Result<R, DecodeError
     // Accepted are the payloads with which nothing is wrong, to their meaning.
     ensures { Decodes R.record_type R.of payload.now result }
 {
-    let mut room = [ScannedField {
-        number: 0,
-        value: Scanned::Fixed,
-    }; LISTED];
-    let (count, rest) = list_fields(payload, &mut room);
-    let listed = Payload {
-        bytes: payload,
-        listed: &room[..count],
-        rest,
-    };
+    let mut room = empty_room();
+    let listed = Payload::listed_in(payload, &mut room);
     match fault_in(R::record_type(), &listed, LEVELS) {
         Some(fault) => Err(DecodeError::Fault(fault)),
         None => Ok(R::select(alloc, &listed, LEVELS)?),

@@ -23,7 +23,7 @@ overflow_sub-levels t c = omega (arith, level_left c.args.levels future_type c.a
 pub future_at-requires : goal.future_at-requires
 future_at-requires t c = (
   omega (arith, level_left c.args.levels future_type c.args.payload.now c.requires, c.decreases),
-  rw c.new.ensures (sound_first (payload_fault (c.args.levels - 1) future_type) NESTED_FUTURES.number (field c.in-Some.found) (coming c.loop-found.found-iterator) (coming c.next.new.self) c.in-Bytes.bytes.now c.loop-found.invariant.sound c.in-Some.ensures.steps c.if-found.true (rw c.in-Bytes.is refl)),
+  rw c.listed_in-nested.ensures (sound_first (payload_fault (c.args.levels - 1) future_type) NESTED_FUTURES.number (field c.in-Some.found) (coming c.loop-found.found-iterator) (coming c.next.new.self) c.in-Bytes.bytes.now c.loop-found.invariant.sound c.in-Some.ensures.steps c.if-found.true (rw c.in-Bytes.is refl)),
 )
 
 pub texts_at-requires : goal.texts_at-requires
