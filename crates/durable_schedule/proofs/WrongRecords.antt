@@ -216,7 +216,7 @@ ended_writes : (handler : Handler) (start : AttemptStart) (told : Told) (o : Opt
 ended_writes handler start told (Some last) ran waits behind none empty leaves = let clash : Some last ≡ None = none in absurd cc
 ended_writes handler start told None ran waits behind none empty (inl lacks) = let clash = lacks.0 in absurd cc
 ended_writes handler start told None ran waits behind none empty (inr (frames, writes, ends)) =
-    let are : AreFrames start.new.version writes.bytes (Frame.End ∷ []) [] = subst (λ (some : List Frame). AreFrames start.new.version writes.bytes some []) ends writes.are in
+    let are : AreFrames start.new.version writes.bytes (Frame.End ∷ []) [] = subst (λ (some : List Frame). AreFrames start.new.version writes.bytes some []) ends.1 writes.are in
     let all : behind ≡ writes.bytes = writes.behind_is ∙ ap (λ (some : Bytes). some ++ writes.bytes) empty in
     record { item = are.0; rest = are.1; first = ap item_at all ∙ are.2 }
 

@@ -127,9 +127,9 @@ module _ {H : Type 0} (function : H → Handler) (options : VMOptions) (before :
     -- Of each attempt that is begun of such an invocation as `in_run` speaks of, each reply to a turn tells what the one uninterrupted run does over
     -- the arrivals that have come whole by then, which are one function of the bytes that were handed to the attempt and of the outcomes that it has
     -- proposed: a turn that was answered as having executed a body has executed the one that the run waits for, and proposes the outcome that the
-    -- turn was given. It writes whole frames: the requests by which the run goes on, that outcome, the suspension, the end, or the error. What is
-    -- moved is the beginning of what was written and not moved before: as many bytes as were asked for, or all. And of the frames that are taken
-    -- an outcome is one that it has proposed, for that run, and an error the one that a turn has failed by.
+    -- turn was given. It writes whole frames, each of the run, and no other: the requests by which the run goes on, that outcome, what is awaited, the
+    -- suspension, the end, or the error. What is moved is the beginning of what was written and not moved before: as many bytes as were asked for, or
+    -- all. And of the frames that are taken an outcome is one that it has proposed, for that run, and an error the one that a turn has failed by.
     pub turns : (next : Handler) (id : Text) → ReplaysInLine options → AllByRecursion (Brings function id next) asked → HoldsOf next options id before
         → EachBegunTells next options id asked replies added handed moved before
     -- Each invocation whose begins all bring one function is in the run of that function, if it was in it before: one that was not begun

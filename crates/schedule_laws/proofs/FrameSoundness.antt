@@ -56,7 +56,7 @@ command_none events id number request text ascends =
     none_of (tests_of events (Event.Move id number (Frame.Command request)))
     (inr refl, (inr refl, (inr refl, (inl (not_true (do_ascend (last_completion (recorded_requests events id)) (completions_asked request)) ascends), (inl (not_true (list_all is_utf8 (keys_of request)) text), (inr refl, (inr refl, tt)))))))
 
-meant_command : (version : Version) (request : Request) → is_recorded request ≡ true → frame_meant version (Asks request) ≡ Frame.Command request
+pub meant_command : (version : Version) (request : Request) → is_recorded request ≡ true → frame_meant version (Asks request) ≡ Frame.Command request
 meant_command version request is = ap (λ (b : Bool). if b then Frame.Command request else Frame.NotAccepted) is
 
 causes_none : (next : Handler) (given : Invocation) (arrivals : List Arrival) (version : Version) (sent : Sent) (id : Text) (events : List Event) → IsSentOfRun next given arrivals version sent id events

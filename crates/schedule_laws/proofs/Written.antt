@@ -1,13 +1,15 @@
 -- What an attempt that is held writes in a turn, and where its input is closed.
 use Rattle.std.proofs.Common.{◌≡◌, ◌⊎◌, ℕ, suc, pred, arith, Bool, List, [], ◌∷◌, ◌++◌, append-nil, length, length-append, drop, map, Option, Some, refl, sym, ap, subst, ◌∙◌, inl, inr}
 use Rattle.std.proofs.Math.Seq.{drop-append_seam}
-use Rattle.std.proofs.lemmas.List.{append_cancel_left, drop_all, map-append}
+use Rattle.std.proofs.lemmas.List.{drop_all}
+use Rattle.std.specs.List.{AllByRecursion}
 use Rattle.journal_model.specs.declared.invocation.NewInvocation.{NewInvocation}
 use Rattle.journal_model.specs.Notification.{Text}
 use Rattle.journal_model.specs.Event.{Event, Frame}
 use Rattle.journal_model.specs.Attempt.{live_attempt, is_input_closed}
 use Rattle.journal_model.specs.Run.{Handler, run_requests}
-use Rattle.live_laws.specs.RequestsInFlight.{requests_sent}
+use Rattle.live_laws.specs.RequestsInFlight.{requests_sent, SendsOfRun}
+use Rattle.live_laws.proofs.TurnWrites.{writes_send}
 use Rattle.live_laws.specs.StartFrame.{AttemptStart}
 use Rattle.protocol_errors.specs.declared.error.Error.{Error}
 use Rattle.protocol_stream.specs.Item.{message}
@@ -15,23 +17,27 @@ use Rattle.protocol_types.specs.Version.{version_number}
 use Rattle.protocol_types.specs.declared.version.Version.{Version}
 use Rattle.input_laws.proofs.News.{requests_carried-append}
 use Rattle.replay_laws.proofs.Standing.{at, input_requests}
+use Rattle.vm_input_laws.proofs.Messages.{all_behind}
 use Rattle.vm_output_laws.proofs.FrameMeanings.{frames_are_read}
 use Rattle.vm_start.specs.FailureReport.{out_of_memory}
 use Rattle.vm_types.specs.declared.options.VMOptions.{VMOptions}
 use Rattle.vm_attempt_laws.specs.Attempts.{ClosesInput, output_of, Turns, Attempt, Turn}
 use Rattle.vm_attempt_laws.specs.AttemptInvariants.{ClosesEarly, TellsBy}
 use Rattle.vm_attempt_laws.specs.AttemptSimulation.{HasBodies, HasNotRead, HasRead, Serves, machine_failed}
-use Rattle.vm_attempt_laws.specs.Bodies.{Body, by_policy, Executor, IsReplayed, NonEmptyValue, outcome_frame, RunOutcome}
+use Rattle.vm_attempt_laws.specs.Bodies.{Body, by_policy, Executor, IsReplayed, NonEmptyValue, outcome_frame, requests_asked_by, RunOutcome}
 use Rattle.vm_attempt_laws.specs.BodyExecution.{BodyCause, BodyToldAs, ExecutesFirst, LacksMemory, tried_by}
 use Rattle.vm_attempt_laws.specs.Machine.{Cause, NoMemory, told_error}
-use Rattle.vm_attempt_laws.specs.OutputOfAttempt.{Sent, Fails, AllFit, frame_meant, sent_message, sent_stream}
+use Rattle.vm_attempt_laws.specs.OutputOfAttempt.{Sent, Asks, Fails, AllFit, frame_meant, IsOfStore, sent_message, sent_stream}
 use Rattle.vm_attempt_laws.specs.TurnReports.{Told, IsAttemptTold, ProposesOutcomeOf}
-use Rattle.vm_attempt_laws.specs.TurnsInRun.{turns_answered, IsToldAs, FailsFor, FailsForBody, GoesOnBehind, RunsOne, TurnKeeps, TurnsBehind}
-use Rattle.vm_attempt_laws.specs.Words.{after_turn, Arrival, AttemptInRun, arrivals_carried, Input, Machine, Request, requests_carried}
+use Rattle.vm_attempt_laws.specs.TurnsInRun.{turns_answered, AsksAlone, IsToldAs, IsTurnOf, FailsFor, FailsForBody, GoesOnBehind, RunsOne, TurnKeeps, TurnsBehind}
+use Rattle.vm_attempt_laws.specs.Words.{after_turn, Arrival, AttemptInRun, arrivals_carried, Input, InputMessage, Machine, Request, requests_carried}
+use Rattle.vm_attempt_laws.specs.InputOfAttempt.{MessageFits}
+use Rattle.vm_attempt_laws.proofs.Beginning.{none_more}
 use Rattle.vm_attempt_laws.proofs.ArrivalsCome.{arrivals_read, requests_of_journal, told_journal}
 use Rattle.schedule_laws.specs.InvocationInRun.{ReplaysInLine}
 use Rattle.schedule_laws.specs.TrackedAttempt.{Tracked, Attends, is_over, lacks_memory, closed_early, is_served, is_left}
-use Rattle.schedule_laws.specs.Written.{AreFrames, CloseLeaves, requests_written, TurnLeaves, TurnWrites, TurnWritesOver, WritesError, WritesFrames}
+use Rattle.schedule_laws.specs.Written.{AreFrames, CloseLeaves, requests_written, TurnLeaves, TurnWrites, TurnWritesBy, TurnWritesOver, WritesError, WritesFrames}
+use Rattle.schedule_laws.proofs.FrameSoundness.{meant_command}
 use Rattle.schedule_laws.proofs.Serving.{ServingLaws}
 use Rattle.vm_attempt_laws.proofs.OverAttempts.{over_of, turned_failed, turned_over}
 
@@ -53,6 +59,18 @@ writes_sent version number sent waits behind same fit is = record {
 }
 
 -- ---- requests
+
+requests_of_commands : (asked : List Request) → requests_sent (map Frame.Command asked) ≡ asked
+requests_of_commands [] = refl
+requests_of_commands (request ∷ asked) = ap (λ (some : List Request). request ∷ some) (requests_of_commands asked)
+
+-- requests that a store records are meant as such
+asked_meant : (version : Version) (asked : List Request) (behind : List Sent) → AllByRecursion IsOfStore (map Asks asked ++ behind)
+    → map (frame_meant version) (map Asks asked ++ behind) ≡ map Frame.Command asked ++ map (frame_meant version) behind
+asked_meant version [] behind all = refl
+asked_meant version (request ∷ asked) behind all =
+    ap (λ (frame : Frame). frame ∷ map (frame_meant version) (map Asks asked ++ behind)) (meant_command version request all.0.0)
+    ∙ ap (λ (some : List Frame). Frame.Command request ∷ some) (asked_meant version asked behind all.1)
 
 drop_front : (asked left read unread journal written : List Request) → read ++ unread ≡ journal → asked ++ left ≡ read ++ written → ((left ≡ []) × (unread ≡ [])) ⊎ (written ≡ []) → written ≡ drop (length journal) asked
 drop_front asked left read unread journal written parts same (inl (none, all)) =
@@ -106,41 +124,60 @@ module _ {H : Type 0} (function : H → Handler) (next : Handler) (version : Ver
   written_after frames calls machine more after b = sym b.written ∙ written_at next (after_turn live frames calls machine) more b.bodies.executor b.bodies.lives
 
   -- what it has asked for since
-  answered_writes : (frames : List Frame) (calls : ℕ) (machine : Machine) (more : List (ℕ × NonEmptyValue)) (after : Attempt H) → turns_answered after.input calls ≡ suc (turns_answered before.input live.calls)
+  answered_more : (frames : List Frame) (calls : ℕ) (machine : Machine) (more : List (ℕ × NonEmptyValue)) (after : Attempt H) → turns_answered after.input calls ≡ suc (turns_answered before.input live.calls)
       → Goes frames calls machine more after → written told.answered ++ requests_sent frames ≡ written (suc told.answered)
-  answered_writes frames calls machine more after counted b =
+  answered_more frames calls machine more after counted b =
       let now : calls ≡ told.answered = sym (calls_of (after_turn live frames calls machine) after b.serves.stands) ∙ ap pred counted ∙ sym t.answered in
       ap (λ (some : List Request). some ++ requests_sent frames) (ap (λ (k : ℕ). by_calls k) calls_before ∙ sym written_before) ∙ written_after frames calls machine more after b
       ∙ ap (λ (k : ℕ). by_calls k) now
 
-  waiting_writes : (frames : List Frame) (machine : Machine) (more : List (ℕ × NonEmptyValue)) (after : Attempt H) → Goes frames live.calls machine more after → requests_sent frames ≡ []
-  waiting_writes frames machine more after b =
-      append_cancel_left live.machine.written (requests_sent frames) [] (written_after frames live.calls machine more after b ∙ sym written_before ∙ sym (append-nil live.machine.written))
+  -- and nothing else
+  answered_writes : (frames : List Frame) → AsksAlone frames → written told.answered ++ requests_sent frames ≡ written (suc told.answered)
+      → (asked : List Request) × (written told.answered ++ asked ≡ written (suc told.answered)) × (frames ≡ map Frame.Command asked)
+  answered_writes frames (asked, are) grown =
+      (asked, ap (λ (some : List Request). written told.answered ++ some) (sym (ap requests_sent are ∙ requests_of_commands asked)) ∙ grown, are)
 
-  -- the error is the last frame
+  -- all that was asked for by then
+  asked_now : requests_asked_by live ≡ requests_carried live.start.journal ++ written told.answered
+  asked_now =
+      ap (λ (some : List Request). some ++ live.machine.written) (input_requests next live proposed own.executor own.lives)
+      ∙ ap (λ (some : List Request). requests_carried live.start.journal ++ some) (written_before ∙ ap (λ (k : ℕ). by_calls k) (sym calls_before))
+
+  -- each frame of a turn is of the run
+  sends_now : (frames : List Frame) → IsTurnOf next is_closed live frames
+      → SendsOfRun next live.start.given arrivals told.is_closed (requests_carried live.start.journal ++ written told.answered) frames
+  sends_now frames makes =
+      let none : makes.some ≡ [] = none_more makes.some makes.still live.unread live.held (all_behind MessageFits live.read live.unread s.fed.fit) makes.parts makes.bytes in
+      let read : live.read ++ makes.some ≡ live.read = ap (λ (some : List InputMessage). live.read ++ some) none ∙ append-nil live.read in
+      subst (λ (some : List InputMessage). SendsOfRun next live.start.given (arrivals_carried some) told.is_closed (requests_carried live.start.journal ++ written told.answered) frames) read
+      (subst (λ (closed : Bool). SendsOfRun next live.start.given (arrivals_carried (live.read ++ makes.some)) closed (requests_carried live.start.journal ++ written told.answered) frames) (sym t.closed)
+      (subst (λ (asked : List Request). SendsOfRun next live.start.given (arrivals_carried (live.read ++ makes.some)) is_closed asked frames) asked_now
+      (writes_send next live.start.given (arrivals_carried (live.read ++ makes.some)) is_closed (requests_asked_by live) frames makes.writes)))
+
+  -- the error is the last frame, behind requests alone
   abbrev Fails_so : Error → List Sent → Type 0
   Fails_so error sent = WritesError next live.start told arrivals error (map (frame_meant version) sent)
 
-  error_last : (error : Error) (earlier sent : List Sent) → sent ≡ earlier ++ Fails (told_error error) ∷ [] → Fails_so error sent
-  error_last error earlier sent is = inr (inr (
-    map (frame_meant version) earlier,
+  error_last : (error : Error) (asked : List Request) (sent : List Sent) → AllByRecursion IsOfStore sent → sent ≡ map Asks asked ++ Fails (told_error error) ∷ [] → Fails_so error sent
+  error_last error asked sent all is = inr (inr (
+    asked,
     frame_meant version (Fails (told_error error)),
     (refl, refl),
-    ap (λ (some : List Sent). map (frame_meant version) some) is ∙ map-append (frame_meant version) earlier (Fails (told_error error) ∷ []),
+    ap (λ (some : List Sent). map (frame_meant version) some) is ∙ asked_meant version asked (Fails (told_error error) ∷ []) (subst (AllByRecursion IsOfStore) is all),
   ))
 
-  failed_writes : (error : Error) (sent : List Sent) (after : Attempt H) → FailsFor function next version options is_closed live before error sent after
+  failed_writes : (error : Error) (sent : List Sent) (after : Attempt H) → AllByRecursion IsOfStore sent → FailsFor function next version options is_closed live before error sent after
       ⊎ FailsForBody function next version options is_closed live before proposed ran error sent → Fails_so error sent
-  failed_writes error sent after (inl by) = by_cause by.cause by.told
+  failed_writes error sent after all (inl by) = by_cause by.cause by.told
     where
       by_cause : (cause : Cause) → IsToldAs version live (next live.start.given.input before.answers) before.vm.state after.vm.state by.far.more cause error sent → Fails_so error sent
       by_cause NoMemory it = inl it
-      by_cause cause it = error_last error _ sent it.3
-  failed_writes error sent after (inr by) = by_cause by.cause by.told
+      by_cause cause it = error_last error by.far.more sent all it.3
+  failed_writes error sent after all (inr by) = by_cause by.cause by.told
     where
       by_cause : (cause : BodyCause) → BodyToldAs version options (by_policy ran) (tried_by live by.shows) before.vm.state by.run cause error sent → Fails_so error sent
       by_cause LacksMemory it = inl it
-      by_cause cause it = error_last error [] sent it.3
+      by_cause cause it = error_last error [] sent all it.3
 
   -- the body that it has executed, and its outcome
   first_told : (body : Body) → ExecutesFirst next live.start.given arrivals live.calls (requests_carried live.read ++ live.machine.written) proposed body
@@ -162,19 +199,19 @@ module _ {H : Type 0} (function : H → Handler) (next : Handler) (version : Ver
     outcome = b.outcome;
   }
 
-  turn_writes : (sent : List Sent) (turn : Turn) (after : Attempt H) → TurnsBehind function next version options is_closed live before proposed ran sent turn after
+  turn_writes : (sent : List Sent) (turn : Turn) (after : Attempt H) → AllByRecursion IsOfStore sent → TurnsBehind function next version options is_closed live before proposed ran sent turn after
       → TurnWritesOver next live.start told arrivals ran turn (map (frame_meant version) sent)
-  turn_writes sent Turn.Answered after b = answered_writes (map (frame_meant version) sent) b.0 b.1 proposed after b.2 b.3
-  turn_writes sent Turn.RanBody after b = (
+  turn_writes sent Turn.Answered after all b = answered_writes (map (frame_meant version) sent) b.4 (answered_more (map (frame_meant version) sent) b.0 b.1 proposed after b.2 b.3)
+  turn_writes sent Turn.RanBody after all b = (
     b.body,
     b.value,
     outcome_told sent after b,
     b.sends ∙ ap (λ (v : ℕ). outcome_frame v b.body.completion b.value ∷ []) (sym s.of_run.version_is),
   )
-  turn_writes sent Turn.Waiting after b = waiting_writes (map (frame_meant version) sent) b.1.0 proposed after b.1.1
-  turn_writes sent Turn.Suspended after b = (b.3.suspension, b.3.frames_are)
-  turn_writes sent Turn.Ended after b = b.2
-  turn_writes sent (Turn.Failed error) after b = failed_writes error sent after b.0
+  turn_writes sent Turn.Waiting after all b = b.2
+  turn_writes sent Turn.Suspended after all b = (b.3.suspension, b.3.frames_are)
+  turn_writes sent Turn.Ended after all b = b.2
+  turn_writes sent (Turn.Failed error) after all b = failed_writes error sent after all b.0
 
   -- what waits behind it
   abbrev pub WritesBehind : AttemptStart → Turn → Attempt H → Type 0
@@ -185,8 +222,8 @@ module _ {H : Type 0} (function : H → Handler) (next : Handler) (version : Ver
   turn_leaves turn after k = (
     map (frame_meant version) k.sent,
     writes_sent version live.start.new.version k.sent (output_of before) (output_of after) s.of_run.version_is k.fit k.output,
-    subst (λ (some : List Arrival). TurnWritesOver next live.start told some ran turn (map (frame_meant version) k.sent)) (sym (arrivals_read function next version options is_closed live before proposed told own s t))
-        (turn_writes k.sent turn after k.behind),
+    subst (λ (some : List Arrival). TurnWritesBy next live.start told some ran turn (map (frame_meant version) k.sent)) (sym (arrivals_read function next version options is_closed live before proposed told own s t))
+        (sends_now (map (frame_meant version) k.sent) k.makes, turn_writes k.sent turn after k.of_store k.behind),
   )
 
 -- ---- any that is held
@@ -212,7 +249,7 @@ module _ {H : Type 0} (function : H → Handler) (next : Handler) (options : VMO
       (inr (
         [],
         nothing_written t.start.new.version (ap (λ (one : Attempt H). output_of one) it.3),
-        subst (λ (one : Turn). TurnWrites next t.start t.told ran one []) (sym it.1) (inr (inl (e.closed, e.unread))),
+        subst (λ (one : Turn). TurnWrites next t.start t.told ran one []) (sym it.1) (tt, inr (inl (e.closed, e.unread))),
       ))
   turned_leaves ran turn in_line turns (is_served so lives s) =
       let k = laws.turns version (is_input_closed events id) s.live a s.proposed ran turn changed in_line.queued s.bodies s.serves turns in

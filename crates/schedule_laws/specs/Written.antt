@@ -1,11 +1,11 @@
 -- What an attempt writes, frame by frame, how the first bytes of that go to the store, and which frames a store takes of these.
-use Rattle.std.specs.Prelude.{◌≡◌, ◌⊎◌, ℕ, suc, pred, min, ◌==◌, ◌&&◌, Bool, true, false, List, [], ◌∷◌, ◌++◌, length, take, drop, Option, Some, None, bytes_eq}
+use Rattle.std.specs.Prelude.{◌≡◌, ◌⊎◌, ℕ, suc, pred, min, ◌==◌, ◌&&◌, Bool, true, false, List, [], ◌∷◌, ◌++◌, length, map, take, drop, Option, Some, None, bytes_eq}
 use Rattle.journal_model.specs.Notification.{Arrival, Bytes, Text}
 use Rattle.journal_model.specs.Event.{Suspension, Frame}
 use Rattle.journal_model.specs.Request.{Request}
 use Rattle.journal_model.specs.Run.{Handler, run_requests}
 use Rattle.input_laws.specs.Message.{requests_carried}
-use Rattle.live_laws.specs.RequestsInFlight.{requests_sent}
+use Rattle.live_laws.specs.RequestsInFlight.{SendsOfRun}
 use Rattle.live_laws.specs.StartFrame.{AttemptStart}
 use Rattle.protocol_errors.specs.declared.error.Error.{Error}
 use Rattle.protocol_stream.specs.Item.{Item, item_at}
@@ -14,6 +14,7 @@ use Rattle.vm_start.specs.FailureReport.{out_of_memory}
 use Rattle.vm_attempt_laws.specs.Bodies.{Body, NonEmptyValue, RunOutcome, outcome_frame}
 use Rattle.vm_attempt_laws.specs.ArrivalsCome.{HasJournal}
 use Rattle.vm_attempt_laws.specs.TurnReports.{Told, arrivals_told, ProposesOutcomeOf}
+use Rattle.vm_attempt_laws.specs.TurnsInRun.{TellsAwaited}
 use Rattle.schedule_laws.specs.Attempts.{output_of, Turn}
 use Rattle.schedule_laws.specs.Schedules.event
 use Rattle.schedule_laws.specs.Schedules.reply
@@ -47,27 +48,34 @@ module _ (next : Handler) (start : AttemptStart) (told : Told) (arrivals : List 
   abbrev pub requests_written : (answered : ℕ) → List Request
   requests_written answered = drop (length (requests_carried start.journal)) (run_requests next start.given arrivals (pred answered))
 
-  -- a turn that fails writes the error that it tells last; none where there was no memory, or where that was written as the input was closed
-  -- before the journal had come
+  -- a turn that fails writes the error that it tells, behind the requests by which a cancellation was passed on by then, and nothing else; none
+  -- where there was no memory, or where that was written as the input was closed before the journal had come
   abbrev pub WritesError : Error → List Frame → Type 0
   WritesError error frames =
       (error ≡ out_of_memory)
-      ⊎ (((told.is_closed ≡ true) × (HasJournal start told.bytes → ⊥)) ⊎ ((earlier : List Frame) × (last : Frame) × IsErrorFrame error last × (frames ≡ earlier ++ last ∷ [])))
+      ⊎ (((told.is_closed ≡ true) × (HasJournal start told.bytes → ⊥)) ⊎ ((more : List Request) × (last : Frame) × IsErrorFrame error last × (frames ≡ map Frame.Command more ++ last ∷ [])))
 
-  -- By what is answered: the requests by which the run goes on, the outcome of the body that was executed, the suspension, the end, or the
-  -- error.
+  -- By what is answered it writes these frames, and no other: the requests by which the run goes on; the outcome of the body that was executed;
+  -- nothing, or what is awaited; the suspension; the end; or the error.
   abbrev pub TurnWritesOver : RunOutcome → Turn → List Frame → Type 0
-  TurnWritesOver ran Turn.Answered frames = requests_written told.answered ++ requests_sent frames ≡ requests_written (suc told.answered)
+  TurnWritesOver ran Turn.Answered frames =
+      (more : List Request) × (requests_written told.answered ++ more ≡ requests_written (suc told.answered)) × (frames ≡ map Frame.Command more)
   TurnWritesOver ran Turn.RanBody frames =
       (body : Body) × (value : NonEmptyValue) × ProposesOutcomeOf next start told arrivals ran body value × (frames ≡ outcome_frame start.new.version body.completion value ∷ [])
-  TurnWritesOver ran Turn.Waiting frames = requests_sent frames ≡ []
+  TurnWritesOver ran Turn.Waiting frames = TellsAwaited frames
   TurnWritesOver ran Turn.Suspended frames = (suspension : Suspension) × (frames ≡ Frame.Suspend (Some suspension) ∷ [])
   TurnWritesOver ran Turn.Ended frames = frames ≡ Frame.End ∷ []
   TurnWritesOver ran (Turn.Failed error) frames = WritesError error frames
 
+  -- And each is one of the run, behind all that was asked for by then: a suspension tells what the run waits for with just these requests, and
+  -- the requests of a turn that fails are a beginning of the run's.
+  abbrev pub TurnWritesBy : RunOutcome → Turn → List Frame → Type 0
+  TurnWritesBy ran turn frames =
+      SendsOfRun next start.given arrivals told.is_closed (requests_carried start.journal ++ requests_written told.answered) frames × TurnWritesOver ran turn frames
+
 -- by what was told of it
 abbrev pub TurnWrites : Handler → AttemptStart → Told → RunOutcome → Turn → List Frame → Type 0
-TurnWrites next start told ran turn frames = TurnWritesOver next start told (arrivals_told start told) ran turn frames
+TurnWrites next start told ran turn frames = TurnWritesBy next start told (arrivals_told start told) ran turn frames
 
 -- ---- what waits of an attempt to be moved
 

@@ -71,6 +71,11 @@ no_bytes [] fit none = refl
 no_bytes (one ∷ some) fit none =
     absurd (some_is_none (message (raw_of one), input_bytes (map piece_of some)) (sym (front one fit.0 (input_bytes (map piece_of some))) ∙ ap item_at none ∙ nothing_at))
 
+-- messages of whose bytes none are held are none
+pub none_more : (some still unread : List InputMessage) (held : List ℕ) → AllByRecursion MessageFits unread → unread ≡ some ++ still → held ≡ input_bytes (map piece_of some) ++ held → some ≡ []
+none_more some still unread held fit parts bytes =
+    no_bytes some (all_in_front MessageFits some still (subst (AllByRecursion MessageFits) parts fit)) (append_cancel_right (input_bytes (map piece_of some)) [] held (sym bytes))
+
 module _ {H : Type 0} (function : H → Handler) (next : Handler) (version : Version) (options : VMOptions) (starts : StartsAreRead) (start : AttemptStart) (shows : ShowsStart start) (handler : H) (new fed : Attempt H)
     (is_next : function handler ≡ next) (of_run : IsRunOf start version options) (can : CanBegin start shows) (by : IsFedBy (attempt_begun start)) (unasked : IsUnasked options handler new)
     (is_new : IsNew version options new.vm.state) (does : IsFed start.frame new.vm.state fed.vm.state × (fed ≡ record new { vm = fed.vm })) where

@@ -1,6 +1,6 @@
 -- An attempt of a host follows the run, step by step.
 use Rattle.std.proofs.Common.{◌≡◌, ◌⊎◌, inl, inr, ◌∙◌, ℕ, Bool, true, false, true≢false, List, [], ◌∷◌, ◌++◌, append-nil, append_assoc, map, Option, Some, None, Result, Ok, Err, refl, sym, ap, subst}
-use Rattle.std.proofs.lemmas.List.{append_cancel_left, append_cancel_right}
+use Rattle.std.proofs.lemmas.List.{append_cancel_left}
 use Rattle.std.specs.List.{AllByRecursion}
 use Rattle.std.specs.declared.alloc.AllocError.{AllocError}
 use Rattle.live_laws.proofs.LiveTurns.{requests_sent-append}
@@ -10,7 +10,7 @@ use Rattle.live_laws.specs.TurnWrites.{WritesOfRun}
 use Rattle.replay_laws.proofs.Standing.{input_requests}
 use Rattle.replay_laws.specs.Laws.{ReplaysBegin}
 use Rattle.vm_attempt.specs.Attempt.{ClosesInput}
-use Rattle.vm_input_laws.proofs.Messages.{all_behind, all_in_front}
+use Rattle.vm_input_laws.proofs.Messages.{all_behind}
 use Rattle.vm_attempt_laws.specs.ArrivalsCome.{HasJournal}
 use Rattle.vm_attempt_laws.specs.AttemptInvariants.{attempt_started, BeginsServing, ClosesEarly, ClosesServing, FeedsServing, InputsCome, IsLast, LacksMemory, OversStay, ServesOn, StaysClosed, StaysServing, TakesServing}
 use Rattle.vm_attempt_laws.specs.AttemptSimulation.{AnswersKept, HasBodies, HasNotRead, HasRead, IsOver, machine_failed, Serves}
@@ -26,7 +26,7 @@ use Rattle.vm_attempt_laws.specs.TurnReports.{arrivals_told, early, FailsSo, IsA
 use Rattle.vm_attempt_laws.specs.TurnsInRun.{GoesOnBehind, ProposesAs, TurnKeeps, turns_answered, TurnsBehind, TurnServes}
 use Rattle.vm_attempt_laws.specs.Words.{after_reading, after_turn, Arrival, arrivals_carried, attempt_begun, AttemptInRun, AttemptStart, Bytes, CarriesInput, Error, Frame, handed_bytes, Handler, Input, input_bytes, InputMessage, Machine, machine_at_start, piece_of, Queued, Request, requests_carried, requests_sent, Version, VMOptions}
 use Rattle.vm_attempt_laws.proofs.ArrivalsCome.{arrivals_read, read_journal}
-use Rattle.vm_attempt_laws.proofs.Beginning.{bytes_append, no_bytes}
+use Rattle.vm_attempt_laws.proofs.Beginning.{bytes_append, none_more}
 use Rattle.vm_attempt_laws.proofs.Driven.{messages_written}
 use Rattle.vm_attempt_laws.proofs.Messages.{fed_same}
 use Rattle.vm_attempt_laws.proofs.OverAttempts.{closed_failed, closed_going, closed_over, early_tells, ends_by, fed_failed, fed_going, fed_over, moved_failed, moved_going, moved_over, over_of, turned_failed, turned_over}
@@ -45,11 +45,6 @@ cancel_bytes frame read held bytes rest handed unread is parts =
         ap (λ (some : Bytes). frame ++ some) (sym (append_assoc read (held ++ bytes) rest) ∙ ap (λ (some : Bytes). some ++ rest) (sym (append_assoc read held bytes)))
         ∙ sym (append_assoc frame ((read ++ held) ++ bytes) rest) ∙ ap (λ (some : Bytes). some ++ rest) (sym (append_assoc frame (read ++ held) bytes))
         ∙ ap (λ (some : Bytes). (some ++ bytes) ++ rest) (sym is)
-
--- messages of whose bytes none are held are none
-none_more : (some still unread : List InputMessage) (held : Bytes) → AllByRecursion MessageFits unread → unread ≡ some ++ still → held ≡ input_bytes (map piece_of some) ++ held → some ≡ []
-none_more some still unread held fit parts bytes =
-    no_bytes some (all_in_front MessageFits some still (subst (AllByRecursion MessageFits) parts fit)) (append_cancel_right (input_bytes (map piece_of some)) [] held (sym bytes))
 
 written_more : (version : Version) (some more : List Sent)
     → requests_sent (map (frame_meant version) (some ++ more)) ≡ requests_sent (map (frame_meant version) some) ++ requests_sent (map (frame_meant version) more)
@@ -366,8 +361,8 @@ module _ {H : Type 0} (function : H → Handler) (next : Handler) (version : Ver
         )
         writes_by sends Turn.Suspended b tells proposes = (b.3.suspension, b.3.frames_are)
         writes_by sends Turn.Ended b tells proposes = b.2
-        writes_by sends Turn.Answered b tells proposes = proposes
-        writes_by sends Turn.Waiting b tells proposes = proposes
+        writes_by sends Turn.Answered b tells proposes = b.4
+        writes_by sends Turn.Waiting b tells proposes = b.2
         writes_by sends (Turn.Failed error) b tells proposes = proposes
 
         -- it goes on, as it was told

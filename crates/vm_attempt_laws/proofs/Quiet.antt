@@ -1,11 +1,12 @@
 -- Frames that propose no outcome of a run.
-use Rattle.std.proofs.Common.{◌≡◌, ◌∙◌, inl, inr, ℕ, Bool, true, false, List, [], ◌∷◌, ◌++◌, map, Option, refl, sym, ap, subst}
+use Rattle.std.proofs.Common.{◌≡◌, ◌∙◌, inl, inr, ℕ, Bool, true, false, true≢false, List, [], ◌∷◌, ◌++◌, map, Option, refl, sym, ap, subst}
 use Rattle.std.specs.List.{AllByRecursion}
 use Rattle.vm_waiting.specs.WaitsFor.{waits_as}
 use Rattle.vm_waiting.specs.declared.waits_for.WaitsFor.{WaitsFor}
 use Rattle.vm_waiting.specs.declared.waits_for.WaitsFor.TheVariants.{Future, Child}
 use Rattle.vm_attempt_laws.specs.AttemptInvariants.{IsNoError, IsNoFailure}
 use Rattle.vm_attempt_laws.specs.Bodies.{outcomes_in}
+use Rattle.vm_attempt_laws.specs.TurnsInRun.{AsksAlone, TellsAwaited}
 use Rattle.vm_attempt_laws.specs.Words.{Answer, Answered, AwaitTree, Frame, Machine, NotificationId, Request, SendsReply, SendsWaiting}
 
 -- commands close nothing
@@ -35,7 +36,19 @@ waiting_calm version false tree frames (inl none) = subst (AllByRecursion IsNoEr
 waiting_calm version false tree frames (inr told) = subst (AllByRecursion IsNoError) (sym told) (tt, tt)
 waiting_calm version true tree frames sends = subst (AllByRecursion IsNoError) (sym sends.1) (tt, tt)
 
+waiting_tells : (version : ℕ) (is_closed : Bool) (tree : AwaitTree (Option NotificationId)) (frames : List Frame) → is_closed ≡ false → SendsWaiting version is_closed tree frames → TellsAwaited frames
+waiting_tells version false tree frames opened sends = sends
+waiting_tells version true tree frames opened sends = absurd (true≢false opened)
+
 module _ (version : ℕ) (is_closed : Bool) (m : Machine) (frames : List Frame) where
+  -- an answer sends requests alone, and while the input is open nothing is sent where it waits but what is awaited
+  pub answer_asks : (answer : Answer) (after : Machine) → SendsReply version is_closed m (Answered answer after) frames → AsksAlone frames
+  answer_asks answer after sends = (sends.0, sends.2)
+
+  pub waits_tell : (waits : WaitsFor) (whole : Machine) → is_closed ≡ false → SendsReply version is_closed m (waits_as waits whole) frames → TellsAwaited frames
+  waits_tell (Future left) whole opened sends = waiting_tells version is_closed _ frames opened sends
+  waits_tell (Child child) whole opened sends = waiting_tells version is_closed _ frames opened sends
+
   -- no error is sent but by a call that fails
   pub answer_calm : (answer : Answer) (after : Machine) → SendsReply version is_closed m (Answered answer after) frames → AllByRecursion IsNoError frames
   answer_calm answer after sends = subst (AllByRecursion IsNoError) (sym sends.2) (commands_only sends.0)

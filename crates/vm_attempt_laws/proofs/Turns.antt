@@ -79,7 +79,7 @@ module _ {H : Type 0} (function : H → Handler) (next : Handler) (version : Ver
   unread none is =
       subst Keeps (sym is.0)
       (silent (ap output_of is.1) Turn.Waiting refl
-      (inl none, (live.machine, stays_live (ap (λ (a : Attempt H). a.vm.state.runs) is.1) (subst (Serves function next version options live is_closed) (sym is.1) s), ap (λ (a : Attempt H). a.input) is.1)))
+      (inl none, (live.machine, stays_live (ap (λ (a : Attempt H). a.vm.state.runs) is.1) (subst (Serves function next version options live is_closed) (sym is.1) s), ap (λ (a : Attempt H). a.input) is.1), inl refl))
 
   -- ---- its input is read
 
@@ -88,7 +88,7 @@ module _ {H : Type 0} (function : H → Handler) (next : Handler) (version : Ver
     no_bytes = ap (λ (w : Written). w.bytes) n.started.output
 
     read_answers : AnswersInput live.start (kind_where version options is_closed) (with_messages (machine_at_start live.start.shown [] []) live.read) before.vm.state reads.read after.vm.state → Keeps turn
-    read_answers a = subst Keeps (sym gives.0) (silent same Turn.Answered refl (live.calls, live.machine, counted, stays_live (ap (λ (vm : MachineState). vm.runs) a.others) serves))
+    read_answers a = subst Keeps (sym gives.0) (silent same Turn.Answered refl (live.calls, live.machine, counted, stays_live (ap (λ (vm : MachineState). vm.runs) a.others) serves, ([], refl)))
       where
         gives : (turn ≡ Turn.Answered) × (after ≡ record (record before { vm = after.vm }) { input = Some live.start.given.input })
         gives = subst (λ (r : Result Input Error). GivesInput r (record before { vm = after.vm }) turn after) a.answer reads.gives

@@ -17,7 +17,7 @@ use Rattle.vm_attempt_laws.specs.AttemptInvariants.{IsNoError, TellsErrorBy}
 use Rattle.vm_attempt_laws.specs.AttemptSimulation.{HasNumbers, HasRead, HasBodies, Serves, finished, machine_failed}
 use Rattle.vm_attempt_laws.proofs.Notes.{answers_kept, waits_more}
 use Rattle.vm_attempt_laws.proofs.Errors.{call_errors, calm_unfailed, memory_told}
-use Rattle.vm_attempt_laws.proofs.Quiet.{answer_calm, answer_quiet, waits_calm, waits_quiet}
+use Rattle.vm_attempt_laws.proofs.Quiet.{answer_asks, answer_calm, answer_quiet, waits_calm, waits_quiet, waits_tell}
 use Rattle.vm_attempt_laws.proofs.Bodies.{keeps_with}
 use Rattle.vm_attempt_laws.proofs.Executing.{WithBodies, answered_lives, answered_keeps, none_executing, waits_live, waits_others}
 use Rattle.vm_attempt_laws.proofs.Going.{OnlyTurns, serves_on}
@@ -138,6 +138,7 @@ module _ {H : Type 0} (function : H → Handler) (next : Handler) (version : Ver
                   a.driven so.numbers answers
                   (answered_lives next version options is_closed live before.vm.state n proposed b.executor w answer a.machine a.replies (map (frame_meant version) so.sends.coming) sends texts)
                   (answered_keeps next version options is_closed live before.vm.state n proposed b.executor w a.machine vm.state.runs a.runs) (left w.behind) (ap (goes_on live.calls) a.replies),
+              answer_asks live.start.given.version is_closed live.machine (map (frame_meant version) so.sends.coming) answer a.machine sends,
             ))
         taken (inr over) =
             let is = over.1 in
@@ -180,6 +181,7 @@ module _ {H : Type 0} (function : H → Handler) (next : Handler) (version : Ver
             (subst (λ (runs : Runs). KeepsBodies runs (record b.executor { machine = p.machine })) (sym same_runs) (keeps_with before.vm.state.runs b.executor p.machine w.keeps)) (inr told.left) (ap (goes_on live.calls) p.replies ∙ waits_on p.waits p.machine),
         input,
       ),
+      waits_tell live.start.given.version is_closed live.machine (map (frame_meant version) so.coming) p.waits p.machine (sym (ap (λ (k : Kind). k.is_input_closed) n.kind) ∙ is_open) sends,
     ))
       where
         -- nothing is being executed between turns, so more can come

@@ -13,7 +13,7 @@ use Rattle.vm_attempt_laws.specs.Bodies.{CanReplay, ComesAsAsked, IsBehind, NonE
 use Rattle.vm_attempt_laws.specs.InputOfAttempt.{CanBegin, IsRunOf}
 use Rattle.vm_attempt_laws.specs.OutputOfAttempt.{AllFit, frame_meant, Sent, sent_stream}
 use Rattle.vm_attempt_laws.specs.TurnReports.{arrivals_told, Told, told_nothing, TurnTellsNow}
-use Rattle.vm_attempt_laws.specs.TurnsInRun.{ProposesAs}
+use Rattle.vm_attempt_laws.specs.TurnsInRun.{AsksAlone, ProposesAs, TellsAwaited}
 use Rattle.vm_attempt_laws.specs.Words.{arrivals_carried, attempt_begun, AttemptStart, Bytes, CarriesInput, Frame, Handler, input_bytes, InputMessage, IsNote, piece_of, Queued, Request, requests_carried, requests_sent, Version, version_number, VMOptions}
 
 -- ---- what a host does
@@ -73,12 +73,15 @@ module _ (version : Version) (start : AttemptStart) (host : Hosted) where
     pub notes : AllByRecursion IsNote (map (frame_meant version) more)
     pub early : (more ≡ []) ⊎ (HasJournal start host.told.bytes → ⊥)
 
-  -- where it suspends, ends or has executed a body, it writes the one frame that tells so; else no outcome of a body
+  -- where it suspends, ends or has executed a body, it writes the one frame that tells so; where it has answered requests alone; where it waits
+  -- nothing, or what is awaited; and where it fails no outcome of a body
   abbrev pub WritesBy : Turn → List Frame → (now : Told) → Type 0
   WritesBy Turn.Suspended frames now = (suspension : Suspension) × (frames ≡ Frame.Suspend (Some suspension) ∷ [])
   WritesBy Turn.Ended frames now = frames ≡ Frame.End ∷ []
   WritesBy Turn.RanBody frames now =
       (completion : ℕ) × (value : NonEmptyValue) × (frames ≡ outcome_frame (version_number version) completion value ∷ []) × (now.proposed ≡ host.told.proposed ++ (completion, value) ∷ [])
+  WritesBy Turn.Answered frames now = AsksAlone frames
+  WritesBy Turn.Waiting frames now = TellsAwaited frames
   WritesBy turn frames now = ProposesAs turn frames
 
   -- one that is over writes nothing more, and neither does one that fails since there was no memory for its input, or since that was closed early

@@ -62,6 +62,14 @@ abbrev pub ProposesAs : Turn → List Frame → Type 0
 ProposesAs Turn.RanBody frames = Unit {0}
 ProposesAs turn frames = outcomes_in frames ≡ []
 
+-- they are those of requests, and no other
+abbrev pub AsksAlone : List Frame → Type 0
+AsksAlone frames = (more : List Request) × (frames ≡ map Frame.Command more)
+
+-- there is none, or one that tells what is awaited
+abbrev pub TellsAwaited : List Frame → Type 0
+TellsAwaited frames = (frames ≡ []) ⊎ (frames ≡ Frame.AwaitingOn ∷ [])
+
 module _ {H : Type 0} (function : H → Handler) (next : Handler) (version : Version) (options : VMOptions) (is_closed : Bool) where
   -- the live attempt goes on, which has proposed these outcomes
   pub record GoesOnWith (live : AttemptInRun) (proposed : List (ℕ × NonEmptyValue)) (after : Attempt H) : Type 0 where
@@ -114,10 +122,10 @@ module _ {H : Type 0} (function : H → Handler) (next : Handler) (version : Ver
       abbrev pub TurnsBehind : List Sent → Turn → (after : Attempt H) → Type 0
       TurnsBehind sent Turn.Answered after =
           (calls : ℕ) × (machine : Machine) × (turns_answered after.input calls ≡ suc (turns_answered before.input live.calls))
-          × GoesOnBehind live (map (frame_meant version) sent) calls machine proposed after
+          × GoesOnBehind live (map (frame_meant version) sent) calls machine proposed after × AsksAlone (map (frame_meant version) sent)
       TurnsBehind sent Turn.RanBody after = RunsOne sent after
       TurnsBehind sent Turn.Waiting after =
-          MayWait × ((machine : Machine) × GoesOnBehind live (map (frame_meant version) sent) live.calls machine proposed after × (after.input ≡ before.input))
+          MayWait × ((machine : Machine) × GoesOnBehind live (map (frame_meant version) sent) live.calls machine proposed after × (after.input ≡ before.input)) × TellsAwaited (map (frame_meant version) sent)
       TurnsBehind sent Turn.Suspended after =
           (is_closed ≡ true) × RunWaits × IsOver after × SuspendsWith next live (map (frame_meant version) sent)
       TurnsBehind sent Turn.Ended after = RunComes Ended × IsOver after × (map (frame_meant version) sent ≡ Frame.End ∷ [])
