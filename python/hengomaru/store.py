@@ -152,8 +152,8 @@ class Store:
                 return self.next_moment()
             except StoreGone:
                 why = self.close()
-            if HELD not in why or time.monotonic() > ends:
-                raise NotOpened(f"{self.database}: {why or 'the process was ended'}")
+            if (why and HELD not in why) or time.monotonic() > ends:
+                raise NotOpened(f"{self.database}: {why or 'the process ends at once'}")
             time.sleep(0.02)
 
     def close(self):
