@@ -3,7 +3,7 @@ from . import pb
 from .context import Context, Request, from_json, to_json, told_of
 from .futures import Cancelled, TerminalError
 from .machine import CANCELLED, COMPLETED, EXECUTE_RUN, ID, AttemptOver, Machine, Suspended
-from .services import target_in
+from .services import CALLER, target_in
 from .store import Refused
 
 
@@ -15,7 +15,7 @@ class Attempt:
     def __init__(self, worker, id, now):
         self.worker, self.store, self.id = worker, worker.store, id
         self.number, content_type, start = self.store.begin(id, now)
-        self.machine, self.coroutine, self.ended = Machine(content_type), None, ""
+        self.machine, self.coroutine, self.caller, self.answer, self.ended = Machine(content_type), None, None, None, ""
         self.machine.notify_input(start)
 
     def run(self):
@@ -34,7 +34,7 @@ class Attempt:
         self.feed()
         body, seed = self.machine.sys_input()
         headers, id = self.machine.headers(), self.machine.input_part(ID)
-        target = target_in(headers)
+        target, self.caller = target_in(headers), headers.get(CALLER)
         handler = self.worker.app.find(target)
         if handler is None:
             self.fail(f"there is no handler {target.service}/{target.handler}")
@@ -43,6 +43,7 @@ class Attempt:
 
     def finish(self, value, failed):
         """The answer. Before it is recorded all that was asked of others is on its way, so that a closed invocation needs nothing."""
+        self.answer = pb.read_failure(value)[:2] if failed else value
         self.move()
         self.worker.deliver_all(self.id)
         self.machine.sys_write_output(value, failed)

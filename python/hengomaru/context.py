@@ -10,7 +10,7 @@ from fractions import Fraction
 from . import pb
 from .futures import CallFuture, DurableFuture, TerminalError
 from .machine import VALUE, VOID, Policy
-from .services import HANDLER, KEY, Workflow, target_of
+from .services import OWN_HEADERS, Workflow, target_of
 
 
 def to_json(value):
@@ -60,7 +60,7 @@ class Request:
 
     def __init__(self, id, headers, body):
         self.id, self.body = id, body
-        self.headers = {name: it for name, it in headers.items() if name not in (HANDLER, KEY)}
+        self.headers = {name: it for name, it in headers.items() if not name.startswith(OWN_HEADERS)}
 
 
 class Output:

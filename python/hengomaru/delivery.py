@@ -5,7 +5,7 @@ import json
 from collections import defaultdict
 
 from . import pb
-from .services import Handler, Service, Target, id_of, named, object_of, space_of
+from .services import CALLER, OWN_HEADERS, Handler, Service, Target, id_of, named, object_of, space_of
 from .store import Refused
 
 CALL, SEND, SIGNAL, ATTACH, GET_OUTPUT, AWAKEABLE = 0x040D, 0x040E, 0x040F, 0x0411, 0x0412, 0x0413
@@ -14,7 +14,7 @@ CANCEL = 1
 # The signal by which a sender is told that it has sent: it marks the place of what is delivered.
 DELIVERED = "hengomaru.delivered"
 # The header by which a call tells the id of what it calls.
-AS_ID = "hengomaru-id"
+AS_ID = OWN_HEADERS + "id"
 MADE, KNOWN, BUSY = range(3)
 # What the id of an invocation ends in that waits to call another one.
 LATER = "~later"
@@ -133,6 +133,7 @@ class Delivery:
             return target, None, headers
         key = found[6].decode() if 6 in found else None
         told = headers.pop(AS_ID, None)
+        headers[CALLER] = id
         return target, told or id_of(handler, target, key) or f"{id}.{request.place}", headers
 
     def call(self, id, request, fields, is_last):
@@ -163,7 +164,7 @@ class Delivery:
 
     def invoke_later(self, child, target, body, headers, at):
         told = {"at": at, "id": child, "target": target, "body": body.hex(), "headers": headers}
-        self.invoke(child + LATER, Target(OWN.name, "later"), json.dumps(told).encode())
+        self.invoke(child + LATER, Target(OWN.name, "later"), json.dumps(told).encode(), {CALLER: headers[CALLER]})
 
     def send(self, id, request, fields, is_last):
         target, child, headers = self.child(id, request, fields)

@@ -2,7 +2,9 @@
 from typing import NamedTuple
 from urllib.parse import quote, unquote
 
-HANDLER, KEY = "hengomaru-handler", "hengomaru-key"
+# The headers by which an invocation tells what it is of, and who has called it. A handler is not shown them.
+OWN_HEADERS = "hengomaru-"
+HANDLER, KEY, CALLER = (OWN_HEADERS + it for it in ("handler", "key", "caller"))
 
 
 class Target(NamedTuple):

@@ -5,7 +5,7 @@ from datetime import timedelta
 
 from .attempt import Attempt, FrameRefused
 from .context import from_json, to_json
-from .delivery import AWAKEABLE, BUSY, LATER, OWN, SIGNAL, Delivery
+from .delivery import AWAKEABLE, BUSY, OWN, SIGNAL, Delivery
 from .services import App, id_of, object_of, target_of
 from .store import Refused, Store, StoreGone
 
@@ -26,7 +26,8 @@ class Worker(Delivery):
     """Goes on with the invocations of a database, whose handlers are an app's or a list of services. Its handlers, and the bodies of their
     runs, go one after the other. Where the store's process is gone, `step` and `run` begin it anew, and go on.
 
-    It is told by `ended(id, value, failure)` of each invocation that ends: a value such as JSON has, or None and (code, message).
+    It tells by `ended(id, value, failure)` of each invocation that ends, and that no other has called: a value such as JSON has, or None and
+    (code, message).
     """
 
     def __init__(self, database, app, program=None, clock=now_in_millis, ended=None):
@@ -34,7 +35,10 @@ class Worker(Delivery):
         self.app[OWN.name] = OWN
         self.store, self.clock, self.tell_ended = Store(database, program), clock, ended
         self.log = logging.getLogger("hengomaru")
-        self.recover()
+        try:
+            self.recover()
+        except StoreGone:
+            self.reopen()
 
     def close(self):
         """Ends the store's process: all that is recorded is in the file then."""
@@ -164,7 +168,7 @@ class Worker(Delivery):
             self.stop(attempt)
             return self.put_off(id, self.interval(id))
         if ended == "ended":
-            return self.close_invocation(id)
+            return self.close_invocation(attempt)
         if ended == "failed":
             return self.fail(id)
         self.failures.pop(id, None)
@@ -187,13 +191,14 @@ class Worker(Delivery):
         self.failures[id] = self.failures.get(id, 0) + 1
         self.not_before[id] = self.clock() + delay
 
-    def close_invocation(self, id):
-        """Goes on with whoever waits for its answer, or for its object."""
+    def close_invocation(self, attempt):
+        """Goes on with whoever waits for its answer, or for its object. What no other has called is told."""
+        id = attempt.id
         self.failures.pop(id, None)
         self.dirty.discard(id)
         self.dirty |= self.waiting.pop(id, set()) | self.busy.pop(self.objects.pop(id), set())
-        if self.tell_ended and not id.endswith(LATER):
-            self.tell_ended(id, *answer_in(self.store.show(id).answer))
+        if self.tell_ended and not attempt.caller:
+            self.tell_ended(id, *answer_in(attempt.answer))
 
     def next_moment(self):
         """When something is due next, in milliseconds, by the clock; None where nothing sleeps."""
