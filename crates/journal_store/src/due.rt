@@ -6,13 +6,14 @@ ghost use Rattle.due_laws.specs.NextMoment.{IsNextMoment};
 ghost use Rattle.journal_store.specs.Stands.{IsQuiet, TellsAlways};
 ghost use Rattle.journal_store.specs.Words.{attempt_of};
 ghost use Rattle.journal_store.specs.Causes.{TellsWhy};
+ghost use Rattle.store_reads.specs.DuePage.{due_after};
 ghost use Rattle.store_reads.specs.Page.{invocations_after};
 
 use crate::store::Store;
 use bytes::ByteStr;
 use sqlite::Alter;
 use store_live::LiveAttempts;
-use store_reads::{awake_ids, invocations_after, next_moment};
+use store_reads::{awake_ids, due_after, invocations_after, next_moment};
 use store_refusals::Refusal;
 use store_tables::InvocationRow;
 
@@ -35,6 +36,18 @@ impl<S: Alter + Drop> Store<S> {
         let mut ids = awake_ids(&mut self.tables)?;
         leave_out_live(&mut ids, &self.live);
         Ok(ids)
+    }
+
+    /// The first so many of those that are due whose ids are above one: behind the empty id, which no invocation has, the first of all. To
+    /// go through them in parts, ask again behind the last id. Memory holds what is told, and one row; it costs a look-up for each
+    /// invocation above the id until so many are found, closed ones too.
+    pub fn due_after(&mut self, after: &ByteStr, most: usize) -> Result<Vec<ByteStr>, Refusal>
+        ensures told { TellsAlways S.Store (λ events ids. ids.items ≡ due_after events after.now most) result self.old self.new }
+        ensures live { self.new.live ≡ self.old.live }
+        ensures cause { IfErr result (TellsWhy S.Store self.old self.new) }
+        ensures crash { IsQuiet S.Store self.old self.new }
+    {
+        due_after(&mut self.tables, &self.live, after, most)
     }
 
     /// The first so many of the invocations whose ids are above one, or of all: open and closed ones, by id. To list those of a file in

@@ -10,6 +10,7 @@ ghost use Rattle.store_model.specs.Kept.{state_row};
 ghost use Rattle.store_model.specs.Progress.{last_error_of};
 ghost use Rattle.store_invocations.specs.Told.{entries_told};
 ghost use Rattle.store_invocations.specs.Answered.{answer_told};
+ghost use Rattle.store_reads.specs.DuePage.{due_after};
 ghost use Rattle.journal_store.specs.Attempts.{BeginsSome};
 ghost use Rattle.journal_store.specs.Causes.{TellsWhy, TellsWhyUnwritten, TriesEvent};
 ghost use Rattle.journal_store.specs.Stands.{Endures, EnduresAlways, IsQuiet, Leads, Settles};
@@ -337,6 +338,16 @@ impl<H: Handler + Drop, S: Alter + Drop> Scheduler<H, S> {
         ensures crash { IsQuiet S.Store self.old.store self.new.store }
     {
         self.store.due()
+    }
+
+    /// The first so many of those that are due whose ids are above one, by id: behind the empty id the first of all.
+    pub fn due_after(&mut self, after: &ByteStr, most: usize) -> Result<Vec<ByteStr>, Refusal>
+        ensures told { TellsAlways S.Store (λ events ids. ids.items ≡ due_after events after.now most) result self.old self.new }
+        ensures kept { self.new ≡ record self.old { store = self.new.store } }
+        ensures cause { IfErr result (TellsWhy S.Store self.old.store self.new.store) }
+        ensures crash { IsQuiet S.Store self.old.store self.new.store }
+    {
+        self.store.due_after(after, most)
     }
 
     /// The first moment, in milliseconds, at which a tick ends a sleep, if there is one: until then no tick brings anything.

@@ -1,4 +1,5 @@
 pub mod Finding
 pub mod Deciding
 pub mod PageRows
+pub mod DuePage
 pub mod OpenRequests

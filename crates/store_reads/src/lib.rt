@@ -4,6 +4,7 @@
 #![tactic(auto)]
 
 mod awake;
+mod due_page;
 mod frame;
 mod next;
 mod next_input;
@@ -11,6 +12,7 @@ mod page;
 mod requests;
 
 pub use awake::awake_ids;
+pub use due_page::{due_after, pages_go_on};
 pub use next::next_moment;
 pub use next_input::next_frame;
 pub use page::invocations_after;

@@ -28,7 +28,7 @@ fn first_row<S: Alter>(tables: &mut StoreTables<S>) -> Result<Option<InvocationR
 }
 
 /// The first of those whose ids are above one.
-fn row_above<S: Alter>(
+pub(crate) fn row_above<S: Alter>(
     tables: &mut StoreTables<S>,
     id: &ByteStr,
 ) -> Result<Option<InvocationRow>, Refusal>

@@ -73,6 +73,20 @@ fn tick<R: Print>(rt: &R, store: &mut Memory, words: &[&str]) -> Result<(), Faul
     print_number(rt, "ended", store.tick(now))
 }
 
+fn due_after<R: Print>(
+    rt: &R,
+    alloc: Global,
+    store: &mut Memory,
+    words: &[&str],
+) -> Result<(), Fault> {
+    let [after, most] = words else {
+        return Err(Fault::NotUnderstood);
+    };
+    let after = parse_text(alloc, after)?;
+    let most = most.parse()?;
+    print_ids(rt, store.due_after(&after, most))
+}
+
 fn next_input<R: Print>(
     rt: &R,
     store: &mut Memory,
@@ -198,6 +212,9 @@ fn ask<R: Print>(
     }
     if call == "due" {
         return print_ids(rt, store.due());
+    }
+    if call == "due_after" {
+        return due_after(rt, alloc, store, words);
     }
     if call == "next_moment" {
         return print_moment(rt, store.next_moment());
