@@ -52,11 +52,13 @@ fn unread_words<R: Env>(rt: &R, kind: ErrorKind) -> ProgramFault {
 }
 
 /// What a call of one word asks for.
-fn mode_of_one(word: String) -> Mode {
+fn mode_of_one(word: String) -> Result<Mode, ProgramFault> {
     if word.as_str() == "--help" {
-        Mode::Help
+        Ok(Mode::Help)
+    } else if word.as_str() == "--serve" {
+        Err(ProgramFault::Usage)
     } else {
-        Mode::List { database: word }
+        Ok(Mode::List { database: word })
     }
 }
 
@@ -83,7 +85,7 @@ pub(crate) fn read_words<R: Env + AllocGlobal>(rt: &R) -> Result<Mode, ProgramFa
         return Err(ProgramFault::Usage);
     };
     let Some(second) = words.next() else {
-        return Ok(mode_of_one(first));
+        return mode_of_one(first);
     };
     if words.next().is_some() {
         return Err(ProgramFault::Usage);

@@ -47,8 +47,10 @@ fn shown_entries<S: Alter + Drop>(
     store: &mut Store<S>,
     id: &ByteStr,
 ) -> Result<Vec<ShownEntry>, Refusal> {
-    let entries = store.entries(id)?;
-    read_entries(alloc, entries)
+    match store.entries(id) {
+        Ok(entries) => read_entries(alloc, entries),
+        Err(refusal) => Err(refusal),
+    }
 }
 
 /// What the store holds of an invocation.
@@ -138,8 +140,10 @@ pub(crate) fn page<S: Alter + Drop>(
     after: &ByteStr,
     most: usize,
 ) -> Result<Vec<ListedInvocation>, Refusal> {
-    let rows = store.invocations(Some(after), most)?;
-    listed(alloc, store, rows)
+    match store.invocations(Some(after), most) {
+        Ok(rows) => listed(alloc, store, rows),
+        Err(refusal) => Err(refusal),
+    }
 }
 
 pub(crate) fn list<S: Alter + Drop>(

@@ -11,7 +11,8 @@ pub(crate) fn invoke<S: Alter + Drop>(
     store: &mut Store<S>,
     new: NewInvocation,
 ) -> Result<String, AllocError> {
-    done(alloc, store.invoke(new))
+    let told = store.invoke(new);
+    done(alloc, told)
 }
 
 pub(crate) fn complete<S: Alter + Drop>(
@@ -21,7 +22,8 @@ pub(crate) fn complete<S: Alter + Drop>(
     completion: u32,
     brought: NotificationResult,
 ) -> Result<String, AllocError> {
-    placed(alloc, store.result(id, completion, brought))
+    let told = store.result(id, completion, brought);
+    placed(alloc, told)
 }
 
 pub(crate) fn signal<S: Alter + Drop>(
@@ -31,7 +33,8 @@ pub(crate) fn signal<S: Alter + Drop>(
     key: SignalKey,
     brought: NotificationResult,
 ) -> Result<String, AllocError> {
-    placed(alloc, store.signal(id, key, brought))
+    let told = store.signal(id, key, brought);
+    placed(alloc, told)
 }
 
 pub(crate) fn cancel<S: Alter + Drop>(
@@ -39,7 +42,8 @@ pub(crate) fn cancel<S: Alter + Drop>(
     store: &mut Store<S>,
     id: &ByteStr,
 ) -> Result<String, AllocError> {
-    placed(alloc, store.cancel(id))
+    let told = store.cancel(id);
+    placed(alloc, told)
 }
 
 pub(crate) fn tick<S: Alter + Drop>(
@@ -47,7 +51,8 @@ pub(crate) fn tick<S: Alter + Drop>(
     store: &mut Store<S>,
     now: u64,
 ) -> Result<String, AllocError> {
-    ticked(alloc, store.tick(now))
+    let told = store.tick(now);
+    ticked(alloc, told)
 }
 
 pub(crate) fn begin<S: Alter + Drop>(
@@ -56,7 +61,8 @@ pub(crate) fn begin<S: Alter + Drop>(
     id: &ByteStr,
     now: u64,
 ) -> Result<String, AllocError> {
-    begun(alloc, store.begin(id, now))
+    let told = store.begin(id, now);
+    begun(alloc, told)
 }
 
 pub(crate) fn input<S: Alter + Drop>(
@@ -66,7 +72,8 @@ pub(crate) fn input<S: Alter + Drop>(
     attempt: u32,
     most: u32,
 ) -> Result<String, AllocError> {
-    handed(alloc, store.next_input(id, attempt, most as usize))
+    let told = store.next_input(id, attempt, most as usize);
+    handed(alloc, told)
 }
 
 pub(crate) fn output<S: Alter + Drop>(
@@ -76,7 +83,8 @@ pub(crate) fn output<S: Alter + Drop>(
     attempt: u32,
     bytes: &Bytes,
 ) -> Result<String, AllocError> {
-    accepted(alloc, store.accept(id, attempt, bytes.as_slice()))
+    let told = store.accept(id, attempt, bytes.as_slice());
+    accepted(alloc, told)
 }
 
 pub(crate) fn close<S: Alter + Drop>(
@@ -85,7 +93,8 @@ pub(crate) fn close<S: Alter + Drop>(
     id: &ByteStr,
     attempt: u32,
 ) -> Result<String, AllocError> {
-    done(alloc, store.close_input(id, attempt))
+    let told = store.close_input(id, attempt);
+    done(alloc, told)
 }
 
 pub(crate) fn stop<S: Alter + Drop>(
@@ -94,5 +103,6 @@ pub(crate) fn stop<S: Alter + Drop>(
     id: &ByteStr,
     attempt: u32,
 ) -> Result<String, AllocError> {
-    done(alloc, store.stop(id, attempt))
+    let told = store.stop(id, attempt);
+    done(alloc, told)
 }

@@ -1,4 +1,6 @@
 //! Why a store is served no longer.
+ghost use Rattle.std.specs.Prelude.{◌≡◌, Some};
+ghost use Rattle.store_server.specs.declared.fault.ServerFault.TheVariants.{LineOutOfMemory};
 
 use std::alloc::AllocError;
 use std::error::Error;
@@ -22,8 +24,12 @@ pub enum ServerFault {
 }
 
 impl ServerFault {
+    ghost use Rattle.store_server.specs.Fault.{server_status};
+
     /// The status that a program ends with.
-    pub fn status(self) -> u8 {
+    pub fn status(self) -> u8
+        ensures { result ≡ server_status self }
+    {
         match self {
             ServerFault::LineTooLong => 1,
             ServerFault::InputUnreadable
@@ -36,6 +42,10 @@ impl ServerFault {
 }
 
 impl fmt::Display for ServerFault {
+    ghost use Rattle.store_server.specs.Fault.{server_fault_text};
+
+    ghost output = { λ fault. Some (server_fault_text fault) };
+
     fn fmt<W: fmt::Write>(&self, f: &mut fmt::Formatter<W>) -> fmt::Result {
         match self {
             ServerFault::LineTooLong => write!(f, "line too long"),
@@ -53,6 +63,8 @@ impl fmt::Display for ServerFault {
 impl Error for ServerFault {}
 
 impl From<AllocError> for ServerFault {
+    ghost from_gives = { λ _ fault. fault ≡ LineOutOfMemory };
+
     fn from(_error: AllocError) -> ServerFault {
         ServerFault::LineOutOfMemory
     }

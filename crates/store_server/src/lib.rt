@@ -8,10 +8,10 @@ mod fault;
 mod listing;
 mod reading;
 mod rows;
-mod serve;
+mod serving;
 
 pub use fault::ServerFault;
 pub use listing::list_store;
 pub use reading::LINE_LIMIT;
 pub use rows::{ShownInvocations, ShownRequests};
-pub use serve::serve;
+pub use serving::serve;

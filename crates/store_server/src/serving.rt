@@ -49,21 +49,45 @@ fn answer_line<S: Alter + Drop>(
     store: &mut Store<S>,
     line: &[u8],
 ) -> Result<String, ServerFault> {
-    let answer = match parse_request(alloc, line)? {
-        Some(request) => answer_request(alloc, store, request),
-        None => not_understood(alloc),
-    };
-    answer.or(Err(ServerFault::AnswerOutOfMemory))
+    match parse_request(alloc, line)? {
+        Some(request) => {
+            answer_request(alloc, store, request).or(Err(ServerFault::AnswerOutOfMemory))
+        }
+        None => not_understood(alloc).or(Err(ServerFault::AnswerOutOfMemory)),
+    }
 }
 
 /// Writes an answer, and lets the writer hand it on.
-fn send<W: Write>(writer: &mut W, text: String) -> Result<(), ServerFault> {
-    let written = write_text(writer, text.as_bytes());
-    drop(text);
-    if written.is_err() || writer.flush().is_err() {
+fn send<W: Write>(writer: &mut W, text: &[u8]) -> Result<(), ServerFault> {
+    if write_text(writer, text).is_err() {
+        return Err(ServerFault::OutputUnwritable);
+    }
+    if writer.flush().is_err() {
         return Err(ServerFault::OutputUnwritable);
     }
     Ok(())
+}
+
+/// Does a line, and answers it.
+fn do_line<W: Write, S: Alter + Drop>(
+    alloc: Global,
+    writer: &mut W,
+    store: &mut Store<S>,
+    line: Vec<u8>,
+) -> Result<bool, ServerFault> {
+    let answer = answer_line(alloc, store, line.as_slice());
+    drop(line);
+    match answer {
+        Ok(text) => {
+            let sent = send(writer, text.as_bytes());
+            drop(text);
+            match sent {
+                Ok(()) => Ok(true),
+                Err(fault) => Err(fault),
+            }
+        }
+        Err(fault) => Err(fault),
+    }
 }
 
 /// Reads a line, does it and answers it. Whether there was one.
@@ -73,16 +97,9 @@ fn do_next<R: BufRead, W: Write, S: Alter + Drop>(
     writer: &mut W,
     store: &mut Store<S>,
 ) -> Result<bool, ServerFault> {
-    let Some(line) = read_line(alloc, reader)? else {
-        return Ok(false);
-    };
-    let answer = answer_line(alloc, store, line.as_slice());
-    drop(line);
-    match answer {
-        Ok(text) => {
-            send(writer, text)?;
-            Ok(true)
-        }
+    match read_line(alloc, reader) {
+        Ok(Some(line)) => do_line(alloc, writer, store, line),
+        Ok(None) => Ok(false),
         Err(fault) => Err(fault),
     }
 }
@@ -96,8 +113,10 @@ pub fn serve<R: BufRead, W: Write, S: Alter + Drop>(
     store: &mut Store<S>,
 ) -> Result<(), ServerFault> {
     for _ in 0..u64::MAX {
-        if !do_next(alloc, reader, writer, store)? {
-            return Ok(());
+        match do_next(alloc, reader, writer, store) {
+            Ok(true) => {}
+            Ok(false) => return Ok(()),
+            Err(fault) => return Err(fault),
         }
     }
     Err(ServerFault::InputUnreadable)
