@@ -77,28 +77,30 @@ def answered(worker, words):
 
 def words_of(line):
     """The words of a line: the last one, JSON, may hold spaces."""
-    word = line.split(None, 1)[0] if line.split() else ""
-    return line.split(None, ASKED.get(word, (0, 1))[1])
+    word = line.split(None, 1)[0]
+    return line.strip().split(None, ASKED.get(word, (0, 1))[1])
 
 
-def wait_for_line(worker, lines):
-    """Waits until something is due, or a line has come, which it returns: none in the end."""
+def wait_for_bytes(worker, file):
+    """Waits until something is due, or bytes have come, which it returns: none in the end, and None where something is due."""
     moment = worker.next_moment()
     left = None if moment is None else max(0, moment - worker.clock()) / 1000 + 0.001
-    ready, _, _ = select.select([lines], [], [], left)
-    return lines.readline() if ready else "\n"
+    ready, _, _ = select.select([file], [], [], left)
+    return os.read(file, 65536) if ready else None
 
 
-def watch(worker, lines):
+def watch(worker, file):
     """Goes on, and takes lines, until they end and nothing sleeps."""
-    while True:
+    came, kept = None, b""
+    while came != b"":
         while worker.step():
             pass
-        line = wait_for_line(worker, lines)
-        if not line:
-            return worker.run()
-        if words_of(line):
-            answered(worker, words_of(line))
+        came = wait_for_bytes(worker, file)
+        *lines, kept = (kept + (came or b"")).split(b"\n")
+        for line in lines:
+            if line.strip():
+                answered(worker, words_of(line.decode(errors="replace")))
+    worker.run()
 
 
 def main(words):
@@ -114,7 +116,7 @@ def main(words):
         return 2
     with worker:
         if words == ["watch"]:
-            return watch(worker, open(0, buffering=1, closefd=False)) or 0
+            return watch(worker, 0) or 0
         if words:
             return answered(worker, words)
         return worker.run() or 0

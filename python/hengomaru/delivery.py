@@ -246,7 +246,8 @@ class Delivery:
 
     def cancel(self, id):
         """Cancels an invocation, also one that waits for its moment, or for its object."""
-        self.store.cancel(id if self.is_known(id) else id + LATER)
+        late = id + LATER
+        self.store.cancel(late if not self.is_known(id) and self.is_known(late) else id)
 
     def complete_awakeable(self, awakeable, value):
         """Brings the value that an awakeable waits for, as a store's value, once; whether it was brought."""

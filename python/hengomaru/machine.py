@@ -115,9 +115,14 @@ class Machine:
 
     library = None
 
+    @classmethod
+    def find(cls):
+        """Loads the library, where that was not done; FileNotFoundError or OSError where it cannot be."""
+        if cls.library is None:
+            cls.library = load(find_library())
+
     def __init__(self, content_type, options=0, fallback_random_seed=0):
-        if Machine.library is None:
-            Machine.library = load(find_library())
+        self.find()
         self.handle, code = Handle(), c.c_uint32()
         status = self.ask("new", content_type, options, fallback_random_seed, c.byref(code))
         if status == FAILED:

@@ -6,6 +6,7 @@ from datetime import timedelta
 from .attempt import Attempt, FrameRefused
 from .context import from_json, to_json
 from .delivery import AWAKEABLE, BUSY, OWN, SIGNAL, Delivery
+from .machine import Machine
 from .services import App, id_of, object_of, target_of
 from .store import Refused, Store, StoreGone
 
@@ -33,6 +34,7 @@ class Worker(Delivery):
     def __init__(self, database, app, program=None, clock=now_in_millis, ended=None):
         self.app = app if isinstance(app, App) else App(app)
         self.app[OWN.name] = OWN
+        Machine.find()
         self.store, self.clock, self.tell_ended = Store(database, program), clock, ended
         self.log = logging.getLogger("hengomaru")
         try:
