@@ -283,7 +283,8 @@ class Features(unittest.TestCase):
     def test_cancellation(self):
         self.assertEqual(self.run_one(cancels), ["i.1", "409 and on"])
         self.worker.submit("p", calls_sleepy)
-        self.worker.run(timedelta(milliseconds=100))
+        self.worker.step()
+        self.worker.step()
         self.worker.cancel_invocation("p")
         self.worker.run(timedelta(seconds=20))
         self.assertEqual([self.answer("p"), self.answer("p.1")], [(409, "cancelled"), "409 and on"])
