@@ -3,6 +3,7 @@
 #![tactic(auto)]
 
 mod operands;
+mod refusing;
 
 /// Names items of a type, or those that it has by a trait, and calls none.
 #[macro_export]
@@ -12,6 +13,8 @@ macro_rules! named {
 }
 
 pub use operands::{Hex, bytes, number, text, told};
+use refusing::refuse_rows;
+pub use refusing::{begin_round, end_round};
 use std::alloc::Global;
 use std::process::ExitCode;
 use std::rt::{Env, Files};
@@ -62,13 +65,22 @@ fn print_rows<A: Answers, R: Files + Print + AllocGlobal>(rt: &R, file: &str) ->
 fn print_files<A: Answers, R: Files + Env + Print + AllocGlobal>(rt: &R) -> io::Result<()> {
     let mut files = env::args(rt)?;
     let _program = files.next();
+    let mut is_refused = false;
     for file in files {
-        print_rows::<A, R>(rt, file.as_str())?;
+        if file.as_str() == "refused" {
+            is_refused = true;
+        } else if is_refused {
+            let rows = fs::read_to_string(rt, file.as_str())?;
+            refuse_rows::<A, R>(rt, file.as_str(), rows.as_str())?;
+        } else {
+            print_rows::<A, R>(rt, file.as_str())?;
+        }
     }
     Ok(())
 }
 
-/// Prints the rows of each file that a word of the call names.
+/// Prints the rows of each file that a word of the call names. Behind the word `refused` they are asked in rounds, in each of which one
+/// allocation is refused.
 pub fn run<A: Answers, R: Files + Env + Print + AllocGlobal>(rt: &R) -> ExitCode {
     match print_files::<A, R>(rt) {
         Ok(()) => ExitCode::SUCCESS,
