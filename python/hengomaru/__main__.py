@@ -115,12 +115,13 @@ def main(words):
         print(f"hengomaru: {error}", file=sys.stderr)
         return 2
     with worker:
-        if words == ["watch"]:
-            return watch(worker, 0) or 0
-        if words:
+        if words and words != ["watch"]:
             return answered(worker, words)
-        return worker.run() or 0
+        return (watch(worker, 0) if words else worker.run()) or 0
 
 
 if __name__ == "__main__":
-    sys.exit(main(sys.argv[1:]))
+    try:
+        sys.exit(main(sys.argv[1:]))
+    except KeyboardInterrupt:
+        sys.exit(130)

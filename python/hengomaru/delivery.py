@@ -6,7 +6,7 @@ from collections import defaultdict
 
 from . import pb
 from .services import CALLER, OWN_HEADERS, Handler, Service, Target, id_of, named, object_of, space_of
-from .store import Refused
+from .store import OPEN, Refused
 
 CALL, SEND, SIGNAL, ATTACH, GET_OUTPUT, AWAKEABLE = 0x040D, 0x040E, 0x040F, 0x0411, 0x0412, 0x0413
 GET_PROMISE, COMPLETE_PROMISE = 0x0409, 0x040B
@@ -87,9 +87,10 @@ class Delivery:
     def invoke(self, id, target, body, headers=()):
         """Makes the invocation of an id, where it is not there: MADE, KNOWN, or BUSY where its object has another one that is open."""
         handler = self.app.find(target)
-        self.objects[id] = object = object_of(handler, target, id)
+        object = object_of(handler, target, id)
         try:
             self.store.invoke(id, object, body, {**dict(headers), **target.headers()}, seed=seed_of(id))
+            self.objects[id] = object
             return MADE
         except Refused as refused:
             if refused.name == "S3" or (refused.name == "S1" and self.is_known(id)):
@@ -97,6 +98,12 @@ class Delivery:
             if refused.name != "S1":
                 raise
         return BUSY
+
+    def object(self, id):
+        """The object of an open invocation."""
+        if id not in self.objects:
+            self.objects.update((it.id, it.object) for it in self.store.list() if it.status in OPEN)
+        return self.objects[id]
 
     def is_known(self, id):
         return self.show(id) is not None
@@ -209,7 +216,7 @@ class Delivery:
     def promise(self, id, request, fields, is_last):
         found = dict(fields)
         name = found.get(1, b"").decode()
-        promise = (*space_of(self.objects[id]), name)
+        promise = (*space_of(self.object(id)), name)
         came = self.promises.find(*promise)
         if request.type == COMPLETE_PROMISE:
             self.store.result(id, request.first, None if came is None else (409, f"the promise {name} is completed"))

@@ -11,6 +11,8 @@ from .machine import clone
 # Bytes that stand for themselves in a word.
 PLAIN = "".join(chr(it) for it in range(0x21, 0x7F) if chr(it) not in "%#")
 HELD = "another process has it open"
+# How an invocation stands that has not ended.
+OPEN = "live", "due", "suspended"
 
 
 class Refused(Exception):
@@ -147,7 +149,9 @@ class Store:
         while True:
             self.close()
             pipe = subprocess.PIPE
-            self.process = subprocess.Popen([self.program, "--serve", self.database], stdin=pipe, stdout=pipe, stderr=pipe)
+            words = [self.program, "--serve", self.database]
+            # in a session of its own, so that it ends when its input does, and not where a terminal interrupts the worker
+            self.process = subprocess.Popen(words, stdin=pipe, stdout=pipe, stderr=pipe, start_new_session=True)
             try:
                 return self.next_moment()
             except StoreGone:

@@ -8,11 +8,10 @@ from .context import from_json, to_json
 from .delivery import AWAKEABLE, BUSY, OWN, SIGNAL, Delivery
 from .machine import Machine
 from .services import App, id_of, object_of, target_of
-from .store import Refused, Store, StoreGone
+from .store import OPEN, Refused, Store, StoreGone
 
 FIRST_INTERVAL, LAST_INTERVAL = 50, 10_000
 PAUSE = 1
-OPEN = "live", "due", "suspended"
 
 
 def now_in_millis():
@@ -198,7 +197,7 @@ class Worker(Delivery):
         id = attempt.id
         self.failures.pop(id, None)
         self.dirty.discard(id)
-        self.dirty |= self.waiting.pop(id, set()) | self.busy.pop(self.objects.pop(id), set())
+        self.dirty |= self.waiting.pop(id, set()) | self.busy.pop(self.objects.pop(id, None), set())
         if self.tell_ended and not attempt.caller:
             self.tell_ended(id, *answer_in(attempt.answer))
 
