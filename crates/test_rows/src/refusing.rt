@@ -52,9 +52,10 @@ fn answer_all<A: Answers>(alloc: Global, file: &str, rows: &str, told: &mut Vec<
     drop(answers);
 }
 
-/// Whether an answer tells that memory was refused: by its text, or by the code of an attempt that fails for it.
+/// Whether an answer tells that memory was refused: by its text, by the code of an attempt that fails for it, or by the state of one that has
+/// failed.
 fn tells_refusal(told: &str) -> bool {
-    told.contains("out of memory") || told.starts_with("failed 500")
+    told.contains("out of memory") || told.starts_with("failed 500") || told == "Closed"
 }
 
 /// Whether answers are the wanted ones, but for those that tell the refusal. Where a row could not be asked or told, what comes behind it is
