@@ -1,1 +1,6 @@
+pub mod Answered
 pub mod Fault
+pub mod Reading
+pub mod Rows
+pub mod Served
+pub mod StoreChanges

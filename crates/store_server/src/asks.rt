@@ -1,4 +1,15 @@
 //! Requests that only ask. All is asked for before a text is made of it.
+ghost use Rattle.std.specs.Prelude.{◌≡◌, ◌++◌, map, IfErr, IfOk, Ok, Some, string_bytes};
+ghost use Rattle.journal_model.specs.Attempt.{due};
+ghost use Rattle.due_laws.specs.NextMoment.{IsNextMoment};
+ghost use Rattle.server_lines.specs.Reply.{error_text};
+ghost use Rattle.shown_records.specs.Shown.{HasEntries, HasRecords, RefusesShow, Shows, TellsState};
+ghost use Rattle.store_model.specs.Progress.{last_error_of};
+ghost use Rattle.store_reads.specs.Page.{invocations_after};
+ghost use Rattle.store_reads.specs.OpenRequests.{open_requests};
+ghost use Rattle.store_server.specs.StoreChanges.{CommitsNothing, ReachesStore, Tells, TellsKnown, items_told};
+ghost use Rattle.store_server.specs.Answered.{Answers, MakesAnswer, Shown, ids_line, last_error_line, last_error_text, line_of, moment_line};
+ghost use Rattle.store_server.specs.Rows.{all_listed_text, end_line, listed_of, open_requests_text};
 
 use crate::answer::refused;
 use crate::rows::{ListedInvocation, ShownInvocations, ShownRequests, listed};
@@ -9,7 +20,9 @@ use shown_records::{ShownEntry, ShownInvocation, ShownStates, read_entries};
 use sqlite::Alter;
 use std::alloc::{AllocError, Global};
 
-fn due_line(alloc: Global, ids: &[ByteStr]) -> Result<String, AllocError> {
+fn due_line(alloc: Global, ids: &[ByteStr]) -> Result<String, AllocError>
+    ensures { IfOk result (λ text. string_bytes text ≡ ids_line ids.now) }
+{
     let reply = DueReply(ids);
     format!(in alloc; "{reply}\n")
 }
@@ -17,7 +30,9 @@ fn due_line(alloc: Global, ids: &[ByteStr]) -> Result<String, AllocError> {
 pub(crate) fn due<S: Alter + Drop>(
     alloc: Global,
     store: &mut Store<S>,
-) -> Result<String, AllocError> {
+) -> Result<String, AllocError>
+    ensures { MakesAnswer string_bytes result (λ text. ReachesStore S.Store CommitsNothing (Answers ids_line (Tells (λ events ids. ids ≡ due events)) text) store.old store.new) }
+{
     match store.due() {
         Ok(ids) => {
             let text = due_line(alloc, ids.as_slice());
@@ -31,7 +46,9 @@ pub(crate) fn due<S: Alter + Drop>(
 pub(crate) fn next<S: Alter + Drop>(
     alloc: Global,
     store: &mut Store<S>,
-) -> Result<String, AllocError> {
+) -> Result<String, AllocError>
+    ensures { MakesAnswer string_bytes result (λ text. ReachesStore S.Store CommitsNothing (Answers moment_line (Tells IsNextMoment) text) store.old store.new) }
+{
     match store.next_moment() {
         Ok(moment) => {
             let reply = NextReply(moment);
@@ -46,7 +63,10 @@ fn shown_entries<S: Alter + Drop>(
     alloc: Global,
     store: &mut Store<S>,
     id: &ByteStr,
-) -> Result<Vec<ShownEntry>, Refusal> {
+) -> Result<Vec<ShownEntry>, Refusal>
+    ensures ok { IfOk result (λ shown. ReachesStore S.Store CommitsNothing (Shown (HasEntries id.now shown.items)) store.old store.new) }
+    ensures err { IfErr result (λ refusal. ReachesStore S.Store CommitsNothing (Shown (RefusesShow id.now refusal)) store.old store.new) }
+{
     match store.entries(id) {
         Ok(entries) => read_entries(alloc, entries),
         Err(refusal) => Err(refusal),
@@ -58,7 +78,10 @@ fn shown<S: Alter + Drop>(
     alloc: Global,
     store: &mut Store<S>,
     id: &ByteStr,
-) -> Result<ShownInvocation, Refusal> {
+) -> Result<ShownInvocation, Refusal>
+    ensures ok { IfOk result (λ shown. ReachesStore S.Store CommitsNothing (Shown (HasRecords id.now shown.entries.items shown.answer shown.is_open)) store.old store.new) }
+    ensures err { IfErr result (λ refusal. ReachesStore S.Store CommitsNothing (Shown (RefusesShow id.now refusal)) store.old store.new) }
+{
     let is_open = store.is_open(id)?;
     let answer = store.answer(id)?;
     match shown_entries(alloc, store, id) {
@@ -78,7 +101,9 @@ pub(crate) fn show<S: Alter + Drop>(
     alloc: Global,
     store: &mut Store<S>,
     id: &ByteStr,
-) -> Result<String, AllocError> {
+) -> Result<String, AllocError>
+    ensures { MakesAnswer string_bytes result (λ text. ReachesStore S.Store CommitsNothing (Shown (Shows id.now text)) store.old store.new) }
+{
     match shown(alloc, store, id) {
         Ok(shown) => {
             let text = format!(in alloc; "{shown}");
@@ -93,7 +118,9 @@ pub(crate) fn state<S: Alter + Drop>(
     alloc: Global,
     store: &mut Store<S>,
     object: &ByteStr,
-) -> Result<String, AllocError> {
+) -> Result<String, AllocError>
+    ensures { MakesAnswer string_bytes result (λ text. ReachesStore S.Store CommitsNothing (Shown (TellsState object.now text)) store.old store.new) }
+{
     match store.state(object) {
         Ok(rows) => {
             let shown = ShownStates { rows };
@@ -105,7 +132,9 @@ pub(crate) fn state<S: Alter + Drop>(
     }
 }
 
-fn error_reply(error: &Option<LastError>) -> ErrorReply<'_> {
+fn error_reply(error: &Option<LastError>) -> ErrorReply<'_>
+    ensures { error_text result ≡ last_error_text error.now }
+{
     match error {
         None => ErrorReply::Missing,
         Some(error) => ErrorReply::Told {
@@ -121,7 +150,9 @@ pub(crate) fn error<S: Alter + Drop>(
     alloc: Global,
     store: &mut Store<S>,
     id: &ByteStr,
-) -> Result<String, AllocError> {
+) -> Result<String, AllocError>
+    ensures { MakesAnswer string_bytes result (λ text. ReachesStore S.Store CommitsNothing (Answers last_error_line (TellsKnown id.now (λ events error. error ≡ last_error_of events id.now)) text) store.old store.new) }
+{
     match store.failure(id) {
         Ok(error) => {
             let reply = error_reply(&error);
@@ -139,7 +170,9 @@ pub(crate) fn page<S: Alter + Drop>(
     store: &mut Store<S>,
     after: &ByteStr,
     most: usize,
-) -> Result<Vec<ListedInvocation>, Refusal> {
+) -> Result<Vec<ListedInvocation>, Refusal>
+    ensures { ReachesStore S.Store CommitsNothing (Tells (λ events page. page ≡ map (listed_of events) (invocations_after events (Some after.now) most)) (items_told (λ page. page.items) result)) store.old store.new }
+{
     match store.invocations(Some(after), most) {
         Ok(rows) => listed(alloc, store, rows),
         Err(refusal) => Err(refusal),
@@ -151,7 +184,9 @@ pub(crate) fn list<S: Alter + Drop>(
     store: &mut Store<S>,
     after: &ByteStr,
     most: u32,
-) -> Result<String, AllocError> {
+) -> Result<String, AllocError>
+    ensures { MakesAnswer string_bytes result (λ text. ReachesStore S.Store CommitsNothing (Answers (λ listed. all_listed_text listed ++ end_line) (Tells (λ events listed. listed ≡ map (listed_of events) (invocations_after events (Some after.now) most))) text) store.old store.new) }
+{
     match page(alloc, store, after, most as usize) {
         Ok(invocations) => {
             let shown = ShownInvocations { invocations };
@@ -167,7 +202,9 @@ pub(crate) fn requests<S: Alter + Drop>(
     alloc: Global,
     store: &mut Store<S>,
     id: ByteStr,
-) -> Result<String, AllocError> {
+) -> Result<String, AllocError>
+    ensures { MakesAnswer string_bytes result (λ text. ReachesStore S.Store CommitsNothing (Answers (λ asked. open_requests_text id asked ++ end_line) (TellsKnown id (λ events asked. asked ≡ open_requests events id)) text) store.old store.new) }
+{
     match store.open_requests(&id) {
         Ok(requests) => {
             let shown = ShownRequests { id, requests };

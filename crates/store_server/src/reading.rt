@@ -1,4 +1,6 @@
 //! Reading a line, of a bounded length.
+ghost use Rattle.std.specs.Prelude.{◌≡◌, ◌≢◌, ◌++◌, ◌∷◌, [], List, ℕ, IfErr, IfOk, IfSome, IsNone, option_map};
+ghost use Rattle.store_server.specs.Reading.{IsOpenLine, ReadsLine, StopsReading};
 
 use crate::fault::ServerFault;
 use std::alloc::Global;
@@ -8,7 +10,10 @@ use std::io::BufRead;
 pub const LINE_LIMIT: usize = 67_108_864;
 
 /// The line without its line feed; nothing where it has none.
-fn without_feed(mut line: Vec<u8>) -> Option<Vec<u8>> {
+fn without_feed(mut line: Vec<u8>) -> Option<Vec<u8>>
+    ensures some { IfSome result (λ rest. line.items ≡ rest.items ++ 10 ∷ []) }
+    ensures none { IsNone result → IsOpenLine line.items }
+{
     if line.pop() == Some(b'\n') {
         Some(line)
     } else {
@@ -21,7 +26,10 @@ fn without_feed(mut line: Vec<u8>) -> Option<Vec<u8>> {
 pub(crate) fn read_line<R: BufRead>(
     alloc: Global,
     reader: &mut R,
-) -> Result<Option<Vec<u8>>, ServerFault> {
+) -> Result<Option<Vec<u8>>, ServerFault>
+    ensures ok { IfOk result (λ line. ReadsLine (R.remaining reader.old) (R.remaining reader.new) (option_map (λ bytes. bytes.items) line)) }
+    ensures err { IfErr result (StopsReading (R.remaining reader.old) (R.remaining reader.new)) }
+{
     let mut line = Vec::new(alloc);
     if reader.read_until(b'\n', &mut line).is_err() {
         return Err(ServerFault::InputUnreadable);

@@ -1,4 +1,9 @@
 //! The dialogue: a line is read, done and answered before the next is read.
+ghost use Rattle.std.specs.Prelude.{◌≡◌, ◌≤◌, ℕ, length, take, IfErr, IfOk, OnErr, OnOk, string_bytes};
+ghost use Rattle.std.specs.Io.KnownBytes.{Appends};
+ghost use Rattle.store_server.specs.StoreChanges.{ReachesStore};
+ghost use Rattle.store_server.specs.Answered.{CutsLine, CutsRequest, DoesLine, DoesRequest, MakesAnswer};
+ghost use Rattle.store_server.specs.Served.{DoesGiven, GoesOn, Serves, StopsAtLine};
 
 use crate::answer::not_understood;
 use crate::asks::{due, error, list, next, requests, show, state};
@@ -17,7 +22,9 @@ fn answer_request<S: Alter + Drop>(
     alloc: Global,
     store: &mut Store<S>,
     request: Request,
-) -> Result<String, AllocError> {
+) -> Result<String, AllocError>
+    ensures { MakesAnswer string_bytes result (λ text. ReachesStore S.Store (CutsRequest request) (DoesRequest request text) store.old store.new) }
+{
     match request {
         Request::Invoke(new) => invoke(alloc, store, new),
         Request::Result {
@@ -48,7 +55,10 @@ fn answer_line<S: Alter + Drop>(
     alloc: Global,
     store: &mut Store<S>,
     line: &[u8],
-) -> Result<String, ServerFault> {
+) -> Result<String, ServerFault>
+    ensures ok { IfOk result (λ text. ReachesStore S.Store (CutsLine line.now) (DoesLine line.now (string_bytes text)) store.old store.new) }
+    ensures err { IfErr result (λ fault. StopsAtLine S.Store line.now fault store.old store.new) }
+{
     match parse_request(alloc, line)? {
         Some(request) => {
             answer_request(alloc, store, request).or(Err(ServerFault::AnswerOutOfMemory))
@@ -58,7 +68,11 @@ fn answer_line<S: Alter + Drop>(
 }
 
 /// Writes an answer, and lets the writer hand it on.
-fn send<W: Write>(writer: &mut W, text: &[u8]) -> Result<(), ServerFault> {
+fn send<W: Write>(writer: &mut W, text: &[u8]) -> Result<(), ServerFault>
+    ensures ok { OnOk result (Appends (W.contents writer.old) (W.contents writer.new) text.now) }
+    ensures err { IfErr result (λ fault. (fault ≡ ServerFault.OutputUnwritable) × (taken : ℕ) × (taken ≤ length text.now)
+        × Appends (W.contents writer.old) (W.contents writer.new) (take taken text.now)) }
+{
     if write_text(writer, text).is_err() {
         return Err(ServerFault::OutputUnwritable);
     }
@@ -74,7 +88,9 @@ fn do_line<W: Write, S: Alter + Drop>(
     writer: &mut W,
     store: &mut Store<S>,
     line: Vec<u8>,
-) -> Result<bool, ServerFault> {
+) -> Result<bool, ServerFault>
+    ensures { DoesGiven S.Store line.items (W.contents writer.old) (W.contents writer.new) store.old store.new result }
+{
     let answer = answer_line(alloc, store, line.as_slice());
     drop(line);
     match answer {
@@ -96,7 +112,9 @@ fn do_next<R: BufRead, W: Write, S: Alter + Drop>(
     reader: &mut R,
     writer: &mut W,
     store: &mut Store<S>,
-) -> Result<bool, ServerFault> {
+) -> Result<bool, ServerFault>
+    ensures { GoesOn S.Store (R.remaining reader.old) (R.remaining reader.new) (W.contents writer.old) (W.contents writer.new) store.old store.new result }
+{
     match read_line(alloc, reader) {
         Ok(Some(line)) => do_line(alloc, writer, store, line),
         Ok(None) => Ok(false),
@@ -111,7 +129,11 @@ pub fn serve<R: BufRead, W: Write, S: Alter + Drop>(
     reader: &mut R,
     writer: &mut W,
     store: &mut Store<S>,
-) -> Result<(), ServerFault> {
+) -> Result<(), ServerFault>
+    // What was read, done and answered, and why no more. Each line was done as the store's own contract says. What a crash leaves is what
+    // the lines before it left, or what the one at which it came commits.
+    ensures { Serves S.Store (R.remaining reader.old) (R.remaining reader.new) (W.contents writer.old) (W.contents writer.new) store.old store.new result }
+{
     for _ in 0..u64::MAX {
         match do_next(alloc, reader, writer, store) {
             Ok(true) => {}

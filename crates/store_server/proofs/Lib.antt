@@ -1,0 +1,6 @@
+pub mod Reaching
+pub mod Showing
+mod Answering
+mod LinesRead
+mod LinesServed
+mod Pages
