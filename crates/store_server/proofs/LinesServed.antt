@@ -18,7 +18,7 @@ end_through (Some x) None c bs read end = absurd read
 end_through (Some x) (Some y) c bs read end = end
 
 -- nothing more was written
-written_nothing : (a b c : Option (List ℕ)) (bs : List ℕ) → Appends a b bs → Appends b c [] → Appends a c bs
+pub written_nothing : (a b c : Option (List ℕ)) (bs : List ℕ) → Appends a b bs → Appends b c [] → Appends a c bs
 written_nothing a b c bs p q = subst (λ (text : List ℕ). Appends a c text) (append-nil bs) (Appends-trans a b c bs [] p q)
 
 nothing_read : (a b : Option (List ℕ)) (bs : List ℕ) → Consumes a b bs → Consumes a b (bs ++ [])

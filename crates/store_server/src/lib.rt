@@ -11,7 +11,7 @@ mod rows;
 mod serving;
 
 pub use fault::ServerFault;
-pub use listing::list_store;
+pub use listing::{list_store, pages_are_all};
 pub use reading::LINE_LIMIT;
 pub use rows::{ShownInvocations, ShownRequests};
 pub use serving::serve;

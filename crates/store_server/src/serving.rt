@@ -68,7 +68,7 @@ fn answer_line<S: Alter + Drop>(
 }
 
 /// Writes an answer, and lets the writer hand it on.
-fn send<W: Write>(writer: &mut W, text: &[u8]) -> Result<(), ServerFault>
+pub(crate) fn send<W: Write>(writer: &mut W, text: &[u8]) -> Result<(), ServerFault>
     ensures ok { OnOk result (Appends (W.contents writer.old) (W.contents writer.new) text.now) }
     ensures err { IfErr result (λ fault. (fault ≡ ServerFault.OutputUnwritable) × (taken : ℕ) × (taken ≤ length text.now)
         × Appends (W.contents writer.old) (W.contents writer.new) (take taken text.now)) }
