@@ -15,9 +15,9 @@ use sqlite_pool::probe_blank;
 use sqlite_store::{OpenError, Unopened};
 use sqlite_wal::PageSize;
 use std::alloc::{AllocError, AllocFailed, Global};
-use std::fs;
 use std::hash::{BuildHasher, RandomState};
 use std::rt::HostRuntime;
+use std::{fs, io};
 
 /// How many bytes a page of a new database has. A commit writes the pages that it changes, and a page costs by its bytes.
 pub(crate) const PAGE_BYTES: usize = 1024;
@@ -99,8 +99,16 @@ pub(crate) fn make_file(rt: &HostRuntime, path: &str) -> Result<(), Error>
         return Err(Error::SqliteFailure(ErrorCode::CannotOpen));
     };
     let options = Options::new(state.hash_one(&0u8));
-    let Ok(files) = sqlite_std_file::open(rt, path, Unknown) else {
-        return Ok(());
+    let files = match sqlite_std_file::open(rt, path, Unknown) {
+        Ok(files) => files,
+        Err(sqlite_std_file::OpenError::OutOfMemory) => {
+            return Err(Error::SqliteFailure(ErrorCode::OutOfMemory));
+        }
+        Err(sqlite_std_file::OpenError::Io(error)) if error.kind() == io::ErrorKind::OutOfMemory =>
+            {
+                return Err(Error::SqliteFailure(ErrorCode::OutOfMemory));
+            }
+        Err(_) => return Ok(()),
     };
     let (files, made) = begun(rt.alloc(), files, options);
     drop(files);
