@@ -1,1 +1,1 @@
-pub mod Timed
+pub mod TimedHandlers

@@ -23,7 +23,7 @@ use Rattle.journal_model.specs.Cause.{IsAccepted}
 use Rattle.journal_laws.proofs.ObjectState.{requests_in-append, no_entries}
 use Rattle.input_laws.proofs.Events.{added_by, begun_same, start_same, entries_now, arrivals_now, arrivals_append, entries_first, not_begun}
 use Rattle.input_laws.proofs.Handed.{brought, pieces_now, first_input, begin_added, begun_is}
-use Rattle.input_laws.specs.Once.{count_of, completion_numbers_of, numbers_come}
+use Rattle.input_laws.specs.CompletionsOnce.{count_of, completion_numbers_of, numbers_come}
 use Rattle.input_laws.proofs.Once.{count-append, recorded_once}
 use Rattle.input_laws.proofs.Results.{count-results, recorded_when_asked}
 use Rattle.due_laws.specs.Rows.{known_from, frames_known, arrivals_known_from, arrivals_known, with_outcome_noted, outcomes_noted, noted_number, as_told, later_piece, PiecesAreRows, AllKnownStays}

@@ -8,7 +8,7 @@ use Rattle.journal_model.specs.Journal.{is_of}
 use Rattle.journal_model.specs.Cause.{IsAccepted}
 use Rattle.input_laws.proofs.Events.{itself}
 use Rattle.due_laws.specs.InputParts.{HandsPart, HandsChain}
-use Rattle.due_laws.specs.Told.{while_last, start_frame, bytes_handed_out, bytes_told, WasHanded, ChainIsHandedOut, ChainGoesOn}
+use Rattle.due_laws.specs.HandedBytes.{while_last, start_frame, bytes_handed_out, bytes_told, WasHanded, ChainIsHandedOut, ChainGoesOn}
 use Rattle.due_laws.proofs.InputParts.{part_is_taken}
 use Rattle.due_laws.proofs.Heard.{handed_live}
 

@@ -1,5 +1,5 @@
 -- What is kept of an invocation so that it is known, without its journal, whether it is due.
-pub use Rattle.due_laws.specs.Noted.{arrivals_heard, heard_at, heard_in, or_kept, heard_of, or_zero, not_heard, is_awake_kept, Noted, noted_of}
+pub use Rattle.due_laws.specs.AwakeNotes.{arrivals_heard, heard_at, heard_in, or_kept, heard_of, or_zero, not_heard, is_awake_kept, Noted, noted_of}
 use Rattle.std.specs.Prelude.{◌≡◌, ◌≢◌, ℕ, ◌+◌, Bool, true, false, ◌&&◌, ◌||◌, if◌then◌else◌, List, [], ◌∷◌, ◌++◌, length, drop, Option, Some, None, bytes_eq}
 use Rattle.journal_model.specs.Notification.{Text, Arrival, cancel_id}
 use Rattle.journal_model.specs.declared.notification.NotificationResult.{NotificationResult}

@@ -1,8 +1,8 @@
-pub mod Noted
+pub mod AwakeNotes
 pub mod NextMoment
 pub mod Awake
 pub mod DueList
 pub mod Rows
 pub mod InputParts
 pub mod Leaves
-pub mod Told
+pub mod HandedBytes

@@ -7,7 +7,7 @@
 
 ghost use Rattle.due_laws.specs.Awake.{AwakeGrows, AwakeIsDue, HeardIsWithin, LiveIsAwake, NotedElsewhere, NotedFollows, NotedInvoked, NotedOpened, NotedRefused, NotedStill, NotedTicks, NotedUnticked};
 ghost use Rattle.due_laws.specs.Leaves.{OnlyAwaitedWake};
-ghost use Rattle.due_laws.specs.Told.{ChainGoesOn, ChainIsHandedOut};
+ghost use Rattle.due_laws.specs.HandedBytes.{ChainGoesOn, ChainIsHandedOut};
 ghost use Rattle.due_laws.specs.DueList.{AwakeFound, DueListed, DueTells};
 ghost use Rattle.due_laws.specs.Rows.{AllKnownStays, OutcomesAreRead, PiecesAreRows};
 ghost use Rattle.due_laws.specs.InputParts.{ChainsAreOne, CountIsUnseen, GivenIsAsked, PartIsHanded, PartIsTaken, RowsAreRead, RowsTell, TakenIsPart};

@@ -2,7 +2,7 @@
 use Rattle.std.specs.Prelude.{◌≡◌, ℕ, List, ◌++◌, Some, None, codes, string_bytes}
 use Rattle.script_lines.specs.Fault as script
 use Rattle.script_lines.specs.declared.fault.ScriptFault.{ScriptFault}
-use Rattle.store_files.specs.Why.{reason_text}
+use Rattle.store_files.specs.RefusalReasons.{reason_text}
 use Rattle.store_server.specs.Fault as server
 use Rattle.durable.specs.declared.fault.ProgramFault.{ProgramFault}
 use Rattle.durable.specs.declared.fault.ProgramFault.TheVariants.{Usage, PathNoText, FileMissing, DatabaseRefused, Script, Server}

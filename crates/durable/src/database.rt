@@ -5,7 +5,7 @@ ghost use Rattle.sqlite.specs.Files.{file_state};
 ghost use Rattle.sqlite.specs.State.{HasCleanDisk};
 ghost use Rattle.journal_model.specs.Event.{Event};
 ghost use Rattle.journal_model.specs.Cause.{after_open};
-ghost use Rattle.journal_store.specs.Stands.{Stands};
+ghost use Rattle.journal_store.specs.StoreStanding.{Stands};
 ghost use Rattle.store_files.specs.Files.{IsNoFile, KeepsEvents};
 ghost use Rattle.durable.specs.Fault.{IsDatabaseRefused};
 

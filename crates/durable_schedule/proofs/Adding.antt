@@ -11,7 +11,7 @@ use Rattle.journal_model.specs.Attempt.{is_live}
 use Rattle.vm_types.specs.declared.options.VMOptions.{VMOptions}
 use Rattle.store_refusals.specs.declared.refusal.Refusal.{Refusal}
 use Rattle.store_steps.specs.declared.frame.FrameReply.{FrameReply}
-use Rattle.store_steps.specs.Taken.{lies_in_frame}
+use Rattle.store_steps.specs.PreparedFrames.{lies_in_frame}
 use Rattle.store_calls.specs.AbstractStore.{Standing, StaysStanding}
 use Rattle.store_calls.specs.Calls.{Cancels, CompletesCall, Invokes, Signals, Stops, Ticks}
 use Rattle.store_calls.specs.Frames.{LeavesRefused, Rests, TakesEach}
@@ -25,7 +25,7 @@ use Rattle.schedule_laws.specs.Schedules.refusal
 use Rattle.schedule_laws.specs.Schedules.{Reply, HeldAttempt, held_of, RepliesDone, RepliesPlace, RepliesCount, BeginDoes, FeedsOne, ClosesOne, StopsOne, TurnsOne, MovesOne, IfHeld, UnlessMismatch, tells_mismatch, Does, Scheduled}
 use Rattle.durable_schedule.specs.Runs.{AppliesEach}
 use Rattle.durable_schedule.specs.Front.{AreAcceptedOf, IsAcceptedOf}
-use Rattle.durable_schedule.specs.Moved.{stop_for}
+use Rattle.durable_schedule.specs.MovedBytes.{stop_for}
 use Rattle.durable_schedule.proofs.Feeding.{are_fed, parts_events, some_parts, stopped_events, sum_given}
 
 -- these were accepted of the event, and put in front

@@ -20,7 +20,7 @@ use Rattle.schedule_laws.specs.Schedules.event
 use Rattle.schedule_laws.specs.Schedules.reply
 use Rattle.schedule_laws.specs.Schedules.refusal
 use Rattle.schedule_laws.specs.Schedules.{Event, Reply, HeldAttempt, Scheduled, held_of, RepliesDone, RepliesPlace, RepliesCount, BeginDoes, IfHeld, MovesOne, Applies}
-use Rattle.scheduler.specs.Scheduled.{AppliesWith}
+use Rattle.scheduler.specs.SchedulerCalls.{AppliesWith}
 use Rattle.durable_schedule.specs.Runs.{IsCertain, AreCertain}
 use Rattle.durable_schedule.proofs.Quieting.{KeepsAsWell, same_kept}
 use Rattle.durable_schedule.proofs.Refusing.{AddsAtMost, not_memory, refused_kept, untaken_kept, untaken_late}

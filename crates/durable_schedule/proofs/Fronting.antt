@@ -13,10 +13,10 @@ use Rattle.journal_laws.proofs.Isolation.{frames_of-view}
 use Rattle.vm_types.specs.declared.options.VMOptions.{VMOptions}
 use Rattle.store_calls.specs.AbstractStore.{Standing}
 use Rattle.store_model.specs.Progress.{last_error_of, error_in, first_item}
-use Rattle.store_invocations.specs.Told.{told_from}
-use Rattle.store_invocations.specs.Answered.{value_taken}
-use Rattle.journal_store.specs.Stored.{Stored}
-use Rattle.journal_store.specs.Stands.{Endures, IsStanding, KeepsStanding, Outlasts}
+use Rattle.store_invocations.specs.JournalContent.{told_from}
+use Rattle.store_invocations.specs.InvocationAnswers.{value_taken}
+use Rattle.journal_store.specs.StoreView.{Stored}
+use Rattle.journal_store.specs.StoreStanding.{Endures, IsStanding, KeepsStanding, Outlasts}
 use Rattle.journal_store.proofs.Leading.{stood}
 use Rattle.schedule_laws.specs.Isolation.{AllStandAlone}
 use Rattle.schedule_laws.specs.Schedules.event
@@ -24,11 +24,11 @@ use Rattle.schedule_laws.specs.Schedules.reply
 use Rattle.schedule_laws.specs.Schedules.refusal
 use Rattle.schedule_laws.specs.Schedules.{Event as Asked, Reply, Scheduled, AppliesAll}
 use Rattle.scheduler.specs.declared.scheduler.Scheduler.{Scheduler}
-use Rattle.scheduler.specs.Scheduled.{IsScheduled}
+use Rattle.scheduler.specs.SchedulerCalls.{IsScheduled}
 use Rattle.durable_schedule.specs.Runs.{EnduresUnwritten, LastsBehind, Leaves, LeavesFirst, at_first}
 use Rattle.durable_schedule.specs.Front.{IsFaithful, IsToldAlike, KeepsFirst, KeepsWritten, RecordsFaithfully, StandsFor, without_others}
-use Rattle.durable_schedule.specs.Handed.{AreHandedBy, HandsEach, HandsOne, IsHandedBy}
-use Rattle.durable_schedule.specs.Moved.{AreMovedBy}
+use Rattle.durable_schedule.specs.HandedBytes.{AreHandedBy, HandsEach, HandsOne, IsHandedBy}
+use Rattle.durable_schedule.specs.MovedBytes.{AreMovedBy}
 use Rattle.durable_schedule.proofs.Adding.{all_accepted}
 use Rattle.durable_schedule.proofs.Moving.{one_moved}
 use Rattle.durable_schedule.proofs.Written.{behind_more}

@@ -20,7 +20,7 @@ use Rattle.schedule_laws.specs.Schedules.reply
 use Rattle.schedule_laws.specs.Schedules.refusal
 use Rattle.schedule_laws.specs.Schedules.{Reply, HeldAttempt, held_of, RepliesDone, RepliesPlace, RepliesCount, BeginDoes, FeedsOne, ClosesOne, StopsOne, TurnsOne, MovesOne, IfHeld, UnlessMismatch, tells_mismatch, HandsOutEach, Does, Scheduled, AppliesAll}
 use Rattle.store_steps.specs.declared.frame.FrameReply.{FrameReply}
-use Rattle.store_steps.specs.Taken.{lies_in_frame}
+use Rattle.store_steps.specs.PreparedFrames.{lies_in_frame}
 use Rattle.store_calls.specs.AbstractStore.{Standing, StaysStanding, Refuses}
 use Rattle.store_calls.specs.Calls.{Cancels, CompletesCall, Invokes, Signals, Stops, Ticks}
 use Rattle.store_calls.specs.Frames.{Accepts, LeavesRefused, Rests, TakesEach}

@@ -17,11 +17,11 @@ use Rattle.schedule_laws.proofs.HandedInput.{hands_out_input}
 use Rattle.vm_types.specs.declared.options.VMOptions.{VMOptions}
 use Rattle.store_calls.specs.AbstractStore.{Standing}
 use Rattle.schedule_model.specs.Attempts.{Attempt, output_of}
-use Rattle.schedule_model.specs.Held.{is_held, with_attempt}
+use Rattle.schedule_model.specs.HeldAttempts.{is_held, with_attempt}
 use Rattle.schedule_model.proofs.Firsts.{first_of_other, first_push_other}
 use Rattle.schedule_model.proofs.Holding.{found_is, held_is, not_true, some_is, some_none}
 use Rattle.schedule_laws.proofs.Keeping.{handed_live}
-use Rattle.schedule_laws.specs.Written.{MovesBytes}
+use Rattle.schedule_laws.specs.WrittenFrames.{MovesBytes}
 use Rattle.schedule_laws.specs.Schedules.scheduled
 use Rattle.schedule_laws.specs.Schedules.event
 use Rattle.schedule_laws.specs.Schedules.reply
@@ -30,7 +30,7 @@ use Rattle.schedule_laws.specs.Schedules.{Reply, HeldAttempt, held_of, BeginDoes
 use Rattle.due_laws.proofs.InputParts.{part_is_taken}
 use Rattle.store_refusals.specs.declared.refusal.Refusal.{Refusal}
 use Rattle.durable_schedule.specs.Runs.{AppliesEach}
-use Rattle.durable_schedule.specs.Handed.{AreOfInput, HandsEach, HandsOne, IsHandedInput, handed_to, start_frame, while_last}
+use Rattle.durable_schedule.specs.HandedBytes.{AreOfInput, HandsEach, HandsOne, IsHandedInput, handed_to, start_frame, while_last}
 use Rattle.durable_schedule.proofs.Feeding.{stopped_events}
 use Rattle.durable_schedule.proofs.Growing.{GrowsBy, IsOfKind, Kind, does_grow, does_hand}
 

@@ -27,9 +27,9 @@ use Rattle.schedule_laws.specs.Schedules.event
 use Rattle.schedule_laws.specs.Schedules.reply
 use Rattle.schedule_laws.specs.Schedules.refusal
 use Rattle.schedule_laws.specs.Schedules.{Reply, HeldAttempt, held_of, is_held, RepliesDone, RepliesPlace, RepliesCount, BeginDoes, FeedsOne, ClosesOne, StopsOne, TurnsOne, MovesOne, IfHeld, UnlessMismatch, tells_mismatch, Scheduled, Applies}
-use Rattle.schedule_laws.specs.Written.{AreFrames, is_at_attempt, MovesBytes}
-use Rattle.durable_schedule.specs.Handed.{HandsEach, HandsOne}
-use Rattle.durable_schedule.specs.Moved.{AreFramesTaken, IsMovedBy, NoFurther, stop_for, TakesFirst, TakesFrames}
+use Rattle.schedule_laws.specs.WrittenFrames.{AreFrames, is_at_attempt, MovesBytes}
+use Rattle.durable_schedule.specs.HandedBytes.{HandsEach, HandsOne}
+use Rattle.durable_schedule.specs.MovedBytes.{AreFramesTaken, IsMovedBy, NoFurther, stop_for, TakesFirst, TakesFrames}
 use Rattle.durable_schedule.proofs.Adding.{rests_stop}
 use Rattle.durable_schedule.proofs.Taking.{left_waits, live_then, no_further, Quiet, quiet_adds, quiet_no_part, quiet_on, quiet_parts, quiet_puts, quiet_rests, quiet_stays, quiet_stopped, quiet_takes, Took, took_each}
 use Rattle.durable_schedule.proofs.Handing.{changed_unheld, if_unheld, live_number, same_unheld, unless_unheld}

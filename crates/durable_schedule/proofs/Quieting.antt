@@ -7,7 +7,7 @@ use Rattle.journal_model.specs.Event.{Event}
 use Rattle.journal_model.specs.Cause.{IsAccepted}
 use Rattle.journal_model.specs.Journal.{object_of}
 use Rattle.journal_model.specs.Run.{Handler}
-use Rattle.journal_store.specs.Stands.{KeepsAll}
+use Rattle.journal_store.specs.StoreStanding.{KeepsAll}
 use Rattle.journal_store.proofs.Quiet.{none_written}
 use Rattle.journal_store.proofs.Standing.{landed}
 use Rattle.store_calls.specs.AbstractStore.{Standing}

@@ -9,13 +9,13 @@ use Rattle.journal_model.specs.declared.cause.Cause.{Cause}
 use Rattle.protocol_stream.specs.Item.{Item, item_at}
 use Rattle.store_refusals.specs.declared.refusal.Refusal.{Refusal}
 use Rattle.store_refusals.specs.declared.refusal.Refusal.TheVariants as cause
-use Rattle.store_refusals.specs.Refused.{refusal_of_first_cause, is_circumstance, IsRefused}
+use Rattle.store_refusals.specs.RefusalConditions.{refusal_of_first_cause, is_circumstance, IsRefused}
 use Rattle.store_steps.specs.declared.frame.FrameReply.{FrameReply}
-use Rattle.store_steps.specs.Taken.{lies_in_frame}
+use Rattle.store_steps.specs.PreparedFrames.{lies_in_frame}
 use Rattle.store_calls.specs.AbstractStore.{Standing, StaysStanding, Refuses}
 use Rattle.store_calls.specs.Frames.{frame_in, IsNext, TakesFrame, TakesNone, RefusesFrame, LeavesRefused, Rests, Accepts}
 use Rattle.store_calls.proofs.Taking.{before_still, same_put}
-use Rattle.journal_store.specs.Stands.{Outlasts}
+use Rattle.journal_store.specs.StoreStanding.{Outlasts}
 use Rattle.journal_store.specs.OutputAcceptance.{OutlastsFrames}
 use Rattle.durable_schedule.specs.Runs.{IsCertain, AreCertain}
 use Rattle.durable_schedule.proofs.Quieting.{KeepsAsWell, same_kept, stopped_kept}

@@ -8,8 +8,8 @@ use Rattle.sqlite.proofs.StateLemmas.{survives_weaker}
 use Rattle.journal_model.specs.Notification.{Text}
 use Rattle.journal_model.specs.Run.{Handler}
 use Rattle.vm_types.specs.declared.options.VMOptions.{VMOptions}
-use Rattle.journal_store.specs.Stored.{Stored}
-use Rattle.journal_store.specs.Stands.{IsStanding, KeepsStanding, Endures, Outlasts}
+use Rattle.journal_store.specs.StoreView.{Stored}
+use Rattle.journal_store.specs.StoreStanding.{IsStanding, KeepsStanding, Endures, Outlasts}
 use Rattle.store_calls.specs.AbstractStore.{Standing}
 use Rattle.schedule_laws.proofs.Schedules.{schedules_grow}
 use Rattle.schedule_laws.specs.Isolation.{AllAnswerAlone, AllKeepState, AllStandAlone}
@@ -17,7 +17,7 @@ use Rattle.schedule_laws.specs.Laws.{FramesAreTaken, HoldsClosed, HoldsHeadline,
 use Rattle.schedule_laws.specs.Schedules.{Event, Reply, HeldAttempt, Scheduled, AppliesAll, Brings, FitsEvent}
 use Rattle.schedule_laws.specs.InvocationInRun.{HoldsOf, ReplaysInLine}
 use Rattle.scheduler.specs.declared.scheduler.Scheduler.{Scheduler}
-use Rattle.scheduler.specs.Scheduled.{IsScheduled, AppliesWith}
+use Rattle.scheduler.specs.SchedulerCalls.{IsScheduled, AppliesWith}
 use Rattle.due_laws.proofs.DueList.{due_tells}
 use Rattle.durable_schedule.specs.Runs.{AppliesAnswered, AppliesFirst, EnduresUnwritten, LastsBehind, Leaves, LeavesFirst, StandsInRun, at_first}
 use Rattle.journal_store.proofs.Enduring.{endures_on}

@@ -7,8 +7,8 @@ use Rattle.journal_model.specs.Notification.{Text}
 use Rattle.journal_model.specs.Run.{Handler}
 use Rattle.vm_types.specs.declared.options.VMOptions.{VMOptions}
 use Rattle.store_refusals.specs.declared.refusal.Refusal.{Refusal}
-use Rattle.journal_store.specs.Stored.{Stored}
-use Rattle.journal_store.specs.Stands.{Endures, IsQuiet, IsStanding, Outlasts}
+use Rattle.journal_store.specs.StoreView.{Stored}
+use Rattle.journal_store.specs.StoreStanding.{Endures, IsQuiet, IsStanding, Outlasts}
 use Rattle.store_calls.specs.AbstractStore.{Standing}
 use Rattle.schedule_laws.proofs.Schedules.{schedules_grow}
 use Rattle.schedule_laws.specs.Schedules.event
@@ -16,7 +16,7 @@ use Rattle.schedule_laws.specs.Schedules.reply
 use Rattle.schedule_laws.specs.Schedules.refusal
 use Rattle.schedule_laws.specs.Schedules.{Event, Reply, HeldAttempt, Scheduled, held_of, tells_mismatch, Applies, AppliesAll}
 use Rattle.scheduler.specs.declared.scheduler.Scheduler.{Scheduler}
-use Rattle.scheduler.specs.Scheduled.{AppliesWith, IsScheduled, IsEventWritten, OutlastsEvent, Spares}
+use Rattle.scheduler.specs.SchedulerCalls.{AppliesWith, IsScheduled, IsEventWritten, OutlastsEvent, Spares}
 use Rattle.durable_schedule.specs.Runs.{AreCertain, IsCertain, LastsNext, LastsBehind, at_first}
 use Rattle.durable_schedule.proofs.Quieting.{KeepsAsWell, fed_kept, shut_kept, turned_kept, ended_kept}
 use Rattle.durable_schedule.proofs.Refusing.{rest_lasts}

@@ -10,9 +10,9 @@ use Rattle.journal_model.specs.Attempt.{attempts_begun, begins_attempt, ends_liv
 use Rattle.journal_model.specs.Cause.{causes_of, IsAccepted}
 use Rattle.protocol_stream.specs.Item.{item_at}
 use Rattle.store_refusals.specs.declared.refusal.Refusal.{Refusal}
-use Rattle.store_refusals.specs.Refused.{IsRefused}
+use Rattle.store_refusals.specs.RefusalConditions.{IsRefused}
 use Rattle.store_steps.specs.declared.frame.FrameReply.{FrameReply}
-use Rattle.store_steps.specs.Taken.{does_end, lies_in_frame}
+use Rattle.store_steps.specs.PreparedFrames.{does_end, lies_in_frame}
 use Rattle.store_calls.specs.AbstractStore.{Standing, StaysStanding, Adds, LeavesWaiting}
 use Rattle.store_calls.specs.Calls.{PutsBehind, Stops}
 use Rattle.store_calls.specs.Frames.{frame_in, LeavesRefused, rest_after, Rests, TakesEach}
@@ -22,8 +22,8 @@ use Rattle.schedule_laws.specs.Schedules.event
 use Rattle.schedule_laws.specs.Schedules.reply
 use Rattle.schedule_laws.specs.Schedules.refusal
 use Rattle.schedule_laws.specs.Schedules.{Reply, RepliesDone, HandsOutEach, StopsHandingOut}
-use Rattle.schedule_laws.specs.Written.{AreFrames}
-use Rattle.durable_schedule.specs.Moved.{HasEnded, NoFurther}
+use Rattle.schedule_laws.specs.WrittenFrames.{AreFrames}
+use Rattle.durable_schedule.specs.MovedBytes.{HasEnded, NoFurther}
 
 -- ---- frames
 

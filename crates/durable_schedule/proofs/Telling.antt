@@ -15,10 +15,10 @@ use Rattle.schedule_laws.specs.Schedules.scheduled
 use Rattle.schedule_laws.specs.Schedules.event
 use Rattle.schedule_laws.specs.Schedules.reply
 use Rattle.schedule_laws.specs.Schedules.{Brings, FitsEvent, held_of, HeldAttempt, Reply, Scheduled}
-use Rattle.schedule_laws.specs.Turned.{BegunTells, EachBegunTells, TurnsTellEach, attempt_start_of, told_start}
-use Rattle.schedule_laws.specs.Written.{MovesBytes}
+use Rattle.schedule_laws.specs.TurnReplies.{BegunTells, EachBegunTells, TurnsTellEach, attempt_start_of, told_start}
+use Rattle.schedule_laws.specs.WrittenFrames.{MovesBytes}
 use Rattle.schedule_laws.specs.Attempts.{output_of}
-use Rattle.durable_schedule.specs.Handed.{HandsEach, HandsOne}
+use Rattle.durable_schedule.specs.HandedBytes.{HandsEach, HandsOne}
 
 module _ {H : Type 0} (function : H → Handler) (options : VMOptions) where
   does_so : (one : scheduled.Event H) (answer : Reply) (bytes : Bytes) (old new : Scheduled H) → HandsOne function options one answer bytes old new

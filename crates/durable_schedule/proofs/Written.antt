@@ -7,9 +7,9 @@ use Rattle.sqlite.specs.State.{HasCleanDisk}
 use Rattle.journal_model.specs.Run.{Handler}
 use Rattle.vm_types.specs.declared.options.VMOptions.{VMOptions}
 use Rattle.store_refusals.specs.declared.refusal.Refusal.{Refusal}
-use Rattle.store_refusals.specs.Refused.{is_circumstance}
-use Rattle.journal_store.specs.Stored.{Stored}
-use Rattle.journal_store.specs.Stands.{Endures, KeepsStanding, Outlasts}
+use Rattle.store_refusals.specs.RefusalConditions.{is_circumstance}
+use Rattle.journal_store.specs.StoreView.{Stored}
+use Rattle.journal_store.specs.StoreStanding.{Endures, KeepsStanding, Outlasts}
 use Rattle.store_calls.specs.AbstractStore.{Standing}
 use Rattle.schedule_laws.proofs.Schedules.{schedules_grow}
 use Rattle.schedule_laws.specs.Schedules.event
@@ -17,7 +17,7 @@ use Rattle.schedule_laws.specs.Schedules.reply
 use Rattle.schedule_laws.specs.Schedules.refusal
 use Rattle.schedule_laws.specs.Schedules.{Event, Reply, HeldAttempt, Scheduled, AppliesAll}
 use Rattle.scheduler.specs.declared.scheduler.Scheduler.{Scheduler}
-use Rattle.scheduler.specs.Scheduled.{AppliesWith}
+use Rattle.scheduler.specs.SchedulerCalls.{AppliesWith}
 use Rattle.durable_schedule.specs.Runs.{AppliesAnswered, AppliesFirst, AreCertain, EnduresUnwritten, IsCertain, IsWrittenSo, LastsBehind, LastsBy, LastsNext, NoneWritten, at_first}
 use Rattle.durable_schedule.proofs.Running.{LeadsFirst, all_first, first_of_more}
 

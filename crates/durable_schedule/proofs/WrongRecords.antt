@@ -26,11 +26,11 @@ use Rattle.schedule_laws.specs.Schedules.scheduled
 use Rattle.schedule_laws.specs.Schedules.event
 use Rattle.schedule_laws.specs.Schedules.reply
 use Rattle.schedule_laws.specs.Schedules.{Reply}
-use Rattle.schedule_laws.specs.Turned.{EachBegunTells, IsTakenAsTold, TurnTellsNow, attempt_start_of}
-use Rattle.schedule_laws.specs.Written.{AreFrames, TurnLeaves}
+use Rattle.schedule_laws.specs.TurnReplies.{EachBegunTells, IsTakenAsTold, TurnTellsNow, attempt_start_of}
+use Rattle.schedule_laws.specs.WrittenFrames.{AreFrames, TurnLeaves}
 use Rattle.durable_schedule.specs.Front.{AreAcceptedOf, IsFaithful}
-use Rattle.durable_schedule.specs.Handed.{AreHandedBy}
-use Rattle.durable_schedule.specs.Moved.{AreFramesTaken, AreMovedBy, NoFurther, TakesFirst}
+use Rattle.durable_schedule.specs.HandedBytes.{AreHandedBy}
+use Rattle.durable_schedule.specs.MovedBytes.{AreFramesTaken, AreMovedBy, NoFurther, TakesFirst}
 
 abbrev one_id : Text
 one_id = codes "i1"

@@ -5,12 +5,12 @@ use Rattle.sqlite.specs.Held.{state}
 use Rattle.sqlite.specs.State.{HasCleanDisk}
 use Rattle.journal_model.specs.Run.{Handler}
 use Rattle.vm_types.specs.declared.options.VMOptions.{VMOptions}
-use Rattle.journal_store.specs.Stored.{Stored}
-use Rattle.journal_store.specs.Stands.{Endures}
+use Rattle.journal_store.specs.StoreView.{Stored}
+use Rattle.journal_store.specs.StoreStanding.{Endures}
 use Rattle.schedule_laws.specs.Schedules.scheduled
 use Rattle.schedule_laws.specs.Schedules.{Applies, Reply, Scheduled}
 use Rattle.scheduler.specs.declared.scheduler.Scheduler.{Scheduler}
-use Rattle.scheduler.specs.Scheduled.{AppliesWith, IsScheduled, TellsCauseOf, refusal_told}
+use Rattle.scheduler.specs.SchedulerCalls.{AppliesWith, IsScheduled, TellsCauseOf, refusal_told}
 
 module _ {H S : Type 0} (g : Ghosts S) (function : H → Handler) (options : VMOptions) where
   -- The event was applied, and its reply tells the cause where the database refused something of it.

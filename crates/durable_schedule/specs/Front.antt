@@ -17,22 +17,22 @@ use Rattle.vm_types.specs.declared.options.VMOptions.{VMOptions}
 use Rattle.store_refusals.specs.declared.refusal.Refusal.{Refusal}
 use Rattle.store_refusals.specs.declared.refusal.Refusal.TheVariants.{OutOfMemory}
 use Rattle.store_model.specs.Progress.{last_error_of}
-use Rattle.store_invocations.specs.Told.{entries_told}
-use Rattle.store_invocations.specs.Answered.{answer_told}
-use Rattle.journal_store.specs.Stored.{Stored}
-use Rattle.journal_store.specs.Stands.{KeepsAll, Outlasts, Stands}
+use Rattle.store_invocations.specs.JournalContent.{entries_told}
+use Rattle.store_invocations.specs.InvocationAnswers.{answer_told}
+use Rattle.journal_store.specs.StoreView.{Stored}
+use Rattle.journal_store.specs.StoreStanding.{KeepsAll, Outlasts, Stands}
 use Rattle.schedule_laws.specs.InvocationInRun.{HoldsOf, ReplaysInLine, given_of}
 use Rattle.schedule_laws.specs.Laws.{IsClosedByEnd}
-use Rattle.schedule_laws.specs.Turned.{EachBegunTells}
+use Rattle.schedule_laws.specs.TurnReplies.{EachBegunTells}
 use Rattle.schedule_laws.specs.Schedules.scheduled
 use Rattle.schedule_laws.specs.Schedules.event
 use Rattle.schedule_laws.specs.Schedules.reply
 use Rattle.schedule_laws.specs.Schedules.refusal
 use Rattle.schedule_laws.specs.Schedules.{Reply, Scheduled, Brings}
-use Rattle.scheduler.specs.Scheduled.{IsScheduled}
+use Rattle.scheduler.specs.SchedulerCalls.{IsScheduled}
 use Rattle.scheduler.specs.declared.scheduler.Scheduler.{Scheduler}
-use Rattle.durable_schedule.specs.Handed.{AreHandedBy, IsHandedInput}
-use Rattle.durable_schedule.specs.Moved.{AreFramesTaken, AreMovedBy, stop_for}
+use Rattle.durable_schedule.specs.HandedBytes.{AreHandedBy, IsHandedInput}
+use Rattle.durable_schedule.specs.MovedBytes.{AreFramesTaken, AreMovedBy, stop_for}
 use Rattle.durable_schedule.specs.Runs.{AreButLast, LastsBehind, NoneWritten}
 
 -- ---- what was accepted, by the replies

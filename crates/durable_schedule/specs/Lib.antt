@@ -1,7 +1,7 @@
 pub mod Causes
 pub mod Front
-pub mod Handed
-pub mod Moved
+pub mod HandedBytes
+pub mod MovedBytes
 pub mod Runs
 pub mod Schedules
 pub mod Attempts

@@ -17,9 +17,9 @@ use Rattle.vm_types.specs.Options.{run_options}
 use Rattle.vm_types.specs.declared.options.VMOptions.{VMOptions}
 use Rattle.store_calls.specs.AbstractStore.{Standing}
 use Rattle.store_refusals.specs.declared.refusal.Refusal.{Refusal}
-use Rattle.store_refusals.specs.Refused.{is_circumstance}
-use Rattle.journal_store.specs.Stored.{Stored}
-use Rattle.journal_store.specs.Stands.{KeepsStanding}
+use Rattle.store_refusals.specs.RefusalConditions.{is_circumstance}
+use Rattle.journal_store.specs.StoreView.{Stored}
+use Rattle.journal_store.specs.StoreStanding.{KeepsStanding}
 use Rattle.schedule_laws.specs.Isolation.{IsAlike}
 use Rattle.schedule_laws.specs.Laws.{IsClosedByEnd, RefuseNoFrame}
 use Rattle.schedule_laws.specs.Schedules.scheduled
@@ -28,9 +28,9 @@ use Rattle.schedule_laws.specs.Schedules.reply
 use Rattle.schedule_laws.specs.Schedules.refusal
 use Rattle.schedule_laws.specs.Schedules.{Reply, HeldAttempt, Scheduled, Applies, AppliesAll, Brings}
 use Rattle.schedule_laws.specs.InvocationInRun.{ReplaysInLine, HoldsOf, given_of}
-use Rattle.schedule_laws.specs.Turned.{EachBegunTells}
-use Rattle.durable_schedule.specs.Handed.{HandsEach, IsHandedInput}
-use Rattle.durable_schedule.specs.Moved.{AreFramesTaken}
+use Rattle.schedule_laws.specs.TurnReplies.{EachBegunTells}
+use Rattle.durable_schedule.specs.HandedBytes.{HandsEach, IsHandedInput}
+use Rattle.durable_schedule.specs.MovedBytes.{AreFramesTaken}
 
 -- ---- its events, one after another
 

@@ -7,9 +7,9 @@ ghost use Rattle.std.specs.List.{AllByRecursion};
 ghost use Rattle.sqlite.specs.Held.{state};
 ghost use Rattle.sqlite.specs.State.{HasCleanDisk};
 ghost use Rattle.store_calls.specs.AbstractStore.{Standing};
-ghost use Rattle.journal_store.specs.Stands.{Endures, IsStanding, Outlasts};
+ghost use Rattle.journal_store.specs.StoreStanding.{Endures, IsStanding, Outlasts};
 ghost use Rattle.schedule_laws.specs.Schedules.{AppliesAll, FitsEvent, Scheduled};
-ghost use Rattle.scheduler.specs.Scheduled.{IsScheduled};
+ghost use Rattle.scheduler.specs.SchedulerCalls.{IsScheduled};
 ghost use Rattle.durable_schedule.specs.Causes.{TellsCauses};
 ghost use Rattle.durable_schedule.specs.Runs.{EnduresUnwritten, LastsBehind, Leaves, LeavesFirst, at_first};
 

@@ -5,11 +5,11 @@ use Rattle.journal_model.specs.Notification.{Arrival as Brought}
 use Rattle.journal_model.specs.Journal.{Entry, Recorded, Arrived, entries_of}
 use Rattle.journal_model.specs.Attempt.{notification_type}
 use Rattle.vm_input_laws.proofs.Arrivals.{decodes}
-use Rattle.store_invocations.specs.Told.{entry_told, told_from}
+use Rattle.store_invocations.specs.JournalContent.{entry_told, told_from}
 use Rattle.shown_records.specs.declared.entry.ShownEntry.{ShownEntry}
 use Rattle.shown_records.specs.declared.entry.ShownEntry.TheVariants.{Arrival, Request}
 use Rattle.shown_records.specs.Entries.{AreShown, IsShown, entry_text}
-use Rattle.durable_script.specs.EntriesShown.{EntryFits, line_at, lines_from, EntriesAreShown}
+use Rattle.durable_script.specs.ShownEntries.{EntryFits, line_at, lines_from, EntriesAreShown}
 
 same_ok : {A E : Type 0} (r : Result A E) (x y : A) → r ≡ Ok x → r ≡ Ok y → x ≡ y
 same_ok r x y e f = cc

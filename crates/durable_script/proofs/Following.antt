@@ -16,7 +16,7 @@ use Rattle.script_lines.specs.declared.line.Line.{Line}
 use Rattle.script_lines.specs.declared.line.Line.TheVariants.{Invoke, Result, Signal, Cancel, Tick, Begin, Feed, Close, Turn, Move, Stop, Due, Show, State}
 use Rattle.script_lines.specs.declared.outcome.LineOutcome.{LineOutcome}
 use Rattle.durable_script.specs.Line.{brought, new_invocation, goes_on, turn_event, AppliesOne, TurnsGoOn, EndsTurns, AreTurns, AreOfLine, DoesEvent, DoesLine}
-use Rattle.durable_script.specs.Printed.{printed, refused_memory}
+use Rattle.durable_script.specs.ReplyTexts.{printed, refused_memory}
 use Rattle.durable_script.specs.Run.{DoneLine, AllBring, AreFirst, AreOfLines, DoesAll, DoesFirst, LinesFollow}
 
 -- ---- events one after another

@@ -7,8 +7,8 @@ use Rattle.sqlite.proofs.StateLemmas.{survives_weaker}
 use Rattle.built_in_handlers.specs.declared.built_in.BuiltIn.{BuiltIn}
 use Rattle.built_in_handlers.specs.BuiltIn.{function_of}
 use Rattle.vm_types.specs.Options.{default_options}
-use Rattle.journal_store.specs.Stored.{Stored}
-use Rattle.journal_store.specs.Stands.{Endures, IsStanding, KeepsStanding}
+use Rattle.journal_store.specs.StoreView.{Stored}
+use Rattle.journal_store.specs.StoreStanding.{Endures, IsStanding, KeepsStanding}
 use Rattle.store_calls.specs.AbstractStore.{Standing}
 use Rattle.durable_schedule.proofs.Running.{all_left}
 use Rattle.schedule_laws.specs.Laws as laws

@@ -11,7 +11,7 @@ use Rattle.script_lines.specs.declared.line.Line.TheVariants as line
 use Rattle.script_lines.specs.declared.outcome.LineOutcome.{LineOutcome}
 use Rattle.script_lines.specs.declared.word.HandlerName.{HandlerName}
 use Rattle.durable_script.specs.Line.{AppliesOne, IsBegin, DoesEvent, DoesSomeEvent, TookTurns, TakesTurns, DoesLine, DoesSomeLine}
-use Rattle.durable_script.specs.Printed.{printed, MakesText}
+use Rattle.durable_script.specs.ReplyTexts.{printed, MakesText}
 use Rattle.durable_script.specs.SchedulerChanges.{Reaches, Nowhere}
 use Rattle.durable_script.proofs.SchedulerChanges.{Applied, reaches_so}
 

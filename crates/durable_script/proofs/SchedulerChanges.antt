@@ -9,15 +9,15 @@ use Rattle.built_in_handlers.specs.BuiltIn.{function_of}
 use Rattle.journal_model.specs.Event as model
 use Rattle.vm_types.specs.declared.options.VMOptions.{VMOptions}
 use Rattle.vm_types.specs.Options.{default_options}
-use Rattle.journal_store.specs.Stored.{Stored}
+use Rattle.journal_store.specs.StoreView.{Stored}
 use Rattle.scheduler.specs.declared.scheduler.Scheduler.{Scheduler}
-use Rattle.scheduler.specs.Scheduled.{AppliesWith, IsScheduled}
+use Rattle.scheduler.specs.SchedulerCalls.{AppliesWith, IsScheduled}
 use Rattle.durable_schedule.specs.Schedules.{FitsEvent, Event, Reply, HeldAttempt, Scheduled, Does, Applies}
-use Rattle.journal_store.specs.Stands.{Endures, KeepsStanding}
+use Rattle.journal_store.specs.StoreStanding.{Endures, KeepsStanding}
 use Rattle.journal_store.proofs.Enduring.{same_endures}
 use Rattle.durable_script.specs.Line.{AppliesOne}
 use Rattle.durable_script.specs.SchedulerChanges.{KeepsCut, LeavesCut, Reaches, Nowhere}
-use Rattle.durable_script.specs.Shown.{ShowsOnly}
+use Rattle.durable_script.specs.ShowLines.{ShowsOnly}
 
 -- an event was applied, with some reply
 abbrev pub Applied : Event BuiltIn → Scheduled BuiltIn → Scheduled BuiltIn → Type 0

@@ -12,22 +12,22 @@ use Rattle.journal_model.specs.Event.{Event}
 use Rattle.journal_model.specs.Journal.{is_open}
 use Rattle.store_refusals.specs.declared.refusal.Refusal.{Refusal}
 use Rattle.store_refusals.specs.Names.{refusal_name_of}
-use Rattle.store_refusals.specs.Refused.{IsRefused}
+use Rattle.store_refusals.specs.RefusalConditions.{IsRefused}
 use Rattle.store_invocations.specs.Rows.{known_tests}
 use Rattle.journal_model.specs.Cause.{those_that_hold}
 use Rattle.store_invocations.specs.declared.recorded.RecordedEntry.{RecordedEntry}
-use Rattle.store_invocations.specs.Told.{entries_told}
-use Rattle.store_invocations.specs.Answered.{answer_told}
-use Rattle.journal_store.specs.Stands.{IsQuiet}
+use Rattle.store_invocations.specs.JournalContent.{entries_told}
+use Rattle.store_invocations.specs.InvocationAnswers.{answer_told}
+use Rattle.journal_store.specs.StoreStanding.{IsQuiet}
 use Rattle.scheduler.specs.declared.scheduler.Scheduler.{Scheduler}
-use Rattle.scheduler.specs.Scheduled.{IsScheduled}
+use Rattle.scheduler.specs.SchedulerCalls.{IsScheduled}
 use Rattle.durable_schedule.specs.Schedules.{Scheduled}
 use Rattle.script_lines.specs.Text.{refused_text}
 use Rattle.shown_records.specs.declared.entry.ShownEntry.{ShownEntry}
 use Rattle.shown_records.specs.Entries.{AreShown, SomeUnread}
 use Rattle.shown_records.specs.Invocation.{shown_text}
 use Rattle.durable_script.specs.SchedulerChanges.{Reaches, Nowhere}
-use Rattle.durable_script.specs.Shown.{HasEntries, HasRecords, IsKnown, ShowsOnly, RefusesShow, Shows}
+use Rattle.durable_script.specs.ShowLines.{HasEntries, HasRecords, IsKnown, ShowsOnly, RefusesShow, Shows}
 use Rattle.durable_script.proofs.SchedulerChanges.{reaches_both, reaches_so, reaches_told}
 
 -- ---- what is told, question by question

@@ -10,15 +10,15 @@ use Rattle.journal_model.specs.Event.{Event}
 use Rattle.journal_model.specs.Journal.{object_state}
 use Rattle.store_refusals.specs.declared.refusal.Refusal.{Refusal}
 use Rattle.store_refusals.specs.Names.{refusal_name_of}
-use Rattle.store_refusals.specs.Refused.{IsRefused}
-use Rattle.journal_store.specs.Stands.{IsQuiet}
+use Rattle.store_refusals.specs.RefusalConditions.{IsRefused}
+use Rattle.journal_store.specs.StoreStanding.{IsQuiet}
 use Rattle.scheduler.specs.declared.scheduler.Scheduler.{Scheduler}
-use Rattle.scheduler.specs.Scheduled.{IsScheduled}
+use Rattle.scheduler.specs.SchedulerCalls.{IsScheduled}
 use Rattle.durable_schedule.specs.Schedules.{Scheduled, StateRow, state_row}
 use Rattle.script_lines.specs.Text.{refused_text}
 use Rattle.durable_script.specs.SchedulerChanges.{Reaches, Nowhere}
 use Rattle.shown_records.specs.Rows.{rows_text}
-use Rattle.durable_script.specs.Shown.{ShowsOnly, TellsState}
+use Rattle.durable_script.specs.ShowLines.{ShowsOnly, TellsState}
 use Rattle.shown_records.proofs.Rows.{rows_shown}
 use Rattle.durable_script.proofs.SchedulerChanges.{reaches_so, reaches_told}
 

@@ -7,7 +7,7 @@ use Rattle.scheduler.specs.declared.scheduler.Scheduler.{Scheduler}
 use Rattle.durable_schedule.specs.Schedules.{Reply, Scheduled}
 use Rattle.script_lines.specs.declared.outcome.LineOutcome.{LineOutcome}
 use Rattle.durable_script.specs.Line.{goes_on, turn_event, AppliesOne, TakesTurn, TurnsGoOn, TookTurns}
-use Rattle.durable_script.specs.Printed.{refused_memory}
+use Rattle.durable_script.specs.ReplyTexts.{refused_memory}
 use Rattle.durable_script.specs.SchedulerChanges.{Reaches, Nowhere}
 use Rattle.durable_script.proofs.SchedulerChanges.{Promised, reaches_none, reaches_so, reaches_then, reaches_turned}
 

@@ -1,7 +1,7 @@
 pub mod SchedulerChanges
-pub mod Printed
-pub mod EntriesShown
-pub mod Shown
+pub mod ReplyTexts
+pub mod ShownEntries
+pub mod ShowLines
 pub mod Outcome
 pub mod Line
 pub mod Runner

@@ -21,8 +21,8 @@ use Rattle.script_lines.specs.declared.value.LineValue.TheVariants as value
 use Rattle.script_lines.specs.Word.{handler_word}
 use Rattle.script_lines.specs.declared.word.HandlerName.{HandlerName}
 use Rattle.durable_script.specs.Outcome.{given_outcome}
-use Rattle.durable_script.specs.Printed.{printed, refused_memory}
-use Rattle.durable_script.specs.Shown.{ShowsOnly, Shows, ShowsDue, TellsState}
+use Rattle.durable_script.specs.ReplyTexts.{printed, refused_memory}
+use Rattle.durable_script.specs.ShowLines.{ShowsOnly, Shows, ShowsDue, TellsState}
 
 -- the handler that a name stands for
 abbrev pub IsNamed : HandlerName → BuiltIn → Type 0

@@ -9,8 +9,8 @@ use Rattle.built_in_handlers.specs.declared.built_in.BuiltIn.{BuiltIn}
 use Rattle.journal_model.specs.Notification.{Text}
 use Rattle.journal_model.specs.Run.{Handler}
 use Rattle.vm_types.specs.Options.{default_options}
-use Rattle.journal_store.specs.Stored.{Stored}
-use Rattle.journal_store.specs.Stands.{Endures, IsStanding}
+use Rattle.journal_store.specs.StoreView.{Stored}
+use Rattle.journal_store.specs.StoreStanding.{Endures, IsStanding}
 use Rattle.store_calls.specs.AbstractStore.{Standing}
 use Rattle.schedule_laws.specs.InvocationInRun.{HoldsOf}
 use Rattle.durable_schedule.specs.Runs.{Leaves, at_first}

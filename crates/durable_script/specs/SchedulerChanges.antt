@@ -6,9 +6,9 @@ use Rattle.sqlite.specs.State.{HasCleanDisk, Survives}
 use Rattle.sqlite.specs.Held.{state}
 use Rattle.built_in_handlers.specs.declared.built_in.BuiltIn.{BuiltIn}
 use Rattle.vm_types.specs.Options.{default_options}
-use Rattle.journal_store.specs.Stands.{KeepsAll}
+use Rattle.journal_store.specs.StoreStanding.{KeepsAll}
 use Rattle.scheduler.specs.declared.scheduler.Scheduler.{Scheduler}
-use Rattle.scheduler.specs.Scheduled.{IsScheduled}
+use Rattle.scheduler.specs.SchedulerCalls.{IsScheduled}
 use Rattle.durable_schedule.specs.Schedules.{Scheduled}
 
 module _ {S : Type 0} (g : Ghosts S) where

@@ -1,9 +1,9 @@
 //! The invocations that are due, as a line shows them.
 ghost use Rattle.std.specs.Prelude.{◌≡◌, ◌∷◌, [], ◌++◌, IfOk, string_bytes};
 ghost use Rattle.script_lines.specs.Text.{due_line};
-ghost use Rattle.durable_script.specs.Printed.{MakesText};
+ghost use Rattle.durable_script.specs.ReplyTexts.{MakesText};
 ghost use Rattle.durable_script.specs.SchedulerChanges.{Nowhere, Reaches};
-ghost use Rattle.durable_script.specs.Shown.{ShowsOnly, ShowsDue};
+ghost use Rattle.durable_script.specs.ShowLines.{ShowsOnly, ShowsDue};
 
 use crate::reply::reply_line;
 use built_in_handlers::BuiltIn;

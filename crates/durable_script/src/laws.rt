@@ -1,5 +1,5 @@
 //! Laws of the definitions. The functions do nothing: their contracts are the laws.
-ghost use Rattle.durable_script.specs.EntriesShown.{EntriesAreShown};
+ghost use Rattle.durable_script.specs.ShownEntries.{EntriesAreShown};
 ghost use Rattle.durable_script.specs.Run.{HandlersAreNamed, LinesFollow};
 
 use built_in_handlers::BuiltIn;

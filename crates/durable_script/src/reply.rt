@@ -1,7 +1,7 @@
 //! What a line prints for a reply of the scheduler.
 ghost use Rattle.std.specs.Prelude.{◌≡◌, ◌∷◌, [], ◌++◌, IfOk, string_bytes};
 ghost use Rattle.script_lines.specs.Text.{reply_text};
-ghost use Rattle.durable_script.specs.Printed.{word_of, printed};
+ghost use Rattle.durable_script.specs.ReplyTexts.{word_of, printed};
 
 use durable_schedule::{Reply, Turn};
 use script_lines::text::{LastTurn, LineReply};

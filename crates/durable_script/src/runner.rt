@@ -3,7 +3,7 @@ ghost use Rattle.std.specs.Prelude.{◌≡◌, ◌≤◌, [], IfOk, IfErr, strin
 ghost use Rattle.script_lines.specs.Line.{IsLine};
 ghost use Rattle.vm_types.specs.Options.{default_options};
 ghost use Rattle.durable_script.specs.SchedulerChanges.{Nowhere, Reaches};
-ghost use Rattle.durable_script.specs.Printed.{MakesText};
+ghost use Rattle.durable_script.specs.ReplyTexts.{MakesText};
 ghost use Rattle.durable_script.specs.Line.{brought, new_invocation, goes_on, IsBegin, DoesEvent, DoesSomeEvent, TakesTurn, TakesTurns, TookTurns, DoesLine, DoesSomeLine};
 ghost use Rattle.durable_script.specs.Runner.{DoesNext, StopsAtLine};
 

@@ -1,8 +1,8 @@
 //! What is recorded of an invocation, as a line shows it.
 ghost use Rattle.std.specs.Prelude.{IfOk, IfErr, string_bytes};
-ghost use Rattle.durable_script.specs.Printed.{MakesText};
+ghost use Rattle.durable_script.specs.ReplyTexts.{MakesText};
 ghost use Rattle.durable_script.specs.SchedulerChanges.{Nowhere, Reaches};
-ghost use Rattle.durable_script.specs.Shown.{HasEntries, HasRecords, ShowsOnly, RefusesShow, Shows};
+ghost use Rattle.durable_script.specs.ShowLines.{HasEntries, HasRecords, ShowsOnly, RefusesShow, Shows};
 
 use crate::reply::reply_line;
 use built_in_handlers::BuiltIn;

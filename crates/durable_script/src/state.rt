@@ -1,8 +1,8 @@
 //! The state of an object, as a line shows it.
 ghost use Rattle.std.specs.Prelude.{string_bytes};
-ghost use Rattle.durable_script.specs.Printed.{MakesText};
+ghost use Rattle.durable_script.specs.ReplyTexts.{MakesText};
 ghost use Rattle.durable_script.specs.SchedulerChanges.{Nowhere, Reaches};
-ghost use Rattle.durable_script.specs.Shown.{ShowsOnly, TellsState};
+ghost use Rattle.durable_script.specs.ShowLines.{ShowsOnly, TellsState};
 
 use crate::reply::reply_line;
 use built_in_handlers::BuiltIn;

@@ -13,7 +13,7 @@ use Rattle.built_in_handlers.specs.Handlers
 use Rattle.run_laws.proofs.RunRows.{i1, new, options, given, sleep, output}
 use Rattle.run_laws.proofs.SuspensionRows.{for_one}
 use Rattle.run_laws.proofs.TakenRows.{take}
-use Rattle.run_laws.specs.Taken.{AllOfRun}
+use Rattle.run_laws.specs.TakenFrames.{AllOfRun}
 use Rattle.elsewhere_laws.specs.Elsewhere.{AreTakenOfRun, PromisesHold}
 use Rattle.elsewhere_laws.proofs.Promises.{promises_hold}
 

@@ -4,7 +4,7 @@ use Rattle.journal_model.specs.declared.invocation.NewInvocation.{NewInvocation}
 use Rattle.journal_model.specs.Journal.{invocation_begun, starting_state}
 use Rattle.journal_model.specs.Headline.{run_of}
 use Rattle.std.proofs.Common.{◌≡◌, Some}
-use Rattle.run_laws.specs.Held.{Holds}
+use Rattle.run_laws.specs.HeldInvocations.{Holds}
 use Rattle.elsewhere_laws.specs.Elsewhere.{PromisesHoldElsewhere}
 
 pub promises_hold : PromisesHoldElsewhere

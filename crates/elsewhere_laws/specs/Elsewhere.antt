@@ -8,8 +8,8 @@ use Rattle.journal_model.specs.Event.{Event}
 use Rattle.journal_model.specs.Journal.{invocation_begun, starting_state}
 use Rattle.journal_model.specs.Cause.{IsAccepted}
 use Rattle.journal_model.specs.Headline.{run_of, Headline, NeverLate, WakesExactly}
-use Rattle.run_laws.specs.Taken.{AllOfRun}
-use Rattle.run_laws.specs.Held.{Holds}
+use Rattle.run_laws.specs.TakenFrames.{AllOfRun}
+use Rattle.run_laws.specs.HeldInvocations.{Holds}
 
 -- a fact of the run of an invocation, if it was begun
 abbrev pub OfItsRun : RunOptions → ℕ → List Event → Text → (Invocation → Type 0) → Type 0

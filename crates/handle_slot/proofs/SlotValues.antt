@@ -21,7 +21,7 @@ use Rattle.std.proofs.alloc.Calls.{Al, handle_tells}
 use Rattle.std.proofs.cell.Inside.{Good}
 use Rattle.std.specs.declared.alloc.Global.{Global}
 use Rattle.std.specs.contracts.impls.GlobalAllocator.TheImpl.{ghosts}
-use Rattle.handle_slot.specs.Held.{held}
+use Rattle.handle_slot.specs.SlotOwnership.{held}
 use Rattle.handle_slot.proofs.Values.{both}
 use Rattle.handle_slot.specs.contracts.slot.Slot as slot
 

@@ -4,7 +4,7 @@ ghost use Rattle.std.specs.Option.{MatchOption};
 ghost use Rattle.std.specs.declared.option.Option.{Option};
 ghost use Rattle.std.specs.declared.option.Option.TheVariants.{None, Some};
 ghost use Rattle.std.specs.Coded.{coded_option};
-ghost use Rattle.handle_slot.specs.Held.{held};
+ghost use Rattle.handle_slot.specs.SlotOwnership.{held};
 
 use crate::Loose;
 use std::alloc::Global;

@@ -5,7 +5,7 @@ use Rattle.std.proofs.lemmas.List.Folds.{list_any-append}
 use Rattle.journal_model.specs.Request.{Request, completions_asked}
 use Rattle.journal_model.specs.Journal.{asks_for, sleep_in, sleeps_in}
 use Rattle.journal_laws.proofs.Leaving.{or-true, or-true_left}
-use Rattle.input_laws.specs.Once.{count_of, numbers_asked}
+use Rattle.input_laws.specs.CompletionsOnce.{count_of, numbers_asked}
 use Rattle.input_laws.proofs.Once.{count-append, count_asked, asked-any, asked-some, numbers_of, numbers-append, slept_one, slept_asked}
 
 module _ (n : ℕ) (is_kind : Request → Bool) (asks : (requests : List Request) → list_any is_kind requests ≡ true → list_any (asks_for n) requests ≡ true) where

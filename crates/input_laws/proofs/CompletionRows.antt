@@ -4,7 +4,7 @@ use Rattle.journal_model.specs.declared.notification.NotificationId.TheVariants.
 use Rattle.journal_model.specs.Delivery.{results_for}
 use Rattle.journal_model.specs.Journal.{recorded_requests, recorded_arrivals}
 use Rattle.input_laws.proofs.InputRows.{i1, second_begun}
-use Rattle.input_laws.specs.Once.{count_of, numbers_asked}
+use Rattle.input_laws.specs.CompletionsOnce.{count_of, numbers_asked}
 
 sleep-asked : count_of 1 (numbers_asked (recorded_requests second_begun i1)) ≡ 1
 sleep-asked = refl

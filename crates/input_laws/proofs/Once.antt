@@ -17,7 +17,7 @@ use Rattle.journal_model.specs.declared.cause.Cause.{Cause}
 use Rattle.journal_model.specs.Value.{result_of_value}
 use Rattle.journal_laws.proofs.ObjectState.{tail_of, holds-head, holds-tail, not-false}
 use Rattle.journal_laws.proofs.Leaving.{and-true}
-use Rattle.input_laws.specs.Once.{count_of, numbers_asked, completion_numbers_of, numbers_come, AreOnce}
+use Rattle.input_laws.specs.CompletionsOnce.{count_of, numbers_asked, completion_numbers_of, numbers_come, AreOnce}
 use Rattle.input_laws.proofs.Events.{added_by, entries_first, requests_now, arrivals_now}
 use Rattle.input_laws.proofs.LiveAttempts.{own_hold}
 

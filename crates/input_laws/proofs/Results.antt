@@ -7,7 +7,7 @@ use Rattle.journal_model.specs.Notification.{Arrival, same_id}
 use Rattle.journal_model.specs.Request.{Request, completions_asked}
 use Rattle.journal_model.specs.Journal.{asks_for}
 use Rattle.journal_model.specs.Delivery.{results_for}
-use Rattle.input_laws.specs.Once.{count_of, numbers_asked, completion_numbers_of, numbers_come, AreOnce, ComeWhenAsked, CompletionsComeWhenAsked}
+use Rattle.input_laws.specs.CompletionsOnce.{count_of, numbers_asked, completion_numbers_of, numbers_come, AreOnce, ComeWhenAsked, CompletionsComeWhenAsked}
 use Rattle.input_laws.proofs.Once.{count-append, recorded_once}
 
 pub count-results : (n : ℕ) (arrivals : List Arrival) → length (results_for arrivals (CompletionId n)) ≡ count_of n (numbers_come arrivals)

@@ -1,4 +1,4 @@
 pub mod ArrivalsRead
 pub mod Message
 pub mod Laws
-pub mod Once
+pub mod CompletionsOnce

@@ -3,7 +3,7 @@
 #![tactic(auto)]
 
 ghost use Rattle.input_laws.specs.Laws.{HandedIsRead, InputsAreMessages, ReadIsHanded};
-ghost use Rattle.input_laws.specs.Once.{CompletionsComeWhenAsked, CompletionsRecordedOnce};
+ghost use Rattle.input_laws.specs.CompletionsOnce.{CompletionsComeWhenAsked, CompletionsRecordedOnce};
 
 /// The input of an attempt is messages, which carry all recorded arrivals, by place.
 pub fn inputs_are_messages()

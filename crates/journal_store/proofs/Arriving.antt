@@ -9,13 +9,13 @@ use Rattle.journal_model.specs.Journal.{entries_of, version_of}
 use Rattle.journal_model.specs.Attempt.{acknowledged}
 use Rattle.journal_model.specs.Cause.{causes_of}
 use Rattle.store_tables.specs.Looks.{HasWritten}
-use Rattle.store_frames.specs.Read.{IsReadIn}
+use Rattle.store_frames.specs.ReadFrames.{IsReadIn}
 use Rattle.store_refusals.specs.declared.refusal.Refusal.{Refusal}
 use Rattle.store_arrivals.specs.declared.arrival.PreparedArrival.{PreparedArrival}
 use Rattle.store_arrivals.specs.Arrivals.{IsMadeReady}
 use Rattle.store_live.specs.Attempts.{Attempts}
-use Rattle.store_live_laws.specs.Agrees.{does_record}
-use Rattle.journal_store.specs.Stands.{Stands}
+use Rattle.store_live_laws.specs.LiveAttempts.{does_record}
+use Rattle.journal_store.specs.StoreStanding.{Stands}
 use Rattle.journal_store.specs.StoreTransaction.{IsUnwritten}
 use Rattle.journal_store.proofs.Leading.{Does}
 use Rattle.journal_store.proofs.Standing.{all_stored, store_still, stands_recorded}

@@ -6,8 +6,8 @@ use Rattle.journal_model.specs.Event.{Event}
 use Rattle.store_tables.specs.Looks.{OnlyAsks}
 use Rattle.store_invocations.specs.Rows.{IsStoreOf}
 use Rattle.store_live.specs.Attempts.{Attempts}
-use Rattle.journal_store.specs.Stored.{Stored, stored}
-use Rattle.journal_store.specs.Stands.{Stands}
+use Rattle.journal_store.specs.StoreView.{Stored, stored}
+use Rattle.journal_store.specs.StoreStanding.{Stands}
 use Rattle.journal_store.proofs.Standing.{stands_asked}
 
 -- the same, where what is told hangs on the attempts in memory

@@ -13,13 +13,13 @@ use Rattle.protocol_types.specs.Version.{version_number}
 use Rattle.store_tables.specs.Looks.{HasWritten}
 use Rattle.store_refusals.specs.declared.refusal.Refusal.{Refusal}
 use Rattle.store_invocations.specs.declared.attempt.PreparedAttempt.{PreparedAttempt}
-use Rattle.store_invocations.specs.Begun.{IsBegun}
+use Rattle.store_invocations.specs.BegunAttempts.{IsBegun}
 use Rattle.store_live.specs.Input.{at_begin}
 use Rattle.store_live.specs.Attempts.{ByInvocation, IsNow, attempt_of}
-use Rattle.store_live_laws.specs.Agrees.{Agrees, IsBegunAs}
+use Rattle.store_live_laws.specs.LiveAttempts.{Agrees, IsBegunAs}
 use Rattle.store_live_laws.proofs.Begun.{begun}
 use Rattle.store_calls.specs.declared.begun.BegunAttempt.{BegunAttempt}
-use Rattle.journal_store.specs.Stands.{Stands}
+use Rattle.journal_store.specs.StoreStanding.{Stands}
 use Rattle.journal_store.specs.StoreTransaction.{IsUnwritten}
 use Rattle.journal_store.specs.Attempts.{IsToldAs, fresh}
 use Rattle.journal_store.proofs.Leading.{Does, IsBegunAttempt}

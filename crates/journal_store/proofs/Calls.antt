@@ -12,17 +12,17 @@ use Rattle.journal_model.specs.declared.cause.Cause.{Cause}
 use Rattle.store_tables.specs.Looks.{OnlyAsks}
 use Rattle.store_refusals.specs.declared.refusal.Refusal.{Refusal}
 use Rattle.store_refusals.specs.declared.refusal.Refusal.TheVariants as refusal
-use Rattle.store_refusals.specs.Refused.{IsRefused, is_circumstance}
+use Rattle.store_refusals.specs.RefusalConditions.{IsRefused, is_circumstance}
 use Rattle.store_invocations.specs.Rows.{IsStoreOf}
 use Rattle.store_live.specs.declared.attempt.LiveAttempt.{LiveAttempt}
 use Rattle.store_live.specs.Attempts.{Attempts, ByInvocation, attempt_of, IsNow, ChangesLive, bytes_out, after_close, after_hand_out, after_output}
-use Rattle.store_live_laws.specs.Agrees.{Agrees, has_number, cause_of_stale, CausesOfStale}
+use Rattle.store_live_laws.specs.LiveAttempts.{Agrees, has_number, cause_of_stale, CausesOfStale}
 use Rattle.store_live_laws.proofs.Tests.{live_told, stale_told}
 use Rattle.store_calls.specs.AbstractStore.{Standing, StaysStanding, Refuses}
 use Rattle.store_calls.specs.Calls.{HandsOut, ClosesStoredInput, Pushes, Stops}
 use Rattle.store_calls.specs.Frames.{StepsAttempt}
-use Rattle.journal_store.specs.Stored.{stored}
-use Rattle.journal_store.specs.Stands.{Stands, IsStanding, Leads}
+use Rattle.journal_store.specs.StoreView.{stored}
+use Rattle.journal_store.specs.StoreStanding.{Stands, IsStanding, Leads}
 use Rattle.journal_store.specs.Attempts.{HasRead, IsStale, has_closed, has_rest}
 use Rattle.journal_store.proofs.Standing.{stands_asked, true_or_false}
 use Rattle.journal_store.proofs.Quiet.{live_here, this_one, stale_refused, stands_stopped, hand_out_closed, stands_handed, close_remains, close_closed, stands_closed}

@@ -21,8 +21,8 @@ use Rattle.store_tables.proofs.Ruled.{rules_refuse}
 use Rattle.store_refusals.specs.declared.refusal.Refusal.{Refusal}
 use Rattle.store_invocations.specs.Rows.{IsStoreOf}
 use Rattle.store_calls.specs.AbstractStore.{Standing}
-use Rattle.journal_store.specs.Stored.{Stored}
-use Rattle.journal_store.specs.Stands.{IsStanding, KeepsAll, Leads}
+use Rattle.journal_store.specs.StoreView.{Stored}
+use Rattle.journal_store.specs.StoreStanding.{IsStanding, KeepsAll, Leads}
 use Rattle.journal_store.specs.StoreTransaction.{WritesRows}
 use Rattle.journal_store.specs.Causes.{AreWritesOf, AskingWantsMemory, RefusesEvent, RefusesTried, RunsWell, TellsWhy, TellsWhyUnwritten, Tries, TriesEvent, WritingWantsMemory}
 use Rattle.journal_store.proofs.Standing.{store_still}

@@ -14,14 +14,14 @@ use Rattle.journal_model.specs.Attempt.{attempts_begun, live_attempt}
 use Rattle.journal_model.specs.Cause.{causes_of}
 use Rattle.journal_model.specs.Start.{start_payload}
 use Rattle.protocol_types.specs.declared.message_type.MessageType.{MessageType}
-use Rattle.store_model.specs.Kept.{version_kept}
+use Rattle.store_model.specs.KeptRecords.{version_kept}
 use Rattle.store_model.proofs.Versions.{kept_number}
 use Rattle.store_invocations.specs.Rows.{IsStoreOf}
 use Rattle.store_calls.specs.AbstractStore.{Standing, Adds}
 use Rattle.store_calls.proofs.Landing.{begun}
 use Rattle.journal_store.specs.Attempts.{BeginsSome}
-use Rattle.journal_store.specs.Stored.{Stored}
-use Rattle.journal_store.specs.Stands.{Leads, KeepsStanding, KeepsOf, Endures, EnduresAlways, IsQuiet}
+use Rattle.journal_store.specs.StoreView.{Stored}
+use Rattle.journal_store.specs.StoreStanding.{Leads, KeepsStanding, KeepsOf, Endures, EnduresAlways, IsQuiet}
 use Rattle.journal_store.proofs.Beginning.{begun_some, other_tests}
 
 module _ {S : Type 0} (g : Ghosts S) where

@@ -6,7 +6,7 @@ use Rattle.journal_model.specs.Event.{Event}
 use Rattle.journal_model.specs.Attempt.{due, is_none, live_attempt}
 use Rattle.store_live.specs.declared.attempt.LiveAttempt.{LiveAttempt}
 use Rattle.store_live.specs.Attempts.{ByInvocation, attempt_of}
-use Rattle.store_live_laws.specs.Agrees.{Agrees}
+use Rattle.store_live_laws.specs.LiveAttempts.{Agrees}
 
 none_is : (events : List Event) (id : Text) (o : Option LiveAttempt) → Agrees events id o → not (is_some o) ≡ is_none (live_attempt events id)
 none_is events id None agrees = sym (ap is_none agrees)

@@ -16,24 +16,24 @@ use Rattle.protocol_stream.specs.declared.frame.TheConstants.{HEADER_LEN}
 use Rattle.protocol_types.specs.Version.{version_number}
 use Rattle.protocol_stream.specs.Item.{Item, unknown, message, item_at}
 use Rattle.store_frames.specs.FrameMeanings.{frame_of}
-use Rattle.store_frames.specs.Read.{IsReadIn}
+use Rattle.store_frames.specs.ReadFrames.{IsReadIn}
 use Rattle.store_tables.specs.declared.row.Write.{Write}
 use Rattle.store_tables.specs.Looks.{Lasts, OnlyAsks}
 use Rattle.store_tables.specs.Records.{Holds, applied_all}
 use Rattle.store_tables.specs.Steps.{Lands}
 use Rattle.store_refusals.specs.declared.refusal.Refusal.{Refusal}
 use Rattle.store_refusals.specs.declared.refusal.Refusal.TheVariants as refusal
-use Rattle.store_refusals.specs.Refused.{refusal_of_first_cause, is_circumstance, IsRefused}
+use Rattle.store_refusals.specs.RefusalConditions.{refusal_of_first_cause, is_circumstance, IsRefused}
 use Rattle.store_invocations.specs.Rows.{IsStoreOf}
 use Rattle.store_steps.specs.declared.frame.FrameReply.{FrameReply}
 use Rattle.store_steps.specs.declared.frame.PreparedFrame.{PreparedFrame}
-use Rattle.store_steps.specs.Taken.{KnowsLive, IsReply, IsFrameTaken, TakesAttemptFrame, does_end, lies_in_frame}
+use Rattle.store_steps.specs.PreparedFrames.{KnowsLive, IsReply, IsFrameTaken, TakesAttemptFrame, does_end, lies_in_frame}
 use Rattle.store_steps.proofs.Live.{begun_open}
 use Rattle.store_steps.proofs.Tests.{causes_left}
 use Rattle.store_live.specs.declared.attempt.LiveAttempt.{LiveAttempt}
 use Rattle.store_live.specs.Attempts.{Attempts, ByInvocation, attempt_of, IsNow, live_after_take}
-use Rattle.store_live.specs.Before.{AreAsBefore}
-use Rattle.store_live_laws.specs.Agrees.{Agrees, IsKeptLive, has_number}
+use Rattle.store_live.specs.ChangedRoom.{AreAsBefore}
+use Rattle.store_live_laws.specs.LiveAttempts.{Agrees, IsKeptLive, has_number}
 use Rattle.store_live_laws.proofs.Steps.{recorded, ended}
 use Rattle.store_live_laws.proofs.Tests.{live_is_open}
 use Rattle.journal_store.specs.declared.step.SeenFrame.{SeenFrame}
@@ -43,8 +43,8 @@ use Rattle.store_calls.specs.Frames.{IsNext, LeavesRefused, RefusesFrame, StepsA
 use Rattle.store_calls.proofs.Landing.{taken}
 use Rattle.store_calls.proofs.Live.{told_end}
 use Rattle.store_calls.proofs.Taking.{same_stays}
-use Rattle.journal_store.specs.Stored.{Stored, stored}
-use Rattle.journal_store.specs.Stands.{Stands, IsStanding, Leads, KeepsStanding, KeepsAll, Endures, WaitsNow}
+use Rattle.journal_store.specs.StoreView.{Stored, stored}
+use Rattle.journal_store.specs.StoreStanding.{Stands, IsStanding, Leads, KeepsStanding, KeepsAll, Endures, WaitsNow}
 use Rattle.journal_store.specs.FrameAcceptance.{HasMessage, HasMessageOf, IsEndedBy, IsFirstOf, IsSeen, IsSeenOf, SettlesStep, after_noted, passed}
 use Rattle.journal_store.specs.StoreTransaction.{WritesRows}
 use Rattle.journal_store.specs.Causes.{TriesFrame}

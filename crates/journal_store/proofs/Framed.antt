@@ -12,10 +12,10 @@ use Rattle.store_refusals.specs.declared.refusal.Refusal.{Refusal}
 use Rattle.store_live.specs.declared.attempt.LiveAttempt.{LiveAttempt}
 use Rattle.store_live.specs.Input.{InputKept, after_bytes, input_handed_out}
 use Rattle.store_live.specs.Attempts.{Attempts, ChangesLive, after_close, after_hand_out, attempt_of, bytes_out}
-use Rattle.store_live_laws.specs.Agrees.{Agrees}
+use Rattle.store_live_laws.specs.LiveAttempts.{Agrees}
 use Rattle.store_calls.specs.AbstractStore.{Standing}
-use Rattle.journal_store.specs.Stored.{Stored, stored}
-use Rattle.journal_store.specs.Stands.{IsStanding}
+use Rattle.journal_store.specs.StoreView.{Stored, stored}
+use Rattle.journal_store.specs.StoreStanding.{IsStanding}
 use Rattle.journal_store.specs.Attempts.{AreOfOneFrame, GivesOneFrame, bytes_given, rest_kept}
 
 -- what was read and not handed out is the end of one of the frames

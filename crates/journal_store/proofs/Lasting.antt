@@ -15,8 +15,8 @@ use Rattle.store_refusals.specs.declared.refusal.Refusal.{Refusal}
 use Rattle.store_invocations.specs.Rows.{IsStoreOf}
 use Rattle.store_live.specs.Attempts.{Attempts, ByInvocation}
 use Rattle.store_calls.specs.AbstractStore.{Standing}
-use Rattle.journal_store.specs.Stored.{Stored, stored}
-use Rattle.journal_store.specs.Stands.{Leads, Outlasts, Settles, Stands}
+use Rattle.journal_store.specs.StoreView.{Stored, stored}
+use Rattle.journal_store.specs.StoreStanding.{Leads, Outlasts, Settles, Stands}
 use Rattle.journal_store.specs.StoreTransaction.{WritesRows}
 
 pub outlasts_now : (events : List Event) (database : State) (attempts : ByInvocation) → HasCleanDisk database → Stands events database attempts → Lasts database → Outlasts events database

@@ -13,15 +13,15 @@ use Rattle.journal_model.specs.Cause.{causes_of}
 use Rattle.protocol_types.specs.declared.message_type.MessageType.{MessageType}
 use Rattle.protocol_types.specs.Version.{version_number}
 use Rattle.store_refusals.specs.declared.refusal.Refusal.{Refusal}
-use Rattle.store_refusals.specs.Refused.{IsRefused}
+use Rattle.store_refusals.specs.RefusalConditions.{IsRefused}
 use Rattle.store_live.specs.declared.attempt.LiveAttempt.{LiveAttempt}
 use Rattle.store_live.specs.Attempts.{ByInvocation, attempt_of}
-use Rattle.store_live_laws.specs.Agrees.{Agrees}
+use Rattle.store_live_laws.specs.LiveAttempts.{Agrees}
 use Rattle.store_calls.specs.declared.begun.BegunAttempt.{BegunAttempt}
 use Rattle.store_calls.specs.AbstractStore.{Standing, StaysStanding, Adds, LeavesWaiting, Refuses}
 use Rattle.store_calls.specs.Calls.{TakesPlace, BeginsAttempt}
-use Rattle.journal_store.specs.Stored.{Stored}
-use Rattle.journal_store.specs.Stands.{Stands, IsStanding, Leads, output_of, KeepsOutputs, WaitsNow, WaitsAfter}
+use Rattle.journal_store.specs.StoreView.{Stored}
+use Rattle.journal_store.specs.StoreStanding.{Stands, IsStanding, Leads, output_of, KeepsOutputs, WaitsNow, WaitsAfter}
 
 -- An event is accepted, and the store stands for it too; or it is refused, for the least of its causes or for a circumstance, and
 -- the store stands as before.

@@ -17,7 +17,7 @@ use Rattle.store_model.proofs.Keeping.{kept_at_first}
 use Rattle.store_invocations.specs.Rows.{IsStoreOf}
 use Rattle.store_live.specs.Attempts.{ByInvocation}
 use Rattle.due_laws.proofs.Opened.{live_open, unknown_dead}
-use Rattle.journal_store.specs.Stands.{Stands}
+use Rattle.journal_store.specs.StoreStanding.{Stands}
 use Rattle.journal_store.proofs.Standing.{unwritten}
 use Rattle.journal_store.proofs.Quiet.{none_written}
 

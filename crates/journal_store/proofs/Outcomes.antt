@@ -9,7 +9,7 @@ use Rattle.journal_model.specs.Cause.{IsAccepted}
 use Rattle.protocol_types.specs.declared.feature.Feature.TheVariants.{Acknowledgement}
 use Rattle.protocol_types.specs.Feature.{has_feature}
 use Rattle.store_live.specs.declared.attempt.LiveAttempt.{LiveAttempt}
-use Rattle.store_live_laws.specs.Agrees.{Agrees}
+use Rattle.store_live_laws.specs.LiveAttempts.{Agrees}
 use Rattle.store_live_laws.proofs.Steps.{recorded, is_acknowledged}
 use Rattle.store_model.proofs.States.{itself}
 use Rattle.journal_store.specs.FrameAcceptance.{after_noted}

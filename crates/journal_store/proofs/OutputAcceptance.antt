@@ -10,14 +10,14 @@ use Rattle.journal_model.specs.Attempt.{is_live}
 use Rattle.store_refusals.specs.declared.refusal.Refusal.{Refusal}
 use Rattle.store_refusals.specs.declared.refusal.Refusal.TheVariants.{OutOfMemory}
 use Rattle.store_steps.specs.declared.frame.FrameReply.{FrameReply}
-use Rattle.store_steps.specs.Taken.{does_end}
+use Rattle.store_steps.specs.PreparedFrames.{does_end}
 use Rattle.store_calls.specs.AbstractStore.{Standing}
 use Rattle.store_calls.specs.Calls.{Pushes, PutsBehind}
 use Rattle.store_calls.specs.Frames.{Accepts, AcceptsFirst, StepsAttempt, TakesEach, TakesFirstFrames, TakesFrames, TakesOne}
 use Rattle.store_calls.proofs.Taking.{goes_on, none_behind, same_stays, takes_first, takes_more}
 use Rattle.journal_store.specs.declared.accept.Accepted.{Accepted}
-use Rattle.journal_store.specs.Stored.{Stored}
-use Rattle.journal_store.specs.Stands.{Leads, Endures, IsQuiet, Settles}
+use Rattle.journal_store.specs.StoreView.{Stored}
+use Rattle.journal_store.specs.StoreStanding.{Leads, Endures, IsQuiet, Settles}
 use Rattle.journal_store.specs.OutputAcceptance.{HasTaken, OutlastsFrames, SettlesFrames, SettlesNext, TakesNext}
 use Rattle.journal_store.specs.Causes.{TellsWhyUnwritten, TriesFrame, TriesFrameBehind}
 use Rattle.journal_store.proofs.Causing.{tried_behind}

@@ -12,15 +12,15 @@ use Rattle.journal_model.specs.declared.cause.Cause.TheVariants.{InputAlreadyClo
 use Rattle.store_model.specs.Writes.{state_writes}
 use Rattle.store_refusals.specs.declared.refusal.Refusal.{Refusal}
 use Rattle.store_refusals.specs.declared.refusal.Refusal.TheVariants as refusal
-use Rattle.store_refusals.specs.Refused.{refusal_of_first_cause, is_circumstance, IsRefused}
+use Rattle.store_refusals.specs.RefusalConditions.{refusal_of_first_cause, is_circumstance, IsRefused}
 use Rattle.store_live.specs.declared.attempt.LiveAttempt.{LiveAttempt}
 use Rattle.store_live.specs.Attempts.{ByInvocation, attempt_of, IsNow, ChangesLive, bytes_out, after_close, after_hand_out}
 use Rattle.due_laws.specs.InputParts.{HandsPart}
-use Rattle.store_live_laws.specs.Agrees.{Agrees, has_number, CausesOfLive, IsFirstCause, LeftIsTold}
+use Rattle.store_live_laws.specs.LiveAttempts.{Agrees, has_number, CausesOfLive, IsFirstCause, LeftIsTold}
 use Rattle.store_live_laws.proofs.Left.{left_told, part_told}
 use Rattle.store_live_laws.proofs.Tests.{live_told, causes_told}
 use Rattle.store_live_laws.proofs.Steps.{closed as closed_kept, handed_out, stopped}
-use Rattle.journal_store.specs.Stands.{Stands}
+use Rattle.journal_store.specs.StoreStanding.{Stands}
 use Rattle.journal_store.specs.Attempts.{HasRead, has_closed, has_rest}
 use Rattle.journal_store.proofs.Standing.{stands_after, unwritten}
 

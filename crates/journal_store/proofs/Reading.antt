@@ -15,20 +15,20 @@ use Rattle.store_tables.specs.Looks.{OnlyAsks}
 use Rattle.store_tables.specs.declared.row.EntryRow.{EntryRow}
 use Rattle.store_invocations.specs.Rows.{IsStoreOf}
 use Rattle.store_refusals.specs.declared.refusal.Refusal.{Refusal}
-use Rattle.store_refusals.specs.Prepared.{TellsOrRefuses}
-use Rattle.store_refusals.specs.Refused.{IsRefused}
+use Rattle.store_refusals.specs.Preparations.{TellsOrRefuses}
+use Rattle.store_refusals.specs.RefusalConditions.{IsRefused}
 use Rattle.store_live.specs.declared.attempt.LiveAttempt.{LiveAttempt}
 use Rattle.store_live.specs.declared.input.FrameRead.{FrameRead}
 use Rattle.store_live.specs.declared.input.NextRow.{NextRow}
 use Rattle.store_live.specs.Input.{CanCount, is_first, next_ordinal, next_row}
 use Rattle.store_live.specs.Attempts.{Attempts, ByInvocation, attempt_of, ChangesLive}
-use Rattle.store_live_laws.specs.Agrees.{Agrees, has_number}
+use Rattle.store_live_laws.specs.LiveAttempts.{Agrees, has_number}
 use Rattle.store_live_laws.proofs.Left.{left_told}
 use Rattle.store_live_laws.proofs.Steps.{is_read}
 use Rattle.store_live_laws.specs.Memory.{InputCounts, arrival_read, frame_read, plain_read, row_asked, told_read}
 use Rattle.store_live_laws.proofs.Reading.{inputs_count}
-use Rattle.journal_store.specs.Stored.{stored}
-use Rattle.journal_store.specs.Stands.{KeepsOutputs, Stands}
+use Rattle.journal_store.specs.StoreView.{stored}
+use Rattle.journal_store.specs.StoreStanding.{KeepsOutputs, Stands}
 use Rattle.journal_store.specs.Attempts.{FitsNext, HasRead, HasRoomFor, IsWanted, IsWantedBy, ReadsNext, after_wanted, has_closed, rest_kept}
 use Rattle.journal_store.proofs.Fitting.{entries_fit}
 use Rattle.journal_store.proofs.Standing.{stands_asked, true_or_false}

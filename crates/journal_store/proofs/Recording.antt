@@ -11,14 +11,14 @@ use Rattle.store_tables.specs.Looks.{OnlyAsks}
 use Rattle.store_tables.specs.Steps.{Lands}
 use Rattle.store_model.specs.Writes.{writes_of}
 use Rattle.store_refusals.specs.declared.refusal.Refusal.{Refusal}
-use Rattle.store_refusals.specs.Refused.{IsRefused}
+use Rattle.store_refusals.specs.RefusalConditions.{IsRefused}
 use Rattle.store_invocations.specs.Rows.{IsStoreOf}
 use Rattle.store_invocations.proofs.Standing.{store_kept}
 use Rattle.store_live.specs.Attempts.{Attempts}
 use Rattle.store_calls.specs.AbstractStore.{Refuses}
 use Rattle.store_calls.specs.Calls.{Invokes}
-use Rattle.journal_store.specs.Stored.{stored}
-use Rattle.journal_store.specs.Stands.{Leads}
+use Rattle.journal_store.specs.StoreView.{stored}
+use Rattle.journal_store.specs.StoreStanding.{Leads}
 use Rattle.journal_store.specs.StoreTransaction.{WritesRows}
 use Rattle.journal_store.proofs.Standing.{all_stored, stands_asked, stands_invoked, store_still}
 use Rattle.journal_store.proofs.Leading.{adds, refuses}

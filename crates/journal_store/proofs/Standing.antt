@@ -12,25 +12,25 @@ use Rattle.journal_model.specs.Event.{Event}
 use Rattle.journal_model.specs.Journal.{invocation_of, is_tick, is_text, version_of}
 use Rattle.journal_model.specs.Attempt.{live_attempt, acknowledged}
 use Rattle.journal_model.specs.Cause.{causes_of, IsAccepted}
-use Rattle.store_frames.specs.Read.{AreRead, IsReadIn}
+use Rattle.store_frames.specs.ReadFrames.{AreRead, IsReadIn}
 use Rattle.store_tables.specs.Records.{Holds, Records, applied_all}
 use Rattle.store_tables.specs.declared.row.Write.{Write}
 use Rattle.store_tables.specs.Steps.{TurnsRecords, Lands}
 use Rattle.store_tables.specs.Looks.{HasWritten}
-use Rattle.store_model.specs.Kept.{IsKept}
+use Rattle.store_model.specs.KeptRecords.{IsKept}
 use Rattle.store_model.specs.Writes.{writes_of}
 use Rattle.store_model.proofs.Keeping.{kept_after}
-use Rattle.store_refusals.specs.Prepared.{Keeps}
+use Rattle.store_refusals.specs.Preparations.{Keeps}
 use Rattle.store_invocations.specs.Rows.{IsStoreOf}
 use Rattle.store_invocations.proofs.Standing.{store_kept}
 use Rattle.store_live.specs.declared.attempt.LiveAttempt.{LiveAttempt}
 use Rattle.store_live.specs.Attempts.{ByInvocation, attempt_of, IsNow, ChangesLive, after_reserve}
-use Rattle.store_live_laws.specs.Agrees.{Agrees, does_record}
+use Rattle.store_live_laws.specs.LiveAttempts.{Agrees, does_record}
 use Rattle.store_live_laws.proofs.Steps.{as_before, elsewhere, recorded}
 use Rattle.store_live_laws.proofs.Begun.{invoked}
-use Rattle.store_live.specs.Before.{IsAsBefore, AreAsBefore}
+use Rattle.store_live.specs.ChangedRoom.{IsAsBefore, AreAsBefore}
 use Rattle.store_calls.specs.AbstractStore.{Standing}
-use Rattle.journal_store.specs.Stands.{Stands, KeepsAll, KeepsOf}
+use Rattle.journal_store.specs.StoreStanding.{Stands, KeepsAll, KeepsOf}
 
 pub true_or_false : (b : Bool) → (b ≡ true) ⊎ (b ≡ false)
 true_or_false true = inl refl

@@ -7,24 +7,24 @@ use Rattle.sqlite.specs.State.{State, HasCleanDisk, Survives}
 use Rattle.sqlite.proofs.StateLemmas.{survives_then}
 use Rattle.journal_model.specs.Event.{Event}
 use Rattle.journal_model.specs.Cause.{causes_of, IsAccepted}
-use Rattle.store_frames.specs.Read.{AreRead}
+use Rattle.store_frames.specs.ReadFrames.{AreRead}
 use Rattle.store_tables.specs.Records.{Holds, Records, applied_all}
 use Rattle.store_tables.specs.declared.row.Write.{Write}
 use Rattle.store_tables.specs.Looks.{HasWritten, Lasts, OnlyAsks}
 use Rattle.store_tables.specs.Steps.{Lands, TurnsRecords}
-use Rattle.store_model.specs.Kept.{IsKept}
+use Rattle.store_model.specs.KeptRecords.{IsKept}
 use Rattle.store_refusals.specs.declared.refusal.Refusal.{Refusal}
-use Rattle.store_refusals.specs.Prepared.{Keeps}
+use Rattle.store_refusals.specs.Preparations.{Keeps}
 use Rattle.store_invocations.specs.Rows.{IsStoreOf}
 use Rattle.store_invocations.proofs.Standing.{store_kept}
 use Rattle.store_live.specs.Attempts.{Attempts}
-use Rattle.store_arrivals.specs.Made.{IsTickReady}
+use Rattle.store_arrivals.specs.PreparedTicks.{IsTickReady}
 use Rattle.store_arrivals.specs.declared.tick.PreparedTick.{PreparedTick}
 use Rattle.store_arrivals.proofs.Keeping.{ready_keeps}
 use Rattle.store_calls.specs.AbstractStore.{Adds}
 use Rattle.store_calls.specs.Calls.{Ticks}
-use Rattle.journal_store.specs.Stored.{stored}
-use Rattle.journal_store.specs.Stands.{EnduresAlways, KeepsAll, KeepsOf, Leads, Settles, Stands}
+use Rattle.journal_store.specs.StoreView.{stored}
+use Rattle.journal_store.specs.StoreStanding.{EnduresAlways, KeepsAll, KeepsOf, Leads, Settles, Stands}
 use Rattle.journal_store.specs.StoreTransaction.{WritesRows}
 use Rattle.journal_store.proofs.Enduring.{tick_landed}
 use Rattle.journal_store.proofs.Lasting.{outlasts_now}

@@ -4,8 +4,8 @@ use Rattle.std.proofs.lemmas.Slice.Eq.{bytes_eq-Decides}
 use Rattle.journal_model.specs.Notification.{Bytes, Text}
 use Rattle.store_live.specs.declared.attempt.LiveAttempt.{LiveAttempt}
 use Rattle.store_live.specs.Attempts.{Attempts, ByInvocation, attempt_of, IsNow, ChangesLive, ChangesInput, after_hand_out, after_input, after_close}
-use Rattle.store_live.specs.Before.{IsAsBefore, AreAsBefore}
-use Rattle.journal_store.specs.Stands.{output_of, KeepsOutputs, WaitsNow}
+use Rattle.store_live.specs.ChangedRoom.{IsAsBefore, AreAsBefore}
+use Rattle.journal_store.specs.StoreStanding.{output_of, KeepsOutputs, WaitsNow}
 use Rattle.journal_store.proofs.Standing.{true_or_false}
 
 abbrev output_in : LiveAttempt → Bytes

@@ -10,20 +10,20 @@ use Rattle.journal_model.specs.Attempt.{Piece, input_left, input_pieces}
 use Rattle.protocol_types.specs.declared.version.Version.{Version}
 use Rattle.store_refusals.specs.declared.refusal.Refusal.{Refusal}
 use Rattle.store_refusals.specs.declared.refusal.Refusal.TheVariants as refusal
-use Rattle.store_refusals.specs.Refused.{is_circumstance}
-use Rattle.store_refusals.specs.Prepared.{TellsOrRefuses}
+use Rattle.store_refusals.specs.RefusalConditions.{is_circumstance}
+use Rattle.store_refusals.specs.Preparations.{TellsOrRefuses}
 use Rattle.store_invocations.specs.declared.attempt.PreparedAttempt.{PreparedAttempt}
 use Rattle.store_live.specs.declared.attempt.LiveAttempt.{LiveAttempt}
 use Rattle.store_live.specs.declared.input.FrameRead.{FrameRead}
 use Rattle.store_live.specs.Input.{at_begin, next_ordinal, next_row}
 use Rattle.store_live.specs.Attempts.{CountsFrame, live_after_frame, attempt_of}
 use Rattle.store_live_laws.specs.Memory.{frame_read, row_asked}
-use Rattle.store_live_laws.specs.Agrees.{cause_of_stale, has_number}
+use Rattle.store_live_laws.specs.LiveAttempts.{cause_of_stale, has_number}
 use Rattle.store_calls.specs.declared.begun.BegunAttempt.{BegunAttempt}
 use Rattle.store_calls.specs.AbstractStore.{Standing}
 use Rattle.store_calls.specs.Calls.{BeginsStoredAttempt}
-use Rattle.journal_store.specs.Stored.{Stored}
-use Rattle.journal_store.specs.Stands.{IsStanding}
+use Rattle.journal_store.specs.StoreView.{Stored}
+use Rattle.journal_store.specs.StoreStanding.{IsStanding}
 
 -- a call on an attempt that is not live: the invocation is unknown, or closed, or the attempt is over; or a circumstance
 abbrev pub IsStale : List Event → Text → Refusal → Type 0

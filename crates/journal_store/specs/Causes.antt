@@ -18,13 +18,13 @@ use Rattle.store_model.specs.Writes.{AreEnding, writes_of}
 use Rattle.store_refusals.specs.declared.refusal.Refusal.{Refusal}
 use Rattle.store_refusals.specs.declared.refusal.Refusal.TheVariants.{StatementRefused}
 use Rattle.store_refusals.specs.Causes.{TellsCause}
-use Rattle.store_arrivals.specs.Made.{ready_writes}
+use Rattle.store_arrivals.specs.PreparedTicks.{ready_writes}
 use Rattle.store_steps.specs.declared.frame.FrameReply.{FrameReply}
 use Rattle.store_calls.specs.AbstractStore.{Standing}
 use Rattle.store_calls.specs.Calls.{PutsBehind}
 use Rattle.store_calls.specs.Frames.{IsNext, TakesEach}
-use Rattle.journal_store.specs.Stored.{Stored}
-use Rattle.journal_store.specs.Stands.{IsStanding, KeepsAll}
+use Rattle.journal_store.specs.StoreView.{Stored}
+use Rattle.journal_store.specs.StoreStanding.{IsStanding, KeepsAll}
 
 -- ---- which event was to be written
 

@@ -1,9 +1,9 @@
-pub mod Stored
-pub mod Stands
+pub mod StoreView
+pub mod StoreStanding
 pub mod Attempts
 pub mod FrameAcceptance
 pub mod StoreTransaction
 pub mod OutputAcceptance
 pub mod Causes
-pub mod Opened
+pub mod OpeningConditions
 pub mod Words

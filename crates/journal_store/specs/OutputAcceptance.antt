@@ -8,12 +8,12 @@ use Rattle.journal_model.specs.Notification.{Text}
 use Rattle.journal_model.specs.Attempt.{is_live}
 use Rattle.store_refusals.specs.declared.refusal.Refusal.{Refusal}
 use Rattle.store_steps.specs.declared.frame.FrameReply.{FrameReply}
-use Rattle.store_steps.specs.Taken.{does_end}
+use Rattle.store_steps.specs.PreparedFrames.{does_end}
 use Rattle.store_calls.specs.AbstractStore.{Standing}
 use Rattle.store_calls.specs.Frames.{Rests, TakesEach, TakesFrame, TakesNone, TakesOne}
 use Rattle.journal_store.specs.declared.accept.Accepted.{Accepted}
-use Rattle.journal_store.specs.Stored.{Stored}
-use Rattle.journal_store.specs.Stands.{IsStanding, KeepsAll, Outlasts, Settles}
+use Rattle.journal_store.specs.StoreView.{Stored}
+use Rattle.journal_store.specs.StoreStanding.{IsStanding, KeepsAll, Outlasts, Settles}
 
 -- what was taken, as it is told
 abbrev pub accepted_told : Result Accepted Refusal → Result (List FrameReply × Option Refusal) Refusal

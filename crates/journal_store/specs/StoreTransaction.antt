@@ -11,7 +11,7 @@ use Rattle.store_tables.specs.Steps.{IsStore}
 use Rattle.store_refusals.specs.declared.refusal.Refusal.{Refusal}
 use Rattle.store_refusals.specs.declared.refusal.Refusal.TheVariants.{StatementRefused}
 use Rattle.store_refusals.specs.Causes.{TellsCauseToWrite}
-use Rattle.store_refusals.specs.Refused.{is_circumstance}
+use Rattle.store_refusals.specs.RefusalConditions.{is_circumstance}
 
 -- a circumstance; where the database refused one of these writes, its cause, over the tables of a store
 pub record IsUnwritten (writes : List Write) (old new : State) (why : Refusal) : Type 0 where

@@ -3,5 +3,5 @@ pub use Rattle.sqlite.specs.Held.{state}
 pub use Rattle.sqlite.specs.State.{HasCleanDisk, Survives}
 pub use Rattle.sql_tables.specs.QueryAnswers.{AreTablesKept}
 pub use Rattle.store_live.specs.Attempts.{attempt_of}
-pub use Rattle.store_live.specs.Before.{AreAsBefore}
-pub use Rattle.store_live_laws.specs.Agrees.{has_number}
+pub use Rattle.store_live.specs.ChangedRoom.{AreAsBefore}
+pub use Rattle.store_live_laws.specs.LiveAttempts.{has_number}

@@ -5,7 +5,7 @@ ghost use Rattle.store_refusals.specs.declared.refusal.Refusal.TheVariants.{OutO
 ghost use Rattle.store_calls.specs.Calls.{PutsBehind};
 ghost use Rattle.store_calls.specs.Frames.{Accepts, AcceptsFirst, TakesFirstFrames, TakesFrames, TakesOne};
 ghost use Rattle.journal_store.specs.OutputAcceptance.{SettlesFrames, SettlesNext, TakesNext, accepted_told};
-ghost use Rattle.journal_store.specs.Stands.{Endures, Leads};
+ghost use Rattle.journal_store.specs.StoreStanding.{Endures, Leads};
 ghost use Rattle.journal_store.specs.Words.{state, AreTablesKept, attempt_of, has_number};
 ghost use Rattle.journal_store.specs.Causes.{TellsWhy, TellsWhyUnwritten, TriesFrame, TriesFrameBehind, TriesFrameOf};
 

@@ -3,7 +3,7 @@ ghost use Rattle.std.specs.Prelude.{◌≡◌, not, filter, is_some, IfErr};
 ghost use Rattle.std.specs.Option.{option_copied};
 ghost use Rattle.journal_model.specs.Attempt.{due};
 ghost use Rattle.due_laws.specs.NextMoment.{IsNextMoment};
-ghost use Rattle.journal_store.specs.Stands.{IsQuiet, TellsAlways};
+ghost use Rattle.journal_store.specs.StoreStanding.{IsQuiet, TellsAlways};
 ghost use Rattle.journal_store.specs.Words.{attempt_of};
 ghost use Rattle.journal_store.specs.Causes.{TellsWhy};
 ghost use Rattle.store_reads.specs.DuePage.{due_after};

@@ -5,7 +5,7 @@ ghost use Rattle.store_live.specs.Attempts.{IsNow};
 ghost use Rattle.store_calls.specs.AbstractStore.{Adds};
 ghost use Rattle.store_calls.specs.Calls.{BeginsAttempt, CompletesCall, Invokes};
 ghost use Rattle.journal_store.specs.Attempts.{BeginsSome, IsToldAs, fresh};
-ghost use Rattle.journal_store.specs.Stands.{EnduresAlways, KeepsOutputs, Leads, Settles, WaitsAfter};
+ghost use Rattle.journal_store.specs.StoreStanding.{EnduresAlways, KeepsOutputs, Leads, Settles, WaitsAfter};
 ghost use Rattle.journal_store.specs.Words.{state, AreTablesKept};
 ghost use Rattle.journal_store.specs.StoreTransaction.{WritesRows};
 ghost use Rattle.journal_store.specs.Causes.{TellsWhyUnwritten, TriesEvent};

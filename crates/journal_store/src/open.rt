@@ -7,8 +7,8 @@ ghost use Rattle.store_tables.specs.Records.{Holds, no_records};
 ghost use Rattle.store_tables.specs.Steps.{IsStore};
 ghost use Rattle.store_refusals.specs.declared.refusal.Refusal.TheVariants.{ForeignRow};
 ghost use Rattle.store_invocations.specs.Rows.{IsStoreOf};
-ghost use Rattle.journal_store.specs.Opened.{CanBeTaken, ComesBack, IsNotTaken, MakesTables};
-ghost use Rattle.journal_store.specs.Stands.{Stands};
+ghost use Rattle.journal_store.specs.OpeningConditions.{CanBeTaken, ComesBack, IsNotTaken, MakesTables};
+ghost use Rattle.journal_store.specs.StoreStanding.{Stands};
 ghost use Rattle.journal_store.specs.Words.{state, HasCleanDisk, Survives, AreTablesKept};
 ghost use Rattle.store_refusals.specs.Causes.{TellsCause};
 

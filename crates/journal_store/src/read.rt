@@ -1,12 +1,12 @@
 // What a store tells of an invocation, and of an object.
 ghost use Rattle.std.specs.Prelude.{◌≡◌, map, IfErr};
 ghost use Rattle.journal_model.specs.Journal.{is_open, object_state};
-ghost use Rattle.store_model.specs.Kept.{state_row};
+ghost use Rattle.store_model.specs.KeptRecords.{state_row};
 ghost use Rattle.store_model.specs.Progress.{last_error_of};
-ghost use Rattle.store_invocations.specs.Told.{entries_told};
-ghost use Rattle.store_invocations.specs.Answered.{answer_told};
+ghost use Rattle.store_invocations.specs.JournalContent.{entries_told};
+ghost use Rattle.store_invocations.specs.InvocationAnswers.{answer_told};
 ghost use Rattle.store_reads.specs.OpenRequests.{open_requests};
-ghost use Rattle.journal_store.specs.Stands.{IsQuiet, TellsAlways, TellsOf};
+ghost use Rattle.journal_store.specs.StoreStanding.{IsQuiet, TellsAlways, TellsOf};
 ghost use Rattle.journal_store.specs.Causes.{TellsWhy};
 
 use crate::store::Store;

@@ -3,7 +3,7 @@ ghost use Rattle.std.specs.Prelude.{OnErr, OnOk, IfErr};
 ghost use Rattle.journal_model.specs.Event.{Event};
 ghost use Rattle.store_calls.specs.AbstractStore.{Adds};
 ghost use Rattle.store_calls.specs.Calls.{Cancels, Signals};
-ghost use Rattle.journal_store.specs.Stands.{EnduresAlways, KeepsOutputs, Leads, Settles};
+ghost use Rattle.journal_store.specs.StoreStanding.{EnduresAlways, KeepsOutputs, Leads, Settles};
 ghost use Rattle.journal_store.specs.Words.{state, AreTablesKept};
 ghost use Rattle.journal_store.specs.Causes.{TellsWhyUnwritten, TriesEvent};
 

@@ -1,10 +1,10 @@
 // Frames of an attempt are taken one by one: what a frame asks for is recorded, and then it is passed.
 ghost use Rattle.std.specs.Prelude.{◌≡◌, ◌≤◌, true, length, option_map, Some, IfOk, OnErr, OnOk, IfErr};
 ghost use Rattle.std.specs.Option.{ForSome};
-ghost use Rattle.store_steps.specs.Taken.{does_end, lies_in_frame};
+ghost use Rattle.store_steps.specs.PreparedFrames.{does_end, lies_in_frame};
 ghost use Rattle.store_live.specs.Attempts.{ChangesLive, IsNow};
 ghost use Rattle.store_calls.specs.Frames.{StepsAttempt, TakesOne};
-ghost use Rattle.journal_store.specs.Stands.{Endures, Leads};
+ghost use Rattle.journal_store.specs.StoreStanding.{Endures, Leads};
 ghost use Rattle.journal_store.specs.FrameAcceptance.{HasMessage, HasMessageOf, HasRoomToNote, IsEndedBy, IsFirstOf, IsFirstSeen, IsSeenOf, SettlesStep, after_noted, after_room, passed};
 ghost use Rattle.journal_store.specs.Words.{state, AreTablesKept, AreAsBefore, attempt_of, has_number};
 ghost use Rattle.journal_store.specs.StoreTransaction.{WritesRows};

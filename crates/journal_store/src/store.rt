@@ -15,7 +15,7 @@ pub struct Store<S: Alter> {
 }
 
 impl<S: Alter> Model for Store<S> {
-    ghost use Rattle.journal_store.specs.Stored.{Stored, stored_code};
+    ghost use Rattle.journal_store.specs.StoreView.{Stored, stored_code};
 
     ghost Value = { Stored S };
 

@@ -3,7 +3,7 @@ ghost use Rattle.std.specs.Prelude.{◌≡◌, IfOk, OnErr, OnOk, IfErr};
 ghost use Rattle.journal_model.specs.Event.{Event};
 ghost use Rattle.store_calls.specs.AbstractStore.{Adds};
 ghost use Rattle.store_calls.specs.Calls.{Ticks};
-ghost use Rattle.journal_store.specs.Stands.{EnduresAlways, KeepsOutputs, Leads, Settles};
+ghost use Rattle.journal_store.specs.StoreStanding.{EnduresAlways, KeepsOutputs, Leads, Settles};
 ghost use Rattle.journal_store.specs.Words.{state, AreTablesKept};
 ghost use Rattle.journal_store.specs.StoreTransaction.{WritesRows};
 ghost use Rattle.journal_store.specs.Causes.{TellsWhyUnwritten, TriesEvent};

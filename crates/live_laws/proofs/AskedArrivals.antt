@@ -13,7 +13,7 @@ use Rattle.journal_model.specs.Run.{run_requests}
 use Rattle.journal_model.proofs.Continuing.{run_requests-beginning}
 use Rattle.journal_laws.proofs.Leaving.{or-true_left, and-true}
 use Rattle.run_laws.proofs.Ascending.{ascends, run_rises}
-use Rattle.input_laws.specs.Once.{count_of, numbers_asked, numbers_come, ComeWhenAsked}
+use Rattle.input_laws.specs.CompletionsOnce.{count_of, numbers_asked, numbers_come, ComeWhenAsked}
 use Rattle.input_laws.proofs.Once.{count-append, ascend-above, ascend-once, below-greatest}
 use Rattle.input_laws.proofs.AskedOnce.{kind_first}
 use Rattle.input_laws.proofs.Results.{count-results}

@@ -20,9 +20,9 @@ use Rattle.journal_laws.proofs.ObjectState.{find-passes, state_of_open, open_whe
 use Rattle.input_laws.specs.Message.{InputMessage, CarriesInput, CarriesRequest, CarriesArrival, CarriesOutcome, arrivals_carried, requests_carried, message_of, IsBroughtBy}
 use Rattle.input_laws.proofs.Events.{added_by, entries_now, itself}
 use Rattle.input_laws.proofs.Telling.{entries_arrivals, entries_requests}
-use Rattle.run_laws.specs.Held.{Holds}
+use Rattle.run_laws.specs.HeldInvocations.{Holds}
 use Rattle.live_laws.specs.RequestsInFlight.{PassesOn}
-use Rattle.live_laws.specs.Begun.{begun_last, begun_earlier, journal_after, BegunWith, proposals_in, IsProposed, IsLater, HasInput}
+use Rattle.live_laws.specs.BegunAttempts.{begun_last, begun_earlier, journal_after, BegunWith, proposals_in, IsProposed, IsLater, HasInput}
 
 -- ---- the start
 

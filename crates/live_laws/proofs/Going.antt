@@ -11,7 +11,7 @@ use Rattle.journal_model.specs.Event.{Event}
 use Rattle.journal_model.specs.Journal.{Entry, entries_of}
 use Rattle.input_laws.specs.Message.{InputMessage, CarriesInput, CarriesRequest, CarriesArrival, CarriesOutcome, requests_carried}
 use Rattle.input_laws.proofs.News.{requests_carried-append}
-use Rattle.live_laws.specs.Begun.{IsLater}
+use Rattle.live_laws.specs.BegunAttempts.{IsLater}
 use Rattle.live_laws.specs.AttemptWithMachine.{AttemptInRun, HasReadJournal, IsLiveMachine}
 use Rattle.live_laws.proofs.MachinePosition.{none_behind}
 

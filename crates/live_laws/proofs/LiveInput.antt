@@ -12,7 +12,7 @@ use Rattle.live_laws.specs.RequestsInFlight.{PassesOn}
 use Rattle.input_laws.specs.Message.{InputMessage, CarriesInput, piece_of, arrivals_carried, requests_carried, message_of, IsBroughtBy}
 use Rattle.live_laws.specs.Live.{IsLive}
 use Rattle.std.specs.List.{AllByRecursion}
-use Rattle.input_laws.specs.Once.{ComeWhenAsked}
+use Rattle.input_laws.specs.CompletionsOnce.{ComeWhenAsked}
 use Rattle.input_laws.proofs.Results.{recorded_when_asked}
 use Rattle.input_laws.proofs.Events.{entries_now, itself, arrivals_now, requests_now}
 use Rattle.live_laws.specs.TurnLaws.{MessagesComeWhenAsked, AttemptsBeginLive, EventsKeepLive, HandingOutKeepsLive}

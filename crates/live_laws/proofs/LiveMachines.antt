@@ -15,7 +15,7 @@ use Rattle.input_laws.specs.Message.{InputMessage, piece_of, requests_carried, I
 use Rattle.input_laws.proofs.Events.{itself, start_same, entries_now}
 use Rattle.input_laws.proofs.News.{news, requests_carried-append}
 use Rattle.live_laws.specs.RequestsInFlight.{PassesOn}
-use Rattle.live_laws.specs.Begun.{HasInput}
+use Rattle.live_laws.specs.BegunAttempts.{HasInput}
 use Rattle.live_laws.specs.Live.{IsLive}
 use Rattle.live_laws.proofs.Begun.{begun_with, begun_on, journal_begins, input_first, input_on}
 use Rattle.live_laws.proofs.LiveInput.{live_first, live_on, live_more}

@@ -9,7 +9,7 @@ use Rattle.journal_model.specs.Journal.{begins, requests_in, recorded_requests}
 use Rattle.journal_model.specs.Attempt.{Piece, begins_attempt, input_left, input_bytes, is_input_closed, arrivals_within}
 use Rattle.journal_model.specs.Headline.{arrivals_handed}
 use Rattle.live_laws.specs.RequestsInFlight.{request_sent, requests_sent, SendsOfRun, FollowsSo, PassesOn}
-use Rattle.run_laws.specs.Suspended.{WaitsAll}
+use Rattle.run_laws.specs.SuspensionContent.{WaitsAll}
 use Rattle.live_laws.specs.TurnWrites.{WritesOfRun, nothing, answers, notes, fails, suspends, ends}
 use Rattle.input_laws.specs.Message.{InputMessage, piece_of, arrivals_carried, requests_carried, IsInput, HasReadMessages}
 use Rattle.live_laws.specs.Live.{IsPosition, IsLive, TurnsOfRun}

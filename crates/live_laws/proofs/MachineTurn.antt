@@ -15,7 +15,7 @@ use Rattle.journal_model.specs.Await.{awaited_tree}
 use Rattle.journal_model.specs.Run.{Handler, Invocation, Progress, run, run_requests, IsBeginning, BeginsRun}
 use Rattle.journal_model.specs.Event.{Suspension, Frame}
 use Rattle.journal_model.specs.Attempt.{arrivals_within}
-use Rattle.run_laws.specs.Suspended.{TellsAwaitedTree, WaitsAll}
+use Rattle.run_laws.specs.SuspensionContent.{TellsAwaitedTree, WaitsAll}
 use Rattle.run_laws.proofs.Awaits.{awaits_tell, children_tell}
 use Rattle.input_laws.specs.Message.{InputMessage, piece_of, arrivals_carried, requests_carried}
 use Rattle.input_laws.proofs.News.{requests_carried-append}

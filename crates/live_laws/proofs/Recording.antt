@@ -19,7 +19,7 @@ use Rattle.journal_laws.proofs.ObjectState.{tail_of, holds-head, holds-tail, not
 use Rattle.journal_laws.proofs.Leaving.{or-true}
 use Rattle.input_laws.proofs.Events.{added_by, entries_first, requests_now, arrivals_now, no_request, one_request}
 use Rattle.input_laws.proofs.LiveAttempts.{own_hold}
-use Rattle.input_laws.specs.Once.{count_of, numbers_asked, AreOnce}
+use Rattle.input_laws.specs.CompletionsOnce.{count_of, numbers_asked, AreOnce}
 use Rattle.input_laws.proofs.Once.{count_asked, read_asked, arrivals_arrived, slept_few, recorded_once}
 use Rattle.input_laws.proofs.AskedOnce.{kind_count, found_kind, kind_slept}
 use Rattle.attempt_model.specs.Attempts.{gives_id}

@@ -9,7 +9,7 @@ use Rattle.journal_model.specs.Journal.{is_of, begins, requests_in, recorded_req
 use Rattle.journal_model.specs.Attempt.{begins_attempt, ends_live, live_attempt, closes_input, is_input_closed, bytes_asked}
 use Rattle.journal_model.specs.Cause.{causes_of, IsAccepted}
 use Rattle.journal_model.specs.Headline.{arrivals_handed}
-use Rattle.run_laws.specs.Taken.{IsOfRun, TakesOfRun}
+use Rattle.run_laws.specs.TakenFrames.{IsOfRun, TakesOfRun}
 use Rattle.live_laws.specs.RequestsInFlight.{request_sent, requests_sent, SendsOneOfRun, SendsOfRun, FliesOfRun, PassesOn}
 use Rattle.run_laws.proofs.Extending.{begins-more, ended-more}
 use Rattle.input_laws.proofs.Events.{added_by, itself, requests_now, no_request, all_requests, nothing_added, not_begun}

@@ -14,7 +14,7 @@ use Rattle.journal_model.specs.Headline.{shown_state}
 use Rattle.run_laws.proofs.States.{starts_ordered}
 use Rattle.input_laws.specs.Message.{requests_carried}
 use Rattle.input_laws.proofs.Events.{start_same}
-use Rattle.live_laws.specs.Begun.{IsBegunAfter, begun_last, begun_earlier}
+use Rattle.live_laws.specs.BegunAttempts.{IsBegunAfter, begun_last, begun_earlier}
 use Rattle.attempt_model.specs.Simulation.{IsShown, whole_state, same_state}
 use Rattle.live_laws.specs.PositionLaws.{StartsShow}
 

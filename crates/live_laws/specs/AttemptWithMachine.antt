@@ -8,7 +8,7 @@ use Rattle.journal_model.specs.Event.{Event, Frame}
 use Rattle.journal_model.specs.Journal.{recorded_requests}
 use Rattle.input_laws.specs.Message.{InputMessage, CarriesInput, requests_carried, HasReadMessages}
 use Rattle.live_laws.specs.RequestsInFlight.{requests_sent}
-use Rattle.live_laws.specs.Begun.{proposals_in, HasInput}
+use Rattle.live_laws.specs.BegunAttempts.{proposals_in, HasInput}
 use Rattle.attempt_model.specs.Machine.{Machine, machine_at_start}
 use Rattle.live_laws.specs.MachinePosition.{with_messages, IsMachineAt}
 use Rattle.live_laws.specs.StartFrame.{AttemptStart, IsBegunAs}

@@ -1,7 +1,7 @@
 pub mod RequestsInFlight
 pub mod TurnWrites
 pub mod Live
-pub mod Begun
+pub mod BegunAttempts
 pub mod TurnLaws
 pub mod MachinePosition
 pub mod Replies

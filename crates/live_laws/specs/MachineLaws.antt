@@ -12,8 +12,8 @@ use Rattle.journal_model.specs.Attempt.{begins_attempt, bytes_asked, input_bytes
 use Rattle.journal_model.specs.Cause.{IsAccepted}
 use Rattle.journal_model.specs.Headline.{run_of}
 use Rattle.input_laws.specs.Message.{InputMessage, piece_of, IsBroughtBy}
-use Rattle.input_laws.specs.Once.{ComeWhenAsked}
-use Rattle.run_laws.specs.Held.{Holds}
+use Rattle.input_laws.specs.CompletionsOnce.{ComeWhenAsked}
+use Rattle.run_laws.specs.HeldInvocations.{Holds}
 use Rattle.live_laws.specs.RequestsInFlight.{PassesOn}
 use Rattle.attempt_model.specs.Attempts.{ComeAsAsked}
 use Rattle.live_laws.specs.StartFrame.{start_after}

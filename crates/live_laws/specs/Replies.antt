@@ -7,7 +7,7 @@ use Rattle.journal_model.specs.AwaitTree.{AwaitTree, Single, map_leaves}
 use Rattle.journal_model.specs.Request.{Request}
 use Rattle.journal_model.specs.Run.{Handler, Invocation}
 use Rattle.journal_model.specs.Event.{Suspension, Frame}
-use Rattle.run_laws.specs.Suspended.{TellsAwaitedTree}
+use Rattle.run_laws.specs.SuspensionContent.{TellsAwaitedTree}
 use Rattle.input_laws.specs.Message.{InputMessage}
 use Rattle.live_laws.specs.RequestsInFlight.{requests_sent}
 use Rattle.live_laws.specs.TurnWrites.{IsNote}

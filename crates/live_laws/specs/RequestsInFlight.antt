@@ -8,9 +8,9 @@ use Rattle.journal_model.specs.Journal.{request_of_frame, recorded_requests}
 use Rattle.journal_model.specs.Attempt.{live_attempt, is_input_closed}
 use Rattle.journal_model.specs.Cause.{causes_of, IsAccepted}
 use Rattle.journal_model.specs.Headline.{arrivals_handed}
-use Rattle.run_laws.specs.Suspended.{WaitsAll}
-use Rattle.run_laws.specs.Taken.{IsOfRun}
-use Rattle.run_laws.specs.Held.{Holds}
+use Rattle.run_laws.specs.SuspensionContent.{WaitsAll}
+use Rattle.run_laws.specs.TakenFrames.{IsOfRun}
+use Rattle.run_laws.specs.HeldInvocations.{Holds}
 
 abbrev pub request_sent : Frame → List Request
 request_sent frame = request_of_frame (Some frame)

@@ -13,7 +13,7 @@ use Rattle.journal_model.specs.Journal.{starting_state}
 use Rattle.journal_model.specs.Headline.{run_of, shown_state}
 use Rattle.input_laws.specs.Message.{InputMessage, arrivals_carried, requests_carried}
 use Rattle.attempt_model.specs.Simulation.{IsShown}
-use Rattle.live_laws.specs.Begun.{journal_after, BegunWith}
+use Rattle.live_laws.specs.BegunAttempts.{journal_after, BegunWith}
 
 -- what an attempt was begun with: the invocation, the messages of its journal, its start frame, what its run begins with, and the state that
 -- the start frame shows

@@ -18,11 +18,11 @@ use Rattle.journal_model.specs.Headline.{run_of, Headline, NeverLate, WakesExact
 use Rattle.run_laws.specs.Position.{IsAtCall}
 use Rattle.input_laws.specs.ArrivalsRead.{HasReadPieces, arrivals_read}
 use Rattle.input_laws.specs.Message.{InputMessage, CarriesInput, arrivals_carried, requests_carried, IsBroughtBy}
-use Rattle.input_laws.specs.Once.{ComeWhenAsked}
-use Rattle.run_laws.specs.Held.{Holds}
+use Rattle.input_laws.specs.CompletionsOnce.{ComeWhenAsked}
+use Rattle.run_laws.specs.HeldInvocations.{Holds}
 use Rattle.live_laws.specs.RequestsInFlight.{requests_sent, SendsOfRun, FollowsSo, PassesOn, ScheduleOfRun}
 use Rattle.live_laws.specs.TurnWrites.{WritesOfRun}
-use Rattle.live_laws.specs.Begun.{journal_after, BegunWith, proposals_in, HasInput}
+use Rattle.live_laws.specs.BegunAttempts.{journal_after, BegunWith, proposals_in, HasInput}
 use Rattle.live_laws.specs.Live.{IsPosition, IsLive, TurnsOfRun}
 
 -- ---- schedules

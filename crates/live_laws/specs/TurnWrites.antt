@@ -7,7 +7,7 @@ use Rattle.journal_model.specs.Run.{Handler, Invocation, Ended, BeginsRun}
 use Rattle.journal_model.specs.Event.{Suspension, Frame}
 use Rattle.journal_model.specs.Headline.{IsWholeRun}
 use Rattle.run_laws.specs.Position.{IsAtCall}
-use Rattle.run_laws.specs.Suspended.{WaitsAll}
+use Rattle.run_laws.specs.SuspensionContent.{WaitsAll}
 
 -- a frame that says nothing of requests
 abbrev pub IsNote : Frame → Type 0

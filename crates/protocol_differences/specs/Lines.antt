@@ -5,7 +5,7 @@ use Rattle.std.proofs.Common.{sym, ◌∙◌}
 use Rattle.std.proofs.lemmas.Bool.{and_parts, and_from}
 use Rattle.protocol_types.specs.Texts.{quoted, escaped, optional_text}
 use Rattle.protocol_equality.specs.Parts.{same_text}
-use Rattle.protocol_equality.specs.Tells.{DecidesErased}
+use Rattle.protocol_equality.specs.EqualityTests.{DecidesErased}
 
 -- a line begins with a line feed; where the field is the same there is none
 unfoldable pub compared_line : Bool → List ℕ → List ℕ → List ℕ → List ℕ

@@ -2,7 +2,7 @@
 use Rattle.std.specs.Prelude.{ℕ, Bool, true, ◌&&◌, List, Option, nat_eq}
 use Rattle.std.proofs.Common.{ap}
 use Rattle.std.specs.Cmp.Lexicographic.{pointwise, pointwise_decides}
-use Rattle.protocol_equality.specs.Tells.{ToldBy, in_full, deciding, both_tell, parts_tell}
+use Rattle.protocol_equality.specs.EqualityTests.{ToldBy, in_full, deciding, both_tell, parts_tell}
 use Rattle.protocol_equality.specs.Laws.{Coarser}
 use Rattle.protocol_equality.specs.Parts.{same_text, same_optional_text, numbers_tell, texts_tell, optional_texts_tell}
 use Rattle.protocol_equality.specs.Records.{same_header, header_tells}

@@ -1,7 +1,7 @@
 -- When what a command chooses among is the same: it is the same variant, which holds the same.
 use Rattle.std.specs.Prelude.{◌≡◌, Bool, true, false, nat_eq}
 use Rattle.std.proofs.Common.{ap}
-use Rattle.protocol_equality.specs.Tells.{DecidesErased, whole}
+use Rattle.protocol_equality.specs.EqualityTests.{DecidesErased, whole}
 use Rattle.protocol_equality.specs.Parts.{same_text, numbers_tell, texts_tell}
 use Rattle.protocol_equality.specs.Records.{same_value, value_tells, same_void, void_tells, same_failure, failure_tells, same_workflow_target, workflow_target_tells, same_idempotent_request_target, idempotent_request_target_tells}
 use Rattle.protocol_calls.specs.declared.send_signal_command.SendSignalCommandSignalId.{SendSignalCommandSignalId}

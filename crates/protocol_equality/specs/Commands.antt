@@ -2,7 +2,7 @@
 use Rattle.std.specs.Prelude.{ℕ, Bool, true, false, ◌&&◌, List, [], Option, None, nat_eq, refl}
 use Rattle.std.proofs.Common.{ap}
 use Rattle.std.specs.Option.{option_eq, option_map}
-use Rattle.protocol_equality.specs.Tells.{ToldBy, in_full, deciding, options_tell, options_decide, both_tell, parts_tell}
+use Rattle.protocol_equality.specs.EqualityTests.{ToldBy, in_full, deciding, options_tell, options_decide, both_tell, parts_tell}
 use Rattle.protocol_equality.specs.Laws.{Coarser, coarser_by}
 use Rattle.protocol_equality.specs.Parts.{same_text, numbers_tell, texts_tell}
 use Rattle.protocol_equality.specs.Payloads.{same_output_result, erased_output_result, output_result_tells, options_erased, output_result_erased, same_content, erased_value, content_tells, same_state_result, erased_state_result, state_result_tells, value_erased, state_result_erased, same_completion, erased_completion, completion_tells, completion_erased, same_awakeable_result, erased_awakeable_result, awakeable_result_tells, awakeable_result_erased}

@@ -5,4 +5,4 @@ pub mod Laws
 pub mod Parts
 pub mod Payloads
 pub mod Records
-pub mod Tells
+pub mod EqualityTests

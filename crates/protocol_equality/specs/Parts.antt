@@ -2,7 +2,7 @@
 use Rattle.std.specs.Prelude.{ℕ, Bool, List, Option, nat_eq}
 use Rattle.std.specs.Option.{option_eq}
 use Rattle.std.specs.Cmp.Lexicographic.{pointwise, bytes_decides}
-use Rattle.protocol_equality.specs.Tells.{DecidesErased, whole, in_full, numbers_decide, options_decide}
+use Rattle.protocol_equality.specs.EqualityTests.{DecidesErased, whole, in_full, numbers_decide, options_decide}
 
 abbrev pub same_text : List ℕ → List ℕ → Bool
 same_text = pointwise nat_eq

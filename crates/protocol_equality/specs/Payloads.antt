@@ -2,7 +2,7 @@
 use Rattle.std.specs.Prelude.{◌≡◌, ℕ, Bool, true, false, List, [], Option, Some, None, refl}
 use Rattle.std.proofs.Common.{ap}
 use Rattle.std.specs.Option.{option_map}
-use Rattle.protocol_equality.specs.Tells.{DecidesErased, parts_tell}
+use Rattle.protocol_equality.specs.EqualityTests.{DecidesErased, parts_tell}
 use Rattle.protocol_equality.specs.Parts.{same_text, texts_tell}
 use Rattle.protocol_equality.specs.Records.{same_void, void_tells, same_failure, failure_tells}
 use Rattle.protocol_records.specs.declared.value.Value.{Value}

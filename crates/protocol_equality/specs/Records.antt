@@ -2,7 +2,7 @@
 use Rattle.std.specs.Prelude.{ℕ, Bool, true, ◌&&◌, List, Option, nat_eq, refl}
 use Rattle.std.proofs.Common.{ap}
 use Rattle.std.specs.Cmp.Lexicographic.{pointwise, pointwise_decides, bytes_decides}
-use Rattle.protocol_equality.specs.Tells.{DecidesErased, whole, in_full, deciding, both_tell, parts_tell}
+use Rattle.protocol_equality.specs.EqualityTests.{DecidesErased, whole, in_full, deciding, both_tell, parts_tell}
 use Rattle.protocol_equality.specs.Parts.{same_text, same_optional_text, numbers_tell, texts_tell, optional_texts_tell}
 use Rattle.protocol_records.specs.declared.header.Header.{Header}
 use Rattle.protocol_records.specs.declared.failure.FailureMetadata.{FailureMetadata}

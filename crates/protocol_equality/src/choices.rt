@@ -1,5 +1,5 @@
 // What a command chooses among, where everything is compared.
-ghost use Rattle.protocol_equality.specs.Tells.{deciding};
+ghost use Rattle.protocol_equality.specs.EqualityTests.{deciding};
 ghost use Rattle.protocol_equality.specs.Choices.{same_signal_id, signal_id_tells, same_signal_result, signal_result_tells, same_invocation_target, invocation_target_tells};
 
 use crate::Same;

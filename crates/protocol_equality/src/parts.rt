@@ -2,7 +2,7 @@
 ghost use Rattle.std.specs.Prelude.{◌≡◌, nat_eq};
 ghost use Rattle.std.specs.Cmp.Lexicographic.{pointwise, pointwise_decides, bytes_decides};
 ghost use Rattle.std.specs.Option.{option_eq};
-ghost use Rattle.protocol_equality.specs.Tells.{numbers_decide, options_decide};
+ghost use Rattle.protocol_equality.specs.EqualityTests.{numbers_decide, options_decide};
 
 use crate::Same;
 use bytes::{ByteStr, Bytes};

@@ -1,5 +1,5 @@
 // Records that others hold.
-ghost use Rattle.protocol_equality.specs.Tells.{deciding};
+ghost use Rattle.protocol_equality.specs.EqualityTests.{deciding};
 ghost use Rattle.protocol_equality.specs.Records.{same_header, header_tells, same_failure_metadata, failure_metadata_tells, same_failure, failure_tells, same_value, value_tells, same_void, void_tells, same_state_keys, state_keys_tells, same_workflow_target, workflow_target_tells, same_idempotent_request_target, idempotent_request_target_tells};
 
 use crate::Same;

@@ -1,5 +1,5 @@
-pub mod Awaited
+pub mod AwaitedIds
 pub mod Code
 pub mod Error
-pub mod Fixed
+pub mod FixedErrors
 pub mod Texts

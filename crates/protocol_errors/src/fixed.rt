@@ -1,6 +1,6 @@
 // Errors whose text is always the same.
 ghost use Rattle.std.specs.Prelude.{◌≡◌, Some};
-ghost use Rattle.protocol_errors.specs.Fixed.{fixed_code, fixed_text};
+ghost use Rattle.protocol_errors.specs.FixedErrors.{fixed_code, fixed_text};
 ghost use Rattle.protocol_errors.specs.Code.{code_numbered};
 
 use crate::{Error, InvocationErrorCode, WithInvocationErrorCode, codes};

@@ -3,7 +3,7 @@ ghost use Rattle.std.specs.Prelude.{◌≡◌, IsPermutation, IsSorted, IsSorted
 ghost use Rattle.std.specs.Fmt.{WritesOnOk};
 ghost use Rattle.std.specs.List.{flat_map};
 ghost use Rattle.protocol_errors.specs.Code.{journal_mismatch};
-ghost use Rattle.protocol_errors.specs.Awaited.{awaited_id, comes_before};
+ghost use Rattle.protocol_errors.specs.AwaitedIds.{awaited_id, comes_before};
 ghost use Rattle.protocol_errors.specs.Texts.{unreplayed_text, same_awaited, metadata_of, awaited_line, uncompleted_text};
 
 use crate::mismatch::write_mismatch;

@@ -6,7 +6,7 @@ ghost use Rattle.std.specs.Prelude.{List, None, length, ℕ, ◌++◌, ◌<◌, 
 ghost use Rattle.protocol_wire.specs.Fields.{fields};
 ghost use Rattle.protocol_wire.specs.Check.{payload_fault};
 ghost use Rattle.protocol_wire.specs.Parts.{payload_of};
-ghost use Rattle.protocol_wire.specs.Decodes.{IsRead};
+ghost use Rattle.protocol_wire.specs.DecodingAnswers.{IsRead};
 ghost use Rattle.protocol_wire.specs.declared.record.TheConstants.{LEVELS};
 ghost use Rattle.protocol_laws.specs.ReadFits.{AreBytes};
 

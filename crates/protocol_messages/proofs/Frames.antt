@@ -9,7 +9,7 @@ use Rattle.protocol_types.specs.MessageType.{allows_ack, IsWireType}
 use Rattle.protocol_stream.specs.Frame.{IsFrame}
 use Rattle.protocol_types.proofs.Types.{named_is_wire}
 use Rattle.protocol_messages.specs.RecordMessage.{type_of_record}
-use Rattle.protocol_messages.specs.Encoded.{payload_message}
+use Rattle.protocol_messages.specs.Encodings.{payload_message}
 
 -- The type of each record's messages is one that its number stands for.
 wire_types : (t : RecordType) → IfSome (type_of_record t) IsWireType

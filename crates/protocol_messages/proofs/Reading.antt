@@ -8,7 +8,7 @@ use Rattle.protocol_stream.specs.declared.decoder.DecodingError.{DecodingError}
 use Rattle.protocol_stream.specs.declared.decoder.DecodingError.TheVariants.{DecodeMessage, OutOfMemory}
 use Rattle.protocol_stream.specs.Header.{message_type}
 use Rattle.protocol_messages.specs.RecordMessage.{type_of_record}
-use Rattle.protocol_messages.specs.Decoded.{ReadsPayload, HasItsType, DecodesTo}
+use Rattle.protocol_messages.specs.Decodings.{ReadsPayload, HasItsType, DecodesTo}
 
 decodes : {R : Type 0} (t : RecordType) (of : ℕ → List Field → R) (index : ℤ) (m : RawMessage) (answer : Result R DecodingError) → HasItsType t m → ReadsPayload t of m answer → DecodesTo t of index m answer
 decodes t of index m (Ok one) h read = (h, read)

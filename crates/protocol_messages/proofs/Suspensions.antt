@@ -15,7 +15,7 @@ use Rattle.protocol_types.specs.declared.version.Version.{Version}
 use Rattle.protocol_stream.proofs.Fronts.{item_at-spelled}
 use Rattle.protocol_types.proofs.Types.{named_is_wire}
 use Rattle.protocol_messages.specs.Leaves.{completions_of, signals_of, named_signals_of, lists_of, three_lists}
-use Rattle.protocol_messages.specs.Encoded.{suspends_by_lists, record_message, suspension_parts_as, suspension_message}
+use Rattle.protocol_messages.specs.Encodings.{suspends_by_lists, record_message, suspension_parts_as, suspension_message}
 use Rattle.protocol_messages.specs.Laws.{ReadsSuspension, SuspensionsReadBack}
 use Rattle.protocol_messages.proofs.Frames.{is_frame}
 use Rattle.protocol_messages.proofs.Preorder.{completions_is, signals_is, named_signals_is}

@@ -14,9 +14,9 @@ use Rattle.protocol_types.specs.declared.version.Version.{Version}
 use Rattle.protocol_stream.specs.Item.{message, item_at}
 use Rattle.protocol_stream.specs.Frame.{spelled, IsFrame}
 use Rattle.protocol_messages.specs.RecordMessage.{type_of_record}
-use Rattle.protocol_messages.specs.Encoded.{suspends_by_lists, record_message, suspension_parts_as, suspension_message}
+use Rattle.protocol_messages.specs.Encodings.{suspends_by_lists, record_message, suspension_parts_as, suspension_message}
 use Rattle.protocol_messages.specs.Leaves.{three_lists}
-use Rattle.protocol_messages.specs.Decoded.{DecodesTo}
+use Rattle.protocol_messages.specs.Decodings.{DecodesTo}
 
 abbrev pub MessagesReadBack : {R : Type 0} → RecordType → (ℕ → List Field → R) → (R → List Part) → (R → Type 0) → Type 0
 MessagesReadBack {R} t of parts Fits =

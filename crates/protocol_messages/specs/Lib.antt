@@ -1,9 +1,9 @@
-pub mod Decoded
-pub mod Encoded
+pub mod Decodings
+pub mod Encodings
 pub mod Laws
 pub mod Leaves
 pub mod RecordMessage
-pub mod Told
-pub mod Carried
+pub mod NotificationContent
+pub mod ProposedValues
 pub mod ConversionLaws
-pub mod Taken
+pub mod TakeErrors

@@ -3,7 +3,7 @@ ghost use Rattle.std.specs.Prelude.{◌≡◌, ◌↔◌, IsTrue};
 ghost use Rattle.protocol_table.specs.declared.table.RecordType.TheVariants.{Notification as notification_type};
 ghost use Rattle.protocol_stream.specs.declared.decoder.RawMessage.{RawMessage as RawMessages};
 ghost use Rattle.protocol_controls.specs.Notification.{notification_of};
-ghost use Rattle.protocol_messages.specs.Decoded.{has_name, IsExpected, ReadsPayload, DecodesTo, DecodesNotification};
+ghost use Rattle.protocol_messages.specs.Decodings.{has_name, IsExpected, ReadsPayload, DecodesTo, DecodesNotification};
 
 use crate::message::RestateMessage;
 use crate::notification::to_notification;

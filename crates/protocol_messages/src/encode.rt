@@ -2,7 +2,7 @@
 ghost use Rattle.std.specs.Prelude.{◌≡◌};
 ghost use Rattle.protocol_stream.specs.declared.decoder.RawMessage.{RawMessage};
 ghost use Rattle.protocol_types.specs.declared.version.Version.{Version as Versions};
-ghost use Rattle.protocol_messages.specs.Encoded.{record_message, plain_message, EncodesTo};
+ghost use Rattle.protocol_messages.specs.Encodings.{record_message, plain_message, EncodesTo};
 
 use crate::message::PlainMessage;
 use bytes::Bytes;

@@ -1,7 +1,7 @@
 // What handlers hand out, as commands carry it.
 ghost use Rattle.std.specs.Prelude.{◌≡◌, IfOk};
 ghost use Rattle.protocol_laws.specs.Records.{promise_completion, awakeable_result, signal_record};
-ghost use Rattle.protocol_messages.specs.Carried.{proposed_record};
+ghost use Rattle.protocol_messages.specs.ProposedValues.{proposed_record};
 
 use journal_model::NonEmptyValue;
 use protocol_calls::{CompleteAwakeableCommandResult, SendSignalCommandResult};

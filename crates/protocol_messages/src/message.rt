@@ -1,6 +1,6 @@
 // Records that are the whole payload of a message.
 ghost use Rattle.std.specs.Prelude.{◌≡◌, ◌++◌, Some, IfOk, length};
-ghost use Rattle.protocol_wire.specs.Decodes.{Decodes};
+ghost use Rattle.protocol_wire.specs.DecodingAnswers.{Decodes};
 ghost use Rattle.protocol_wire.specs.Lengths.{fitting};
 ghost use Rattle.protocol_wire.specs.Parts.{payload_of};
 ghost use Rattle.protocol_messages.specs.RecordMessage.{type_of_record};

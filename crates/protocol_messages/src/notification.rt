@@ -1,6 +1,6 @@
 // What a notification's record tells.
 ghost use Rattle.std.specs.Prelude.{◌≡◌, IfOk};
-ghost use Rattle.protocol_messages.specs.Told.{id_told, result_told, TellsNotification, is_failure as is_failure_spec};
+ghost use Rattle.protocol_messages.specs.NotificationContent.{id_told, result_told, TellsNotification, is_failure as is_failure_spec};
 
 use journal_model::{Notification, NotificationId, NotificationResult};
 use protocol_controls::{NotificationMessage, NotificationMessageId, NotificationMessageResult};

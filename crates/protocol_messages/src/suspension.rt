@@ -69,7 +69,7 @@ pub fn to_suspension_v6(
 }
 
 impl RestateEncodableMessage for SuspensionMessage {
-    ghost use Rattle.protocol_messages.specs.Encoded.{suspension_message};
+    ghost use Rattle.protocol_messages.specs.Encodings.{suspension_message};
 
     ghost message_at = { suspension_message };
 

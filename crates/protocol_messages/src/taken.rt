@@ -1,7 +1,7 @@
 // What a handler takes of a notification.
 ghost use Rattle.std.specs.Prelude.{◌≡◌, IfOk, IfErr};
 ghost use Rattle.journal_model.specs.Value.{as_taken, failure_taken};
-ghost use Rattle.protocol_messages.specs.Taken.{NotTextIn, NotTaken};
+ghost use Rattle.protocol_messages.specs.TakeErrors.{NotTextIn, NotTaken};
 
 use bytes::{ByteStr, Bytes};
 use journal_model::{Failure, NotificationResult, TerminalFailure, Value};

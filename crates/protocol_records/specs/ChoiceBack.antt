@@ -4,7 +4,7 @@ use Rattle.std.specs.List.{AllByRecursion}
 use Rattle.std.proofs.Common.{inl, inr}
 use Rattle.protocol_wire.specs.Wire.{Field}
 use Rattle.protocol_wire.specs.Check.{payload_fault}
-use Rattle.protocol_wire.specs.Decodes.{IsRead}
+use Rattle.protocol_wire.specs.DecodingAnswers.{IsRead}
 use Rattle.protocol_wire.specs.Parts.{bytes_if}
 use Rattle.protocol_wire.proofs.Holds.{optional_sound, LengthFits}
 use Rattle.protocol_table.specs.declared.table.RecordType.{RecordType}

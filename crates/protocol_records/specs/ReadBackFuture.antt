@@ -6,7 +6,7 @@ use Rattle.protocol_wire.specs.Fields.{fields}
 use Rattle.protocol_wire.specs.Check.{payload_fault}
 use Rattle.protocol_table.specs.Table.{descriptors_of}
 use Rattle.protocol_wire.specs.Parts.{payload_of}
-use Rattle.protocol_wire.specs.Decodes.{IsRead}
+use Rattle.protocol_wire.specs.DecodingAnswers.{IsRead}
 use Rattle.protocol_table.specs.declared.table.RecordType.TheVariants as types
 use Rattle.protocol_table.specs.declared.table.future.TheConstants.{WAITING_COMPLETIONS, WAITING_SIGNALS, WAITING_NAMED_SIGNALS, NESTED_FUTURES, COMBINATOR_TYPE, REQUIRED}
 use Rattle.protocol_wire.proofs.Holds.{enum_holds, u32_holds, numbers_hold, texts_hold, records_hold, lengths_fit, payload_holds_above, each_sound, each_reads_back}

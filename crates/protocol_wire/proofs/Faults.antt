@@ -4,7 +4,7 @@ use Rattle.protocol_wire.specs.Wire.{Field, field_at}
 use Rattle.protocol_wire.specs.Items.{is_end}
 use Rattle.protocol_wire.specs.Fields.{fields, are_fields}
 use Rattle.protocol_table.specs.Table.{descriptors_of}
-use Rattle.protocol_wire.specs.Listed.{coming, are_all}
+use Rattle.protocol_wire.specs.ComingFields.{coming, are_all}
 use Rattle.protocol_wire.specs.declared.listed.Fields.{Fields}
 use Rattle.protocol_wire.specs.Check.{worse, bad_unless, field_fault, fields_fault, payload_fault}
 use Rattle.protocol_table.specs.declared.table.RecordType.{RecordType}

@@ -18,7 +18,7 @@ use Rattle.protocol_table.specs.declared.table.Kind.TheVariants as kinds
 use Rattle.protocol_table.specs.declared.table.FieldDescriptor.{FieldDescriptor}
 use Rattle.protocol_wire.specs.declared.check.Fault.{Fault}
 use Rattle.protocol_wire.proofs.Steps.{field_at_nil, are_fields-none}
-use Rattle.protocol_wire.specs.Decodes.{IsRead}
+use Rattle.protocol_wire.specs.DecodingAnswers.{IsRead}
 use Rattle.protocol_wire.proofs.Back.{ReadsBack, Below32, are_varints_spelled}
 use Rattle.protocol_wire.proofs.Laws.{Fit, are_fields-payload, fields-payload_alone}
 

@@ -4,10 +4,10 @@ use Rattle.std.proofs.lemmas.List.{take_more_set, map-append}
 use Rattle.std.proofs.lemmas.Bool.{eqb-true}
 use Rattle.protocol_wire.specs.Wire.{field_at}
 use Rattle.protocol_wire.specs.Fields.{fields}
-use Rattle.protocol_wire.specs.Seen.{field}
+use Rattle.protocol_wire.specs.CodeFields.{field}
 use Rattle.protocol_wire.specs.declared.field.ScannedField.{ScannedField}
 use Rattle.protocol_wire.specs.declared.listed.Fields.{Fields}
-use Rattle.protocol_wire.specs.Listed.{coming, are_all}
+use Rattle.protocol_wire.specs.ComingFields.{coming, are_all}
 use Rattle.protocol_wire.proofs.Steps.{fields_read, fields_ended, fields-none, field_at_nil, are_fields-some}
 
 empty : {A : Type 0} (xs : List A) → length xs ≡ 0 → xs ≡ []

@@ -4,7 +4,7 @@ use Rattle.std.specs.Prelude.{option_map}
 use Rattle.std.proofs.lemmas.List.{append-nil}
 use Rattle.std.proofs.lemmas.Bool.{eqb-true}
 use Rattle.protocol_wire.specs.Wire.{Wire, varint, bytes, fixed, Field}
-use Rattle.protocol_wire.specs.Listed.{coming}
+use Rattle.protocol_wire.specs.ComingFields.{coming}
 use Rattle.protocol_wire.specs.declared.listed.Fields.{Fields}
 use Rattle.protocol_wire.specs.Sound.{AreTexts, AreSound}
 use Rattle.protocol_wire.specs.declared.check.Fault.{Fault}

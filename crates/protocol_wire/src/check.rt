@@ -4,7 +4,7 @@ ghost use Rattle.std.specs.Prelude.{◌≡◌, ◌+◌, ◌<◌};
 ghost use Rattle.std.specs.Str.{is_utf8};
 ghost use Rattle.protocol_wire.specs.Check.{worse as the_worse, bad_unless as the_bad_unless, field_fault, payload_fault};
 ghost use Rattle.protocol_wire.specs.Fields.{are_varints as the_are_varints};
-ghost use Rattle.protocol_wire.specs.Seen.{field as seen};
+ghost use Rattle.protocol_wire.specs.CodeFields.{field as seen};
 
 use crate::varint::varint_at;
 use crate::{Payload, Scanned, ScannedField};

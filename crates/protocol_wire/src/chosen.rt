@@ -2,7 +2,7 @@
 
 ghost use Rattle.std.specs.Prelude.{◌≡◌, ◌-◌, true, IfOk};
 ghost use Rattle.protocol_wire.specs.Fields.{fields};
-ghost use Rattle.protocol_wire.specs.Listed.{coming};
+ghost use Rattle.protocol_wire.specs.ComingFields.{coming};
 ghost use Rattle.protocol_wire.specs.Check.{payload_fault};
 ghost use Rattle.protocol_wire.specs.Sound.{AreTexts, AreSound};
 ghost use Rattle.protocol_wire.specs.Selection.{values, is_among, among, run, optional_u32, optional_text, optional_record};

@@ -1,6 +1,6 @@
 ghost use Rattle.std.specs.Prelude.{◌≡◌, ◌<◌, ◌≤◌, ◌^◌, IfSome, length, option_map};
 ghost use Rattle.protocol_wire.specs.Wire.{wire_value, field_at as field_spec, bytes_at as bytes_spec};
-ghost use Rattle.protocol_wire.specs.Seen.{wire, field};
+ghost use Rattle.protocol_wire.specs.CodeFields.{wire, field};
 
 use crate::varint::varint_at;
 

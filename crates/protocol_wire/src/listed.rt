@@ -2,8 +2,8 @@
 
 ghost use Rattle.std.specs.Prelude.{◌≡◌, ◌≤◌, [], ◌∷◌, ◌++◌, length, map, take, IfNone, IfSome};
 ghost use Rattle.protocol_wire.specs.Fields.{fields, are_fields};
-ghost use Rattle.protocol_wire.specs.Seen.{field as seen};
-ghost use Rattle.protocol_wire.specs.Listed.{coming, are_all};
+ghost use Rattle.protocol_wire.specs.CodeFields.{field as seen};
+ghost use Rattle.protocol_wire.specs.ComingFields.{coming, are_all};
 
 use crate::field::field_at;
 use crate::{Scanned, ScannedField};
@@ -67,8 +67,8 @@ impl<'a> Fields<'a> {
 impl<'a> Iterator for Fields<'a> {
     type Item = ScannedField<'a>;
 
-    ghost use Rattle.protocol_wire.specs.Listed.{coming};
-    ghost use Rattle.protocol_wire.specs.Seen.{field};
+    ghost use Rattle.protocol_wire.specs.ComingFields.{coming};
+    ghost use Rattle.protocol_wire.specs.CodeFields.{field};
     ghost use Rattle.std.specs.Iterator.{YieldsFirstBy, item_count};
 
     ghost next_gives = { YieldsFirstBy field coming };

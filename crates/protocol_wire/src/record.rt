@@ -3,13 +3,13 @@
 ghost use Rattle.std.specs.Prelude.{◌≡◌, ◌++◌, ◌-◌, ◌^◌, ◌<◌, ℕ, List, [], ◌∷◌, None, IfNone, IfSome, IfOk, IfErr, OnOk, OnErr, length, option_map};
 ghost use Rattle.protocol_wire.specs.Wire.{Field};
 ghost use Rattle.protocol_wire.specs.Fields.{fields};
-ghost use Rattle.protocol_wire.specs.Listed.{coming};
+ghost use Rattle.protocol_wire.specs.ComingFields.{coming};
 ghost use Rattle.protocol_wire.specs.Check.{payload_fault};
 ghost use Rattle.protocol_wire.specs.Parts.{Part, payload_of};
 ghost use Rattle.protocol_wire.specs.Lengths.{counted_bytes, fitting};
 ghost use Rattle.protocol_wire.specs.Sound.{AreSound};
 ghost use Rattle.protocol_wire.specs.Selection.{values, texts, joined_bytes as the_joined_bytes, optional_record, records};
-ghost use Rattle.protocol_wire.specs.Decodes.{Decodes, IsRead, ErrIs};
+ghost use Rattle.protocol_wire.specs.DecodingAnswers.{Decodes, IsRead, ErrIs};
 ghost use Rattle.protocol_table.specs.declared.table.RecordType.{RecordType as RecordTypes};
 
 use crate::{Fault, FieldDescriptor, Fields, Payload, Scanned, empty_room, fault_in};

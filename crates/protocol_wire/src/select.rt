@@ -2,7 +2,7 @@
 
 ghost use Rattle.std.specs.Prelude.{◌≡◌, [], Some, IfNone, ◌++◌, ◌%◌, ◌^◌, ℕ, List, map, OnOk, option_map, IfOk, IfSome, IsUtf8};
 ghost use Rattle.protocol_wire.specs.Fields.{fields, varints};
-ghost use Rattle.protocol_wire.specs.Listed.{coming};
+ghost use Rattle.protocol_wire.specs.ComingFields.{coming};
 ghost use Rattle.protocol_wire.specs.Sound.{AreTexts};
 ghost use Rattle.protocol_wire.specs.Selection.{run, is_run as the_is_run, variant_of, is_among, among, last_number as the_last_number, last_bytes as the_last_bytes, values, u64 as the_u64, u32 as the_u32, bool as the_bool, text as the_text, numbers as the_numbers, texts as the_texts, optional_text, optional_u32, optional_u64};
 

@@ -10,7 +10,7 @@ use Rattle.journal_model.specs.Journal.{recorded_requests}
 use Rattle.journal_model.specs.Attempt.{input_bytes, is_input_closed}
 use Rattle.journal_model.specs.Cause.{IsAccepted}
 use Rattle.input_laws.specs.Message.{InputMessage, piece_of, arrivals_carried, requests_carried}
-use Rattle.live_laws.specs.Begun.{proposals_in, IsProposed}
+use Rattle.live_laws.specs.BegunAttempts.{proposals_in, IsProposed}
 use Rattle.live_laws.specs.Live.{TurnsOfRun}
 use Rattle.live_laws.specs.RequestsInFlight.{requests_sent, FollowsSo}
 use Rattle.live_laws.proofs.Begun.{input_sent}

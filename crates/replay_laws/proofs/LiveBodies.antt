@@ -13,10 +13,10 @@ use Rattle.journal_model.specs.Cause.{IsAccepted}
 use Rattle.input_laws.specs.Message.{InputMessage, arrivals_carried, requests_carried, IsBroughtBy, message_of}
 use Rattle.input_laws.proofs.Telling.{entries_arrivals}
 use Rattle.input_laws.proofs.News.{requests_carried-append}
-use Rattle.input_laws.specs.Once.{count_of, numbers_asked}
+use Rattle.input_laws.specs.CompletionsOnce.{count_of, numbers_asked}
 use Rattle.attempt_model.specs.Machine.{machine_at_start}
 use Rattle.live_laws.specs.RequestsInFlight.{requests_sent, PassesOn}
-use Rattle.live_laws.specs.Begun.{IsProposed}
+use Rattle.live_laws.specs.BegunAttempts.{IsProposed}
 use Rattle.live_laws.specs.MachineTurn.{HasPosition}
 use Rattle.live_laws.specs.StartFrame.{start_after}
 use Rattle.live_laws.specs.AttemptWithMachine.{AttemptInRun, handed_bytes}

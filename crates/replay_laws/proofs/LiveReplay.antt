@@ -16,10 +16,10 @@ use Rattle.run_laws.specs.Keys.{HasTextKeys}
 use Rattle.run_laws.proofs.States.{starts_text}
 use Rattle.input_laws.specs.Message.{InputMessage, CarriesInput, CarriesRequest, CarriesArrival, CarriesOutcome, arrivals_carried, requests_carried, message_of}
 use Rattle.input_laws.proofs.Telling.{entries_requests}
-use Rattle.input_laws.specs.Once.{ComeWhenAsked}
+use Rattle.input_laws.specs.CompletionsOnce.{ComeWhenAsked}
 use Rattle.input_laws.proofs.Results.{recorded_when_asked}
 use Rattle.live_laws.specs.RequestsInFlight.{requests_sent}
-use Rattle.live_laws.specs.Begun.{IsBegunAfter, begun_last, begun_earlier, IsProposed, IsLater}
+use Rattle.live_laws.specs.BegunAttempts.{IsBegunAfter, begun_last, begun_earlier, IsProposed, IsLater}
 use Rattle.live_laws.proofs.StartFrame.{start_shows}
 use Rattle.live_laws.specs.AskedArrivals.{GiveIds, keys_are_text, are_by_text}
 use Rattle.live_laws.specs.AttemptWithMachine.{AttemptInRun}

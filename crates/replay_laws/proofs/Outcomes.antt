@@ -14,7 +14,7 @@ use Rattle.journal_model.specs.Cause.{may_complete, refuses_kind, own_tests, cau
 use Rattle.journal_laws.proofs.ObjectState.{tail_of, holds-head, holds-tail, not-false}
 use Rattle.journal_laws.proofs.Leaving.{or-true, or-true_left, or-true_right}
 use Rattle.input_laws.proofs.Events.{added_by, requests_now, no_request, one_request}
-use Rattle.input_laws.specs.Once.{count_of, numbers_asked, numbers_come, AreOnce}
+use Rattle.input_laws.specs.CompletionsOnce.{count_of, numbers_asked, numbers_come, AreOnce}
 use Rattle.input_laws.proofs.Once.{count_asked, read_asked, arrivals_arrived, slept_few, recorded_once}
 use Rattle.input_laws.proofs.AskedOnce.{kind_count, found_kind, kind_slept}
 use Rattle.input_laws.proofs.Results.{count-results}

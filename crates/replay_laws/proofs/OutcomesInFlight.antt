@@ -13,7 +13,7 @@ use Rattle.journal_model.specs.Run.{Handler, Invocation, run_requests, BeginsRun
 use Rattle.journal_laws.proofs.Leaving.{or-true, or-true_left, or-true_right}
 use Rattle.run_laws.proofs.Ascending.{run_rises}
 use Rattle.input_laws.proofs.Events.{added_by, requests_now, arrivals_now, no_request, all_requests, nothing_added}
-use Rattle.input_laws.specs.Once.{count_of, numbers_asked}
+use Rattle.input_laws.specs.CompletionsOnce.{count_of, numbers_asked}
 use Rattle.input_laws.proofs.Once.{count_asked, recorded_once}
 use Rattle.input_laws.proofs.AskedOnce.{kind_first, found_kind}
 use Rattle.input_laws.proofs.Results.{recorded_when_asked}

@@ -13,7 +13,7 @@ use Rattle.run_laws.proofs.Extending.{begins-less, begins-more}
 use Rattle.input_laws.specs.Message.{InputMessage, CarriesInput, CarriesRequest, CarriesArrival, CarriesOutcome, arrivals_carried, requests_carried}
 use Rattle.input_laws.proofs.News.{requests_carried-append}
 use Rattle.input_laws.proofs.Telling.{arrivals_carried-append}
-use Rattle.input_laws.specs.Once.{ComeWhenAsked, count_of, numbers_asked}
+use Rattle.input_laws.specs.CompletionsOnce.{ComeWhenAsked, count_of, numbers_asked}
 use Rattle.attempt_model.specs.Results.{are_keys_text}
 use Rattle.attempt_model.specs.Simulation.{IsShown}
 use Rattle.attempt_laws.proofs.Apart.{comes_once}

@@ -12,8 +12,8 @@ use Rattle.journal_model.specs.Attempt.{begins_attempt, bytes_asked, input_left}
 use Rattle.journal_model.specs.Cause.{IsAccepted}
 use Rattle.journal_model.specs.Headline.{run_of}
 use Rattle.input_laws.specs.Message.{InputMessage, CarriesInput, CarriesRequest, CarriesArrival, CarriesOutcome, arrivals_carried, IsBroughtBy}
-use Rattle.run_laws.specs.Held.{Holds}
-use Rattle.live_laws.specs.Begun.{IsProposed}
+use Rattle.run_laws.specs.HeldInvocations.{Holds}
+use Rattle.live_laws.specs.BegunAttempts.{IsProposed}
 use Rattle.live_laws.specs.RequestsInFlight.{PassesOn}
 use Rattle.attempt_model.specs.Machine.{machine_at_start}
 use Rattle.attempt_model.specs.Attempts.{with_entry}

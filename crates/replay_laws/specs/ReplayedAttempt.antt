@@ -9,7 +9,7 @@ use Rattle.journal_model.specs.Run.{Handler, run, BeginsRun}
 use Rattle.journal_model.specs.Attempt.{input_bytes}
 use Rattle.run_laws.specs.Keys.{HasTextKeys}
 use Rattle.input_laws.specs.Message.{InputMessage, CarriesInput, CarriesRequest, CarriesArrival, CarriesOutcome, piece_of, arrivals_carried, requests_carried}
-use Rattle.input_laws.specs.Once.{ComeWhenAsked}
+use Rattle.input_laws.specs.CompletionsOnce.{ComeWhenAsked}
 use Rattle.live_laws.specs.StartFrame.{AttemptStart, ShowsStart}
 use Rattle.live_laws.specs.MachinePosition.{IsMachineAt}
 use Rattle.live_laws.specs.AskedArrivals.{GiveIds, keys_are_text, are_by_text}

@@ -9,7 +9,7 @@ use Rattle.journal_model.specs.PrunedTrees.{pruned}
 use Rattle.journal_model.specs.Run.{run}
 use Rattle.journal_model.proofs.Extension.{run-within, place_of-within}
 use Rattle.run_laws.proofs.WaitingRuns.{waited, steps_at_wait, is_over}
-use Rattle.run_laws.specs.Suspended.{TellsAwaitedTree}
+use Rattle.run_laws.specs.SuspensionContent.{TellsAwaitedTree}
 use Rattle.run_laws.specs.WakingLaws.{AwaitsTell, ChildrenTell, WaitsAsleep}
 use Rattle.run_laws.proofs.Waking.{least-none}
 use Rattle.run_laws.proofs.Suspending.{left_asleep}

@@ -7,8 +7,8 @@ use Rattle.journal_model.specs.Journal.{invocation_begun}
 use Rattle.journal_model.specs.Cause.{causes_of, IsAccepted}
 use Rattle.journal_model.specs.Run.{Handler, Invocation}
 use Rattle.journal_laws.proofs.ObjectState.{open_when_accepted, begun_before}
-use Rattle.run_laws.specs.Taken.{TakesOfRun, AllOfRun}
-use Rattle.run_laws.specs.Held.{Holds}
+use Rattle.run_laws.specs.TakenFrames.{TakesOfRun, AllOfRun}
+use Rattle.run_laws.specs.HeldInvocations.{Holds}
 use Rattle.run_laws.proofs.Holding.{all_holds}
 use Rattle.input_laws.proofs.Events.{unborn_open}
 

@@ -14,9 +14,9 @@ use Rattle.journal_model.specs.declared.cause.Cause.{Cause}
 use Rattle.journal_model.specs.Headline.{GoesPast, NeverLate, WakesExactly, AwaitsIds, arrivals_handed}
 use Rattle.journal_laws.proofs.ObjectState.{holds-head, not-false, open_when_accepted, begun_before}
 use Rattle.journal_laws.proofs.Leaving.{and-true}
-use Rattle.run_laws.specs.Suspended.{WaitsAll}
-use Rattle.run_laws.specs.Taken.{TakesOfRun, AllOfRun}
-use Rattle.run_laws.specs.Held.{StillWaits}
+use Rattle.run_laws.specs.SuspensionContent.{WaitsAll}
+use Rattle.run_laws.specs.TakenFrames.{TakesOfRun, AllOfRun}
+use Rattle.run_laws.specs.HeldInvocations.{StillWaits}
 use Rattle.input_laws.proofs.Events.{added_by, requests_now, no_request, nothing_added, not_begun, unborn_open}
 use Rattle.input_laws.proofs.Handed.{other_begins, other_asks, handed_same}
 use Rattle.input_laws.proofs.LiveAttempts.{numbered, own_hold, taken_live, none_live, live_now}

@@ -11,7 +11,7 @@ use Rattle.journal_model.specs.Attempt.{arrivals_within, input_pieces, bytes_han
 use Rattle.journal_model.specs.Cause.{causes_of, IsAccepted}
 use Rattle.journal_model.specs.Run.{Handler, Invocation, Ended, BeginsRun}
 use Rattle.journal_model.specs.Headline.{IsWholeRun, IsRunAnswer, arrivals_handed}
-use Rattle.run_laws.specs.Taken.{TakesOfRun, AllOfRun}
+use Rattle.run_laws.specs.TakenFrames.{TakesOfRun, AllOfRun}
 use Rattle.run_laws.proofs.Extending.{begins-more, ended-more}
 use Rattle.run_laws.proofs.Closing.{no_end, requests_stay, arrivals_stay, closing_stays, none_added, no_end_by, first_unclosed, open_before}
 use Rattle.input_laws.proofs.Events.{added_by, requests_now, arrivals_now, no_request, one_request, nothing_added, entries_first}

@@ -10,8 +10,8 @@ use Rattle.journal_model.specs.History.{requests_of}
 use Rattle.journal_model.specs.Run.{Handler, Invocation, Progress}
 use Rattle.journal_model.specs.Headline.{run_of, FollowsRun, NeverLate, WakesExactly}
 use Rattle.journal_laws.proofs.ObjectState.{state_of_open, find-passes}
-use Rattle.run_laws.specs.Taken.{TakesOfRun, AllOfRun}
-use Rattle.run_laws.specs.Held.{Holds}
+use Rattle.run_laws.specs.TakenFrames.{TakesOfRun, AllOfRun}
+use Rattle.run_laws.specs.HeldInvocations.{Holds}
 use Rattle.run_laws.specs.HeadlineLaws.{HeadlineStands, RunsRecordTheSame}
 use Rattle.run_laws.proofs.Following.{begins_next, answered_next, all-begin, all-answered}
 use Rattle.run_laws.proofs.WaitingRuns.{stopped_same}

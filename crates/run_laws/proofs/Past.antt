@@ -18,7 +18,7 @@ use Rattle.journal_model.specs.Headline.{IsWaiting, GoesPast, all_stand, all_chi
 use Rattle.journal_model.proofs.Extension.{run-within}
 use Rattle.journal_laws.proofs.Leaving.{only_leaves-awake, and-true}
 use Rattle.run_laws.specs.WakingLaws.{WokenWherePast, PastWhereWoken}
-use Rattle.run_laws.specs.Suspended.{TellsAwaitedTree, left_of, WaitsAll}
+use Rattle.run_laws.specs.SuspensionContent.{TellsAwaitedTree, left_of, WaitsAll}
 use Rattle.run_laws.proofs.Tallies.{run_sound}
 use Rattle.run_laws.proofs.WaitingRuns.{WaitsAt, waited, stopped_same, past_over, over_past}
 use Rattle.run_laws.proofs.Waking.{states_by, over_awake, awake_over}

@@ -10,9 +10,9 @@ use Rattle.journal_model.specs.Cause.{IsAccepted}
 use Rattle.journal_model.specs.Run.{Handler, Invocation, Progress, Ending, Ended, is_going, run}
 use Rattle.journal_model.specs.Headline.{IsWholeRun, arrivals_handed}
 use Rattle.run_laws.proofs.WaitingRuns.{stopped_same}
-use Rattle.run_laws.specs.Held.{Holds}
-use Rattle.run_laws.specs.Suspended.{WaitsAll}
-use Rattle.run_laws.specs.Settled.{IsSettled, SettledRecordTheSame}
+use Rattle.run_laws.specs.HeldInvocations.{Holds}
+use Rattle.run_laws.specs.SuspensionContent.{WaitsAll}
+use Rattle.run_laws.specs.SettledInvocations.{IsSettled, SettledRecordTheSame}
 use Rattle.run_laws.proofs.Closing.{open_not_ended}
 use Rattle.run_laws.proofs.Ended.{has_ended, ended_whole}
 

@@ -10,7 +10,7 @@ use Rattle.journal_model.specs.PrunedTrees.{SameTree, pruned, earlier_or_later, 
 use Rattle.journal_model.specs.Event.{ForTree, ForAny}
 use Rattle.journal_laws.proofs.Leaving.{or-false}
 use Rattle.journal_laws.proofs.Pruning.{pruned-awake}
-use Rattle.run_laws.specs.Suspended.{TellsAwaitedTree, leaf_ids, leaf_ids_of_trees}
+use Rattle.run_laws.specs.SuspensionContent.{TellsAwaitedTree, leaf_ids, leaf_ids_of_trees}
 use Rattle.run_laws.proofs.SameTrees.{same_awake}
 
 any-append : (p : NotificationId → Bool) (xs ys : List NotificationId) → list_any p (xs ++ ys) ≡ (list_any p xs || list_any p ys)

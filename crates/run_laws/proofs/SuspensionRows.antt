@@ -6,7 +6,7 @@ use Rattle.journal_model.specs.Event.{Suspension, ForTree}
 use Rattle.journal_model.specs.Attempt.{is_woken}
 use Rattle.built_in_handlers.specs.Handlers
 use Rattle.run_laws.proofs.RunRows.{given, sleep, slept}
-use Rattle.run_laws.specs.Suspended.{WaitsAll}
+use Rattle.run_laws.specs.SuspensionContent.{WaitsAll}
 
 -- a completion, or the cancellation
 abbrev pub for_one : ℕ → Suspension

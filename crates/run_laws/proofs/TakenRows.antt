@@ -11,7 +11,7 @@ use Rattle.journal_model.specs.Event.{ForTree, Frame, Event}
 use Rattle.built_in_handlers.specs.Handlers
 use Rattle.run_laws.proofs.RunRows.{i1, new, given, sleep, output}
 use Rattle.run_laws.proofs.SuspensionRows.{for_one}
-use Rattle.run_laws.specs.Taken.{AllOfRun}
+use Rattle.run_laws.specs.TakenFrames.{AllOfRun}
 
 abbrev pub take : ℕ → Frame → Event
 take attempt frame = Event.Move i1 attempt frame

@@ -7,7 +7,7 @@ use Rattle.journal_model.specs.Journal.{recorded_requests}
 use Rattle.journal_model.specs.Cause.{IsAccepted}
 use Rattle.journal_model.specs.Run.{Handler, Invocation, Ending, Ended}
 use Rattle.journal_model.specs.Headline.{IsWaiting, IsWholeRun, IsWholeAt, IsWholeAlong, arrivals_handed}
-use Rattle.run_laws.specs.Taken.{TakesOfRun, AllOfRun}
+use Rattle.run_laws.specs.TakenFrames.{TakesOfRun, AllOfRun}
 use Rattle.input_laws.proofs.Events.{no_request, requests_now}
 use Rattle.input_laws.proofs.Handed.{handed_same}
 

@@ -9,8 +9,8 @@ use Rattle.journal_model.specs.Event.{Event}
 use Rattle.journal_model.specs.Journal.{invocation_begun, starting_state}
 use Rattle.journal_model.specs.Cause.{IsAccepted}
 use Rattle.journal_model.specs.Headline.{IsWholeRun, run_of, Headline, NeverLate, WakesExactly}
-use Rattle.run_laws.specs.Taken.{TakesOfRun, AllOfRun}
-use Rattle.run_laws.specs.Held.{Holds}
+use Rattle.run_laws.specs.TakenFrames.{TakesOfRun, AllOfRun}
+use Rattle.run_laws.specs.HeldInvocations.{Holds}
 
 -- it holds of an invocation that was not begun
 abbrev pub HoldsAtFirst : Type 0

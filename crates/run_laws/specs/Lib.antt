@@ -1,9 +1,9 @@
 pub mod Position
 pub mod RunLaws
-pub mod Suspended
+pub mod SuspensionContent
 pub mod WakingLaws
 pub mod Keys
-pub mod Taken
-pub mod Held
+pub mod TakenFrames
+pub mod HeldInvocations
 pub mod HeadlineLaws
-pub mod Settled
+pub mod SettledInvocations

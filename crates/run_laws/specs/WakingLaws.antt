@@ -14,7 +14,7 @@ use Rattle.journal_model.specs.Run.{Handler, Invocation, GoesOn, Waits, run, run
 use Rattle.journal_model.specs.Event.{Suspension, ForTree, ForAny}
 use Rattle.journal_model.specs.Attempt.{is_woken}
 use Rattle.journal_model.specs.Headline.{GoesPast, all_stand}
-use Rattle.run_laws.specs.Suspended.{TellsAwaitedTree, left_of, WaitsAll, leaf_ids}
+use Rattle.run_laws.specs.SuspensionContent.{TellsAwaitedTree, left_of, WaitsAll, leaf_ids}
 
 -- a suspension is awake under later arrivals wherever the run over all of them goes past its await
 abbrev pub WokenWherePast : Type 0

@@ -7,7 +7,7 @@ ghost use Rattle.run_laws.specs.RunLaws.{CallsReplay, CompletionsAscend, RunsSta
 ghost use Rattle.run_laws.specs.WakingLaws.{AwaitsAreTold, PastWhereWoken, SuspensionsTell, WokenWherePast};
 ghost use Rattle.run_laws.specs.Keys.{StartsAreOrdered, StartsHaveTextKeys, StatesAreOrdered, StatesHaveTextKeys};
 ghost use Rattle.run_laws.specs.HeadlineLaws.{HeadlineStands, HoldsAtFirst, HoldsOfTaken, HoldsOn, RunsRecordTheSame, SuspensionsWake};
-ghost use Rattle.run_laws.specs.Settled.{SettledRecordTheSame};
+ghost use Rattle.run_laws.specs.SettledInvocations.{SettledRecordTheSame};
 
 /// A run that does not wait is the same over more arrivals.
 pub fn runs_stay()

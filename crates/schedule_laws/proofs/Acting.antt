@@ -34,7 +34,7 @@ use Rattle.vm_attempt_laws.specs.Words.{Input}
 use Rattle.vm_start.specs.FailureReport.{out_of_memory}
 use Rattle.schedule_model.specs.declared.held.HeldAttempt.{HeldAttempt}
 use Rattle.schedule_model.specs.First.{with_first}
-use Rattle.schedule_model.specs.Held.{is_held, held_of}
+use Rattle.schedule_model.specs.HeldAttempts.{is_held, held_of}
 use Rattle.vm_attempt_laws.specs.OverAttempts.{IsClosedEarly}
 use Rattle.schedule_laws.specs.TrackedAttempt.{Tracked, IsServed, Attends, is_over, lacks_memory, closed_early, is_served, is_left}
 use Rattle.schedule_laws.specs.InvocationInRun.{given_of, Flies, FollowsBegun, OutcomesFly, ToldOf}

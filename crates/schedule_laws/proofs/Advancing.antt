@@ -19,7 +19,7 @@ use Rattle.vm_attempt_laws.specs.Words.{Input}
 use Rattle.schedule_model.specs.Attempts.{Advances, Gathers}
 use Rattle.schedule_model.specs.declared.held.HeldAttempt.{HeldAttempt}
 use Rattle.schedule_model.specs.First.{with_first}
-use Rattle.schedule_model.specs.Held.{is_held, held_of}
+use Rattle.schedule_model.specs.HeldAttempts.{is_held, held_of}
 use Rattle.schedule_model.proofs.Holding.{some_is}
 use Rattle.schedule_laws.specs.TrackedAttempt.{Tracked, IsServed, IsAttemptLeft, Attends, is_over, lacks_memory, closed_early, is_served, is_left}
 use Rattle.schedule_laws.specs.InvocationInRun.{Flies, FollowsBegun, ToldOf}

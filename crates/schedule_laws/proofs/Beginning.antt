@@ -37,14 +37,14 @@ use Rattle.store_calls.specs.AbstractStore.{Standing, Adds}
 use Rattle.store_calls.specs.Calls.{BeginsStoredAttempt}
 use Rattle.schedule_model.specs.Attempts.{has_stopped}
 use Rattle.schedule_model.specs.declared.held.HeldAttempt.{HeldAttempt}
-use Rattle.schedule_model.specs.Held.{is_held, held_of}
+use Rattle.schedule_model.specs.HeldAttempts.{is_held, held_of}
 use Rattle.schedule_model.specs.Schedule.{HoldsBegun}
 use Rattle.schedule_model.proofs.Firsts.{first_push_none, first_push_other}
 use Rattle.schedule_model.proofs.Holding.{some_is, some_none, is_held_by, not_held_number, not_held_invocation}
 use Rattle.schedule_model.specs.ArgumentBounds.{InvocationFits}
 use Rattle.schedule_laws.specs.TrackedAttempt.{Tracked, IsServed, Attends, AttendsAs, is_served}
 use Rattle.schedule_laws.specs.InvocationInRun.{ReplaysInLine, HoldsOf, given_of, Flies, FollowsBegun, FollowsWhere, FollowsTold, Follows, ToldOf}
-use Rattle.schedule_laws.specs.Turned.{attempt_start_of, told_start}
+use Rattle.schedule_laws.specs.TurnReplies.{attempt_start_of, told_start}
 use Rattle.schedule_laws.proofs.Fits.{apart, unborn_fits}
 use Rattle.schedule_laws.specs.FittingLaws.{CanStart, IsFedWell}
 use Rattle.schedule_laws.proofs.Beginnings.{can_start, fed_begun}

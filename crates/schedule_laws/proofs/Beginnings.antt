@@ -31,7 +31,7 @@ use Rattle.input_laws.proofs.Events.{itself, added_by, entries_now, entries_firs
 use Rattle.input_laws.proofs.Telling.{entries_requests}
 use Rattle.run_laws.specs.Keys.{HasTextKeys}
 use Rattle.run_laws.proofs.States.{states_ordered, states_text}
-use Rattle.live_laws.specs.Begun.{journal_after}
+use Rattle.live_laws.specs.BegunAttempts.{journal_after}
 use Rattle.live_laws.specs.StartFrame.{AttemptStart, ShowsStart, IsBegunAs, start_after}
 use Rattle.live_laws.proofs.StartFrame.{start_shows}
 use Rattle.vm_input_laws.proofs.Arrivals.{of_asked}

@@ -23,7 +23,7 @@ use Rattle.vm_attempt_laws.specs.OutputOfAttempt.{Sent, sent_stream, frame_meant
 use Rattle.vm_attempt_laws.specs.AttemptSimulation.{Serves}
 use Rattle.vm_attempt_laws.specs.TurnReports.{IsFrameTold, Told}
 use Rattle.schedule_model.specs.declared.held.HeldAttempt.{HeldAttempt}
-use Rattle.schedule_model.specs.Held.{held_of}
+use Rattle.schedule_model.specs.HeldAttempts.{held_of}
 use Rattle.schedule_model.proofs.Holding.{some_none}
 use Rattle.schedule_laws.specs.EventBounds.{AcceptedFits, EventsFit}
 use Rattle.schedule_laws.specs.TrackedAttempt.{Tracked, IsServed, Attends, AttendsAs, is_over, lacks_memory, closed_early, is_served, is_left}

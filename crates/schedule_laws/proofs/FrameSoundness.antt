@@ -17,14 +17,14 @@ use Rattle.run_laws.proofs.Ascending.{next_ascends}
 use Rattle.live_laws.specs.RequestsInFlight.{SendsOneOfRun}
 use Rattle.store_frames.specs.declared.frame.AttemptFrame.{AttemptFrame}
 use Rattle.store_frames.specs.Answer.{IsFrame}
-use Rattle.store_frames.specs.Read.{IsFrameRead}
+use Rattle.store_frames.specs.ReadFrames.{IsFrameRead}
 use Rattle.store_refusals.specs.declared.refusal.Refusal.{Refusal}
 use Rattle.store_refusals.specs.declared.refusal.Refusal.TheVariants as refusal
-use Rattle.store_refusals.specs.Refused.{is_circumstance, IsRefused}
+use Rattle.store_refusals.specs.RefusalConditions.{is_circumstance, IsRefused}
 use Rattle.store_steps.specs.declared.frame.LiveFacts.{LiveFacts}
 use Rattle.store_steps.specs.declared.frame.PreparedFrame.{PreparedFrame}
-use Rattle.store_steps.specs.Taken.{KnowsLive, TakesAttemptFrame, lies_in_frame}
-use Rattle.vm_output_laws.specs.Sent.{Sent, Asks, Proposes, Awaits, Suspends, Fails, Ends, is_recorded, frame_meant}
+use Rattle.store_steps.specs.PreparedFrames.{KnowsLive, TakesAttemptFrame, lies_in_frame}
+use Rattle.vm_output_laws.specs.SentFrames.{Sent, Asks, Proposes, Awaits, Suspends, Fails, Ends, is_recorded, frame_meant}
 use Rattle.schedule_laws.specs.FrameSoundness.{IsSentOfRun, NoneLieInFrames}
 
 -- ---- tests

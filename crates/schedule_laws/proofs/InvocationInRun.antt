@@ -15,7 +15,7 @@ use Rattle.vm_attempt_laws.specs.TurnReports.{IsFrameTold}
 use Rattle.vm_types.specs.declared.options.VMOptions.{VMOptions}
 use Rattle.schedule_model.specs.declared.held.HeldAttempt.{HeldAttempt}
 use Rattle.schedule_model.specs.First.{with_first}
-use Rattle.schedule_model.specs.Held.{is_held, held_of}
+use Rattle.schedule_model.specs.HeldAttempts.{is_held, held_of}
 use Rattle.schedule_model.proofs.Holding.{some_is, some_none, held_with, held_other_number}
 use Rattle.schedule_laws.specs.EventBounds.{EventsFit}
 use Rattle.schedule_laws.specs.TrackedAttempt.{Tracked, Attends, AttendsAs}

@@ -15,7 +15,7 @@ use Rattle.journal_model.specs.Cause.{IsAccepted, causes_of}
 use Rattle.journal_model.specs.declared.cause.Cause.{Cause}
 use Rattle.protocol_types.specs.declared.message_type.MessageType.{MessageType}
 use Rattle.store_refusals.specs.declared.refusal.Refusal.TheVariants as refusal
-use Rattle.store_refusals.specs.Refused.{refusal_of_first_cause}
+use Rattle.store_refusals.specs.RefusalConditions.{refusal_of_first_cause}
 use Rattle.store_calls.specs.declared.begun.BegunAttempt.{BegunAttempt}
 use Rattle.store_calls.specs.AbstractStore.{Standing}
 use Rattle.store_calls.specs.Calls.{BeginsStoredAttempt}

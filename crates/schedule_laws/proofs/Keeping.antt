@@ -21,7 +21,7 @@ use Rattle.store_calls.specs.Frames.{LeavesRefused, Rests, TakesEach}
 use Rattle.store_calls.proofs.Live.{live_when}
 use Rattle.store_calls.proofs.Taking.{bytes_stay}
 use Rattle.schedule_model.specs.ArgumentBounds.{ResultFits, signal_arrival}
-use Rattle.store_steps.specs.Taken.{lies_in_frame}
+use Rattle.store_steps.specs.PreparedFrames.{lies_in_frame}
 use Rattle.vm_attempt_laws.specs.TurnReports.{Told}
 use Rattle.schedule_laws.specs.TrackedAttempt.{Tracked}
 use Rattle.schedule_laws.specs.InvocationInRun.{FollowsWhere, FollowsTold, ToldOf}

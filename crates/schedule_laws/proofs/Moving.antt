@@ -16,8 +16,8 @@ use Rattle.live_laws.specs.RequestsInFlight.{SendsOfRun}
 use Rattle.vm_types.specs.declared.options.VMOptions.{VMOptions}
 use Rattle.store_refusals.specs.declared.refusal.Refusal.{Refusal}
 use Rattle.store_refusals.specs.declared.refusal.Refusal.TheVariants as refusal
-use Rattle.store_refusals.specs.Refused.{is_circumstance, IsRefused}
-use Rattle.store_steps.specs.Taken.{lies_in_frame}
+use Rattle.store_refusals.specs.RefusalConditions.{is_circumstance, IsRefused}
+use Rattle.store_steps.specs.PreparedFrames.{lies_in_frame}
 use Rattle.store_calls.specs.AbstractStore.{Standing, LeavesWaiting}
 use Rattle.store_calls.specs.Calls.{PutsBehind}
 use Rattle.store_calls.specs.Frames.{LeavesRefused, RefusesFrame, Rests}

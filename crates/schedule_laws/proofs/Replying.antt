@@ -28,7 +28,7 @@ use Rattle.schedule_laws.specs.Schedules.event
 use Rattle.schedule_laws.specs.Schedules.refusal
 use Rattle.schedule_laws.specs.Schedules.reply
 use Rattle.schedule_laws.specs.Schedules.{Event, Reply, HeldAttempt, with_first, is_held, held_of, with_attempt, BeginDoes, IfHeld, UnlessMismatch, tells_mismatch, given_in, HandsOutEach, StopsHandingOut, FeedsEach, FeedsOne, FeedsParts, ClosesOne, StopsOne, TurnsOne, MovesOne, Does, Brings, FitsEvent}
-use Rattle.schedule_laws.specs.Turned.{TakesAsTold, TellsAttempt, TurnTellsNow, is_of_attempt}
+use Rattle.schedule_laws.specs.TurnReplies.{TakesAsTold, TellsAttempt, TurnTellsNow, is_of_attempt}
 use Rattle.schedule_laws.proofs.Acting.{fed, closed}
 use Rattle.schedule_laws.proofs.TrackedAttempt.{told_at, told_of, told_other, with_told}
 use Rattle.schedule_laws.proofs.Beginning.{begun}

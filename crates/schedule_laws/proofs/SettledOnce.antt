@@ -14,7 +14,7 @@ use Rattle.journal_model.proofs.Continuing.{run-stopped, run_requests-beginning}
 use Rattle.journal_laws.proofs.ObjectState.{requests_in-append}
 use Rattle.run_laws.proofs.Ended.{ended_whole}
 use Rattle.run_laws.proofs.WaitingRuns.{stopped_same}
-use Rattle.run_laws.specs.Held.{Holds}
+use Rattle.run_laws.specs.HeldInvocations.{Holds}
 use Rattle.schedule_laws.specs.InvocationInRun.{FailsNot}
 use Rattle.schedule_laws.specs.SettledOnce.{SettledOnceTheSame, WasSettled, WasSuspended}
 use Rattle.schedule_laws.proofs.EntryPlaces.{entries_keep}

@@ -22,17 +22,17 @@ use Rattle.vm_attempt_laws.specs.TurnReports.{IsFrameTold, Told}
 use Rattle.vm_types.specs.declared.options.VMOptions.{VMOptions}
 use Rattle.store_frames.specs.FrameMeanings.{frame_of}
 use Rattle.store_steps.specs.declared.frame.FrameReply.{FrameReply}
-use Rattle.store_steps.specs.Taken.{does_end}
+use Rattle.store_steps.specs.PreparedFrames.{does_end}
 use Rattle.store_calls.specs.AbstractStore.{Standing}
 use Rattle.store_calls.specs.Frames.{IsNext, TakesEach, TakesFrame, frame_in, rest_after}
 use Rattle.store_calls.proofs.Live.{taken_live}
 use Rattle.schedule_model.specs.declared.held.HeldAttempt.{HeldAttempt}
-use Rattle.schedule_model.specs.Held.{held_of}
+use Rattle.schedule_model.specs.HeldAttempts.{held_of}
 use Rattle.schedule_model.proofs.Holding.{some_is, some_none}
 use Rattle.schedule_laws.specs.EventBounds.{FrameFits}
 use Rattle.schedule_laws.specs.InvocationInRun.{Flies, FollowsBegun, FollowsWhere, FollowsIn, FollowsTold, ToldOf}
 use Rattle.schedule_laws.specs.TrackedAttempt.{Tracked}
-use Rattle.schedule_laws.specs.Turned.{IsTakenAsTold}
+use Rattle.schedule_laws.specs.TurnReplies.{IsTakenAsTold}
 use Rattle.schedule_laws.proofs.Events.{IsPlain, begun_on}
 use Rattle.schedule_laws.proofs.Fits.{apart, not_same}
 use Rattle.schedule_laws.proofs.OutcomesFit.{outcome_fits}

@@ -35,12 +35,12 @@ use Rattle.vm_attempt_laws.specs.TurnReports.{arrivals_told, IsFrameTold, Told, 
 use Rattle.vm_attempt_laws.specs.TurnsInRun.{ProposesAs, RunsOne, TurnKeeps, TurnsBehind}
 use Rattle.schedule_model.specs.declared.held.HeldAttempt.{HeldAttempt}
 use Rattle.schedule_model.specs.First.{with_first}
-use Rattle.schedule_model.specs.Held.{is_held, held_of}
+use Rattle.schedule_model.specs.HeldAttempts.{is_held, held_of}
 use Rattle.schedule_model.proofs.Holding.{some_is}
 use Rattle.vm_attempt_laws.specs.OverAttempts.{by_error, IsClosedEarly, IsOverBy}
 use Rattle.schedule_laws.specs.TrackedAttempt.{Tracked, IsServed, IsAttemptLeft, Attends, is_over, lacks_memory, closed_early, is_served, is_left}
 use Rattle.schedule_laws.specs.InvocationInRun.{ReplaysInLine, given_of, FollowsBegun, OutcomesFly, ToldOf}
-use Rattle.schedule_laws.specs.Turned.{TurnTellsNow}
+use Rattle.schedule_laws.specs.TurnReplies.{TurnTellsNow}
 use Rattle.schedule_laws.proofs.Acting.{all_append, written_behind}
 use Rattle.schedule_laws.proofs.TrackedAttempt.{with_told}
 use Rattle.schedule_laws.proofs.Outcomes.{others_fly}

@@ -29,7 +29,7 @@ use Rattle.schedule_laws.specs.Schedules.refusal
 use Rattle.schedule_laws.specs.Schedules.reply
 use Rattle.schedule_laws.specs.Schedules.{Event, Reply, HeldAttempt, with_first, is_held, held_of, with_attempt, BeginDoes, IfHeld, UnlessMismatch, tells_mismatch, HandsOutEach, FeedsEach, FeedsOne, ClosesOne, StopsOne, TurnsOne, MovesOne, Brings, FitsEvent}
 use Rattle.schedule_laws.specs.TrackedAttempt.{Tracked, Attends}
-use Rattle.schedule_laws.specs.Written.{BeginsUnwritten, is_at_attempt, LeavesHeld, MovesBytes, WaitsBehind}
+use Rattle.schedule_laws.specs.WrittenFrames.{BeginsUnwritten, is_at_attempt, LeavesHeld, MovesBytes, WaitsBehind}
 use Rattle.schedule_laws.proofs.Acting.{fed_wrote}
 use Rattle.schedule_laws.proofs.Beginning.{unwritten_own}
 use Rattle.schedule_laws.proofs.Keeping.{closed_live, handed_live, handed_open, some_waits}

@@ -36,7 +36,7 @@ use Rattle.vm_attempt_laws.proofs.Beginning.{none_more}
 use Rattle.vm_attempt_laws.proofs.ArrivalsCome.{arrivals_read, requests_of_journal, told_journal}
 use Rattle.schedule_laws.specs.InvocationInRun.{ReplaysInLine}
 use Rattle.schedule_laws.specs.TrackedAttempt.{Tracked, Attends, is_over, lacks_memory, closed_early, is_served, is_left}
-use Rattle.schedule_laws.specs.Written.{AreFrames, CloseLeaves, requests_written, TurnLeaves, TurnWrites, TurnWritesBy, TurnWritesOver, WritesError, WritesFrames}
+use Rattle.schedule_laws.specs.WrittenFrames.{AreFrames, CloseLeaves, requests_written, TurnLeaves, TurnWrites, TurnWritesBy, TurnWritesOver, WritesError, WritesFrames}
 use Rattle.schedule_laws.proofs.FrameSoundness.{meant_command}
 use Rattle.schedule_laws.proofs.Serving.{ServingLaws}
 use Rattle.vm_attempt_laws.proofs.OverAttempts.{over_of, turned_failed, turned_over}

@@ -11,12 +11,12 @@ use Rattle.journal_model.specs.Cause.{causes_of, is_of_frame, is_run}
 use Rattle.live_laws.specs.RequestsInFlight.{SendsOneOfRun}
 use Rattle.store_frames.specs.declared.frame.AttemptFrame.{AttemptFrame}
 use Rattle.store_frames.specs.Answer.{IsFrame}
-use Rattle.store_frames.specs.Read.{IsFrameRead}
+use Rattle.store_frames.specs.ReadFrames.{IsFrameRead}
 use Rattle.store_refusals.specs.declared.refusal.Refusal.{Refusal}
 use Rattle.store_steps.specs.declared.frame.LiveFacts.{LiveFacts}
 use Rattle.store_steps.specs.declared.frame.PreparedFrame.{PreparedFrame}
-use Rattle.store_steps.specs.Taken.{KnowsLive, TakesAttemptFrame, lies_in_frame}
-use Rattle.vm_output_laws.specs.Sent.{Sent, frame_meant, IsOfStore}
+use Rattle.store_steps.specs.PreparedFrames.{KnowsLive, TakesAttemptFrame, lies_in_frame}
+use Rattle.vm_output_laws.specs.SentFrames.{Sent, frame_meant, IsOfStore}
 
 -- an outcome is proposed for a run whose outcome is not recorded
 abbrev pub IsOpenOutcome : List Entry → Frame → Type 0

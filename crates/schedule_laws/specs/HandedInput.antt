@@ -4,7 +4,7 @@ use Rattle.journal_model.specs.Notification.{Text}
 use Rattle.journal_model.specs.Event.{Event}
 use Rattle.journal_model.specs.Attempt.{input_pieces, input_bytes, input_left}
 use Rattle.journal_model.specs.Cause.{IsAccepted}
-pub use Rattle.due_laws.specs.Told.{bytes_handed_out}
+pub use Rattle.due_laws.specs.HandedBytes.{bytes_handed_out}
 
 -- with what is left they are its input: the journal that it was begun with, by place, and then each later arrival, by place
 abbrev pub HandsOutInput : Type 0

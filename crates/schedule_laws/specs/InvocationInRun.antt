@@ -11,7 +11,7 @@ use Rattle.journal_model.specs.Run.{Handler, Invocation}
 use Rattle.journal_model.specs.Headline.{run_of}
 use Rattle.protocol_types.specs.Version.{version_number}
 use Rattle.protocol_types.specs.declared.version.Version.{Version}
-use Rattle.run_laws.specs.Held.{Holds}
+use Rattle.run_laws.specs.HeldInvocations.{Holds}
 use Rattle.live_laws.specs.RequestsInFlight.{FollowsSo}
 use Rattle.vm_types.specs.Options.{run_options}
 use Rattle.vm_types.specs.declared.options.VMOptions.{VMOptions}
@@ -25,7 +25,7 @@ use Rattle.vm_attempt_laws.specs.OutputOfAttempt.{Sent, sent_stream, frame_meant
 use Rattle.vm_attempt_laws.specs.TurnReports.{IsFrameTold}
 use Rattle.store_calls.specs.AbstractStore.{Standing}
 use Rattle.schedule_model.specs.declared.held.HeldAttempt.{HeldAttempt}
-use Rattle.schedule_model.specs.Held.{held_of}
+use Rattle.schedule_model.specs.HeldAttempts.{held_of}
 use Rattle.schedule_laws.specs.EventBounds.{EventsFit}
 use Rattle.schedule_laws.specs.TrackedAttempt.{Tracked, AttendsAs}
 

@@ -12,9 +12,9 @@ use Rattle.journal_model.specs.Attempt.{attempts_begun, live_attempt, input_left
 use Rattle.journal_model.specs.Headline.{arrivals_handed}
 use Rattle.journal_model.specs.Cause.{causes_of, IsAccepted}
 use Rattle.protocol_types.specs.Version.{version_number}
-use Rattle.store_refusals.specs.Refused.{refusal_of_first_cause}
+use Rattle.store_refusals.specs.RefusalConditions.{refusal_of_first_cause}
 use Rattle.store_steps.specs.declared.frame.FrameReply.{FrameReply}
-use Rattle.store_steps.specs.Taken.{IsReply}
+use Rattle.store_steps.specs.PreparedFrames.{IsReply}
 use Rattle.store_calls.specs.declared.begun.BegunAttempt.{BegunAttempt}
 use Rattle.store_calls.specs.AbstractStore.{Standing}
 use Rattle.store_calls.specs.Calls.{BeginsStoredAttempt, Cancels, CompletesCall, Signals}

@@ -12,7 +12,7 @@ use Rattle.vm_types.specs.Options.{run_options}
 use Rattle.vm_types.specs.declared.options.VMOptions.{VMOptions}
 use Rattle.store_calls.specs.AbstractStore.{Standing}
 use Rattle.store_refusals.specs.declared.refusal.Refusal.{Refusal}
-use Rattle.store_steps.specs.Taken.{lies_in_frame}
+use Rattle.store_steps.specs.PreparedFrames.{lies_in_frame}
 use Rattle.vm_attempt_laws.specs.TurnReports.{Told}
 use Rattle.schedule_laws.specs.Attempts.{Attempt}
 use Rattle.schedule_laws.specs.TrackedAttempt.{Tracked}
@@ -20,8 +20,8 @@ use Rattle.schedule_laws.specs.InvocationInRun.{ReplaysInLine, HoldsOf, given_of
 use Rattle.schedule_laws.specs.Schedules.event
 use Rattle.schedule_laws.specs.Schedules.reply
 use Rattle.schedule_laws.specs.Schedules.{Event, Reply, HeldAttempt, held_of, with_attempt, given_in, FeedsParts, MovesOne, Does, Scheduled, AppliesAll, Brings, FitsEvent}
-use Rattle.schedule_laws.specs.Turned.{TellsAttempt, is_of_attempt, attempt_start_of, TakesAsTold, told_start}
-use Rattle.schedule_laws.specs.Written.{BeginsUnwritten, LeavesHeld, MovesBytes}
+use Rattle.schedule_laws.specs.TurnReplies.{TellsAttempt, is_of_attempt, attempt_start_of, TakesAsTold, told_start}
+use Rattle.schedule_laws.specs.WrittenFrames.{BeginsUnwritten, LeavesHeld, MovesBytes}
 
 -- ---- what is answered of frames
 

@@ -4,8 +4,8 @@ pub mod FrameSoundness
 pub mod FittingLaws
 pub mod TrackedAttempt
 pub mod InvocationInRun
-pub mod Written
-pub mod Turned
+pub mod WrittenFrames
+pub mod TurnReplies
 pub mod Laws
 pub mod Schedules
 pub mod Attempts

@@ -7,7 +7,7 @@ use Rattle.journal_model.specs.Journal.{recorded_requests, recorded_arrivals, re
 use Rattle.journal_model.specs.Cause.{IsAccepted}
 use Rattle.journal_model.specs.Run.{Handler, Invocation}
 use Rattle.journal_model.specs.Headline.{arrivals_handed}
-use Rattle.run_laws.specs.Held.{Holds}
+use Rattle.run_laws.specs.HeldInvocations.{Holds}
 use Rattle.schedule_laws.specs.InvocationInRun.{FailsNot}
 
 -- An attempt of it was suspended that had been handed all that is recorded by now, whatever has been accepted since: another attempt may have

@@ -12,7 +12,7 @@ use Rattle.schedule_model.specs.declared.held.HeldAttempt.{HeldAttempt}
 use Rattle.schedule_model.specs.First.{with_first, IsFirstAt}
 use Rattle.store_calls.specs.AbstractStore.{Standing}
 use Rattle.store_calls.proofs.Taking.{same_stays}
-use Rattle.schedule_model.specs.Held.{is_held, held_of, with_attempt}
+use Rattle.schedule_model.specs.HeldAttempts.{is_held, held_of, with_attempt}
 use Rattle.schedule_model.specs.Schedule.{IfHeld, Scheduled, Applies}
 use Rattle.schedule_model.specs.Laws.{NoneHeld, Reaches, SchedulesGrow}
 use Rattle.schedule_model.proofs.Firsts.{first_found, first_missing, first_at, with_first_at}

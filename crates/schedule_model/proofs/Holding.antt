@@ -5,7 +5,7 @@ use Rattle.std.proofs.lemmas.Bool.Decides.{Decides-eqb}
 use Rattle.std.proofs.lemmas.Slice.Eq.{bytes_eq-Decides}
 use Rattle.schedule_model.specs.declared.held.HeldAttempt.{HeldAttempt}
 use Rattle.schedule_model.specs.First.{with_first}
-use Rattle.schedule_model.specs.Held.{is_held, held_of}
+use Rattle.schedule_model.specs.HeldAttempts.{is_held, held_of}
 use Rattle.schedule_model.proofs.Firsts.{true_or_false, first_with, first_of_other}
 
 pub some_is : {A : Type 0} (x y : A) → Some x ≡ Some y → x ≡ y

@@ -10,7 +10,7 @@ use Rattle.vm_attempt.specs.declared.attempt.Attempt.{Attempt}
 use Rattle.vm_attempt.specs.declared.run_outcome.RunOutcome.{RunOutcome}
 use Rattle.vm_attempt.specs.declared.turn.Finish.{Finish}
 use Rattle.vm_attempt.specs.declared.turn.Turn.{Turn}
-use Rattle.schedule_model.specs.Kept.{closed_if, FailsAgain, IsFailed, IsFinished}
+use Rattle.schedule_model.specs.AttemptMemory.{closed_if, FailsAgain, IsFailed, IsFinished}
 
 module _ {H : Type 0} where
   closed_over : (is_closed : Bool) (seen : Attempt H) → (closed_if is_closed seen).over ≡ seen.over

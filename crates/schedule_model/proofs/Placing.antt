@@ -7,12 +7,12 @@ use Rattle.std.specs.Prelude.{if◌then◌else◌, slice_set}
 use Rattle.vm_attempt.specs.declared.attempt.Attempt.{Attempt}
 use Rattle.schedule_model.specs.declared.held.HeldAttempt.{HeldAttempt}
 use Rattle.schedule_model.specs.First.{with_first, IsFirstAt}
-use Rattle.schedule_model.specs.Held.{is_held, held_of, with_attempt}
+use Rattle.schedule_model.specs.HeldAttempts.{is_held, held_of, with_attempt}
 use Rattle.schedule_model.proofs.Firsts.{first_found, first_missing, first_at, with_first_at}
 use Rattle.schedule_model.proofs.Holding.{held_is}
 use Rattle.schedule_model.specs.declared.places.AttemptPlaces.{AttemptPlaces}
 use Rattle.schedule_model.specs.Places.{place_kept, place_in, Notes}
-use Rattle.schedule_model.specs.Indexed.{IsIndexed}
+use Rattle.schedule_model.specs.AttemptIndex.{IsIndexed}
 use Rattle.schedule_model.specs.Lends.{held_as}
 
 -- what holds where a call did not fail

@@ -10,7 +10,7 @@ use Rattle.schedule_model.specs.declared.event.Event.{Event}
 use Rattle.schedule_model.specs.declared.event.Reply.{Reply}
 use Rattle.schedule_model.specs.declared.held.HeldAttempt.{HeldAttempt}
 use Rattle.store_calls.specs.AbstractStore.{Standing}
-use Rattle.schedule_model.specs.Held.{is_held, held_of}
+use Rattle.schedule_model.specs.HeldAttempts.{is_held, held_of}
 use Rattle.schedule_model.specs.Schedule.{IfHeld, FeedsOne, ClosesOne, MovesOne, TurnsOne, Scheduled, Applies, AppliesAll}
 
 module _ (H : Type 0) where

@@ -3,7 +3,7 @@ use Rattle.std.specs.Prelude.{ℕ, List, Option}
 use Rattle.std.specs.Borrow.{Fml, RattleType, MutBor, LendsIf}
 use Rattle.vm_attempt.specs.declared.attempt.Attempt.{Attempt}
 use Rattle.schedule_model.specs.declared.held.HeldAttempt.{HeldAttempt}
-use Rattle.schedule_model.specs.Held.{with_attempt}
+use Rattle.schedule_model.specs.HeldAttempts.{with_attempt}
 use Rattle.schedule_model.specs.contracts.attempts.HeldAttempts.{the_row}
 use Rattle.schedule_model.specs.contracts.kept.KeptAttempt.{the_row as attempt_row}
 

@@ -1,6 +1,6 @@
 pub mod First
-pub mod Held
-pub mod Kept
+pub mod HeldAttempts
+pub mod AttemptMemory
 pub mod InputFeed
 pub mod Schedule
 pub mod ArgumentBounds
@@ -10,5 +10,5 @@ pub mod Outcomes
 pub mod Attempts
 pub mod HeldCode
 pub mod Places
-pub mod Indexed
+pub mod AttemptIndex
 pub mod Lends

@@ -23,7 +23,7 @@ use Rattle.store_calls.specs.AbstractStore.{Standing, StaysStanding}
 use Rattle.store_calls.specs.Calls.{Invokes, CompletesCall, Signals, Cancels, Ticks, BeginsStoredAttempt, BeginsAttempt, HandsOut, ClosesStoredInput, Stops}
 use Rattle.store_calls.specs.Frames.{Accepts}
 use Rattle.schedule_model.specs.InputFeed.{given_in, FeedsParts}
-use Rattle.schedule_model.specs.Held.{held_of, with_attempt}
+use Rattle.schedule_model.specs.HeldAttempts.{held_of, with_attempt}
 use Rattle.schedule_model.specs.Outcomes.{tells_mismatch}
 
 -- ---- replies of the store's calls

@@ -2,7 +2,7 @@
 ghost use Rattle.std.specs.Prelude.{◌≡◌, ◌+◌, ◌<◌, [], ◌∷◌, ◌++◌, vec_len, vec_capacity, OnOk, OnErr, IfErr};
 ghost use Rattle.std.specs.Borrow.{sem};
 ghost use Rattle.std.specs.Option.{option_copied_mut, option_map};
-ghost use Rattle.schedule_model.specs.Held.{held_of};
+ghost use Rattle.schedule_model.specs.HeldAttempts.{held_of};
 ghost use Rattle.schedule_model.specs.Lends.{held_as, lends_attempt};
 
 use crate::held::HeldAttempt;
@@ -27,7 +27,7 @@ impl<H> Model for HeldAttempts<H> {
     ghost use Rattle.std.specs.Coded.{coded_list};
     ghost use Rattle.schedule_model.specs.declared.held.HeldAttempt.{HeldAttempt};
     ghost use Rattle.schedule_model.specs.HeldCode.{held_code};
-    ghost use Rattle.schedule_model.specs.Indexed.{IsIndexed};
+    ghost use Rattle.schedule_model.specs.AttemptIndex.{IsIndexed};
 
     ghost Value = { List (HeldAttempt H) };
 

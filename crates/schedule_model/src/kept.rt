@@ -3,7 +3,7 @@ ghost use Rattle.std.specs.Prelude.{◌≡◌, ◌≤◌, length, IfErr, IfOk, I
 ghost use Rattle.vm_attempt.specs.Attempt.{ClosesInput, Feeds};
 ghost use Rattle.vm_attempt.specs.Output.{taken_of, Advances, Gathers, Shows};
 ghost use Rattle.vm_attempt.specs.TurnOutcomes.{Turns};
-ghost use Rattle.schedule_model.specs.Kept.{attempt_kept, FailsAgain, IsKept};
+ghost use Rattle.schedule_model.specs.AttemptMemory.{attempt_kept, FailsAgain, IsKept};
 
 use bytes::Bytes;
 use journal_model::Handler;
@@ -41,7 +41,7 @@ pub struct KeptAttempt<H> {
 impl<H> Model for KeptAttempt<H> {
     ghost use Rattle.vm_attempt.specs.AttemptCode.{attempt_code};
     ghost use Rattle.vm_attempt.specs.declared.attempt.Attempt.{Attempt};
-    ghost use Rattle.schedule_model.specs.Kept.{attempt_kept, IsKept};
+    ghost use Rattle.schedule_model.specs.AttemptMemory.{attempt_kept, IsKept};
 
     ghost Value = { Attempt H };
 

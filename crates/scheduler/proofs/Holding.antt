@@ -10,16 +10,16 @@ use Rattle.schedule_model.specs.declared.event.Reply.{Reply}
 use Rattle.schedule_model.specs.declared.event.Reply.TheVariants as reply
 use Rattle.schedule_model.specs.declared.event.EventRefusal.TheVariants as refusal
 use Rattle.schedule_model.specs.declared.held.HeldAttempt.{HeldAttempt}
-use Rattle.schedule_model.specs.Held.{held_of, with_attempt}
+use Rattle.schedule_model.specs.HeldAttempts.{held_of, with_attempt}
 use Rattle.schedule_model.specs.Lends.{held_as}
 use Rattle.schedule_model.specs.Schedule.{IfHeld, UnlessMismatch}
 use Rattle.schedule_model.specs.Attempts.{Attempt}
 use Rattle.store_calls.specs.AbstractStore.{Standing}
 use Rattle.store_calls.proofs.Taking.{same_stays}
-use Rattle.journal_store.specs.Stored.{Stored}
-use Rattle.journal_store.specs.Stands.{Endures, Leads}
+use Rattle.journal_store.specs.StoreView.{Stored}
+use Rattle.journal_store.specs.StoreStanding.{Endures, Leads}
 use Rattle.journal_store.proofs.Enduring.{endures_so}
-use Rattle.scheduler.specs.Scheduled.{LeadsMoved, TellsCauseOf, TellsCauseOfMove}
+use Rattle.scheduler.specs.SchedulerCalls.{LeadsMoved, TellsCauseOf, TellsCauseOfMove}
 
 -- what is done to one that is held
 abbrev Changes : Type 0 → Type 1

@@ -9,9 +9,9 @@ use Rattle.store_calls.specs.AbstractStore.{Standing, StaysStanding}
 use Rattle.store_calls.specs.Calls.{PutsBehind}
 use Rattle.store_calls.specs.Frames.{Accepts, TakesEach}
 use Rattle.store_calls.proofs.Taking.{before_still, same_put, same_taken}
-use Rattle.journal_store.specs.Stands.{KeepsAll, Outlasts}
+use Rattle.journal_store.specs.StoreStanding.{KeepsAll, Outlasts}
 use Rattle.journal_store.specs.OutputAcceptance.{OutlastsFrames}
-use Rattle.scheduler.specs.Scheduled.{OutlastsRest}
+use Rattle.scheduler.specs.SchedulerCalls.{OutlastsRest}
 
 same_lasts : (id : Text) (n : ℕ) (why : Option Refusal) (m k : Standing) → StaysStanding m k → (database : State) → OutlastsFrames id n why k database → OutlastsFrames id n why m database
 same_lasts id n None m k same database it = subst (λ (events : List Event). Outlasts events database) same.events it

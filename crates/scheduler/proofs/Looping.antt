@@ -8,7 +8,7 @@ use Rattle.journal_model.specs.Run.{Handler}
 use Rattle.vm_types.specs.declared.options.VMOptions.{VMOptions}
 use Rattle.store_refusals.specs.declared.refusal.Refusal.TheVariants.{OutOfMemory}
 use Rattle.store_calls.specs.AbstractStore.{Standing}
-use Rattle.journal_store.specs.Stands.{Endures}
+use Rattle.journal_store.specs.StoreStanding.{Endures}
 use Rattle.journal_store.proofs.Enduring.{endures_on, same_endures}
 use Rattle.schedule_model.specs.Attempts.{RunOutcome}
 use Rattle.schedule_model.specs.declared.event.Event.{Event}
@@ -22,7 +22,7 @@ use Rattle.scheduler.specs.declared.outcome.Outcome.{Outcome}
 use Rattle.scheduler.specs.declared.scheduler.Scheduler.{Scheduler}
 use Rattle.scheduler.specs.Loop.{all_bytes, Rest, Ends, UnlessRefused, Then, IfCopied, MovesAll, UnlessLast, MakesTurns, IsClosed, IsFed, IsNumbered, IsAttempt, AppliesBeginning, PerformsAll, PerformsSome, GoesOn, TurnsOn}
 use Rattle.scheduler.specs.Outcomes.{last_told, outcome_where, refusal_in}
-use Rattle.scheduler.specs.Scheduled.{AppliesWith, IsScheduled, Performs}
+use Rattle.scheduler.specs.SchedulerCalls.{AppliesWith, IsScheduled, Performs}
 use Rattle.scheduler.proofs.Scheduling.{applied}
 
 -- what follows the reply to a turn

@@ -18,11 +18,11 @@ use Rattle.store_calls.specs.AbstractStore.{Standing, StaysStanding}
 use Rattle.store_calls.specs.Calls.{PutsBehind, RefusesBytes}
 use Rattle.store_calls.specs.Frames.{Accepts, AcceptsFirst, Rests}
 use Rattle.store_calls.proofs.Taking.{live_or_over, same_stays}
-use Rattle.journal_store.specs.Stored.{Stored}
+use Rattle.journal_store.specs.StoreView.{Stored}
 use Rattle.journal_store.specs.Causes.{TellsWhyUnwritten, TriesFrameOf}
-use Rattle.journal_store.specs.Stands.{Endures}
+use Rattle.journal_store.specs.StoreStanding.{Endures}
 use Rattle.journal_store.proofs.Enduring.{endures_so}
-use Rattle.scheduler.specs.Scheduled.{MovesSome, TellsCauseOfMove}
+use Rattle.scheduler.specs.SchedulerCalls.{MovesSome, TellsCauseOfMove}
 
 -- these bytes were moved, and leave the attempt; or they are refused, and it is as it was
 abbrev AcceptsOne : {H : Type 0} → Bytes → HeldAttempt H → Standing → Reply → Standing → Attempt H → Type 0

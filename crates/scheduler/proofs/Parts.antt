@@ -16,9 +16,9 @@ use Rattle.schedule_model.specs.declared.held.HeldAttempt.{HeldAttempt}
 use Rattle.schedule_model.specs.InputFeed.{given_in, IsAskedAgain, IsAskedFor, HandsOutEach, FeedsEach}
 use Rattle.schedule_model.specs.Schedule.{FeedsOne}
 use Rattle.journal_store.specs.Causes.{TellsWhy}
-use Rattle.journal_store.specs.Stored.{Stored}
-use Rattle.journal_store.specs.Stands.{IsQuiet, Leads}
-use Rattle.scheduler.specs.Scheduled.{FeedsPart, IsTakenUp, refusal_told, refused_behind}
+use Rattle.journal_store.specs.StoreView.{Stored}
+use Rattle.journal_store.specs.StoreStanding.{IsQuiet, Leads}
+use Rattle.scheduler.specs.SchedulerCalls.{FeedsPart, IsTakenUp, refusal_told, refused_behind}
 
 -- nothing is committed by the one, nor by the other
 pub quiet_on : {S : Type 0} (g : Ghosts S) (a b c : Stored S) → IsQuiet g a b → IsQuiet g b c → IsQuiet g a c

@@ -4,7 +4,7 @@ use Rattle.store_refusals.specs.declared.refusal.Refusal.{Refusal}
 use Rattle.schedule_model.specs.declared.event.Reply.{Reply}
 use Rattle.schedule_model.specs.declared.event.Reply.TheVariants as reply
 use Rattle.schedule_model.specs.Schedule.{RepliesCount, RepliesDone, RepliesPlace}
-use Rattle.scheduler.specs.Scheduled.{IsDoneIfHeld, IsTakenUp, refusal_told, reply_to}
+use Rattle.scheduler.specs.SchedulerCalls.{IsDoneIfHeld, IsTakenUp, refusal_told, reply_to}
 
 pub replies_done : (Did : Result (Unit {0}) Refusal → Type 0) (told : Result (Unit {0}) Refusal) → Did told → RepliesDone Did (reply_to (λ _. reply.Done) told)
 replies_done Did (Ok done) it = it

@@ -9,8 +9,8 @@ use Rattle.vm_types.specs.declared.options.VMOptions.{VMOptions}
 use Rattle.store_live.specs.Attempts.{Attempts}
 use Rattle.store_refusals.specs.declared.refusal.Refusal.{Refusal}
 use Rattle.store_refusals.specs.declared.refusal.Refusal.TheVariants.{OutOfMemory}
-use Rattle.journal_store.specs.Stored.{Stored}
-use Rattle.journal_store.specs.Stands.{Stands, Leads, Endures, EnduresAlways, IsQuiet, Outlasts, Settles, output_of}
+use Rattle.journal_store.specs.StoreView.{Stored}
+use Rattle.journal_store.specs.StoreStanding.{Stands, Leads, Endures, EnduresAlways, IsQuiet, Outlasts, Settles, output_of}
 use Rattle.schedule_model.specs.declared.event.Event.{Event}
 use Rattle.schedule_model.specs.declared.event.Event.TheVariants as event
 use Rattle.schedule_model.specs.declared.event.Reply.{Reply}
@@ -21,7 +21,7 @@ use Rattle.store_calls.specs.AbstractStore.{Standing}
 use Rattle.schedule_model.specs.Schedule.{Scheduled, Does, Applies}
 use Rattle.schedule_model.specs.ArgumentBounds.{FitsEvent}
 use Rattle.scheduler.specs.declared.scheduler.Scheduler.{Scheduler}
-use Rattle.scheduler.specs.Scheduled.{IsScheduled, IsEventWritten, OutlastsEvent, AppliesWith, CommitsNothing, IsTakenUp, LastsBy, LeadsBy, Performs, Spares, SparesWhere, TakesLive, TellsCauseOf, refusal_told, reply_to}
+use Rattle.scheduler.specs.SchedulerCalls.{IsScheduled, IsEventWritten, OutlastsEvent, AppliesWith, CommitsNothing, IsTakenUp, LastsBy, LeadsBy, Performs, Spares, SparesWhere, TakesLive, TellsCauseOf, refusal_told, reply_to}
 use Rattle.scheduler.proofs.Replying.{told_refused}
 use Rattle.journal_store.specs.Attempts.{BeginsSome}
 use Rattle.journal_store.proofs.Enduring.{always_endures, endures_so, quiet_endures}

@@ -7,7 +7,7 @@ use Rattle.journal_model.specs.Run.{Handler}
 use Rattle.store_refusals.specs.declared.refusal.Refusal.{Refusal}
 use Rattle.store_refusals.specs.declared.refusal.Refusal.TheVariants.{OutOfMemory}
 use Rattle.journal_store.specs.Causes.{TellsWhy}
-use Rattle.journal_store.specs.Stands.{IsQuiet}
+use Rattle.journal_store.specs.StoreStanding.{IsQuiet}
 use Rattle.schedule_model.specs.Attempts.{RunOutcome}
 use Rattle.schedule_model.specs.declared.event.Event.TheVariants as event
 use Rattle.schedule_model.specs.declared.event.EventRefusal.{EventRefusal}
@@ -17,7 +17,7 @@ use Rattle.scheduler.specs.declared.outcome.Outcome.{Outcome}
 use Rattle.scheduler.specs.declared.scheduler.Scheduler.{Scheduler}
 use Rattle.scheduler.specs.Loop.{GoesOn, IsAttempt}
 use Rattle.scheduler.specs.Outcomes.{refusal_in}
-use Rattle.scheduler.specs.Scheduled.{Performs, TellsAlways}
+use Rattle.scheduler.specs.SchedulerCalls.{Performs, TellsAlways}
 
 module _ {H S : Type 0} (g : Ghosts S) where
   -- it is looked up which invocations are due, of whatever the scheduler stands for

@@ -1,4 +1,4 @@
-pub mod Scheduled
+pub mod SchedulerCalls
 pub mod Attempts
 pub mod Schedules
 pub mod Outcomes

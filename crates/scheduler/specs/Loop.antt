@@ -8,7 +8,7 @@ use Rattle.journal_model.specs.Run.{Handler}
 use Rattle.vm_types.specs.declared.options.VMOptions.{VMOptions}
 use Rattle.store_refusals.specs.declared.refusal.Refusal.TheVariants.{OutOfMemory}
 use Rattle.store_calls.specs.AbstractStore.{Standing}
-use Rattle.journal_store.specs.Stands.{Endures}
+use Rattle.journal_store.specs.StoreStanding.{Endures}
 use Rattle.schedule_model.specs.Attempts.{RunOutcome}
 use Rattle.schedule_model.specs.declared.event.Event.{Event}
 use Rattle.schedule_model.specs.declared.event.Event.TheVariants as event
@@ -21,7 +21,7 @@ use Rattle.schedule_model.specs.Schedule.{AppliesAll, Scheduled}
 use Rattle.scheduler.specs.declared.outcome.Outcome.{Outcome}
 use Rattle.scheduler.specs.declared.scheduler.Scheduler.{Scheduler}
 use Rattle.scheduler.specs.Outcomes.{last_told, refusal_in}
-use Rattle.scheduler.specs.Scheduled.{IsScheduled, Performs}
+use Rattle.scheduler.specs.SchedulerCalls.{IsScheduled, Performs}
 
 -- as many bytes as a call can ask for: all that there are
 abbrev pub all_bytes : ℕ

@@ -9,4 +9,4 @@ pub use Rattle.schedule_model.specs.declared.event.Reply.{Reply}
 pub use Rattle.schedule_model.specs.declared.held.HeldAttempt.{HeldAttempt}
 -- the rows in which the state of an object is told
 pub use Rattle.store_tables.specs.declared.row.StateRow.{StateRow}
-pub use Rattle.store_model.specs.Kept.{state_row}
+pub use Rattle.store_model.specs.KeptRecords.{state_row}

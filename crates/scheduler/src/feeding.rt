@@ -1,10 +1,10 @@
 //! How the input of an attempt that is held goes to it from the store.
 ghost use Rattle.std.specs.Prelude.{◌≡◌, ◌≤◌, ◌≢◌, ◌==◌, ◌||◌, IfOk, IfErr, IfSome};
 ghost use Rattle.journal_store.specs.Causes.{TellsWhy};
-ghost use Rattle.journal_store.specs.Stands.{IsQuiet, Leads};
+ghost use Rattle.journal_store.specs.StoreStanding.{IsQuiet, Leads};
 ghost use Rattle.schedule_model.specs.Lends.{held_as};
 ghost use Rattle.schedule_model.specs.Schedule.{FeedsOne};
-ghost use Rattle.scheduler.specs.Scheduled.{FeedsPart, IsTakenUp, refused_behind, refusal_told};
+ghost use Rattle.scheduler.specs.SchedulerCalls.{FeedsPart, IsTakenUp, refused_behind, refusal_told};
 
 use bytes::ByteStr;
 use journal_model::Handler;

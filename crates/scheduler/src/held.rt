@@ -1,10 +1,10 @@
 //! How an attempt that is held is made, and how its bytes go to the store.
 ghost use Rattle.std.specs.Prelude.{◌≡◌, false, IfSome};
-ghost use Rattle.journal_store.specs.Stands.{Endures, Leads};
+ghost use Rattle.journal_store.specs.StoreStanding.{Endures, Leads};
 ghost use Rattle.schedule_model.specs.Attempts.{has_stopped, IsMadeAndFed};
 ghost use Rattle.schedule_model.specs.Lends.{held_as};
 ghost use Rattle.schedule_model.specs.Schedule.{MovesOne};
-ghost use Rattle.scheduler.specs.Scheduled.{HasTakenFrames, IsLiveAttempt, IsMovedIfHeld, IsTakenUp, LeadsMoved, MovesSome, TellsCauseOfMove, refusal_told};
+ghost use Rattle.scheduler.specs.SchedulerCalls.{HasTakenFrames, IsLiveAttempt, IsMovedIfHeld, IsTakenUp, LeadsMoved, MovesSome, TellsCauseOfMove, refusal_told};
 
 use bytes::{ByteStr, Bytes};
 use journal_model::Handler;

@@ -1,6 +1,6 @@
 //! What a scheduler answers where its store did what was asked for, or refused it.
 ghost use Rattle.std.specs.Prelude.{◌≡◌};
-ghost use Rattle.scheduler.specs.Scheduled.{reply_to};
+ghost use Rattle.scheduler.specs.SchedulerCalls.{reply_to};
 
 use schedule_model::{EventRefusal, Reply};
 use store_refusals::Refusal;

@@ -7,7 +7,7 @@ use Rattle.journal_model.specs.declared.notification.NotificationResult.{Notific
 use Rattle.journal_model.specs.declared.notification.NotificationResult.TheVariants as results
 use Rattle.protocol_types.specs.MessageType.{type_number}
 use Rattle.protocol_stream.specs.Frame.{message_of}
-use Rattle.protocol_messages.specs.Decoded.{DecodesNotification}
+use Rattle.protocol_messages.specs.Decodings.{DecodesNotification}
 use Rattle.store_refusals.specs.declared.refusal.Refusal.{Refusal}
 use Rattle.store_refusals.specs.declared.refusal.Refusal.TheVariants.{ForeignRow, OutOfMemory}
 use Rattle.store_invocations.specs.declared.recorded.EntryKind.TheVariants as kinds

@@ -1,4 +1,4 @@
 pub mod Entries
 pub mod Invocation
 pub mod Rows
-pub mod Shown
+pub mod ShownTexts

@@ -17,10 +17,10 @@ use Rattle.protocol_stream.specs.CommandFacts.{completion_at, completion_by}
 use Rattle.protocol_stream.specs.declared.command_facts.Completions.TheVariants as asked
 use Rattle.store_refusals.specs.declared.refusal.Refusal.{Refusal}
 use Rattle.store_refusals.specs.declared.refusal.Refusal.TheVariants as refusal
-use Rattle.store_refusals.specs.Refused.{IsRefused}
+use Rattle.store_refusals.specs.RefusalConditions.{IsRefused}
 use Rattle.store_invocations.specs.Rows.{Decides}
 use Rattle.store_arrivals.specs.declared.asking.AskedCompletion.{AskedCompletion}
-use Rattle.store_arrivals.specs.Asked.{completion_asked_by, completion_for, type_for}
+use Rattle.store_arrivals.specs.AskedCompletions.{completion_asked_by, completion_for, type_for}
 
 same_either_way : (m n : ℕ) → (n == m) ≡ (m == n)
 same_either_way m n = both_ways (n == m) (m == n) (λ e. eq-eqb m n (sym (eqb-true n m e))) (λ e. eq-eqb n m (sym (eqb-true m n e)))

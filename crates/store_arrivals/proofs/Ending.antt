@@ -18,7 +18,7 @@ use Rattle.store_tables.specs.Orders.{sleep_cmp}
 use Rattle.store_tables.specs.declared.row.EntryRow.{EntryRow}
 use Rattle.store_tables.specs.declared.row.SleepRow.{SleepRow}
 use Rattle.store_model.specs.Sleeps.{sleep_row}
-use Rattle.store_model.specs.Kept.{entry_row, rows_from, IsKept}
+use Rattle.store_model.specs.KeptRecords.{entry_row, rows_from, IsKept}
 use Rattle.store_model.proofs.Following.{arrived_more}
 use Rattle.store_model.specs.Writes.{AreEnding, ends_sleep, rows_added}
 use Rattle.store_model.specs.Lookups.{due_sleeps, ended_sleeps}
@@ -30,7 +30,7 @@ use Rattle.store_model.proofs.OpenSleeps.{all_alone}
 use Rattle.store_model.proofs.Sleeping.{answer_of_sleep, ends_at}
 use Rattle.store_model.proofs.Sorting.{sorted_rises}
 use Rattle.store_arrivals.specs.Groups.{AllEndingGrouped, AllRowsEnded, Group, group_of, those_ended}
-use Rattle.store_arrivals.specs.Ended.{end_row, end_rows}
+use Rattle.store_arrivals.specs.SleepEnds.{end_row, end_rows}
 use Rattle.store_arrivals.proofs.SideBySide.{are_grouped}
 
 -- ---- which invocations

@@ -11,8 +11,8 @@ use Rattle.store_tables.specs.declared.row.Write.TheVariants.{AddEntry, SetProgr
 use Rattle.store_model.specs.Steps.{grown}
 use Rattle.store_invocations.proofs.Refusing.{none_of_one}
 use Rattle.store_arrivals.specs.Arrivals.{HasFewArrivals}
-use Rattle.store_arrivals.specs.Ended.{end_rows}
-use Rattle.store_arrivals.specs.Made.{AreEndsOf, progress_writes, room_tests}
+use Rattle.store_arrivals.specs.SleepEnds.{end_rows}
+use Rattle.store_arrivals.specs.PreparedTicks.{AreEndsOf, progress_writes, room_tests}
 
 -- ---- places
 

@@ -2,7 +2,7 @@
 use Rattle.std.proofs.Common.{ℕ, ◌≡◌, refl, ap, Bool, true, false, if◌then◌else◌, List, [], ◌∷◌, ◌++◌}
 use Rattle.store_tables.specs.declared.row.SleepRow.{SleepRow}
 use Rattle.store_arrivals.specs.Groups.{Group, grouped, put_first}
-use Rattle.store_arrivals.specs.Grouped.{is_first, groups_joined}
+use Rattle.store_arrivals.specs.SleepGroups.{is_first, groups_joined}
 
 abbrev pub put_each : List SleepRow → List Group → List Group
 put_each [] groups = groups

@@ -11,18 +11,18 @@ use Rattle.journal_model.specs.Request.{Request}
 use Rattle.journal_model.specs.declared.notification.SignalKey.{SignalKey}
 use Rattle.journal_model.specs.Event.{Frame, Event}
 use Rattle.journal_model.specs.Journal.{Entry, Recorded, Arrived, adds_to, arrivals_in, completion, entries_added, entries_from, entries_of, entries_of_event, id_of_signal, is_sleep_over, read_answer, recorded_arrivals, requests_in, slept, sleeps_in, sorted_by_moment, starting_state}
-use Rattle.store_frames.specs.Read.{AreRead, IsReadIn, SignalKeyFits}
+use Rattle.store_frames.specs.ReadFrames.{AreRead, IsReadIn, SignalKeyFits}
 use Rattle.store_tables.specs.Questions.{AreArrivals, AreNoArrivals, AreCounted, is_arrival_after}
 use Rattle.store_tables.specs.declared.row.EntryRow.{EntryRow}
-use Rattle.store_model.specs.Kept.{answered_by, entry_row}
+use Rattle.store_model.specs.KeptRecords.{answered_by, entry_row}
 use Rattle.store_model.specs.Lookups.{arrival_rows, rows_of_arrivals}
 use Rattle.store_model.proofs.Ordinals.{arrivals_found}
 use Rattle.sql_tables.specs.declared.read.ReadError.{ReadError}
 use Rattle.sql_tables.specs.declared.read.ReadError.TheVariants as reading
-use Rattle.store_refusals.specs.Prepared.{Keeps}
-use Rattle.store_refusals.specs.Refused.{is_circumstance, reading_refusal}
-use Rattle.store_frames.specs.Kept.{SignalFits, completion_in}
-use Rattle.store_arrivals.specs.Woken.{AreRowsOf, IsHeardAs}
+use Rattle.store_refusals.specs.Preparations.{Keeps}
+use Rattle.store_refusals.specs.RefusalConditions.{is_circumstance, reading_refusal}
+use Rattle.store_frames.specs.KeptArrivals.{SignalFits, completion_in}
+use Rattle.store_arrivals.specs.ArrivalRows.{AreRowsOf, IsHeardAs}
 use Rattle.store_arrivals.proofs.Hearing.{those_behind}
 
 -- ---- the numbers of signals fit

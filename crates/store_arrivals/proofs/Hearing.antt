@@ -3,11 +3,11 @@ use Rattle.std.proofs.Common.{◌≡◌, ◌+◌, ◌<◌, ◌≤◌, ℕ, zero,
 use Rattle.journal_model.specs.Notification.{Arrival}
 use Rattle.store_tables.specs.declared.row.EntryRow.{EntryRow}
 use Rattle.store_refusals.specs.declared.refusal.Refusal.{Refusal}
-use Rattle.store_refusals.specs.Refused.{IsRefused, is_circumstance}
+use Rattle.store_refusals.specs.RefusalConditions.{IsRefused, is_circumstance}
 use Rattle.store_frames.specs.declared.kept_fault.KeptFault.{KeptFault}
 use Rattle.store_frames.specs.declared.kept_fault.KeptFault.TheVariants.{OutOfMemory, Foreign}
-use Rattle.store_frames.specs.Kept.{IsWantOfMemory}
-use Rattle.store_arrivals.specs.Woken.{AreRowsOf, IsHeardAs, fault_refusal}
+use Rattle.store_frames.specs.KeptArrivals.{IsWantOfMemory}
+use Rattle.store_arrivals.specs.ArrivalRows.{AreRowsOf, IsHeardAs, fault_refusal}
 
 -- ---- the row at a place
 

@@ -8,7 +8,7 @@ use Rattle.journal_model.specs.Cause.{IsAccepted, is_empty}
 use Rattle.store_tables.specs.Records.{Records, ends_by, is_sleep_of}
 use Rattle.store_tables.specs.Orders.{sleep_cmp}
 use Rattle.store_tables.specs.declared.row.SleepRow.{SleepRow}
-use Rattle.store_model.specs.Kept.{IsKept}
+use Rattle.store_model.specs.KeptRecords.{IsKept}
 use Rattle.store_model.specs.Sleeps.{due_until, sleep_row}
 use Rattle.store_model.specs.Writes.{AreEnding, ends_sleep}
 use Rattle.store_model.proofs.States.{itself}
@@ -16,7 +16,7 @@ use Rattle.store_model.proofs.Ticking.{kept_in_any_order}
 use Rattle.store_model.specs.Lookups.{due_sleeps}
 use Rattle.store_model.proofs.DueSleeps.{ended_found}
 use Rattle.store_model.proofs.Sleeping.{answer_of_sleep}
-use Rattle.store_arrivals.specs.Made.{ReadyKeeps}
+use Rattle.store_arrivals.specs.PreparedTicks.{ReadyKeeps}
 
 -- where none passes, all that do not pass are all
 filter_none : {A : Type 0} (p : A → Bool) (xs : List A) → filter p xs ≡ [] → filter (λ x. not (p x)) xs ≡ xs

@@ -18,9 +18,9 @@ use Rattle.protocol_trees.specs.declared.tree.AwaitState.{AwaitState as State}
 use Rattle.store_frames.specs.declared.first.FirstArrivals.{FirstArrivals}
 use Rattle.store_frames.specs.First.{AreFirst, arrived_state, first_state, or_pending}
 use Rattle.store_frames.proofs.Waking.{leaf_meant}
-use Rattle.store_frames.specs.Awaited.{IsAwaited}
+use Rattle.store_frames.specs.AwaitedFutures.{IsAwaited}
 use Rattle.due_laws.specs.Leaves.{has_leaf, some_has_leaf}
-use Rattle.store_arrivals.specs.Named.{is_completed_among, names_any}
+use Rattle.store_arrivals.specs.NamedArrivals.{is_completed_among, names_any}
 
 or_first : (a b : Bool) → (a || b) ≡ false → a ≡ false
 or_first true b e = e

@@ -17,24 +17,24 @@ use Rattle.store_tables.specs.declared.row.InvocationRow.{InvocationRow}
 use Rattle.store_tables.specs.declared.row.Progress.{Progress}
 use Rattle.store_tables.specs.declared.row.Write.{Write}
 use Rattle.store_tables.specs.declared.row.Write.TheVariants.{SetProgress, AddEntry}
-use Rattle.store_model.specs.Kept.{entry_row, plain_row}
+use Rattle.store_model.specs.KeptRecords.{entry_row, plain_row}
 use Rattle.store_model.specs.Writes.{invocation_writes, writes_of}
 use Rattle.store_model.proofs.Following.{follows}
 use Rattle.protocol_types.specs.declared.message_type.MessageType.{MessageType}
 use Rattle.store_model.specs.Steps.{grown, noted_into}
 use Rattle.store_model.specs.Progress.{progress_of}
 use Rattle.store_model.proofs.States.{itself}
-use Rattle.due_laws.specs.Noted.{Noted}
+use Rattle.due_laws.specs.AwakeNotes.{Noted}
 use Rattle.due_laws.proofs.Noting.{noted_follows}
 use Rattle.store_refusals.specs.declared.refusal.Refusal.{Refusal}
 use Rattle.store_refusals.specs.declared.refusal.Refusal.TheVariants as refusal
-use Rattle.store_refusals.specs.Refused.{IsRefused}
+use Rattle.store_refusals.specs.RefusalConditions.{IsRefused}
 use Rattle.store_invocations.specs.Rows.{Decides, IsRowOf}
 use Rattle.store_invocations.proofs.Refusing.{first_of_one, none_of_both, none_of_one, refused_anyway, refused_later, refused_more}
 use Rattle.store_arrivals.specs.declared.arrival.PreparedArrival.{PreparedArrival}
 use Rattle.store_arrivals.specs.declared.asking.AskedCompletion.{AskedCompletion}
 use Rattle.store_arrivals.specs.Arrivals.{DecidesOutcome, IsArrival, IsMadeReady, arrival_tests, HasFewArrivals}
-use Rattle.store_arrivals.specs.Asked.{completion_asked_by, is_run_command}
+use Rattle.store_arrivals.specs.AskedCompletions.{completion_asked_by, is_run_command}
 use Rattle.store_arrivals.proofs.Completing.{asking_of_open}
 use Rattle.store_arrivals.proofs.Written.{no_state, tests_are, few_arrivals, none_against_open, row_named, row_progress}
 

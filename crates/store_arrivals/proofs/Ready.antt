@@ -12,7 +12,7 @@ use Rattle.store_tables.specs.declared.row.Progress.{Progress}
 use Rattle.store_tables.specs.declared.row.SleepRow.{SleepRow}
 use Rattle.store_tables.specs.declared.row.Write.{Write}
 use Rattle.store_tables.specs.declared.row.Write.TheVariants.{AddEntry, SetProgress, CloseSleepsUntil}
-use Rattle.store_model.specs.Kept.{IsKept}
+use Rattle.store_model.specs.KeptRecords.{IsKept}
 use Rattle.store_model.specs.Progress.{progress_of}
 use Rattle.store_model.specs.Sleeps.{due_until, sleep_row}
 use Rattle.store_model.specs.Steps.{grown, noted_into}
@@ -21,12 +21,12 @@ use Rattle.store_model.proofs.Following.{ticks}
 use Rattle.store_model.proofs.States.{itself}
 use Rattle.store_model.specs.Lookups.{ended_sleeps}
 use Rattle.store_model.proofs.Sleeping.{answer_of_sleep}
-use Rattle.due_laws.specs.Noted.{Noted}
+use Rattle.due_laws.specs.AwakeNotes.{Noted}
 use Rattle.due_laws.proofs.Noting.{noted_ticks}
-use Rattle.store_arrivals.specs.Woken.{ends_of, flagged}
+use Rattle.store_arrivals.specs.ArrivalRows.{ends_of, flagged}
 use Rattle.store_arrivals.specs.Groups.{Group, group_of, those_ended}
-use Rattle.store_arrivals.specs.Ended.{end_rows}
-use Rattle.store_arrivals.specs.Made.{AreOpen, arrivals_before, group_writes, next_place, ready_writes, until_writes}
+use Rattle.store_arrivals.specs.SleepEnds.{end_rows}
+use Rattle.store_arrivals.specs.PreparedTicks.{AreOpen, arrivals_before, group_writes, next_place, ready_writes, until_writes}
 use Rattle.store_arrivals.proofs.Ending.{found, id_of, rows_of_tick}
 
 abbrev pub named : Text → Group → Bool

@@ -16,15 +16,15 @@ use Rattle.store_tables.specs.declared.row.Write.TheVariants.{AddEntry, CloseSle
 use Rattle.store_model.specs.Progress.{progress_of}
 use Rattle.store_model.specs.Steps.{grown}
 use Rattle.store_refusals.specs.declared.refusal.Refusal.{Refusal}
-use Rattle.store_refusals.specs.Refused.{IsRefused, refusal_of_first_cause}
+use Rattle.store_refusals.specs.RefusalConditions.{IsRefused, refusal_of_first_cause}
 use Rattle.store_invocations.specs.Rows.{Decides, IsRowOf}
 use Rattle.store_invocations.proofs.Refusing.{none_of_both, refused_later, refused_more}
 use Rattle.store_arrivals.specs.Arrivals.{HasFewArrivals}
-use Rattle.store_arrivals.specs.Ended.{end_rows}
+use Rattle.store_arrivals.specs.SleepEnds.{end_rows}
 use Rattle.store_arrivals.proofs.Written.{few_arrivals, none_against_open}
 use Rattle.store_arrivals.specs.Groups.{Group}
-use Rattle.store_arrivals.specs.Woken.{ends_of, flagged, row_then}
-use Rattle.store_arrivals.specs.Made.{AreEndsOf, AreGroupsEnded, AreOpen, IsGroupEnded, closed_until, group_tests, group_writes, room_tests, tests_of, until_writes}
+use Rattle.store_arrivals.specs.ArrivalRows.{ends_of, flagged, row_then}
+use Rattle.store_arrivals.specs.PreparedTicks.{AreEndsOf, AreGroupsEnded, AreOpen, IsGroupEnded, closed_until, group_tests, group_writes, room_tests, tests_of, until_writes}
 
 -- ---- by the events
 

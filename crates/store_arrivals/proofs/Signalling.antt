@@ -14,23 +14,23 @@ use Rattle.store_tables.specs.declared.row.Progress.{Progress}
 use Rattle.store_tables.specs.declared.row.Write.{Write}
 use Rattle.store_tables.specs.declared.row.Write.TheVariants.{SetProgress, AddEntry}
 use Rattle.store_model.specs.Progress.{progress_of}
-use Rattle.store_model.specs.Kept.{plain_row, answered_by, entry_row}
+use Rattle.store_model.specs.KeptRecords.{plain_row, answered_by, entry_row}
 use Rattle.store_model.specs.Writes.{invocation_writes, writes_of}
 use Rattle.store_model.specs.Steps.{grown, noted_into}
-use Rattle.due_laws.specs.Noted.{Noted}
+use Rattle.due_laws.specs.AwakeNotes.{Noted}
 use Rattle.due_laws.proofs.Noting.{noted_follows}
 use Rattle.store_model.proofs.States.{itself}
 use Rattle.store_model.proofs.Following.{follows}
 use Rattle.store_model.proofs.Opening.{or_nothing}
 use Rattle.store_refusals.specs.declared.refusal.Refusal.{Refusal}
-use Rattle.store_refusals.specs.Refused.{IsRefused, refusal_by}
+use Rattle.store_refusals.specs.RefusalConditions.{IsRefused, refusal_by}
 use Rattle.store_invocations.specs.Rows.{Decides, IsOpenRow}
 use Rattle.store_invocations.proofs.Refusing.{none_of_both, refused_by, refused_later, refused_more}
 use Rattle.store_arrivals.specs.declared.arrival.PreparedArrival.{PreparedArrival}
 use Rattle.store_arrivals.specs.Arrivals.{HasFewArrivals, IsArrival, IsMadeReady, arrival_tests}
 use Rattle.store_arrivals.specs.Signals.{cancellation, signal_arrival, signal_tests}
 use Rattle.store_arrivals.proofs.Written.{few_arrivals, no_state, none_against_open, row_named, row_progress}
-use Rattle.store_arrivals.specs.Woken.{flagged, row_then}
+use Rattle.store_arrivals.specs.ArrivalRows.{flagged, row_then}
 use Rattle.protocol_types.specs.declared.message_type.MessageType.{MessageType}
 use Rattle.protocol_types.specs.declared.message_type.MessageType.TheVariants.{SignalNotification}
 

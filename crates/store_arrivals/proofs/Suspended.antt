@@ -14,7 +14,7 @@ use Rattle.protocol_types.specs.declared.feature.Feature.TheVariants.{AwaitTree}
 use Rattle.protocol_types.specs.Feature.{lacks_feature}
 use Rattle.protocol_types.specs.Version.{version_number}
 use Rattle.store_frames.specs.Answer.{KeepsSuspension}
-use Rattle.store_frames.specs.Read.{AreRead, IsFrameRead}
+use Rattle.store_frames.specs.ReadFrames.{AreRead, IsFrameRead}
 use Rattle.store_tables.specs.declared.row.InvocationRow.{InvocationRow}
 use Rattle.store_model.specs.Progress.{payload_of_suspension, progress_of}
 use Rattle.store_model.proofs.Same.{version_in}

@@ -11,8 +11,8 @@ use Rattle.store_refusals.specs.declared.refusal.Refusal.{Refusal}
 use Rattle.journal_model.specs.declared.cause.Cause.{Cause}
 use Rattle.store_refusals.specs.declared.refusal.Refusal.TheVariants as refusal
 use Rattle.store_refusals.specs.Causes.{IsUnasked, TellsCause}
-use Rattle.store_arrivals.specs.Asked.{type_for}
-use Rattle.store_arrivals.specs.Woken.{fault_refusal}
+use Rattle.store_arrivals.specs.AskedCompletions.{type_for}
+use Rattle.store_arrivals.specs.ArrivalRows.{fault_refusal}
 
 -- what is kept and not read
 pub fault_unasked : (fault : KeptFault) (why : Refusal) → why ≡ fault_refusal fault → IsUnasked why

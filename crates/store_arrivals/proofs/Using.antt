@@ -13,17 +13,17 @@ use Rattle.journal_model.specs.declared.cause.Cause.{Cause}
 use Rattle.store_tables.specs.Records.{FitsInvocation, Records}
 use Rattle.store_tables.specs.Questions.{has_id}
 use Rattle.store_tables.specs.declared.row.InvocationRow.{InvocationRow}
-use Rattle.store_model.specs.Kept.{IsKept, invocation_row}
+use Rattle.store_model.specs.KeptRecords.{IsKept, invocation_row}
 use Rattle.store_model.specs.Sleeps.{sleep_row}
 use Rattle.store_model.specs.Lookups.{ended_sleeps}
 use Rattle.store_model.proofs.Finding.{all_found}
 use Rattle.store_model.proofs.Opening.{both_ways}
 use Rattle.store_model.proofs.Sleeping.{answer_of_sleep}
 use Rattle.store_refusals.specs.declared.refusal.Refusal.{Refusal}
-use Rattle.store_refusals.specs.Refused.{IsRefused, refusal_of_first_cause}
-use Rattle.store_refusals.specs.Prepared.{Keeps}
+use Rattle.store_refusals.specs.RefusalConditions.{IsRefused, refusal_of_first_cause}
+use Rattle.store_refusals.specs.Preparations.{Keeps}
 use Rattle.store_arrivals.specs.Groups.{Group, group_of, those_ended}
-use Rattle.store_arrivals.specs.Made.{next_place, tests_of}
+use Rattle.store_arrivals.specs.PreparedTicks.{next_place, tests_of}
 use Rattle.store_arrivals.proofs.Ending.{found}
 use Rattle.store_arrivals.proofs.Ready.{IsGroupOf, named}
 

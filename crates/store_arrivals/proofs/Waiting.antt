@@ -9,14 +9,14 @@ use Rattle.protocol_types.specs.declared.message_type.MessageType.{MessageType}
 use Rattle.protocol_types.specs.MessageType.{named_type}
 use Rattle.journal_model.specs.Spelling.{request_type}
 use Rattle.store_refusals.specs.declared.refusal.Refusal.{Refusal}
-use Rattle.store_refusals.specs.Prepared.{TellsOrRefuses}
+use Rattle.store_refusals.specs.Preparations.{TellsOrRefuses}
 use Rattle.store_tables.specs.declared.row.EntryRow.{EntryRow}
 use Rattle.store_tables.specs.Questions.{is_number}
 use Rattle.store_model.specs.Progress.{first_item, second_of}
 use Rattle.store_model.specs.Lookups.{row_if, first_row, second_row}
 use Rattle.store_model.proofs.Opening.{or_nothing}
 use Rattle.store_arrivals.specs.declared.asking.AskedCompletion.{AskedCompletion}
-use Rattle.store_arrivals.specs.Asked.{as_second, is_first, is_second, first_type, second_type, completion_asked_by}
+use Rattle.store_arrivals.specs.AskedCompletions.{as_second, is_first, is_second, first_type, second_type, completion_asked_by}
 
 -- ---- the types of the rows
 

@@ -4,13 +4,13 @@ use Rattle.journal_model.specs.Notification.{Text, Arrival}
 use Rattle.journal_model.specs.Event.{Event, Suspension}
 use Rattle.journal_model.specs.Journal.{is_open, recorded_arrivals}
 use Rattle.journal_model.specs.Attempt.{is_woken, suspension_of}
-use Rattle.due_laws.specs.Noted.{heard_of, is_awake_kept, not_heard, or_zero}
+use Rattle.due_laws.specs.AwakeNotes.{heard_of, is_awake_kept, not_heard, or_zero}
 use Rattle.store_tables.specs.declared.row.InvocationRow.{InvocationRow}
 use Rattle.store_model.specs.Progress.{progress_of}
 use Rattle.store_refusals.specs.declared.refusal.Refusal.{Refusal}
-use Rattle.store_refusals.specs.Prepared.{TellsOrRefuses}
+use Rattle.store_refusals.specs.Preparations.{TellsOrRefuses}
 use Rattle.store_invocations.specs.Rows.{IsRowOf}
-use Rattle.store_arrivals.specs.Woken.{awake_then}
+use Rattle.store_arrivals.specs.ArrivalRows.{awake_then}
 
 or_true : (b : Bool) → (b || true) ≡ true
 or_true true = refl

@@ -14,11 +14,11 @@ use Rattle.store_model.specs.Writes.{AreEnding}
 use Rattle.store_model.specs.Lookups.{due_sleeps}
 use Rattle.store_model.proofs.DueSleeps.{ended_found}
 use Rattle.store_refusals.specs.declared.refusal.Refusal.{Refusal}
-use Rattle.store_refusals.specs.Refused.{IsRefused, is_circumstance, reading_refusal}
-use Rattle.store_refusals.specs.Prepared.{Keeps, Prepares}
+use Rattle.store_refusals.specs.RefusalConditions.{IsRefused, is_circumstance, reading_refusal}
+use Rattle.store_refusals.specs.Preparations.{Keeps, Prepares}
 use Rattle.store_invocations.specs.Rows.{Decides}
 use Rattle.store_arrivals.specs.Groups.{Group, grouped, those_ended}
-use Rattle.store_arrivals.specs.Made.{AreOpen, IsEndedUntil, IsTickReady, tests_of}
+use Rattle.store_arrivals.specs.PreparedTicks.{AreOpen, IsEndedUntil, IsTickReady, tests_of}
 use Rattle.store_arrivals.specs.declared.tick.PreparedTick.{PreparedTick}
 use Rattle.store_arrivals.proofs.Ending.{all_ending, found, id_of}
 use Rattle.store_arrivals.proofs.Ready.{all_groups, all_open, all_written}

@@ -15,7 +15,7 @@ use Rattle.store_tables.specs.declared.row.InvocationRow.{InvocationRow}
 use Rattle.store_tables.specs.declared.row.EntryRow.{EntryRow}
 use Rattle.store_tables.specs.declared.row.Progress.{Progress}
 use Rattle.store_tables.specs.declared.row.Write.TheVariants.{SetProgress, AddEntry}
-use Rattle.store_model.specs.Kept.{plain_row, answered_by}
+use Rattle.store_model.specs.KeptRecords.{plain_row, answered_by}
 use Rattle.store_model.specs.Writes.{writes_of}
 use Rattle.store_model.specs.Steps.{grown}
 use Rattle.store_invocations.specs.Rows.{Decides, payload_tests}

@@ -8,10 +8,10 @@ use Rattle.journal_model.specs.Attempt.{completions_of_tick}
 use Rattle.journal_model.specs.Cause.{IsAccepted}
 use Rattle.store_tables.specs.Records.{Records, is_sleep_of}
 use Rattle.store_tables.specs.Orders.{sleep_cmp}
-use Rattle.store_model.specs.Kept.{IsKept}
+use Rattle.store_model.specs.KeptRecords.{IsKept}
 use Rattle.store_model.specs.Writes.{AreEnding, rows_added}
 use Rattle.store_model.specs.Lookups.{due_sleeps, ended_sleeps}
-use Rattle.store_arrivals.specs.Ended.{end_rows}
+use Rattle.store_arrivals.specs.SleepEnds.{end_rows}
 use Rattle.store_tables.specs.declared.row.SleepRow.{SleepRow}
 
 -- an invocation, with the completions of its sleeps in order

@@ -1,9 +1,9 @@
-pub mod Asked
+pub mod AskedCompletions
 pub mod Arrivals
 pub mod Signals
-pub mod Ended
+pub mod SleepEnds
 pub mod Groups
-pub mod Grouped
-pub mod Made
-pub mod Woken
-pub mod Named
+pub mod SleepGroups
+pub mod PreparedTicks
+pub mod ArrivalRows
+pub mod NamedArrivals

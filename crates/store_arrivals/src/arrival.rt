@@ -3,7 +3,7 @@
 ghost use Rattle.std.specs.Prelude.{◌≡◌, ◌+◌, ◌<◌, ◌^◌, ◌∷◌, [], IfErr, IfOk};
 ghost use Rattle.journal_model.specs.Spelling.{notification_payload};
 ghost use Rattle.store_tables.specs.declared.row.Write.{Write};
-ghost use Rattle.store_model.specs.Kept.{answered_by};
+ghost use Rattle.store_model.specs.KeptRecords.{answered_by};
 ghost use Rattle.store_model.specs.Steps.{grown};
 ghost use Rattle.store_refusals.specs.Causes.{IsUnasked};
 ghost use Rattle.store_invocations.specs.Rows.{Decides, payload_tests};

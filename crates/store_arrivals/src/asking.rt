@@ -7,9 +7,9 @@ ghost use Rattle.journal_model.specs.Event.{Event};
 ghost use Rattle.journal_model.specs.Journal.{entries_of, is_awaited, open_request, request_asking};
 ghost use Rattle.protocol_types.specs.MessageType.{named_type};
 ghost use Rattle.store_tables.specs.Looks.{OnlyAsks};
-ghost use Rattle.store_refusals.specs.Prepared.{TellsOrRefuses};
+ghost use Rattle.store_refusals.specs.Preparations.{TellsOrRefuses};
 ghost use Rattle.store_invocations.specs.Rows.{IsStoreOf};
-ghost use Rattle.store_arrivals.specs.Asked.{as_second, completion_asked_by, completion_for, first_type, is_run_command, second_type, type_for};
+ghost use Rattle.store_arrivals.specs.AskedCompletions.{as_second, completion_asked_by, completion_for, first_type, is_run_command, second_type, type_for};
 ghost use Rattle.store_refusals.specs.Causes.{TellsCause};
 
 use bytes::ByteStr;

@@ -6,8 +6,8 @@ ghost use Rattle.store_model.specs.Steps.{grown};
 ghost use Rattle.store_refusals.specs.Causes.{IsUnasked};
 ghost use Rattle.store_invocations.specs.Rows.{Decides};
 ghost use Rattle.store_arrivals.specs.Arrivals.{HasFewArrivals};
-ghost use Rattle.store_arrivals.specs.Ended.{end_row, end_rows};
-ghost use Rattle.store_arrivals.specs.Made.{AreEndsOf, progress_writes, room_tests};
+ghost use Rattle.store_arrivals.specs.SleepEnds.{end_row, end_rows};
+ghost use Rattle.store_arrivals.specs.PreparedTicks.{AreEndsOf, progress_writes, room_tests};
 
 use crate::payload::{kept_bytes, payload_of};
 use bytes::ByteStr;

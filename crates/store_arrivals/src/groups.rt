@@ -2,7 +2,7 @@
 
 ghost use Rattle.std.specs.Prelude.{◌≡◌, ◌∷◌, [], map, IfOk, OnOk};
 ghost use Rattle.store_arrivals.specs.Groups.{grouped, put_first};
-ghost use Rattle.store_arrivals.specs.Grouped.{as_group, is_first, groups_joined};
+ghost use Rattle.store_arrivals.specs.SleepGroups.{as_group, is_first, groups_joined};
 
 use bytes::ByteStr;
 use std::alloc::{AllocError, Global};

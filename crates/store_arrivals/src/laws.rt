@@ -1,7 +1,7 @@
 //! Laws of the sleeps that a tick ends, and of what it writes. The functions do nothing: their contracts are the laws.
 
 ghost use Rattle.store_arrivals.specs.Groups.{AllEndedCounted, AllEndingGrouped, AllRowsEnded};
-ghost use Rattle.store_arrivals.specs.Made.{ReadyKeeps};
+ghost use Rattle.store_arrivals.specs.PreparedTicks.{ReadyKeeps};
 
 /// The rows that are due, grouped, are the invocations of which a tick ends sleeps, each once; the entries that it adds to one are
 /// the ends of those sleeps, in order; and it ends as many as rows are due.

@@ -6,7 +6,7 @@ ghost use Rattle.journal_model.specs.AwaitTree.{is_completed};
 ghost use Rattle.protocol_trees.specs.Shape.{state_meant};
 ghost use Rattle.protocol_trees.specs.Future.{future_tree};
 ghost use Rattle.store_frames.specs.First.{AreFirst};
-ghost use Rattle.store_arrivals.specs.Named.{names_any};
+ghost use Rattle.store_arrivals.specs.NamedArrivals.{names_any};
 
 use protocol_records::Future;
 use protocol_trees::{AwaitState, AwaitTree};

@@ -7,7 +7,7 @@ ghost use Rattle.journal_model.specs.Event.{Event};
 ghost use Rattle.journal_model.specs.Journal.{entries_of, open_request};
 ghost use Rattle.journal_model.specs.Cause.{is_run};
 ghost use Rattle.store_tables.specs.Looks.{OnlyAsks};
-ghost use Rattle.store_refusals.specs.Prepared.{TellsOrRefuses};
+ghost use Rattle.store_refusals.specs.Preparations.{TellsOrRefuses};
 ghost use Rattle.store_invocations.specs.Rows.{IsRowOf, IsStoreOf};
 ghost use Rattle.store_arrivals.specs.Arrivals.{DecidesOutcome};
 ghost use Rattle.store_refusals.specs.Causes.{TellsCause};

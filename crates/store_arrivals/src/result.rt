@@ -9,10 +9,10 @@ ghost use Rattle.journal_model.specs.Journal.{entries_of};
 ghost use Rattle.journal_model.specs.Attempt.{notification_type};
 ghost use Rattle.journal_model.specs.Cause.{own_tests};
 ghost use Rattle.store_tables.specs.Looks.{OnlyAsks};
-ghost use Rattle.store_refusals.specs.Prepared.{Prepares};
+ghost use Rattle.store_refusals.specs.Preparations.{Prepares};
 ghost use Rattle.store_invocations.specs.Rows.{Decides, IsOpenRow, IsStoreOf};
 ghost use Rattle.store_arrivals.specs.Arrivals.{IsMadeReady};
-ghost use Rattle.store_arrivals.specs.Asked.{completion_tests};
+ghost use Rattle.store_arrivals.specs.AskedCompletions.{completion_tests};
 ghost use Rattle.store_refusals.specs.Causes.{TellsCause};
 
 use crate::arrival::PreparedArrival;

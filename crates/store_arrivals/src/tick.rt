@@ -7,11 +7,11 @@ ghost use Rattle.journal_model.specs.Event.{Event};
 ghost use Rattle.journal_model.specs.Journal.{is_open};
 ghost use Rattle.store_tables.specs.Looks.{OnlyAsks};
 ghost use Rattle.store_model.specs.Sleeps.{due_until};
-ghost use Rattle.store_refusals.specs.Prepared.{Prepares};
-ghost use Rattle.store_arrivals.specs.Grouped.{as_group};
+ghost use Rattle.store_refusals.specs.Preparations.{Prepares};
+ghost use Rattle.store_arrivals.specs.SleepGroups.{as_group};
 ghost use Rattle.store_invocations.specs.Rows.{Decides, IsOpenRow, IsStoreOf};
-ghost use Rattle.store_arrivals.specs.Woken.{ends_of, row_then};
-ghost use Rattle.store_arrivals.specs.Made.{AreEndsOf, AreGroupsEnded, AreOpen, IsEndedUntil, IsGroupEnded, IsTickReady, closed_until, group_tests, room_tests, tests_of};
+ghost use Rattle.store_arrivals.specs.ArrivalRows.{ends_of, row_then};
+ghost use Rattle.store_arrivals.specs.PreparedTicks.{AreEndsOf, AreGroupsEnded, AreOpen, IsEndedUntil, IsGroupEnded, IsTickReady, closed_until, group_tests, room_tests, tests_of};
 ghost use Rattle.store_refusals.specs.Causes.{TellsCause};
 
 use crate::ended::end_sleeps;

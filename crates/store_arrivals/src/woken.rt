@@ -6,10 +6,10 @@ ghost use Rattle.sqlite.specs.State.{HasCleanDisk};
 ghost use Rattle.journal_model.specs.Notification.{Text};
 ghost use Rattle.journal_model.specs.Event.{Event};
 ghost use Rattle.store_tables.specs.Looks.{OnlyAsks};
-ghost use Rattle.store_refusals.specs.Prepared.{TellsOrRefuses};
+ghost use Rattle.store_refusals.specs.Preparations.{TellsOrRefuses};
 ghost use Rattle.store_invocations.specs.Rows.{Decides, IsOpenRow, IsStoreOf};
 ghost use Rattle.store_arrivals.specs.Arrivals.{IsArrival, arrival_tests};
-ghost use Rattle.store_arrivals.specs.Woken.{awake_then, row_then};
+ghost use Rattle.store_arrivals.specs.ArrivalRows.{awake_then, row_then};
 ghost use Rattle.store_refusals.specs.Causes.{TellsCause};
 
 use crate::arrival::{PreparedArrival, prepare_arrival};

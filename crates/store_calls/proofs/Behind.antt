@@ -9,9 +9,9 @@ use Rattle.protocol_wire.proofs.Extends.{Extends}
 use Rattle.protocol_stream.specs.Item.{Item, item_at}
 use Rattle.protocol_stream.proofs.Fronts.{item_at_extends}
 use Rattle.store_refusals.specs.declared.refusal.Refusal.{Refusal}
-use Rattle.store_refusals.specs.Refused.{refusal_of_first_cause, is_circumstance, IsRefused}
+use Rattle.store_refusals.specs.RefusalConditions.{refusal_of_first_cause, is_circumstance, IsRefused}
 use Rattle.store_steps.specs.declared.frame.FrameReply.{FrameReply}
-use Rattle.store_steps.specs.Taken.{IsReply, does_end, lies_in_frame}
+use Rattle.store_steps.specs.PreparedFrames.{IsReply, does_end, lies_in_frame}
 use Rattle.store_calls.specs.AbstractStore.{Standing, KeepsOthers, StaysStanding}
 use Rattle.store_calls.specs.Frames.{frame_in, IsNext, rest_after, TakesFrame, TakesNone, LeavesRefused, RefusesFrame}
 use Rattle.store_calls.proofs.Replies.{taken_alike}

@@ -5,7 +5,7 @@ use Rattle.journal_model.specs.Notification.{Bytes, Text}
 use Rattle.protocol_stream.specs.Item.{item_at}
 use Rattle.store_refusals.specs.declared.refusal.Refusal.{Refusal}
 use Rattle.store_refusals.specs.declared.refusal.Refusal.TheVariants.{OutOfMemory}
-use Rattle.store_refusals.specs.Refused.{is_circumstance}
+use Rattle.store_refusals.specs.RefusalConditions.{is_circumstance}
 use Rattle.store_steps.specs.declared.frame.FrameReply.{FrameReply}
 use Rattle.store_calls.specs.AbstractStore.{Standing, StaysStanding}
 use Rattle.store_calls.specs.Frames.{TakesEach, TakesFrame, TakesFrames, TakesNone, HasEnded, RefusesFrame, Rests}

@@ -8,7 +8,7 @@ use Rattle.journal_model.specs.Journal.{is_of, ends_attempt}
 use Rattle.journal_model.specs.Attempt.{attempts_begun, live_attempt}
 use Rattle.journal_model.specs.Cause.{causes_of}
 use Rattle.store_steps.specs.declared.frame.FrameReply.{FrameReply}
-use Rattle.store_steps.specs.Taken.{IsReply, does_end}
+use Rattle.store_steps.specs.PreparedFrames.{IsReply, does_end}
 use Rattle.store_calls.specs.AbstractStore.{Standing, Adds, LeavesWaiting}
 use Rattle.store_calls.specs.Frames.{IsNext, TakesFrame, rest_after}
 use Rattle.store_calls.proofs.Live.{taken_live, told_end}

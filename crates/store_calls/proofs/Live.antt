@@ -9,7 +9,7 @@ use Rattle.journal_model.specs.Cause.{causes_of, tests_of}
 use Rattle.journal_laws.proofs.ObjectState.{tail_of, holds-head, holds-tail, not-false}
 use Rattle.store_steps.specs.declared.frame.FrameReply.{FrameReply}
 use Rattle.store_steps.specs.declared.frame.FrameReply.TheVariants as replies
-use Rattle.store_steps.specs.Taken.{IsReply, does_end}
+use Rattle.store_steps.specs.PreparedFrames.{IsReply, does_end}
 
 pub live_when : (events : List Event) (id : Text) (n : ℕ) → is_live events id n ≡ true → live_attempt events id ≡ Some n
 live_when events id n e = by_live (live_attempt events id) refl

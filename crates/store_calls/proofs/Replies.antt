@@ -5,7 +5,7 @@ use Rattle.journal_model.specs.Event.{Event, Frame}
 use Rattle.journal_model.specs.Journal.{Entry, entries_of}
 use Rattle.store_steps.specs.declared.frame.FrameReply.{FrameReply}
 use Rattle.store_steps.specs.declared.frame.FrameReply.TheVariants as replies
-use Rattle.store_steps.specs.Taken.{IsReply}
+use Rattle.store_steps.specs.PreparedFrames.{IsReply}
 
 recorded_alike : (one two : ℕ) (place at : ℕ) → place ≡ 1 + one → at ≡ 1 + two → one ≡ two → replies.Recorded place ≡ replies.Recorded at
 recorded_alike one two place at is was same = ap (λ (n : ℕ). replies.Recorded n) (is ∙ ap (λ (n : ℕ). 1 + n) same ∙ sym was)

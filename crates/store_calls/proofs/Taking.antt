@@ -8,7 +8,7 @@ use Rattle.journal_model.specs.Attempt.{is_live}
 use Rattle.protocol_stream.specs.Item.{Item, item_at}
 use Rattle.store_refusals.specs.declared.refusal.Refusal.{Refusal}
 use Rattle.store_steps.specs.declared.frame.FrameReply.{FrameReply}
-use Rattle.store_steps.specs.Taken.{IsReply, does_end}
+use Rattle.store_steps.specs.PreparedFrames.{IsReply, does_end}
 use Rattle.store_calls.specs.AbstractStore.{KeepsOthers, Standing, StaysStanding}
 use Rattle.store_calls.specs.Calls.{PutsBehind, RefusesBytes}
 use Rattle.store_calls.specs.Frames.{TakesFrame, TakesEach, TakesFirstFrames, frame_in, rest_after}

@@ -5,7 +5,7 @@ use Rattle.journal_model.specs.Event.{Event}
 use Rattle.journal_model.specs.Attempt.{live_attempt}
 use Rattle.journal_model.specs.Cause.{causes_of, IsAccepted}
 use Rattle.store_refusals.specs.declared.refusal.Refusal.{Refusal}
-use Rattle.store_refusals.specs.Refused.{IsRefused}
+use Rattle.store_refusals.specs.RefusalConditions.{IsRefused}
 
 -- the accepted events, the last one first, and the bytes that came from the live attempt of each invocation and wait to be taken
 pub record Standing : Type 0 where

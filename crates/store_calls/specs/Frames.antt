@@ -9,9 +9,9 @@ use Rattle.protocol_stream.specs.Item.{Item, unknown, message, item_at}
 use Rattle.store_frames.specs.FrameMeanings.{frame_of}
 use Rattle.store_refusals.specs.declared.refusal.Refusal.{Refusal}
 use Rattle.store_refusals.specs.declared.refusal.Refusal.TheVariants.{OutOfMemory}
-use Rattle.store_refusals.specs.Refused.{IsRefused}
+use Rattle.store_refusals.specs.RefusalConditions.{IsRefused}
 use Rattle.store_steps.specs.declared.frame.FrameReply.{FrameReply}
-use Rattle.store_steps.specs.Taken.{IsReply, does_end, lies_in_frame}
+use Rattle.store_steps.specs.PreparedFrames.{IsReply, does_end, lies_in_frame}
 use Rattle.store_calls.specs.AbstractStore.{Standing, StaysStanding, LeavesWaiting, Refuses}
 use Rattle.store_calls.specs.Calls.{PutsBehind, RefusesBytes}
 

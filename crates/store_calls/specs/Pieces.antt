@@ -2,7 +2,7 @@
 use Rattle.std.specs.Prelude.{◌≡◌, ℕ, false, List, [], ◌++◌, Option, Some, None, Result, Ok, Err}
 use Rattle.journal_model.specs.Notification.{Bytes, Text}
 use Rattle.store_refusals.specs.declared.refusal.Refusal.{Refusal}
-use Rattle.store_refusals.specs.Refused.{is_circumstance}
+use Rattle.store_refusals.specs.RefusalConditions.{is_circumstance}
 use Rattle.store_steps.specs.declared.frame.FrameReply.{FrameReply}
 use Rattle.store_calls.specs.AbstractStore.{Standing, StaysStanding}
 use Rattle.store_calls.specs.Frames.{Accepts}

@@ -16,7 +16,7 @@ use Rattle.sqlite.specs.Closing.{HoldsAlone, IsCopied}
 use Rattle.journal_model.specs.Event.{Event}
 use Rattle.journal_model.specs.Cause.{IsAccepted}
 use Rattle.store_live.specs.Attempts.{ByInvocation}
-use Rattle.journal_store.specs.Stands.{KeepsAll, Stands}
+use Rattle.journal_store.specs.StoreStanding.{KeepsAll, Stands}
 use Rattle.store_files.specs.Files.{AreLeft, KeepsAlone}
 
 -- what was committed keeps the events, where nothing else is under way

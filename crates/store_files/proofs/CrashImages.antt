@@ -9,7 +9,7 @@ use Rattle.journal_model.specs.Event.{Event}
 use Rattle.journal_model.specs.Attempt.{live_attempt}
 use Rattle.journal_model.specs.Cause.{IsAccepted}
 use Rattle.store_calls.specs.AbstractStore.{Standing}
-use Rattle.journal_store.specs.Stands.{KeepsAll}
+use Rattle.journal_store.specs.StoreStanding.{KeepsAll}
 use Rattle.store_files.specs.CrashImages.{IsImageOf, LeavesOf, CallsLeave, ImagesAreStores, OpensLeave, QuietCallsLeave}
 
 with_one : (lists : List (List Event)) (one : List Event) (trees : Trees) → IsImageOf lists trees → IsImageOf (one ∷ lists) trees

@@ -29,7 +29,7 @@ use Rattle.sqlite.specs.Files.{AreFoundIn, HoldsDatabase}
 use Rattle.journal_model.specs.Event.{Event}
 use Rattle.sql_tables.specs.Columns.{no_schema}
 use Rattle.store_tables.specs.Records.{mark_cells}
-use Rattle.journal_store.specs.Stands.{KeepsAll}
+use Rattle.journal_store.specs.StoreStanding.{KeepsAll}
 
 -- ---- where nothing is listed there is no table
 

@@ -18,10 +18,10 @@ use Rattle.sqlite.specs.Files.{AreFoundIn, HoldsDatabase, file_state}
 use Rattle.journal_model.specs.Event.{Event}
 use Rattle.store_tables.specs.Records.{IsMarked, mark_cells}
 use Rattle.store_live.specs.Attempts.{ByInvocation}
-use Rattle.journal_store.specs.Stands.{KeepsAll, Outlasts, Stands}
+use Rattle.journal_store.specs.StoreStanding.{KeepsAll, Outlasts, Stands}
 use Rattle.store_files.specs.Files.{IsBare, KeepsEvents, ListsNone}
-use Rattle.store_files.specs.Left.{BareStandForNone, OpenedKeep, OpenedKeepNone}
-use Rattle.store_files.specs.Taken.{IsOpenedOver, AreFilesTaken}
+use Rattle.store_files.specs.LeftFiles.{BareStandForNone, OpenedKeep, OpenedKeepNone}
+use Rattle.store_files.specs.TakenFiles.{IsOpenedOver, AreFilesTaken}
 use Rattle.store_files.proofs.Finding.{finds_some, found_empty}
 use Rattle.store_files.proofs.Opening.{was_clean}
 

@@ -19,7 +19,7 @@ use Rattle.sqlite.specs.Held.{AreDatabases, Held}
 use Rattle.sqlite.specs.State.{State, IsLive}
 use Rattle.sqlite.specs.Files.{HoldsDatabase, file_state}
 use Rattle.sqlite.proofs.Theorems.{opens_again}
-use Rattle.store_files.specs.Left.{AreLeftOpen, HoldsLeft, files_of}
+use Rattle.store_files.specs.LeftFiles.{AreLeftOpen, HoldsLeft, files_of}
 
 -- a database is clean where its files are, and so are they
 sure : {D : Type 0} {g : Ghosts D} (it : FileStore D g) → AreClean g (files it).0 (files it).1 → IsClean (view it)

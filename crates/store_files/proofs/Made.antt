@@ -24,10 +24,10 @@ use Rattle.sql_tables.specs.Columns.{no_schema}
 use Rattle.sql_tables.specs.Causes.{IsCause, is_shut_error}
 use Rattle.store_refusals.specs.declared.refusal.Refusal.{Refusal}
 use Rattle.store_refusals.specs.declared.refusal.Refusal.TheVariants.{StatementRefused}
-use Rattle.store_refusals.specs.Refused.{is_circumstance}
+use Rattle.store_refusals.specs.RefusalConditions.{is_circumstance}
 use Rattle.store_refusals.specs.Causes.{TellsCause}
-use Rattle.journal_store.specs.Opened.{IsNotTaken}
-use Rattle.store_files.specs.Made.{IsEmptyAndIdle, TellsUnmade}
+use Rattle.journal_store.specs.OpeningConditions.{IsNotTaken}
+use Rattle.store_files.specs.MadeDatabase.{IsEmptyAndIdle, TellsUnmade}
 
 -- a database over disks that are always clean is
 pub never_in_doubt : {D : Type 0} {g : Ghosts D} (database : FileStore D g) → ((disk : D) → g.is_clean disk ≡ true) → IsClean (view database)

@@ -21,11 +21,11 @@ use Rattle.store_invocations.specs.Rows.{IsStoreOf}
 use Rattle.store_live.specs.Attempts.{ByInvocation}
 use Rattle.store_refusals.specs.declared.refusal.Refusal.{Refusal}
 use Rattle.store_refusals.specs.declared.refusal.Refusal.TheVariants.{ForeignRow}
-use Rattle.journal_store.specs.Opened.{CanBeTaken, ComesBack, IsNotTaken}
-use Rattle.journal_store.specs.Stands.{KeepsAll, Stands}
+use Rattle.journal_store.specs.OpeningConditions.{CanBeTaken, ComesBack, IsNotTaken}
+use Rattle.journal_store.specs.StoreStanding.{KeepsAll, Stands}
 use Rattle.store_files.specs.Files.{IsNoFile, KeepsEvents}
-use Rattle.store_files.specs.Refused.{AreGiven, IsGivenBack, IsUnopened}
-use Rattle.store_files.specs.Taken.{AreFilesTaken}
+use Rattle.store_files.specs.RefusedFiles.{AreGiven, IsGivenBack, IsUnopened}
+use Rattle.store_files.specs.TakenFiles.{AreFilesTaken}
 use Rattle.store_files.specs.declared.open.NotTaken.{NotTaken}
 use Rattle.store_files.specs.declared.open.NotTaken.TheVariants.{NoStore, Unopened}
 use Rattle.store_files.proofs.Finding.{bare_or_not, finds_none, finds_some, found_trees}

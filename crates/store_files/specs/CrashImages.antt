@@ -8,9 +8,9 @@ use Rattle.journal_model.specs.Event.{Event}
 use Rattle.journal_model.specs.Cause.{IsAccepted}
 use Rattle.store_invocations.specs.Rows.{IsStoreOf}
 use Rattle.store_calls.specs.AbstractStore.{Standing}
-use Rattle.journal_store.specs.Stored.{Stored}
-use Rattle.journal_store.specs.Stands.{EnduresAlways, IsQuiet, KeepsAll}
-use Rattle.journal_store.specs.Opened.{MakesTables}
+use Rattle.journal_store.specs.StoreView.{Stored}
+use Rattle.journal_store.specs.StoreStanding.{EnduresAlways, IsQuiet, KeepsAll}
+use Rattle.journal_store.specs.OpeningConditions.{MakesTables}
 
 abbrev pub IsAmong : List Event → List (List Event) → Type 0
 IsAmong events [] = ⊥

@@ -9,7 +9,7 @@ use Rattle.sqlite_trees.specs.Objects.{catalog_tree}
 use Rattle.sqlite.specs.Files.{HoldsDatabase, image_of}
 use Rattle.journal_model.specs.Event.{Event}
 use Rattle.journal_model.specs.Cause.{IsAccepted}
-use Rattle.journal_store.specs.Stands.{KeepsAll}
+use Rattle.journal_store.specs.StoreStanding.{KeepsAll}
 
 -- the file is absent, or empty
 abbrev pub IsNoFile : Image → Type 0

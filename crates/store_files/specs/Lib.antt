@@ -1,7 +1,7 @@
 pub mod CrashImages
 pub mod Files
-pub mod Left
-pub mod Made
-pub mod Refused
-pub mod Taken
-pub mod Why
+pub mod LeftFiles
+pub mod MadeDatabase
+pub mod RefusedFiles
+pub mod TakenFiles
+pub mod RefusalReasons

@@ -5,7 +5,7 @@ ghost use Rattle.sqlite_wal.specs.Reads.{AreClean};
 ghost use Rattle.sqlite_store.specs.FileStore.{view};
 ghost use Rattle.sqlite.specs.Files.{file_state, FailsToClose, IsClosed};
 ghost use Rattle.journal_model.specs.Event.{Event};
-ghost use Rattle.journal_store.specs.Stands.{Stands};
+ghost use Rattle.journal_store.specs.StoreStanding.{Stands};
 ghost use Rattle.store_files.specs.Files.{AreLeft};
 
 use journal_store::Store;

@@ -1,5 +1,5 @@
 //! Laws of a store that was opened over files. The function does nothing: its contract is the law.
-ghost use Rattle.store_files.specs.Left.{BareStandForNone, OpenedKeep, OpenedKeepNone};
+ghost use Rattle.store_files.specs.LeftFiles.{BareStandForNone, OpenedKeep, OpenedKeepNone};
 
 use sqlite_disk::Disk;
 

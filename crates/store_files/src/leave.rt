@@ -2,7 +2,7 @@
 ghost use Rattle.std.specs.Prelude.{IsTrue};
 ghost use Rattle.sqlite_wal.specs.Reads.{AreClean};
 ghost use Rattle.sqlite.specs.Files.{file_state};
-ghost use Rattle.store_files.specs.Left.{AreLeftOpen, files_of};
+ghost use Rattle.store_files.specs.LeftFiles.{AreLeftOpen, files_of};
 
 use journal_store::Store;
 use sqlite::{FileStore, Files};

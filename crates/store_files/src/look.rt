@@ -1,6 +1,6 @@
 // What the system shows of a path, and of the files beside it. Nothing is proved of what that is.
 ghost use Rattle.std.specs.Prelude.{◌≡◌, ◌⊎◌, IsTrue};
-ghost use Rattle.store_files.specs.Why.{is_seen};
+ghost use Rattle.store_files.specs.RefusalReasons.{is_seen};
 ghost use Rattle.store_files.specs.declared.why.Reason.TheVariants as reason;
 
 use crate::why::Reason;

@@ -3,10 +3,10 @@ ghost use Rattle.std.specs.Prelude.{◌≡◌, [], IsTrue, IfOk, IfErr};
 ghost use Rattle.sqlite_store.specs.Unopened.{wanted_by, AreUsable};
 ghost use Rattle.sqlite.specs.State.{HasCleanDisk};
 ghost use Rattle.sqlite.specs.Files.{file_state};
-ghost use Rattle.journal_store.specs.Stands.{Stands};
-ghost use Rattle.store_refusals.specs.Refused.{is_circumstance};
+ghost use Rattle.journal_store.specs.StoreStanding.{Stands};
+ghost use Rattle.store_refusals.specs.RefusalConditions.{is_circumstance};
 ghost use Rattle.store_refusals.specs.Causes.{IsUnasked};
-ghost use Rattle.store_files.specs.Made.{IsMadeEmpty, IsEmptyAndIdle, TellsUnmade};
+ghost use Rattle.store_files.specs.MadeDatabase.{IsMadeEmpty, IsEmptyAndIdle, TellsUnmade};
 
 use crate::make::PAGE_BYTES;
 use journal_store::Store;

@@ -8,10 +8,10 @@ ghost use Rattle.sqlite.specs.declared.error.Error.TheVariants.{SqliteFailure};
 ghost use Rattle.sqlite.specs.declared.error.ErrorCode.TheVariants.{CannotOpen};
 ghost use Rattle.journal_model.specs.Event.{Event};
 ghost use Rattle.journal_model.specs.Cause.{after_open};
-ghost use Rattle.journal_store.specs.Stands.{Stands};
+ghost use Rattle.journal_store.specs.StoreStanding.{Stands};
 ghost use Rattle.store_files.specs.Files.{IsNoFile, KeepsEvents};
-ghost use Rattle.store_files.specs.Refused.{IsNoStore, IsUnopened};
-ghost use Rattle.store_files.specs.Taken.{IsOpenedOver, AreFilesTaken};
+ghost use Rattle.store_files.specs.RefusedFiles.{IsNoStore, IsUnopened};
+ghost use Rattle.store_files.specs.TakenFiles.{IsOpenedOver, AreFilesTaken};
 ghost use Rattle.store_files.specs.declared.open.NotTaken.TheVariants.{NoStore, Unopened};
 
 use crate::look::is_refused_unopened;

@@ -3,7 +3,7 @@ ghost use Rattle.std.specs.Prelude.{◌≡◌, true, false, Some};
 ghost use Rattle.sqlite.specs.Held.{state};
 ghost use Rattle.sqlite.specs.State.{HasCleanDisk};
 ghost use Rattle.sqlite.specs.declared.error.Error.{Error};
-ghost use Rattle.store_files.specs.Why.{ErrorTells, IsMarkAsked, IsThisVersion, MarkTells, StoreTells, VersionTells, told_by};
+ghost use Rattle.store_files.specs.RefusalReasons.{ErrorTells, IsMarkAsked, IsThisVersion, MarkTells, StoreTells, VersionTells, told_by};
 ghost use Rattle.store_files.specs.declared.open.NotTaken.TheVariants.{NoStore, Unopened};
 
 use crate::look::{damage_at, kind_at, seen_at};
@@ -49,7 +49,7 @@ pub enum Reason {
 }
 
 impl Reason {
-    ghost use Rattle.store_files.specs.Why.{reason_text};
+    ghost use Rattle.store_files.specs.RefusalReasons.{reason_text};
 
     /// As a user is told it, behind the name of the file.
     pub fn text(self) -> &'static str
@@ -80,7 +80,7 @@ impl Reason {
 }
 
 impl fmt::Display for Reason {
-    ghost use Rattle.store_files.specs.Why.{reason_text};
+    ghost use Rattle.store_files.specs.RefusalReasons.{reason_text};
 
     ghost output = { λ reason. Some (reason_text reason) };
 

@@ -9,7 +9,7 @@ use Rattle.protocol_table.specs.declared.table.RecordType.TheVariants as records
 use Rattle.protocol_wire.specs.declared.record.TheConstants.{LEVELS}
 use Rattle.protocol_wire.specs.declared.check.Fault.{Fault}
 use Rattle.protocol_wire.specs.Check.{payload_fault}
-use Rattle.protocol_wire.specs.Decodes.{ErrIs, IsRead}
+use Rattle.protocol_wire.specs.DecodingAnswers.{ErrIs, IsRead}
 use Rattle.protocol_wire.specs.declared.record.DecodeError.{DecodeError}
 use Rattle.protocol_wire.specs.declared.record.DecodeError.TheVariants as errors
 use Rattle.protocol_records.specs.declared.future.Future.{Future}
@@ -19,7 +19,7 @@ use Rattle.protocol_records.specs.Suspension.{suspension_of}
 use Rattle.protocol_records.specs.SuspensionV6.{suspension_v6_of}
 use Rattle.protocol_trees.specs.Future.{future_tree}
 use Rattle.store_frames.specs.First.{arrived_state}
-use Rattle.store_frames.specs.Awaited.{IsAwaited, any_of, TellsLists, TellsTree}
+use Rattle.store_frames.specs.AwaitedFutures.{IsAwaited, any_of, TellsLists, TellsTree}
 use Rattle.store_frames.proofs.KeptTrees.{again, tree_back}
 use Rattle.store_frames.proofs.Suspensions.{lists_read, tree_reads}
 use Rattle.store_frames.proofs.Waking.{lists_awaited}

@@ -4,7 +4,7 @@ use Rattle.journal_model.specs.Request.{Request}
 use Rattle.journal_model.specs.Spelling.{request_payload}
 use Rattle.store_frames.specs.declared.command.AskedFor.{AskedFor}
 use Rattle.store_frames.specs.Commands.{asked_for}
-use Rattle.store_frames.specs.Told.{told_command, told_request}
+use Rattle.store_frames.specs.RecordFrames.{told_command, told_request}
 
 pub told_so : (payload : List ℕ) (asked : AskedFor) (found : Option Request) (o : Option AskedFor) → o ≡ option_map asked_for found → o ≡ Some asked
     → ((request : Request) → found ≡ Some request → payload ≡ request_payload request) → told_command payload asked ≡ told_request found

@@ -6,13 +6,13 @@ use Rattle.journal_model.specs.declared.notification.NotificationId.TheVariants.
 use Rattle.journal_model.specs.Spelling.{notification_payload}
 use Rattle.protocol_wire.specs.Wire.{Field, Wire, varint, bytes, fixed}
 use Rattle.protocol_wire.specs.Fields.{fields}
-use Rattle.protocol_wire.specs.Seen.{wire}
+use Rattle.protocol_wire.specs.CodeFields.{wire}
 use Rattle.protocol_wire.specs.declared.field.Scanned.{Scanned}
 use Rattle.protocol_wire.specs.declared.field.Scanned.TheVariants as scanned
 use Rattle.protocol_wire.specs.declared.field.ScannedField.{ScannedField}
 use Rattle.protocol_trees.specs.declared.tree.AwaitState.{AwaitState}
 use Rattle.store_frames.specs.First.{IsPut, await_state_of}
-use Rattle.store_frames.specs.Kept.{AreBoth, Names, SignalFits, completion_in, state_by}
+use Rattle.store_frames.specs.KeptArrivals.{AreBoth, Names, SignalFits, completion_in, state_by}
 use Rattle.store_frames.proofs.KeptPayloads.{IdFits, brought_field, named_field, payload_fields, state_brought}
 
 -- ---- its id

@@ -22,7 +22,7 @@ use Rattle.protocol_controls.specs.Notification.{id_parts, notification_parts, r
 use Rattle.protocol_laws.specs.Records.{id_record, keys_record, notification_record, result_record, void_record}
 use Rattle.protocol_laws.proofs.Notifications.{notifications_spelled}
 use Rattle.store_frames.specs.First.{await_state_of}
-use Rattle.store_frames.specs.Kept.{completion_in, state_by}
+use Rattle.store_frames.specs.KeptArrivals.{completion_in, state_by}
 
 -- ---- the two fields
 

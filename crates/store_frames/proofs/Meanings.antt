@@ -37,7 +37,7 @@ use Rattle.store_frames.specs.Kind.{frame_kind, record_of}
 use Rattle.store_frames.specs.Requests.{suspension_of_tree, suspension_of_lists, behavior_numbered, proposal_told}
 use Rattle.store_frames.specs.Commands.{request_in}
 use Rattle.store_frames.specs.FrameMeanings.{unless_faulty, read_as, read_if_record, command_or_broken, error_frame, outcome_or_broken, unless_numbered, suspension_frame, frame_by, asks_ack, frame_of}
-use Rattle.store_frames.specs.Told.{told_unless_faulty, told_as, told_if_record, told_request, told_waiting, told_tree, told_staying, told_awaiting, told_lists, told_number, told_error, told_suspension, told_outcome, told_proposal, told_by}
+use Rattle.store_frames.specs.RecordFrames.{told_unless_faulty, told_as, told_if_record, told_request, told_waiting, told_tree, told_staying, told_awaiting, told_lists, told_number, told_error, told_suspension, told_outcome, told_proposal, told_by}
 use Rattle.store_frames.specs.Answer.{IsFrame, behavior_meant}
 use Rattle.store_frames.proofs.Payloads.{lists_payload}
 

@@ -21,7 +21,7 @@ use Rattle.protocol_wire.specs.declared.check.Fault.TheVariants.{BadPayload, Too
 use Rattle.protocol_wire.specs.Check.{payload_fault}
 use Rattle.protocol_wire.specs.Fields.{fields}
 use Rattle.protocol_wire.specs.Parts.{payload_of}
-use Rattle.protocol_wire.specs.Decodes.{IsRead}
+use Rattle.protocol_wire.specs.DecodingAnswers.{IsRead}
 use Rattle.protocol_records.specs.declared.future.Future.{Future}
 use Rattle.protocol_records.specs.declared.suspension.SuspensionMessage.{SuspensionMessage}
 use Rattle.protocol_records.specs.declared.suspension_v6.SuspensionMessageV6.{SuspensionMessageV6}
@@ -43,10 +43,10 @@ use Rattle.store_frames.specs.Commands.{request_in}
 use Rattle.store_frames.specs.FrameMeanings.{asks_ack, command_or_broken, error_frame, frame_by, outcome_or_broken, read_if_record, suspension_frame, unless_faulty, unless_numbered}
 use Rattle.store_frames.specs.Requests.{proposal_told, suspension_of_lists, suspension_of_tree}
 use Rattle.store_frames.specs.Answer.{KeepsLists, KeepsSuspension}
-use Rattle.store_frames.specs.Read.{IsFrameRead}
+use Rattle.store_frames.specs.ReadFrames.{IsFrameRead}
 use Rattle.store_frames.proofs.Numbered.{numbered_or_not}
 use Rattle.store_frames.proofs.Payloads.{lists_payload}
-use Rattle.store_frames.specs.Awaited.{TellsLists, TellsTree}
+use Rattle.store_frames.specs.AwaitedFutures.{TellsLists, TellsTree}
 use Rattle.store_frames.proofs.KeptTrees.{tree_back}
 
 -- ---- the lists that are kept fit where those that were told do

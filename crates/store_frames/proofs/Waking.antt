@@ -19,7 +19,7 @@ use Rattle.protocol_trees.specs.Future.{future_tree, ids_in}
 use Rattle.protocol_trees.specs.declared.tree.AwaitState.{AwaitState}
 use Rattle.store_frames.specs.Requests.{suspension_of_lists}
 use Rattle.store_frames.specs.First.{AreFirst, IsPut, arrived_state, first_state, or_pending, await_state_of}
-use Rattle.store_frames.specs.Awaited.{IsAwaited, any_of}
+use Rattle.store_frames.specs.AwaitedFutures.{IsAwaited, any_of}
 use Rattle.store_frames.proofs.KeptTrees.{rolled_tree}
 
 -- ---- one more arrival

@@ -2,9 +2,9 @@ pub mod Answer
 pub mod Commands
 pub mod Kind
 pub mod FrameMeanings
-pub mod Read
+pub mod ReadFrames
 pub mod Requests
-pub mod Told
+pub mod RecordFrames
 pub mod First
-pub mod Kept
-pub mod Awaited
+pub mod KeptArrivals
+pub mod AwaitedFutures

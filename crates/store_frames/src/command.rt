@@ -3,7 +3,7 @@ ghost use Rattle.std.specs.Prelude.{◌≡◌, Option, None, IfOk, true, option_
 ghost use Rattle.protocol_wire.specs.declared.record.TheConstants.{LEVELS};
 ghost use Rattle.journal_model.specs.Request.{Request};
 ghost use Rattle.store_frames.specs.Commands.{SpellsRequests, asked_for};
-ghost use Rattle.store_frames.specs.Told.{told_as, told_command, told_request};
+ghost use Rattle.store_frames.specs.RecordFrames.{told_as, told_command, told_request};
 ghost use Rattle.store_frames.specs.declared.frame.StateUse.TheVariants as uses;
 
 use crate::fault::faulty;

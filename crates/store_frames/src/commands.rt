@@ -3,7 +3,7 @@ ghost use Rattle.std.specs.Prelude.{◌≡◌, Some, IfOk, refl};
 ghost use Rattle.protocol_laws.specs.Commands.{CommandRecord as records};
 ghost use Rattle.protocol_laws.specs.Requests.{request_of_output, request_of_get_lazy_state, request_of_get_eager_state, request_of_get_lazy_state_keys, request_of_get_eager_state_keys, request_of_set_state, request_of_clear_state, request_of_clear_all_state, request_of_get_promise, request_of_peek_promise, request_of_complete_promise, request_of_sleep, request_of_call, request_of_one_way_call, request_of_send_signal, request_of_run, request_of_attach_invocation, request_of_get_invocation_output, request_of_complete_awakeable};
 ghost use Rattle.store_frames.specs.Commands.{spells};
-ghost use Rattle.store_frames.specs.Told.{told_by_type};
+ghost use Rattle.store_frames.specs.RecordFrames.{told_by_type};
 
 use crate::command::{AskedFor, CommandRecord, read_command};
 use crate::fault::read_other;

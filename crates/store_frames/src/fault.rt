@@ -3,7 +3,7 @@ ghost use Rattle.std.specs.Prelude.{◌≡◌};
 ghost use Rattle.protocol_wire.specs.Check.{payload_fault};
 ghost use Rattle.protocol_wire.specs.declared.record.TheConstants.{LEVELS};
 ghost use Rattle.store_frames.specs.Kind.{record_of};
-ghost use Rattle.store_frames.specs.Told.{told_faulty, told_if_record, told_unless_faulty};
+ghost use Rattle.store_frames.specs.RecordFrames.{told_faulty, told_if_record, told_unless_faulty};
 
 use crate::frame::AttemptFrame;
 use crate::kind::record_of;

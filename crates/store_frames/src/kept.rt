@@ -5,10 +5,10 @@ ghost use Rattle.journal_model.specs.Notification.{Arrival};
 ghost use Rattle.journal_model.specs.declared.notification.NotificationId.{NotificationId};
 ghost use Rattle.journal_model.specs.Spelling.{notification_payload};
 ghost use Rattle.protocol_wire.specs.Wire.{Field};
-ghost use Rattle.protocol_wire.specs.Listed.{coming};
-ghost use Rattle.protocol_wire.specs.Seen.{field};
+ghost use Rattle.protocol_wire.specs.ComingFields.{coming};
+ghost use Rattle.protocol_wire.specs.CodeFields.{field};
 ghost use Rattle.store_frames.specs.First.{IsPut, first_state, await_state_of};
-ghost use Rattle.store_frames.specs.Kept.{AreBoth, Names, ReadsKept, SignalFits, completion_in, state_by};
+ghost use Rattle.store_frames.specs.KeptArrivals.{AreBoth, Names, ReadsKept, SignalFits, completion_in, state_by};
 
 use crate::first::FirstArrivals;
 use crate::kept_fault::KeptFault;

@@ -5,7 +5,7 @@ ghost use Rattle.protocol_table.specs.declared.table.RecordType.TheVariants.{Pro
 ghost use Rattle.protocol_wire.specs.declared.record.TheConstants.{LEVELS};
 ghost use Rattle.protocol_controls.specs.ProposeRunCompletion.{propose_run_completion_of};
 ghost use Rattle.store_frames.specs.Requests.{outcome_told};
-ghost use Rattle.store_frames.specs.Told.{told_as, told_proposal};
+ghost use Rattle.store_frames.specs.RecordFrames.{told_as, told_proposal};
 
 use crate::fault::faulty;
 use crate::frame::AttemptFrame;

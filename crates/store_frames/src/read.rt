@@ -7,7 +7,7 @@ ghost use Rattle.protocol_types.specs.Version.{version_number};
 ghost use Rattle.store_frames.specs.Answer.{IsFrame};
 ghost use Rattle.store_frames.specs.Kind.{frame_kind};
 ghost use Rattle.store_frames.specs.FrameMeanings.{asks_ack, frame_of};
-ghost use Rattle.store_frames.specs.Told.{told_as, told_by, told_suspension};
+ghost use Rattle.store_frames.specs.RecordFrames.{told_as, told_by, told_suspension};
 
 use crate::commands::read_by_type;
 use crate::fault::{faulty, read_other, unless_faulty};

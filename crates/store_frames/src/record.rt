@@ -7,7 +7,7 @@ ghost use Rattle.protocol_types.specs.declared.feature.Feature.TheVariants.{AtLe
 ghost use Rattle.protocol_wire.specs.Parts.{payload_of};
 ghost use Rattle.store_frames.specs.declared.frame.AttemptFrame.{AttemptFrame};
 ghost use Rattle.protocol_types.specs.Version.{version_number};
-ghost use Rattle.store_frames.specs.Told.{told_behavior, told_number};
+ghost use Rattle.store_frames.specs.RecordFrames.{told_behavior, told_number};
 
 use crate::frame::{AttemptFrame, ErrorBehavior};
 use crate::tree::{has_number, tree_payload};
@@ -42,7 +42,7 @@ pub(crate) fn canonical<R: Record>(alloc: Global, one: &R) -> Result<Bytes, Allo
 }
 
 impl FrameRecord for SuspensionMessage {
-    ghost use Rattle.store_frames.specs.Told.{told_tree};
+    ghost use Rattle.store_frames.specs.RecordFrames.{told_tree};
 
     ghost told = { told_tree };
 
@@ -58,7 +58,7 @@ impl FrameRecord for SuspensionMessage {
 }
 
 impl FrameRecord for AwaitingOnMessage {
-    ghost use Rattle.store_frames.specs.Told.{told_awaiting};
+    ghost use Rattle.store_frames.specs.RecordFrames.{told_awaiting};
 
     ghost told = { told_awaiting };
 
@@ -71,7 +71,7 @@ impl FrameRecord for AwaitingOnMessage {
 }
 
 impl FrameRecord for SuspensionMessageV6 {
-    ghost use Rattle.store_frames.specs.Told.{told_lists};
+    ghost use Rattle.store_frames.specs.RecordFrames.{told_lists};
 
     ghost told = { λ version one. told_lists one };
 
@@ -105,7 +105,7 @@ fn behavior_of(version: Version, number: u32) -> ErrorBehavior
 }
 
 impl FrameRecord for ErrorMessage {
-    ghost use Rattle.store_frames.specs.Told.{told_error};
+    ghost use Rattle.store_frames.specs.RecordFrames.{told_error};
 
     ghost told = { told_error };
 

@@ -7,10 +7,10 @@ ghost use Rattle.journal_model.specs.Event.{Frame, Suspension};
 ghost use Rattle.protocol_types.specs.Version.{version_number};
 ghost use Rattle.protocol_trees.specs.Future.{future_tree};
 ghost use Rattle.store_frames.specs.Answer.{KeepsSuspension};
-ghost use Rattle.store_frames.specs.Read.{IsFrameRead};
+ghost use Rattle.store_frames.specs.ReadFrames.{IsFrameRead};
 ghost use Rattle.store_frames.specs.First.{AreFirst, arrived_state};
-ghost use Rattle.store_frames.specs.Kept.{ReadsKept};
-ghost use Rattle.store_frames.specs.Awaited.{IsAwaited, any_of, TellsLists, TellsTree};
+ghost use Rattle.store_frames.specs.KeptArrivals.{ReadsKept};
+ghost use Rattle.store_frames.specs.AwaitedFutures.{IsAwaited, any_of, TellsLists, TellsTree};
 
 use crate::first::FirstArrivals;
 use crate::kept_fault::KeptFault;

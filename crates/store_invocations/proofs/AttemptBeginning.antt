@@ -13,14 +13,14 @@ use Rattle.journal_model.specs.Journal.{is_of, invocation_begun, version_of, obj
 use Rattle.journal_model.specs.Attempt.{attempts_begun, suspension_of, is_woken}
 use Rattle.journal_model.specs.Start.{attempts_since_entry, since_first, state_entry, state_fields, start_payload, start_payload_for, start_payload_of}
 use Rattle.journal_laws.proofs.ObjectState.{begun_before}
-use Rattle.due_laws.specs.Noted.{heard_of, not_heard, is_awake_kept}
+use Rattle.due_laws.specs.AwakeNotes.{heard_of, not_heard, is_awake_kept}
 use Rattle.protocol_types.specs.Version.{version_number}
 use Rattle.store_tables.specs.declared.row.InvocationRow.{InvocationRow}
 use Rattle.store_tables.specs.declared.row.Progress.{Progress}
 use Rattle.store_tables.specs.declared.row.Write.{Write}
 use Rattle.store_tables.specs.declared.row.Write.TheVariants.{SetProgress}
 use Rattle.store_model.specs.Progress.{first_item, number_or_zero, progress_of}
-use Rattle.store_model.specs.Kept.{is_shown_whole, invocation_row, state_row}
+use Rattle.store_model.specs.KeptRecords.{is_shown_whole, invocation_row, state_row}
 use Rattle.store_model.proofs.Versions.{kept_number}
 use Rattle.store_model.specs.Writes.{invocation_writes, state_writes, writes_of}
 use Rattle.store_model.specs.Steps.{after_begin}
@@ -28,7 +28,7 @@ use Rattle.store_model.proofs.Following.{follows}
 use Rattle.store_model.proofs.Same.{opened}
 use Rattle.store_model.proofs.States.{itself}
 use Rattle.store_invocations.specs.Rows.{IsRowOf}
-use Rattle.store_invocations.specs.Begun.{begun_at, shown_states}
+use Rattle.store_invocations.specs.BegunAttempts.{begun_at, shown_states}
 use Rattle.store_invocations.specs.Start.{partial_number, start_frame_payload, state_bytes}
 
 -- ---- the start

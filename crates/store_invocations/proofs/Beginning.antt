@@ -16,19 +16,19 @@ use Rattle.protocol_types.specs.Version.{version_number}
 use Rattle.store_tables.specs.declared.row.InvocationRow.{InvocationRow}
 use Rattle.store_tables.specs.declared.row.Write.{Write}
 use Rattle.store_tables.specs.declared.row.Write.TheVariants.{AddInvocation, AddEntry}
-use Rattle.due_laws.specs.Noted.{heard_in, heard_of, or_zero}
+use Rattle.due_laws.specs.AwakeNotes.{heard_in, heard_of, or_zero}
 use Rattle.store_model.specs.Places.{handed_in, handed_of}
 use Rattle.store_model.specs.Progress.{first_item, number_or_zero, payload_of_suspension, way_closed, error_in, last_output, progress_of}
-use Rattle.store_model.specs.Kept.{input_row, invocation_row, is_shown_whole, version_kept}
+use Rattle.store_model.specs.KeptRecords.{input_row, invocation_row, is_shown_whole, version_kept}
 use Rattle.store_model.proofs.Versions.{kept_of}
 use Rattle.store_model.specs.Writes.{begin_writes, state_writes, writes_of}
 use Rattle.store_model.proofs.Lists.{filter_nothing}
 use Rattle.store_model.proofs.Same.{both_same}
 use Rattle.store_model.proofs.States.{itself}
 use Rattle.store_refusals.specs.declared.refusal.Refusal.{Refusal}
-use Rattle.store_refusals.specs.Prepared.{Prepares}
+use Rattle.store_refusals.specs.Preparations.{Prepares}
 use Rattle.store_invocations.specs.Rows.{Decides}
-use Rattle.store_invocations.specs.New.{first_progress, first_row, first_writes, id_tests, input_tests, is_nameless, object_tests}
+use Rattle.store_invocations.specs.NewInvocations.{first_progress, first_row, first_writes, id_tests, input_tests, is_nameless, object_tests}
 use Rattle.store_invocations.proofs.Refusing.{none_of_both, refused_later}
 
 -- ---- an invocation that was not begun has no events

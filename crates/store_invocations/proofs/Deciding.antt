@@ -14,11 +14,11 @@ use Rattle.store_tables.specs.declared.row.EntryRow.{EntryRow}
 use Rattle.store_tables.specs.declared.row.StateRow.{StateRow}
 use Rattle.store_tables.specs.Orders.{IsArranged, IsUnarranged}
 use Rattle.store_tables.specs.Questions.{IsJournal, IsNoJournal}
-use Rattle.store_model.specs.Kept.{journal_rows, state_row}
+use Rattle.store_model.specs.KeptRecords.{journal_rows, state_row}
 use Rattle.store_model.proofs.Finding.{all_found}
 use Rattle.store_refusals.specs.declared.refusal.Refusal.{Refusal}
-use Rattle.store_refusals.specs.Refused.{IsRefused, is_circumstance, reading_refusal}
-use Rattle.store_refusals.specs.Prepared.{Keeps, Prepares}
+use Rattle.store_refusals.specs.RefusalConditions.{IsRefused, is_circumstance, reading_refusal}
+use Rattle.store_refusals.specs.Preparations.{Keeps, Prepares}
 use Rattle.store_invocations.specs.Rows.{Decides}
 use Rattle.store_invocations.proofs.Refusing.{none_of_both, refused_later, refused_more}
 

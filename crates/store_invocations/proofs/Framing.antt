@@ -6,7 +6,7 @@ use Rattle.journal_model.specs.Cause.{those_that_hold, is_too_long}
 use Rattle.journal_model.specs.declared.cause.Cause.{Cause}
 use Rattle.protocol_stream.specs.declared.encoder.EncodingError.{EncodingError}
 use Rattle.protocol_stream.specs.declared.encoder.EncodingError.TheVariants as encoding
-use Rattle.store_refusals.specs.Refused.{encoding_refusal, IsRefused}
+use Rattle.store_refusals.specs.RefusalConditions.{encoding_refusal, IsRefused}
 use Rattle.store_invocations.specs.Rows.{payload_tests}
 use Rattle.store_invocations.proofs.Refusing.{first_of_one, none_of_one}
 

@@ -36,7 +36,7 @@ use Rattle.store_frames.proofs.Types.{request_typed}
 use Rattle.protocol_laws.specs.Requests.{request_of_output, value_put_out}
 use Rattle.protocol_laws.proofs.Back.{result_back}
 use Rattle.store_frames.specs.Requests.{proposal_told, suspension_of_lists, suspension_of_tree}
-use Rattle.store_frames.specs.Read.{IsFrameRead}
+use Rattle.store_frames.specs.ReadFrames.{IsFrameRead}
 use Rattle.protocol_laws.specs.Fits.{output_command_fits}
 
 -- an output that a message can hold: its texts are UTF-8, and a code has at most 32 bits

@@ -10,9 +10,9 @@ use Rattle.journal_model.specs.Cause.{IsAccepted}
 use Rattle.run_laws.specs.Keys.{HasTextKeys}
 use Rattle.run_laws.proofs.States.{states_text}
 use Rattle.store_tables.specs.declared.row.StateRow.{StateRow}
-use Rattle.store_model.specs.Kept.{state_row}
+use Rattle.store_model.specs.KeptRecords.{state_row}
 use Rattle.store_refusals.specs.declared.refusal.Refusal.{Refusal}
-use Rattle.store_refusals.specs.Refused.{IsRefused}
+use Rattle.store_refusals.specs.RefusalConditions.{IsRefused}
 
 have_text : (object : Text) (entries : StateMap) → HasTextKeys entries → list_all (λ (row : StateRow). is_utf8 row.key) (map (state_row object) entries) ≡ true
 have_text object [] all = refl

@@ -16,11 +16,11 @@ use Rattle.store_tables.specs.declared.row.Progress.{Progress}
 use Rattle.store_tables.specs.declared.row.Write.TheVariants.{SetProgress}
 use Rattle.store_refusals.specs.declared.refusal.Refusal.{Refusal}
 use Rattle.store_refusals.specs.declared.refusal.Refusal.TheVariants as refusal
-use Rattle.store_refusals.specs.Refused.{IsRefused}
+use Rattle.store_refusals.specs.RefusalConditions.{IsRefused}
 use Rattle.store_invocations.specs.Rows.{IsRowOf, payload_tests}
 use Rattle.store_invocations.proofs.Refusing.{none_of_both, refused_by, refused_later}
 use Rattle.store_invocations.specs.declared.attempt.PreparedAttempt.{PreparedAttempt}
-use Rattle.store_invocations.specs.Begun.{IsBegun, begun_at, shown_states}
+use Rattle.store_invocations.specs.BegunAttempts.{IsBegun, begun_at, shown_states}
 use Rattle.store_invocations.specs.Start.{start_frame_payload}
 use Rattle.store_invocations.proofs.Attempts.{attempts_among}
 use Rattle.store_invocations.proofs.AttemptBeginning.{attempts_is, begin_writes_are, progress_is, start_payload_is, version_is}

@@ -11,9 +11,9 @@ use Rattle.journal_model.specs.declared.cause.Cause.{Cause}
 use Rattle.journal_laws.proofs.ObjectState.{find-passes, not-false}
 use Rattle.store_tables.specs.declared.row.InvocationRow.{InvocationRow}
 use Rattle.store_model.specs.Progress.{progress_of}
-use Rattle.store_model.specs.Kept.{invocation_row}
+use Rattle.store_model.specs.KeptRecords.{invocation_row}
 use Rattle.store_refusals.specs.declared.refusal.Refusal.TheVariants as refusal
-use Rattle.store_refusals.specs.Refused.{refusal_of_first_cause, IsRefused}
+use Rattle.store_refusals.specs.RefusalConditions.{refusal_of_first_cause, IsRefused}
 use Rattle.store_invocations.specs.Rows.{known_tests, row_at, IsRowOf, IsOpenRow}
 
 pub some-map : {A B : Type 0} (f : A → B) (o : Option A) → is_some (option_map f o) ≡ is_some o

@@ -14,7 +14,7 @@ use Rattle.protocol_wire.specs.declared.record.TheConstants.{LEVELS}
 use Rattle.protocol_wire.specs.declared.check.Fault.{Fault}
 use Rattle.protocol_wire.specs.Check.{payload_fault}
 use Rattle.protocol_wire.specs.Parts.{payload_of}
-use Rattle.protocol_wire.specs.Decodes.{IsRead}
+use Rattle.protocol_wire.specs.DecodingAnswers.{IsRead}
 use Rattle.protocol_records.specs.declared.output_command.OutputCommandMessage.{OutputCommandMessage}
 use Rattle.protocol_records.specs.declared.output_command.OutputCommandResult.{OutputCommandResult}
 use Rattle.protocol_records.specs.OutputCommand.{OutputCommandFits, output_command_of, output_command_parts}
@@ -25,11 +25,11 @@ use Rattle.store_tables.specs.declared.row.LastError.{LastError}
 use Rattle.store_tables.specs.declared.row.InvocationRow.{InvocationRow}
 use Rattle.store_model.specs.Progress.{last_error_of, last_output, or_last, progress_of, way_closed}
 use Rattle.store_refusals.specs.declared.refusal.Refusal.{Refusal}
-use Rattle.store_frames.specs.Read.{AreRead}
-use Rattle.store_refusals.specs.Refused.{is_circumstance}
+use Rattle.store_frames.specs.ReadFrames.{AreRead}
+use Rattle.store_refusals.specs.RefusalConditions.{is_circumstance}
 use Rattle.store_refusals.specs.Causes.{IsUnasked}
 use Rattle.store_invocations.specs.Rows.{Decides, IsRowOf, known_tests}
-use Rattle.store_invocations.specs.Answered.{IsShortPayload, ReadsRow, answer_by, answer_told, closed_by, failure_by, output_by, output_in, output_read, value_taken}
+use Rattle.store_invocations.specs.InvocationAnswers.{IsShortPayload, ReadsRow, answer_by, answer_told, closed_by, failure_by, output_by, output_in, output_read, value_taken}
 use Rattle.store_invocations.proofs.Closing.{IsFailure, closed_by_failure}
 use Rattle.store_invocations.proofs.Holding.{IsHeld}
 use Rattle.store_invocations.proofs.Recording.{outputs_held}

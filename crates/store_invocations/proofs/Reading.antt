@@ -8,13 +8,13 @@ use Rattle.sql_tables.specs.declared.read.ReadError.{ReadError}
 use Rattle.sql_tables.specs.declared.read.ReadError.TheVariants.{Refused, Foreign, OutOfMemory}
 use Rattle.store_tables.specs.Records.{Records}
 use Rattle.store_tables.specs.Questions.{IsFound, IsAmbiguous, has_id}
-use Rattle.store_model.specs.Kept.{IsKept}
+use Rattle.store_model.specs.KeptRecords.{IsKept}
 use Rattle.store_model.specs.Lookups.{IsOnly}
 use Rattle.store_model.proofs.Only.{only_found, only_one}
 use Rattle.store_model.proofs.Finding.{all_found}
 use Rattle.store_refusals.specs.declared.refusal.Refusal.{Refusal}
-use Rattle.store_refusals.specs.Refused.{is_circumstance, reading_refusal, IsRefused}
-use Rattle.store_refusals.specs.Prepared.{Keeps, TellsOrRefuses}
+use Rattle.store_refusals.specs.RefusalConditions.{is_circumstance, reading_refusal, IsRefused}
+use Rattle.store_refusals.specs.Preparations.{Keeps, TellsOrRefuses}
 use Rattle.store_invocations.specs.Rows.{Decides, row_at}
 
 -- among the records that are kept this one alone passes

@@ -5,7 +5,7 @@ use Rattle.journal_model.specs.Notification.{Text, Arrival}
 use Rattle.journal_model.specs.State.{StateMap, state_after}
 use Rattle.journal_model.specs.Event.{Frame, Event}
 use Rattle.journal_model.specs.Journal.{Entry, Recorded, Arrived, adds_to, entries_added, entries_from, entries_of, entries_of_event, read_answer, recorded_requests, requests_in, slept, starting_state, version_of}
-use Rattle.store_frames.specs.Read.{AreRead, IsReadIn}
+use Rattle.store_frames.specs.ReadFrames.{AreRead, IsReadIn}
 use Rattle.store_invocations.proofs.Holding.{IsHeld, request_held}
 
 abbrev IsHeldEntry : Entry → Type 0

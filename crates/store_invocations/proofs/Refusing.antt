@@ -5,7 +5,7 @@ use Rattle.journal_model.specs.declared.cause.Cause.{Cause}
 use Rattle.store_refusals.specs.declared.refusal.Refusal.{Refusal}
 use Rattle.store_refusals.specs.declared.refusal.Refusal.TheVariants.{OutOfMemory}
 use Rattle.store_refusals.specs.declared.refusal.Refusal.TheVariants as refusal
-use Rattle.store_refusals.specs.Refused.{refusal_of_first_cause, refusal_by, IsRefused}
+use Rattle.store_refusals.specs.RefusalConditions.{refusal_of_first_cause, refusal_by, IsRefused}
 use Rattle.store_refusals.proofs.First.{first_holds}
 use Rattle.store_invocations.specs.Rows.{Decides}
 

@@ -21,15 +21,15 @@ use Rattle.protocol_types.specs.MessageType.{is_command}
 use Rattle.store_tables.specs.declared.row.EntryRow.{EntryRow}
 use Rattle.store_tables.specs.declared.row.InvocationRow.{InvocationRow}
 use Rattle.store_tables.specs.Questions.{IsJournal, IsNoJournal}
-use Rattle.store_model.specs.Kept.{entry_row, journal_rows, rows_from, rows_of_journal}
+use Rattle.store_model.specs.KeptRecords.{entry_row, journal_rows, rows_from, rows_of_journal}
 use Rattle.store_model.proofs.Finding.{all_found}
 use Rattle.store_model.proofs.Framing.{AreAskedBefore, all_asked_before, kind_stays}
 use Rattle.store_refusals.specs.declared.refusal.Refusal.{Refusal}
-use Rattle.store_refusals.specs.Refused.{IsRefused, is_circumstance, reading_refusal}
-use Rattle.store_refusals.specs.Prepared.{Keeps}
+use Rattle.store_refusals.specs.RefusalConditions.{IsRefused, is_circumstance, reading_refusal}
+use Rattle.store_refusals.specs.Preparations.{Keeps}
 use Rattle.store_invocations.specs.Rows.{IsRowOf, known_tests}
 use Rattle.store_invocations.specs.declared.recorded.RecordedEntry.{RecordedEntry}
-use Rattle.store_invocations.specs.Told.{entries_told, entry_read, is_entry, kind_by, told_from}
+use Rattle.store_invocations.specs.JournalContent.{entries_told, entry_read, is_entry, kind_by, told_from}
 
 -- ---- what is read
 

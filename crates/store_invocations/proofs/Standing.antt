@@ -6,7 +6,7 @@ use Rattle.sqlite.proofs.StateLemmas.{survives_then}
 use Rattle.journal_model.specs.Event.{Event}
 use Rattle.sql_tables.specs.QueryAnswers.{AreTablesKept}
 use Rattle.store_tables.specs.Records.{Holds}
-use Rattle.store_refusals.specs.Prepared.{Keeps}
+use Rattle.store_refusals.specs.Preparations.{Keeps}
 use Rattle.store_invocations.specs.Rows.{IsStoreOf}
 
 keeps_now : (events : List Event) (old new : State) → new.now ≡ old.now → Keeps events old → Keeps events new

@@ -1,6 +1,6 @@
 pub mod Rows
-pub mod New
-pub mod Told
-pub mod Answered
+pub mod NewInvocations
+pub mod JournalContent
+pub mod InvocationAnswers
 pub mod Start
-pub mod Begun
+pub mod BegunAttempts

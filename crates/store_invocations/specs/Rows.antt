@@ -8,11 +8,11 @@ use Rattle.journal_model.specs.Journal.{invocation_begun, is_open}
 use Rattle.journal_model.specs.Cause.{Tests, those_that_hold, is_too_long, IsAccepted}
 use Rattle.journal_model.specs.declared.cause.Cause.{Cause}
 use Rattle.store_tables.specs.declared.row.InvocationRow.{InvocationRow}
-use Rattle.store_model.specs.Kept.{invocation_row}
-use Rattle.store_frames.specs.Read.{AreRead}
+use Rattle.store_model.specs.KeptRecords.{invocation_row}
+use Rattle.store_frames.specs.ReadFrames.{AreRead}
 use Rattle.store_refusals.specs.declared.refusal.Refusal.{Refusal}
-use Rattle.store_refusals.specs.Refused.{IsRefused}
-use Rattle.store_refusals.specs.Prepared.{Keeps}
+use Rattle.store_refusals.specs.RefusalConditions.{IsRefused}
+use Rattle.store_refusals.specs.Preparations.{Keeps}
 
 -- A connection that is open keeps the records of these events, which were accepted, and of which each frame that was taken is that
 -- of a message; one that is shut says nothing.

@@ -5,7 +5,7 @@ ghost use Rattle.sqlite.specs.Held.{state};
 ghost use Rattle.sqlite.specs.State.{HasCleanDisk};
 ghost use Rattle.journal_model.specs.Event.{Event};
 ghost use Rattle.store_tables.specs.Looks.{OnlyAsks};
-ghost use Rattle.store_invocations.specs.Answered.{IsShortPayload, ReadsRow, answer_by, answer_told, failure_by, output_by, output_in};
+ghost use Rattle.store_invocations.specs.InvocationAnswers.{IsShortPayload, ReadsRow, answer_by, answer_told, failure_by, output_by, output_in};
 ghost use Rattle.store_invocations.specs.Rows.{Decides, IsStoreOf, known_tests};
 ghost use Rattle.store_refusals.specs.Causes.{TellsCause};
 

@@ -5,9 +5,9 @@ ghost use Rattle.sqlite.specs.Held.{state};
 ghost use Rattle.sqlite.specs.State.{HasCleanDisk};
 ghost use Rattle.journal_model.specs.Event.{Event};
 ghost use Rattle.store_tables.specs.Looks.{OnlyAsks};
-ghost use Rattle.store_refusals.specs.Prepared.{Prepares};
+ghost use Rattle.store_refusals.specs.Preparations.{Prepares};
 ghost use Rattle.store_invocations.specs.Rows.{IsStoreOf};
-ghost use Rattle.store_invocations.specs.Begun.{IsBegun};
+ghost use Rattle.store_invocations.specs.BegunAttempts.{IsBegun};
 ghost use Rattle.store_refusals.specs.Causes.{TellsCause};
 
 use crate::attempt::PreparedAttempt;

@@ -1,7 +1,7 @@
 //! How far an invocation is once an attempt of it is begun.
 
 ghost use Rattle.std.specs.Prelude.{◌≡◌, [], ◌∷◌, ◌+◌, ◌<◌, ◌≤◌, ◌^◌, IfOk};
-ghost use Rattle.store_invocations.specs.Begun.{begun_at};
+ghost use Rattle.store_invocations.specs.BegunAttempts.{begun_at};
 ghost use Rattle.store_tables.specs.declared.row.Write.TheVariants.{SetProgress};
 
 use std::alloc::{AllocError, Global};

@@ -3,7 +3,7 @@
 ghost use Rattle.std.specs.Prelude.{◌≡◌, map, IfOk, IfErr};
 ghost use Rattle.journal_model.specs.Spelling.{input_payload};
 ghost use Rattle.protocol_stream.specs.Records.{header_record, input_record};
-ghost use Rattle.store_invocations.specs.New.{input_tests};
+ghost use Rattle.store_invocations.specs.NewInvocations.{input_tests};
 ghost use Rattle.store_invocations.specs.Rows.{Decides};
 ghost use Rattle.store_refusals.specs.Causes.{IsUnasked};
 

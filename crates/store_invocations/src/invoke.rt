@@ -9,8 +9,8 @@ ghost use Rattle.protocol_types.specs.Version.{version_number};
 ghost use Rattle.store_tables.specs.Looks.{OnlyAsks};
 ghost use Rattle.store_tables.specs.declared.row.Write.{Write};
 ghost use Rattle.store_model.specs.Writes.{writes_of};
-ghost use Rattle.store_refusals.specs.Prepared.{Prepares, TellsOrRefuses};
-ghost use Rattle.store_invocations.specs.New.{entry_of_input, first_progress, first_row, first_writes, id_tests, input_tests, is_nameless, object_tests};
+ghost use Rattle.store_refusals.specs.Preparations.{Prepares, TellsOrRefuses};
+ghost use Rattle.store_invocations.specs.NewInvocations.{entry_of_input, first_progress, first_row, first_writes, id_tests, input_tests, is_nameless, object_tests};
 ghost use Rattle.store_invocations.specs.Rows.{Decides, IsStoreOf};
 ghost use Rattle.store_refusals.specs.Causes.{IsUnasked, TellsCause};
 

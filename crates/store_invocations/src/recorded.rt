@@ -6,9 +6,9 @@ ghost use Rattle.sqlite.specs.State.{HasCleanDisk};
 ghost use Rattle.journal_model.specs.Event.{Event};
 ghost use Rattle.protocol_types.specs.MessageType.{is_command};
 ghost use Rattle.store_tables.specs.Looks.{OnlyAsks};
-ghost use Rattle.store_model.specs.Kept.{journal_rows};
+ghost use Rattle.store_model.specs.KeptRecords.{journal_rows};
 ghost use Rattle.store_invocations.specs.Rows.{Decides, IsStoreOf, known_tests};
-ghost use Rattle.store_invocations.specs.Told.{entries_told, entry_read, is_entry, kind_by};
+ghost use Rattle.store_invocations.specs.JournalContent.{entries_told, entry_read, is_entry, kind_by};
 ghost use Rattle.store_refusals.specs.Causes.{TellsCause};
 
 use crate::row::known_row;

@@ -6,7 +6,7 @@ ghost use Rattle.sqlite.specs.State.{HasCleanDisk};
 ghost use Rattle.journal_model.specs.Event.{Event};
 ghost use Rattle.journal_model.specs.Cause.{open_tests};
 ghost use Rattle.store_tables.specs.Looks.{OnlyAsks};
-ghost use Rattle.store_refusals.specs.Prepared.{TellsOrRefuses};
+ghost use Rattle.store_refusals.specs.Preparations.{TellsOrRefuses};
 ghost use Rattle.store_invocations.specs.Rows.{Decides, IsOpenRow, IsRowOf, IsStoreOf, known_tests, row_at};
 ghost use Rattle.store_refusals.specs.Causes.{TellsCause};
 

@@ -1,3 +1,3 @@
 pub mod Input
 pub mod Attempts
-pub mod Before
+pub mod ChangedRoom

@@ -15,17 +15,17 @@ use Rattle.journal_model.specs.Notification.{Text}
 use Rattle.journal_model.specs.declared.invocation.NewInvocation.{NewInvocation}
 use Rattle.journal_model.specs.Event.{Event}
 use Rattle.journal_model.specs.Journal.{invocation_begun}
-use Rattle.due_laws.specs.Noted.{is_awake_kept}
+use Rattle.due_laws.specs.AwakeNotes.{is_awake_kept}
 use Rattle.store_tables.specs.Orders.{id_cmp}
 use Rattle.store_tables.specs.Questions.{DoAscend, has_id, is_awake}
 use Rattle.store_tables.specs.declared.row.InvocationRow.{InvocationRow}
-use Rattle.store_model.specs.Kept.{IsKept, begun, invocation_row}
+use Rattle.store_model.specs.KeptRecords.{IsKept, begun, invocation_row}
 use Rattle.store_model.proofs.States.{itself}
 use Rattle.store_model.proofs.Finding.{named_once}
 use Rattle.store_model.proofs.Sorting.{sorted_rises}
 use Rattle.store_tables.specs.Records.{Records}
 use Rattle.journal_model.specs.Cause.{IsAccepted}
-use Rattle.store_live_laws.specs.Kept.{AwakeAreArranged, DueFromRecords}
+use Rattle.store_live_laws.specs.RowLaws.{AwakeAreArranged, DueFromRecords}
 use Rattle.store_live_laws.proofs.Kept.{due_from_rows}
 
 -- ---- they are due, but for those with a live attempt

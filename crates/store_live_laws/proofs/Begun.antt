@@ -9,7 +9,7 @@ use Rattle.due_laws.proofs.Opened.{and_false, unknown_dead}
 use Rattle.store_live.specs.Input.{InputKept}
 use Rattle.store_live_laws.specs.Memory.{IsInputOf}
 use Rattle.store_live_laws.proofs.Reading.{input_agrees}
-use Rattle.store_live_laws.specs.Agrees.{AgreesInvoked, AgreesBegun}
+use Rattle.store_live_laws.specs.LiveAttempts.{AgreesInvoked, AgreesBegun}
 use Rattle.store_live_laws.proofs.Growing.{version_same}
 
 pub invoked : AgreesInvoked

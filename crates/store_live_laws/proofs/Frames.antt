@@ -14,10 +14,10 @@ use Rattle.journal_model.specs.Attempt.{Piece, notification_type, entry_piece, j
 use Rattle.journal_model.specs.Cause.{IsAccepted}
 use Rattle.due_laws.specs.Rows.{frames_known, arrivals_known, outcomes_noted, noted_number, as_told, later_piece}
 use Rattle.due_laws.proofs.Rows.{pieces_are_rows}
-use Rattle.store_model.specs.Kept.{answered_by, entry_row, rows_from, input_row, rows_of_journal, journal_rows}
+use Rattle.store_model.specs.KeptRecords.{answered_by, entry_row, rows_from, input_row, rows_of_journal, journal_rows}
 use Rattle.store_model.specs.Lookups.{arrival_rows, row_frame, rows_of_arrivals}
 use Rattle.store_model.proofs.Framing.{AreAskedBefore, all_asked_before, kind_stays}
-use Rattle.store_live_laws.specs.Read.{as_answered, later_frame, frame_at}
+use Rattle.store_live_laws.specs.InputRows.{as_answered, later_frame, frame_at}
 
 abbrev bytes_of : Piece → Bytes
 bytes_of piece = piece.bytes

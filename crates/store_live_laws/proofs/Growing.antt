@@ -8,7 +8,7 @@ use Rattle.journal_model.specs.Attempt.{begins_attempt, ends_live, live_attempt,
 use Rattle.store_live.specs.declared.attempt.LiveAttempt.{LiveAttempt}
 use Rattle.store_live.specs.Input.{InputKept}
 use Rattle.store_live_laws.specs.Memory.{IsInputOf}
-use Rattle.store_live_laws.specs.Agrees.{IsKeptLive}
+use Rattle.store_live_laws.specs.LiveAttempts.{IsKeptLive}
 
 pub version_same : (events : List Event) (event : Event) (id : Text) → invocation_begun (event ∷ events) id ≡ invocation_begun events id
     → version_of (event ∷ events) id ≡ version_of events id

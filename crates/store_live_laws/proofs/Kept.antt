@@ -15,7 +15,7 @@ use Rattle.due_laws.specs.Awake.{heard_of, or_zero, not_heard, is_awake_kept}
 use Rattle.due_laws.proofs.DueList.{any_filter, due_listed}
 use Rattle.due_laws.proofs.Noting.{noted_elsewhere, noted_still, noted_unticked}
 use Rattle.store_tables.specs.declared.row.EntryRow.{EntryRow}
-use Rattle.store_model.specs.Kept.{begun, invocation_row}
+use Rattle.store_model.specs.KeptRecords.{begun, invocation_row}
 use Rattle.store_model.specs.Writes.{ends_sleep, changed_by}
 use Rattle.store_model.specs.Lookups.{arrival_rows, rows_of_arrivals}
 use Rattle.std.proofs.lemmas.List.Sorted.{list_any-IsPermutation, IsPermutation-map}
@@ -23,7 +23,7 @@ use Rattle.journal_model.specs.Attempt.{suspension_of, is_woken}
 use Rattle.due_laws.specs.DueList.{DoRise}
 use Rattle.store_tables.specs.declared.row.InvocationRow.{InvocationRow}
 use Rattle.store_tables.specs.Questions.{DoAscend}
-use Rattle.store_live_laws.specs.Kept.{RowsAreNotHeard, ChangedCovers, DueFromRows}
+use Rattle.store_live_laws.specs.RowLaws.{RowsAreNotHeard, ChangedCovers, DueFromRows}
 
 rows_payloads : (id : Text) (before : List Entry) (place : ℕ) (entries : List Entry)
     → map (λ (row : EntryRow). row.payload) (rows_of_arrivals id before place entries) ≡ map notification_payload (arrivals_in entries)

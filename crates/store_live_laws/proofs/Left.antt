@@ -7,7 +7,7 @@ use Rattle.journal_model.specs.Cause.{is_empty}
 use Rattle.due_laws.specs.InputParts.{HandsPart, ReadsRows}
 use Rattle.due_laws.proofs.InputParts.{rows_tell}
 use Rattle.store_live_laws.proofs.Reading.{input_agrees}
-use Rattle.store_live_laws.specs.Agrees.{AllLeftIsTold, PartIsTold}
+use Rattle.store_live_laws.specs.LiveAttempts.{AllLeftIsTold, PartIsTold}
 
 pub left_told : AllLeftIsTold
 left_told events id attempt accepted kept = record {

@@ -22,7 +22,7 @@ use Rattle.store_live.specs.declared.input.FrameRead.{FrameRead}
 use Rattle.store_live.specs.Input.{InputKept, at_begin, after_bytes, input_handed_out, with_frame, with_outcome_kept, with_rest}
 use Rattle.store_model.specs.Places.{places_of_arrivals, journal_places, places_from, input_places}
 use Rattle.store_live_laws.proofs.Counting.{same_count}
-use Rattle.store_live_laws.specs.Read.{behind_place, place_after}
+use Rattle.store_live_laws.specs.InputRows.{behind_place, place_after}
 use Rattle.store_live_laws.specs.Memory.{IsInputOf, is_arrived, AllArrivalsAreTold}
 use Rattle.store_live_laws.proofs.Places.{known_at_begin, handed_is_read}
 

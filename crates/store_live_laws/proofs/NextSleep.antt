@@ -21,12 +21,12 @@ use Rattle.store_tables.specs.Records.{Records, ends_by, ends_from, is_sleep_of}
 use Rattle.store_tables.specs.Orders.{moment_cmp, sleep_cmp}
 use Rattle.store_tables.specs.declared.row.SleepRow.{SleepRow}
 use Rattle.store_model.specs.Sleeps.{due_until, sleep_row, sleeps_opened, sleeps_after_frame, sleeps_kept}
-use Rattle.store_model.specs.Kept.{IsKept}
+use Rattle.store_model.specs.KeptRecords.{IsKept}
 use Rattle.store_model.proofs.States.{itself}
 use Rattle.store_model.specs.Lookups.{due_sleeps, ended_sleeps}
 use Rattle.store_model.proofs.OpenSleeps.{due_told}
 use Rattle.store_model.proofs.DueSleeps.{sleep_cmp_total, ended_found}
-use Rattle.store_live_laws.specs.Kept.{NextFromRecords}
+use Rattle.store_live_laws.specs.RowLaws.{NextFromRecords}
 
 -- ---- the moments that are kept fit
 

@@ -22,7 +22,7 @@ use Rattle.store_tables.specs.declared.row.EntryRow.{EntryRow}
 use Rattle.store_model.specs.Places.{places_of, places_of_arrivals, journal_places, places_from, input_places, place_behind}
 use Rattle.store_model.specs.Lookups.{arrival_rows, rows_of_arrivals}
 use Rattle.store_live_laws.proofs.Counting.{same_count}
-use Rattle.store_live_laws.specs.Read.{AllFramesAreRead, KnownAtBegin, behind_place, place_after, HandedIsRead}
+use Rattle.store_live_laws.specs.InputRows.{AllFramesAreRead, KnownAtBegin, behind_place, place_after, HandedIsRead}
 use Rattle.store_live_laws.proofs.Frames.{frame_known, frame_later}
 
 -- ---- places one behind the other

@@ -21,12 +21,12 @@ use Rattle.due_laws.proofs.InputParts.{rows_tell}
 use Rattle.due_laws.proofs.Outcomes.{outcomes_are_read}
 use Rattle.store_tables.specs.declared.row.EntryRow.{EntryRow}
 use Rattle.store_model.specs.Places.{input_places}
-use Rattle.store_model.specs.Kept.{answered_by, entry_row, rows_from, input_row, rows_of_journal, journal_rows}
+use Rattle.store_model.specs.KeptRecords.{answered_by, entry_row, rows_from, input_row, rows_of_journal, journal_rows}
 use Rattle.store_model.specs.Lookups.{arrival_rows, row_frame, rows_of_arrivals}
 use Rattle.store_live.specs.declared.input.FrameRead.{FrameRead}
 use Rattle.store_live.specs.declared.input.NextRow.{NextRow}
 use Rattle.store_live.specs.Input.{CanCount, InputKept, is_first, next_ordinal, next_row, with_frame}
-use Rattle.store_live_laws.specs.Read.{as_answered, later_frame, frame_at}
+use Rattle.store_live_laws.specs.InputRows.{as_answered, later_frame, frame_at}
 use Rattle.store_live_laws.specs.Memory.{IsInputOf, row_asked, plain_read, told_read, arrival_read, frame_read, is_arrived, InputAgrees, AllInputsCount}
 use Rattle.store_live_laws.proofs.Counting.{same_count, pieces_few}
 use Rattle.store_live_laws.proofs.Places.{frames_are_read}

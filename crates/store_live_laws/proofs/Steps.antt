@@ -13,11 +13,11 @@ use Rattle.protocol_types.specs.Feature.{has_feature}
 use Rattle.protocol_types.specs.declared.feature.Feature.TheVariants.{Acknowledgement}
 use Rattle.store_model.proofs.Same.{same_begun}
 use Rattle.store_live.specs.declared.attempt.LiveAttempt.{LiveAttempt}
-use Rattle.store_live.specs.Before.{IsAsBefore}
+use Rattle.store_live.specs.ChangedRoom.{IsAsBefore}
 use Rattle.store_live.specs.Input.{InputKept, input_handed_out, with_outcome_kept}
 use Rattle.store_live_laws.specs.Memory.{IsInputOf}
 use Rattle.store_live_laws.proofs.Reading.{input_agrees}
-use Rattle.store_live_laws.specs.Agrees.{Agrees, AgreesAtFirst, AgreesElsewhere, AgreesRecorded, AgreesAcknowledged, AgreesAsBefore, AgreesRead, AgreesHandedOut, AgreesClosed, AgreesEnded, AgreesStopped, IsKeptLive, does_record}
+use Rattle.store_live_laws.specs.LiveAttempts.{Agrees, AgreesAtFirst, AgreesElsewhere, AgreesRecorded, AgreesAcknowledged, AgreesAsBefore, AgreesRead, AgreesHandedOut, AgreesClosed, AgreesEnded, AgreesStopped, IsKeptLive, does_record}
 use Rattle.store_live_laws.proofs.Growing.{live_now, goes_on}
 
 pub at_first : AgreesAtFirst

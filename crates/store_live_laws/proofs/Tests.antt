@@ -9,7 +9,7 @@ use Rattle.journal_model.specs.Cause.{is_empty, those_that_hold, frame_tests, ad
 use Rattle.journal_model.specs.declared.cause.Cause.{Cause}
 use Rattle.journal_model.specs.declared.cause.Cause.TheVariants.{UnknownInvocation, InvocationClosed, AttemptNotLive, InputRemains, InputAlreadyClosed}
 use Rattle.due_laws.proofs.Opened.{live_open}
-use Rattle.store_live_laws.specs.Agrees.{LiveIsTold, LiveIsOpen, CausesAreTold, IsFirstCause, StaleIsTold}
+use Rattle.store_live_laws.specs.LiveAttempts.{LiveIsTold, LiveIsOpen, CausesAreTold, IsFirstCause, StaleIsTold}
 
 pub live_told : LiveIsTold
 live_told events id number None e = rw e refl

@@ -1,4 +1,4 @@
-pub mod Read
-pub mod Kept
+pub mod InputRows
+pub mod RowLaws
 pub mod Memory
-pub mod Agrees
+pub mod LiveAttempts

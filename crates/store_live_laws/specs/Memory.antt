@@ -13,12 +13,12 @@ use Rattle.due_laws.specs.Rows.{frames_known, arrivals_known, outcomes_unread}
 use Rattle.due_laws.specs.InputParts.{ReadsRows}
 use Rattle.store_tables.specs.declared.row.EntryRow.{EntryRow}
 use Rattle.store_model.specs.Places.{input_places, handed_place}
-use Rattle.store_model.specs.Kept.{journal_rows}
+use Rattle.store_model.specs.KeptRecords.{journal_rows}
 use Rattle.store_model.specs.Lookups.{arrival_rows, row_frame}
 use Rattle.store_live.specs.declared.input.FrameRead.{FrameRead}
 use Rattle.store_live.specs.declared.input.NextRow.{NextRow}
 use Rattle.store_live.specs.Input.{CanCount, InputKept, at_begin, input_handed_out, is_first, next_ordinal, next_row, with_frame, with_outcome_kept}
-use Rattle.store_live_laws.specs.Read.{place_after}
+use Rattle.store_live_laws.specs.InputRows.{place_after}
 
 pub record IsInputOf (events : List Event) (id : Text) (m : InputKept) : Type 0 where
   pub known : m.known ≡ frames_known events id

@@ -3,10 +3,10 @@
 //! events say, step by step? Laws over the rows that `store_model` says are kept; the functions do nothing, and their contracts are the laws.
 #![tactic(auto)]
 
-ghost use Rattle.store_live_laws.specs.Kept.{AwakeAreArranged, ChangedCovers, DueFromRecords, DueFromRows, NextFromRecords, RowsAreNotHeard};
+ghost use Rattle.store_live_laws.specs.RowLaws.{AwakeAreArranged, ChangedCovers, DueFromRecords, DueFromRows, NextFromRecords, RowsAreNotHeard};
 ghost use Rattle.store_live_laws.specs.Memory.{AllArrivalsAreTold, AllInputsCount, InputAgrees};
-ghost use Rattle.store_live_laws.specs.Read.{AllFramesAreRead, HandedIsRead, KnownAtBegin};
-ghost use Rattle.store_live_laws.specs.Agrees.{AgreesAtFirst, AgreesBegun, AgreesElsewhere, AgreesInvoked, AllLeftIsTold, CausesAreTold, KeepsEnded, KeepsInput, KeepsRecorded, LiveIsOpen, LiveIsTold, PartIsTold, StaleIsTold};
+ghost use Rattle.store_live_laws.specs.InputRows.{AllFramesAreRead, HandedIsRead, KnownAtBegin};
+ghost use Rattle.store_live_laws.specs.LiveAttempts.{AgreesAtFirst, AgreesBegun, AgreesElsewhere, AgreesInvoked, AllLeftIsTold, CausesAreTold, KeepsEnded, KeepsInput, KeepsRecorded, LiveIsOpen, LiveIsTold, PartIsTold, StaleIsTold};
 
 /// Each frame of an attempt's input is read from one row, by its place or by its ordinal among the arrivals.
 pub fn frames_are_read()

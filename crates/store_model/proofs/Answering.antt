@@ -22,7 +22,7 @@ use Rattle.journal_model.specs.Cause.{IsAccepted, causes_of, tests_of, do_ascend
 use Rattle.journal_laws.proofs.ObjectState.{holds-head, holds-tail, tail_of, not-false, requests_in-append, no_entries}
 use Rattle.store_tables.specs.declared.row.EntryRow.{EntryRow}
 use Rattle.store_tables.specs.Questions.{is_number, answers}
-use Rattle.store_model.specs.Kept.{answered_by, entry_row, rows_from, rows_of_journal, journal_rows}
+use Rattle.store_model.specs.KeptRecords.{answered_by, entry_row, rows_from, rows_of_journal, journal_rows}
 use Rattle.store_model.proofs.Journals.{added_to}
 use Rattle.store_model.specs.Lookups.{AllAnswerOnce}
 use Rattle.store_model.proofs.Only.{filter_both}

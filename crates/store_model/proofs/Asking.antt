@@ -13,7 +13,7 @@ use Rattle.journal_laws.proofs.ObjectState.{holds-head, holds-tail, tail_of, not
 use Rattle.store_tables.specs.declared.row.EntryRow.{EntryRow}
 use Rattle.store_tables.specs.Questions.{is_number}
 use Rattle.store_model.specs.Progress.{first_item, second_of}
-use Rattle.store_model.specs.Kept.{entry_row, rows_from, input_row, rows_of_journal, journal_rows}
+use Rattle.store_model.specs.KeptRecords.{entry_row, rows_from, input_row, rows_of_journal, journal_rows}
 use Rattle.store_model.proofs.Journals.{added_to}
 use Rattle.store_model.specs.Lookups.{asked_at, row_if, AllAskOnce}
 use Rattle.store_model.proofs.Only.{filter_both}

@@ -24,7 +24,7 @@ use Rattle.store_tables.specs.Records.{Records, ends_by, is_sleep_of}
 use Rattle.store_tables.specs.Orders.{AreApart, sleep_cmp}
 use Rattle.store_tables.specs.declared.row.SleepRow.{SleepRow}
 use Rattle.store_model.specs.Sleeps.{due_until, sleep_row}
-use Rattle.store_model.specs.Kept.{IsKept}
+use Rattle.store_model.specs.KeptRecords.{IsKept}
 use Rattle.store_model.proofs.Lists.{filter_swap}
 use Rattle.store_model.proofs.States.{itself}
 use Rattle.store_model.specs.Lookups.{AllEndedFound, due_sleeps, ended_sleeps, is_open_sleep, open_among}

@@ -18,7 +18,7 @@ use Rattle.store_tables.specs.Records.{Records, is_at_key, is_of_object}
 use Rattle.store_tables.specs.declared.row.EntryRow.{EntryRow}
 use Rattle.store_tables.specs.declared.row.StateRow.{StateRow}
 use Rattle.store_tables.specs.Questions.{has_id, is_at_place, journal_of, AreInPlace}
-use Rattle.store_model.specs.Kept.{rows_from, rows_of_journal, journal_rows, begun, invocation_row, state_row, IsKept}
+use Rattle.store_model.specs.KeptRecords.{rows_from, rows_of_journal, journal_rows, begun, invocation_row, state_row, IsKept}
 use Rattle.journal_laws.proofs.Keys.{first_holds, second_holds, is_less}
 use Rattle.store_model.proofs.States.{ordered, either_way}
 use Rattle.store_model.specs.Lookups.{IsOnly, AllFind}

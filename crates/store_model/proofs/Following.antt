@@ -22,7 +22,7 @@ use Rattle.store_tables.specs.declared.row.Closing.{Closing}
 use Rattle.store_tables.specs.declared.row.LastError.{LastError}
 use Rattle.store_tables.specs.declared.row.Progress.{Progress}
 use Rattle.store_tables.specs.declared.row.Closing.TheVariants.{Ended, Failed}
-use Rattle.due_laws.specs.Noted.{or_kept, heard_of, is_awake_kept, Noted, noted_of}
+use Rattle.due_laws.specs.AwakeNotes.{or_kept, heard_of, is_awake_kept, Noted, noted_of}
 use Rattle.store_model.specs.Places.{handed_place, handed_of}
 use Rattle.store_model.specs.Progress.{first_item, or_last, last_of, number_or_zero, payload_of_suspension, way_closed, output_payload, last_output, progress_of}
 use Rattle.due_laws.specs.Awake.{is_still}

@@ -17,7 +17,7 @@ use Rattle.journal_model.specs.Attempt.{type_of_completion, notification_type, i
 use Rattle.journal_model.specs.Cause.{IsAccepted}
 use Rattle.journal_laws.proofs.ObjectState.{requests_in-append}
 use Rattle.protocol_types.specs.declared.message_type.MessageType.{MessageType}
-use Rattle.store_model.specs.Kept.{entry_row, rows_from, input_row, rows_of_journal}
+use Rattle.store_model.specs.KeptRecords.{entry_row, rows_from, input_row, rows_of_journal}
 use Rattle.store_model.proofs.Journals.{added_to}
 use Rattle.store_model.specs.Lookups.{row_frame, AllFrames}
 use Rattle.store_model.proofs.Opening.{or_nothing}

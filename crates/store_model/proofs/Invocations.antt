@@ -15,7 +15,7 @@ use Rattle.journal_laws.proofs.ObjectState.{begin_when_new, begun_before}
 use Rattle.store_tables.specs.declared.row.Progress.{Progress}
 use Rattle.store_tables.specs.declared.row.InvocationRow.{InvocationRow}
 use Rattle.store_model.specs.Progress.{progress_of}
-use Rattle.store_model.specs.Kept.{begun, begun_by, invocation_row}
+use Rattle.store_model.specs.KeptRecords.{begun, begun_by, invocation_row}
 use Rattle.store_model.specs.Writes.{ends_sleep, ids_of_frame, changed_by}
 use Rattle.store_model.proofs.Lists.{map_on}
 use Rattle.store_model.proofs.Same.{both_same, Leaves, same_progress, nothing_added}

@@ -11,7 +11,7 @@ use Rattle.journal_model.specs.Journal.{Entry, Recorded, Arrived, is_of, is_tick
 use Rattle.journal_model.specs.Cause.{is_empty, IsAccepted}
 use Rattle.journal_laws.proofs.ObjectState.{begin_when_new, begun_before, no_entries, none_of}
 use Rattle.store_tables.specs.declared.row.EntryRow.{EntryRow}
-use Rattle.store_model.specs.Kept.{entry_row, rows_from, input_row, rows_of_journal, journal_rows, begun, begun_by}
+use Rattle.store_model.specs.KeptRecords.{entry_row, rows_from, input_row, rows_of_journal, journal_rows, begun, begun_by}
 use Rattle.store_model.specs.Writes.{rows_added, ends_sleep, ids_of_frame, changed_by}
 use Rattle.due_laws.specs.Awake.{is_still}
 use Rattle.store_model.proofs.Same.{both_same, same_begun, same_entries, foreign_adds, nothing_added}

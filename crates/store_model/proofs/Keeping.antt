@@ -12,7 +12,7 @@ use Rattle.store_tables.specs.declared.row.EntryRow.{EntryRow}
 use Rattle.store_tables.specs.Questions.{journal_of}
 use Rattle.store_model.specs.Progress.{progress_of}
 use Rattle.store_model.specs.Sleeps.{sleeps_after}
-use Rattle.store_model.specs.Kept.{input_row, journal_rows, begun, begun_by, invocation_row, state_row, AreStates, IsKept}
+use Rattle.store_model.specs.KeptRecords.{input_row, journal_rows, begun, begun_by, invocation_row, state_row, AreStates, IsKept}
 use Rattle.store_model.specs.Writes.{rows_added, changed_by, KeptAtFirst, KeptAfter}
 use Rattle.store_model.proofs.Writing.{stepped, states_written, applied-event}
 use Rattle.store_model.proofs.Journals.{is_row_of, journals_kept}

@@ -12,7 +12,7 @@ use Rattle.store_tables.specs.declared.row.Progress.{Progress}
 use Rattle.store_tables.specs.declared.row.EntryRow.{EntryRow}
 use Rattle.store_tables.specs.declared.row.Closing.TheVariants.{Ended}
 use Rattle.store_tables.specs.declared.row.Write.TheVariants.{AddInvocation, SetProgress, AddEntry, PutState, OpenSleep, CloseSleeps, CloseSleepsUntil}
-use Rattle.store_model.specs.Kept.{version_kept, plain_row}
+use Rattle.store_model.specs.KeptRecords.{version_kept, plain_row}
 use Rattle.store_model.specs.Progress.{begun_progress}
 use Rattle.store_model.specs.Writes.{writes_of}
 

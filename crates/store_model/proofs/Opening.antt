@@ -12,7 +12,7 @@ use Rattle.journal_model.specs.Journal.{invoked_by, invocation_begun, is_open, i
 use Rattle.journal_model.specs.Cause.{IsAccepted}
 use Rattle.journal_laws.proofs.ObjectState.{begin_when_new, begun_before, find-passes, open_alone}
 use Rattle.store_tables.specs.Questions.{is_text, is_open_of}
-use Rattle.store_model.specs.Kept.{begun, begun_by, invocation_row}
+use Rattle.store_model.specs.KeptRecords.{begun, begun_by, invocation_row}
 use Rattle.store_model.specs.Lookups.{AllOpenOnce}
 use Rattle.store_model.proofs.Only.{only_one}
 use Rattle.store_model.proofs.Finding.{named_once}

@@ -11,7 +11,7 @@ use Rattle.journal_laws.proofs.ObjectState.{no_entries}
 use Rattle.store_tables.specs.Records.{Records}
 use Rattle.store_tables.specs.Questions.{AreCounted, is_above, is_arrival_after, is_arrival_at, is_number}
 use Rattle.store_tables.specs.declared.row.EntryRow.{EntryRow}
-use Rattle.store_model.specs.Kept.{entry_row, rows_from, rows_of_journal, IsKept}
+use Rattle.store_model.specs.KeptRecords.{entry_row, rows_from, rows_of_journal, IsKept}
 use Rattle.store_model.proofs.Following.{arrived_more}
 use Rattle.store_model.specs.Lookups.{AllArrivalsFound, IsOnly, arrival_rows, rows_of_arrivals}
 use Rattle.store_model.proofs.Only.{filter_both}

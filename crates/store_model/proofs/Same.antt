@@ -11,7 +11,7 @@ use Rattle.journal_model.specs.Start.{is_some_entry, moment_begun, begun_since_e
 use Rattle.journal_model.specs.Cause.{last_completion}
 use Rattle.journal_laws.proofs.ObjectState.{begun_before}
 use Rattle.store_tables.specs.declared.row.LastError.{LastError}
-use Rattle.due_laws.specs.Noted.{heard_in, heard_of, or_zero}
+use Rattle.due_laws.specs.AwakeNotes.{heard_in, heard_of, or_zero}
 use Rattle.due_laws.specs.Awake.{is_quiet, is_still}
 use Rattle.due_laws.proofs.Noting.{still_adds}
 use Rattle.store_model.specs.Places.{handed_in, handed_of}

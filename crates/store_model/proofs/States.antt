@@ -17,7 +17,7 @@ use Rattle.journal_laws.proofs.Applying.{same_bytes, state_change-ordered, state
 use Rattle.store_tables.specs.Records.{is_at_key, is_of_object}
 use Rattle.store_tables.specs.declared.row.StateRow.{StateRow}
 use Rattle.store_tables.specs.Questions.{DoAscend}
-use Rattle.store_model.specs.Kept.{state_row}
+use Rattle.store_model.specs.KeptRecords.{state_row}
 use Rattle.store_model.proofs.Lists.{filter_swap}
 use Rattle.store_model.proofs.Writing.{states_changed, states_after, states_written}
 

@@ -13,7 +13,7 @@ use Rattle.store_tables.specs.declared.row.EntryRow.{EntryRow}
 use Rattle.store_tables.specs.declared.row.Progress.{Progress}
 use Rattle.store_model.specs.Progress.{progress_of}
 use Rattle.store_model.specs.Sleeps.{sleeps_after}
-use Rattle.store_model.specs.Kept.{journal_rows, begun, invocation_row, IsKept}
+use Rattle.store_model.specs.KeptRecords.{journal_rows, begun, invocation_row, IsKept}
 use Rattle.store_model.specs.Writes.{AreEnding, KeptInAnyOrder, changed_by, ends_sleep, invocation_writes, rows_added, sleep_writes, tick_writes}
 use Rattle.store_model.proofs.Invocations.{WasBegun, all_begun, among_chosen, rows_kept, stepped_is}
 use Rattle.store_model.proofs.Journals.{added_to, is_row_of, journal_grows, rows_behind, rows_of-one, rows_slept}

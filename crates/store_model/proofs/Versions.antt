@@ -10,7 +10,7 @@ use Rattle.journal_model.specs.Event.{Event}
 use Rattle.journal_model.specs.Journal.{invocation_begun, version_of}
 use Rattle.journal_model.specs.Cause.{IsAccepted, causes_of, own_tests}
 use Rattle.journal_laws.proofs.ObjectState.{begun_before, holds-head, holds-tail, tail_of}
-use Rattle.store_model.specs.Kept.{version_kept}
+use Rattle.store_model.specs.KeptRecords.{version_kept}
 
 pub kept_of : (version : Version) → version_kept (version_number version) ≡ version
 unfolding version_kept

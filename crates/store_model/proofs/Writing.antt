@@ -14,7 +14,7 @@ use Rattle.store_tables.specs.declared.row.SleepRow.{SleepRow}
 use Rattle.store_tables.specs.declared.row.Write.{Write}
 use Rattle.store_tables.specs.declared.row.Write.TheVariants.{SetProgress, AddEntry, OpenSleep, CloseSleeps}
 use Rattle.store_model.specs.Progress.{progress_of}
-use Rattle.store_model.specs.Kept.{input_row, begun_by, invocation_row}
+use Rattle.store_model.specs.KeptRecords.{input_row, begun_by, invocation_row}
 use Rattle.store_model.specs.Sleeps.{sleeps_opened, sleeps_after_frame, sleeps_after}
 use Rattle.store_model.specs.Writes.{begin_writes, rows_added, invocation_writes, changed_by, sleep_writes, sleep_writes_of, state_write, state_writes, writes_of}
 

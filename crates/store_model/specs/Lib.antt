@@ -1,7 +1,7 @@
 pub mod Places
 pub mod Progress
 pub mod Sleeps
-pub mod Kept
+pub mod KeptRecords
 pub mod Writes
 pub mod Steps
 pub mod Lookups

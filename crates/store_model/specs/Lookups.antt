@@ -17,7 +17,7 @@ use Rattle.store_tables.specs.declared.row.SleepRow.{SleepRow}
 use Rattle.store_tables.specs.Questions.{has_id, is_open_of, is_at_place, asks_for, asks_second_for, answers, journal_of, is_arrival_after, is_arrival_at, is_number, AreCounted, AreInPlace}
 use Rattle.store_model.specs.Progress.{first_item, second_of}
 use Rattle.store_model.specs.Sleeps.{due_until, sleep_row, sleeps_kept}
-use Rattle.store_model.specs.Kept.{entry_row, journal_rows, invocation_row, state_row, IsKept}
+use Rattle.store_model.specs.KeptRecords.{entry_row, journal_rows, invocation_row, state_row, IsKept}
 
 -- of all these, what passes a test is this one, or none: so it is the first one, and the only one
 abbrev pub IsOnly : {A : Type 0} → (A → Bool) → List A → Option A → Type 0

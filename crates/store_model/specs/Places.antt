@@ -6,7 +6,7 @@ use Rattle.journal_model.specs.declared.invocation.NewInvocation.{NewInvocation}
 use Rattle.journal_model.specs.Event.{Frame, Event}
 use Rattle.journal_model.specs.Journal.{Entry, Recorded, Arrived, invocation_begun, entries_from, entries_added, starting_state}
 use Rattle.journal_model.specs.Attempt.{Piece, begins_attempt, input_pieces, bytes_handed}
-use Rattle.due_laws.specs.Noted.{or_kept}
+use Rattle.due_laws.specs.AwakeNotes.{or_kept}
 
 -- the places of entries that stand from this place on; and of the arrivals among them
 abbrev pub places_of : ℕ → List Entry → List ℕ

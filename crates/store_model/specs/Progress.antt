@@ -15,7 +15,7 @@ use Rattle.store_tables.specs.declared.row.Closing.{Closing}
 use Rattle.store_tables.specs.declared.row.LastError.{LastError}
 use Rattle.store_tables.specs.declared.row.Progress.{Progress}
 use Rattle.store_tables.specs.declared.row.Closing.TheVariants.{Ended, Failed}
-use Rattle.due_laws.specs.Noted.{heard_of, is_awake_kept}
+use Rattle.due_laws.specs.AwakeNotes.{heard_of, is_awake_kept}
 use Rattle.store_model.specs.Places.{handed_of}
 
 abbrev pub first_item : {A : Type 0} → List A → Option A

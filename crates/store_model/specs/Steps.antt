@@ -7,7 +7,7 @@ use Rattle.journal_model.specs.Journal.{invocation_of, invoked_by, version_of, c
 use Rattle.journal_model.specs.Cause.{greatest}
 use Rattle.store_tables.specs.declared.row.Progress.{Progress}
 use Rattle.store_tables.specs.declared.row.Closing.TheVariants.{Ended, Failed}
-use Rattle.due_laws.specs.Noted.{Noted, noted_of}
+use Rattle.due_laws.specs.AwakeNotes.{Noted, noted_of}
 use Rattle.store_model.specs.Places.{handed_place}
 use Rattle.store_model.specs.Progress.{payload_of_suspension, output_payload, behavior_number, progress_of}
 use Rattle.store_model.specs.Writes.{ends_sleep}

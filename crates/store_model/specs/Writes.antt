@@ -13,7 +13,7 @@ use Rattle.store_tables.specs.declared.row.Write.{Write}
 use Rattle.store_tables.specs.declared.row.Write.TheVariants.{AddInvocation, SetProgress, AddEntry, PutState, DropState, DropStates, OpenSleep, CloseSleeps, CloseSleepsUntil}
 use Rattle.store_model.specs.Progress.{progress_of}
 use Rattle.store_model.specs.Sleeps.{due_until, sleeps_opened}
-use Rattle.store_model.specs.Kept.{rows_from, input_row, begun, invocation_row, IsKept}
+use Rattle.store_model.specs.KeptRecords.{rows_from, input_row, begun, invocation_row, IsKept}
 
 -- a new invocation, with its input
 abbrev pub begin_writes : List Event → Event → List Write

@@ -18,10 +18,10 @@ use Rattle.store_tables.specs.declared.row.InvocationRow.{InvocationRow}
 use Rattle.store_tables.specs.declared.row.SleepRow.{SleepRow}
 use Rattle.store_live_laws.proofs.Awake.{awake_are_arranged, begun_rise, due_from_records, id_cmp_total}
 use Rattle.store_live_laws.proofs.NextSleep.{next_from_records}
-use Rattle.store_refusals.specs.Refused.{is_circumstance, reading_refusal}
-use Rattle.store_refusals.specs.Prepared.{Keeps}
+use Rattle.store_refusals.specs.RefusalConditions.{is_circumstance, reading_refusal}
+use Rattle.store_refusals.specs.Preparations.{Keeps}
 use Rattle.store_invocations.proofs.Deciding.{circumstance_unless}
-use Rattle.store_model.specs.Kept.{begun, invocation_row}
+use Rattle.store_model.specs.KeptRecords.{begun, invocation_row}
 use Rattle.store_reads.specs.Page.{rows_behind}
 use Rattle.store_reads.proofs.PageRows.{first_is_head}
 

@@ -14,14 +14,14 @@ use Rattle.journal_model.specs.Event.{Event}
 use Rattle.journal_model.specs.Journal.{is_busy}
 use Rattle.journal_model.specs.Cause.{IsAccepted, causes_of, is_empty}
 use Rattle.journal_model.specs.Attempt.{due, is_none, live_attempt}
-use Rattle.due_laws.specs.Noted.{is_awake_kept}
+use Rattle.due_laws.specs.AwakeNotes.{is_awake_kept}
 use Rattle.store_tables.specs.declared.row.InvocationRow.{InvocationRow}
 use Rattle.store_tables.specs.Orders.{id_cmp}
 use Rattle.store_tables.specs.Questions.{DoAscend, is_awake, is_before, is_named_after}
-use Rattle.store_model.specs.Kept.{begun, begun_by, invocation_row}
+use Rattle.store_model.specs.KeptRecords.{begun, begun_by, invocation_row}
 use Rattle.store_live.specs.declared.attempt.LiveAttempt.{LiveAttempt}
 use Rattle.store_live.specs.Attempts.{ByInvocation, attempt_of}
-use Rattle.store_live_laws.specs.Agrees.{Agrees}
+use Rattle.store_live_laws.specs.LiveAttempts.{Agrees}
 use Rattle.store_live_laws.proofs.Awake.{begun_rise, id_cmp_total}
 use Rattle.store_live_laws.proofs.Kept.{due_from_rows}
 use Rattle.store_reads.specs.Page.{rows_behind, rows_by_id}

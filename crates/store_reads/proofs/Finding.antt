@@ -6,14 +6,14 @@ use Rattle.journal_model.specs.Event.{Event}
 use Rattle.store_tables.specs.Records.{Records}
 use Rattle.store_tables.specs.Questions.{is_at_place, is_arrival_at}
 use Rattle.store_tables.specs.declared.row.EntryRow.{EntryRow}
-use Rattle.store_model.specs.Kept.{journal_rows}
+use Rattle.store_model.specs.KeptRecords.{journal_rows}
 use Rattle.store_model.specs.Lookups.{IsOnly, arrival_rows}
 use Rattle.store_model.proofs.Finding.{all_found}
 use Rattle.store_model.proofs.Ordinals.{arrivals_found}
 use Rattle.store_live.specs.declared.input.NextRow.{NextRow}
 use Rattle.store_live.specs.Input.{InputKept, next_ordinal, next_row}
 use Rattle.store_invocations.proofs.Reading.{KeepsOnly}
-use Rattle.store_reads.specs.Read.{IsCounted}
+use Rattle.store_reads.specs.RowFrames.{IsCounted}
 
 pub entry_kept : (events : List Event) (id : Text) (place : ℕ) → KeepsOnly events (λ (r : Records). r.entries) (is_at_place id place) (slice_get (journal_rows events id) place)
 entry_kept events id place r accepted kept = (all_found events r accepted kept).entry id place

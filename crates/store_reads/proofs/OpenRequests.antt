@@ -15,7 +15,7 @@ use Rattle.journal_model.specs.Spelling.{request_type}
 use Rattle.journal_model.specs.Event.{Event}
 use Rattle.journal_model.specs.Journal.{Entry, Recorded, Arrived, arrivals_in, closes, completes, entries_of, frames_of, invocation_begun, is_awaited, is_open, version_of}
 use Rattle.store_tables.specs.declared.row.EntryRow.{EntryRow}
-use Rattle.store_model.specs.Kept.{entry_row, journal_rows, rows_from, rows_of_journal}
+use Rattle.store_model.specs.KeptRecords.{entry_row, journal_rows, rows_from, rows_of_journal}
 use Rattle.store_reads.specs.declared.requests.OpenRequest.{OpenRequest}
 use Rattle.store_reads.specs.OpenRequests.{asks_others, asks_others_by, entry_told, if_open, is_answered, journal_if_open, open_requests, request_read, row_told, rows_told, told_from, with_number}
 

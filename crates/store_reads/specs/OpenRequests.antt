@@ -11,7 +11,7 @@ use Rattle.journal_model.specs.Spelling.{request_type, request_payload}
 use Rattle.journal_model.specs.Event.{Event}
 use Rattle.journal_model.specs.Journal.{Entry, Recorded, Arrived, entries_of, is_awaited, is_open}
 use Rattle.store_tables.specs.declared.row.EntryRow.{EntryRow}
-use Rattle.store_model.specs.Kept.{journal_rows}
+use Rattle.store_model.specs.KeptRecords.{journal_rows}
 use Rattle.store_model.specs.Progress.{first_item, second_of}
 use Rattle.store_reads.specs.declared.requests.OpenRequest.{OpenRequest}
 

@@ -6,7 +6,7 @@ use Rattle.journal_model.specs.Event.{Event}
 use Rattle.store_tables.specs.declared.row.InvocationRow.{InvocationRow}
 use Rattle.store_tables.specs.Orders.{id_cmp}
 use Rattle.store_tables.specs.Questions.{is_named_after}
-use Rattle.store_model.specs.Kept.{begun, invocation_row}
+use Rattle.store_model.specs.KeptRecords.{begun, invocation_row}
 
 -- the rows of the invocations that were begun, closed ones too, by ascending ids
 abbrev pub rows_by_id : List Event → List InvocationRow

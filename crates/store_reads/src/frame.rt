@@ -5,7 +5,7 @@ ghost use Rattle.journal_model.specs.Spelling.{acknowledgement_payload, frame_by
 ghost use Rattle.protocol_types.specs.declared.message_type.MessageType.{MessageType};
 ghost use Rattle.store_model.specs.Lookups.{row_frame};
 ghost use Rattle.store_live_laws.specs.Memory.{frame_read};
-ghost use Rattle.store_reads.specs.Read.{frame_as, frame_told};
+ghost use Rattle.store_reads.specs.RowFrames.{frame_as, frame_told};
 
 use bytes::{Bytes, BytesMut};
 use protocol_controls::ProposeRunCompletionAckMessage;

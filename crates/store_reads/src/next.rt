@@ -7,7 +7,7 @@ ghost use Rattle.journal_model.specs.Event.{Event};
 ghost use Rattle.due_laws.specs.NextMoment.{IsNextMoment};
 ghost use Rattle.store_tables.specs.Looks.{OnlyAsks};
 ghost use Rattle.store_tables.specs.declared.row.SleepRow.{SleepRow};
-ghost use Rattle.store_refusals.specs.Prepared.{TellsOrRefuses};
+ghost use Rattle.store_refusals.specs.Preparations.{TellsOrRefuses};
 ghost use Rattle.store_invocations.specs.Rows.{IsStoreOf};
 ghost use Rattle.store_refusals.specs.Causes.{TellsCause};
 

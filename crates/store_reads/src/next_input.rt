@@ -5,13 +5,13 @@ ghost use Rattle.sqlite.specs.Held.{state};
 ghost use Rattle.sqlite.specs.State.{HasCleanDisk};
 ghost use Rattle.journal_model.specs.Event.{Event};
 ghost use Rattle.store_tables.specs.Looks.{OnlyAsks};
-ghost use Rattle.store_model.specs.Kept.{journal_rows};
+ghost use Rattle.store_model.specs.KeptRecords.{journal_rows};
 ghost use Rattle.store_model.specs.Lookups.{arrival_rows};
 ghost use Rattle.store_live.specs.Input.{next_ordinal, next_row};
 ghost use Rattle.store_live_laws.specs.Memory.{frame_read, row_asked};
-ghost use Rattle.store_refusals.specs.Prepared.{TellsOrRefuses};
+ghost use Rattle.store_refusals.specs.Preparations.{TellsOrRefuses};
 ghost use Rattle.store_invocations.specs.Rows.{IsStoreOf};
-ghost use Rattle.store_reads.specs.Read.{IsCounted};
+ghost use Rattle.store_reads.specs.RowFrames.{IsCounted};
 ghost use Rattle.store_refusals.specs.Causes.{TellsCause};
 
 use crate::frame::{acknowledged, frame_of};

@@ -14,7 +14,7 @@ use Rattle.journal_model.specs.Cause.{Tests}
 use Rattle.journal_model.specs.declared.cause.Cause.{Cause}
 use Rattle.protocol_stream.specs.declared.encoder.EncodingError.{EncodingError}
 use Rattle.protocol_stream.specs.declared.encoder.EncodingError.TheVariants as encoding
-use Rattle.store_refusals.specs.Refused.{encoding_refusal, reading_refusal, refusal_by}
+use Rattle.store_refusals.specs.RefusalConditions.{encoding_refusal, reading_refusal, refusal_by}
 use Rattle.store_refusals.specs.Causes.{IsUnasked, TellsCause}
 
 -- ---- a refusal that is passed on

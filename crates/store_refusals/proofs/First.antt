@@ -1,7 +1,7 @@
 -- The first test that holds.
 use Rattle.std.proofs.Common.{◌≡◌, refl, true, false, [], ◌∷◌, None}
 use Rattle.journal_model.specs.Cause.{Tests, those_that_hold}
-use Rattle.store_refusals.specs.Refused.{refusal_of_first_cause, refusal_by}
+use Rattle.store_refusals.specs.RefusalConditions.{refusal_of_first_cause, refusal_by}
 
 -- the least cause is that of the first test that holds
 pub first_holds : (tests : Tests) → refusal_of_first_cause (those_that_hold tests) ≡ refusal_by tests

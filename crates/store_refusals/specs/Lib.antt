@@ -1,4 +1,4 @@
 pub mod Causes
 pub mod Names
-pub mod Refused
-pub mod Prepared
+pub mod RefusalConditions
+pub mod Preparations

@@ -2,7 +2,7 @@
 ghost use Rattle.std.specs.Prelude.{◌≡◌};
 ghost use Rattle.store_refusals.specs.declared.refusal.Refusal.TheVariants.{OutOfMemory, StatementRefused};
 ghost use Rattle.store_refusals.specs.Names.{cause_name, refusal_name_of};
-ghost use Rattle.store_refusals.specs.Refused.{encoding_refusal, reading_refusal};
+ghost use Rattle.store_refusals.specs.RefusalConditions.{encoding_refusal, reading_refusal};
 
 use journal_model::Cause;
 use protocol_stream::EncodingError;

@@ -6,12 +6,12 @@ use Rattle.std.specs.Io.KnownBytes.{Appends}
 use Rattle.sqlite_trees.specs.declared.store.Store.{Ghosts}
 use Rattle.server_lines.specs.declared.request.Request.{Request}
 use Rattle.server_lines.specs.RequestReader.{request_of}
-use Rattle.journal_store.specs.Stored.{Stored}
+use Rattle.journal_store.specs.StoreView.{Stored}
 use Rattle.store_server.specs.declared.fault.ServerFault.{ServerFault}
 use Rattle.store_server.specs.declared.fault.ServerFault.TheVariants.{AnswerOutOfMemory, OutputUnwritable}
 use Rattle.store_server.specs.StoreChanges.{ReachesStore}
-use Rattle.store_server.specs.Answered.{CutsLine, CutsRead, DoesLine, DoesRead, MakesAnswer}
-use Rattle.store_server.specs.Served.{DoesGiven, StopsAtLine}
+use Rattle.store_server.specs.RequestAnswers.{CutsLine, CutsRead, DoesLine, DoesRead, MakesAnswer}
+use Rattle.store_server.specs.Dialogue.{DoesGiven, StopsAtLine}
 
 module _ {S : Type 0} (g : Ghosts S) (line : List ℕ) (old new : Stored S) where
   -- this is the answer to the line

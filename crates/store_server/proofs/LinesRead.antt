@@ -6,8 +6,8 @@ use Rattle.std.specs.Io.{StopsAt, appended_bytes}
 use Rattle.std.specs.Io.BufRead.{DropsThrough, drop_through, take_through}
 use Rattle.std.specs.Io.KnownBytes.{Consumes}
 use Rattle.std.proofs.lemmas.List.Elements.{recursion_from_All as to}
-use Rattle.store_server.specs.Reading.{IsOpenLine, ReadsLine}
-use Rattle.store_server.specs.Served.{EndOf, HasNoFeed}
+use Rattle.store_server.specs.LineReads.{IsOpenLine, ReadsLine}
+use Rattle.store_server.specs.Dialogue.{EndOf, HasNoFeed}
 
 -- one less of a longer list
 one_less : (n : ℕ) → suc (suc n) - 1 ≡ suc (suc n - 1)

@@ -3,13 +3,13 @@ use Rattle.std.proofs.Common.{◌≡◌, ℕ, Bool, true, false, List, [], ◌�
 use Rattle.std.specs.Io.KnownBytes.{Appends, Consumes}
 use Rattle.std.proofs.KnownBytes.{Appends-nil, Appends-trans, Consumes-nil, Consumes-trans}
 use Rattle.sqlite_trees.specs.declared.store.Store.{Ghosts}
-use Rattle.journal_store.specs.Stored.{Stored}
+use Rattle.journal_store.specs.StoreView.{Stored}
 use Rattle.store_server.specs.declared.fault.ServerFault.{ServerFault}
 use Rattle.store_server.specs.declared.fault.ServerFault.TheVariants.{InputUnreadable, LineTooLong, LineOutOfMemory, AnswerOutOfMemory, Untold, OutputUnwritable}
 use Rattle.store_server.specs.StoreChanges.{ReachesStore}
-use Rattle.store_server.specs.Answered.{CutsLine, DoesLine}
-use Rattle.store_server.specs.Reading.{ReadsLine, StopsReading}
-use Rattle.store_server.specs.Served.{CutsAll, DoesAll, DoesGiven, DoesNextLine, DoesNoLine, DoneLine, EndOf, GoesOn, HasServed, Serves, StopsAtLine, lines_of, texts_of}
+use Rattle.store_server.specs.RequestAnswers.{CutsLine, DoesLine}
+use Rattle.store_server.specs.LineReads.{ReadsLine, StopsReading}
+use Rattle.store_server.specs.Dialogue.{CutsAll, DoesAll, DoesGiven, DoesNextLine, DoesNoLine, DoneLine, EndOf, GoesOn, HasServed, Serves, StopsAtLine, lines_of, texts_of}
 use Rattle.store_server.proofs.Reaching.{reaches_none, reaches_then, stays}
 
 end_through : (a b c : Option (List ℕ)) (bs : List ℕ) → Consumes a b bs → EndOf b c → EndOf a c

@@ -8,15 +8,15 @@ use Rattle.journal_model.specs.Notification.{Text}
 use Rattle.journal_model.specs.Event.{Event}
 use Rattle.store_refusals.specs.declared.refusal.Refusal.{Refusal}
 use Rattle.store_refusals.specs.declared.refusal.Refusal.TheVariants.{OutOfMemory}
-use Rattle.store_refusals.specs.Prepared.{TellsOrRefuses}
-use Rattle.store_refusals.specs.Refused.{IsRefused}
+use Rattle.store_refusals.specs.Preparations.{TellsOrRefuses}
+use Rattle.store_refusals.specs.RefusalConditions.{IsRefused}
 use Rattle.store_tables.specs.declared.row.InvocationRow.{InvocationRow}
 use Rattle.store_live.specs.declared.attempt.LiveAttempt.{LiveAttempt}
 use Rattle.store_live.specs.Attempts.{attempt_of}
 use Rattle.store_reads.specs.Page.{invocations_after}
 use Rattle.store_calls.specs.AbstractStore.{Standing}
-use Rattle.journal_store.specs.Stored.{Stored}
-use Rattle.journal_store.specs.Stands.{IsQuiet, IsStanding, Stands}
+use Rattle.journal_store.specs.StoreView.{Stored}
+use Rattle.journal_store.specs.StoreStanding.{IsQuiet, IsStanding, Stands}
 use Rattle.store_server.specs.declared.rows.ListedInvocation.{ListedInvocation}
 use Rattle.store_server.specs.Rows.{listed_by, listed_of, row_status}
 use Rattle.store_server.specs.StoreChanges.{CommitsNothing, ReachesStore, Tells, items_told}

@@ -5,12 +5,12 @@ use Rattle.std.specs.Io.KnownBytes.{Appends}
 use Rattle.std.proofs.KnownBytes.{Appends-nil, Appends-trans}
 use Rattle.sqlite_trees.specs.declared.store.Store.{Ghosts}
 use Rattle.journal_model.specs.Notification.{Text}
-use Rattle.journal_store.specs.Stored.{Stored}
+use Rattle.journal_store.specs.StoreView.{Stored}
 use Rattle.store_server.specs.declared.fault.ServerFault.{ServerFault}
 use Rattle.store_server.specs.declared.fault.ServerFault.TheVariants.{InputUnreadable, LineTooLong, LineOutOfMemory, AnswerOutOfMemory, Untold, OutputUnwritable}
 use Rattle.store_server.specs.declared.rows.ListedInvocation.{ListedInvocation}
 use Rattle.store_server.specs.StoreChanges.{CommitsNothing}
-use Rattle.store_server.specs.Answered.{Shown}
+use Rattle.store_server.specs.RequestAnswers.{Shown}
 use Rattle.store_server.specs.Rows.{all_listed_text, end_line}
 use Rattle.store_server.specs.Pages.{ArePages, HasListed, IsPage, IsWriteFault, Lists, ListsAll, ListsPage, TellsSo, id_behind, pages_text}
 use Rattle.store_server.proofs.LinesServed.{written_nothing}

@@ -8,16 +8,16 @@ use Rattle.journal_model.specs.Event.{Event}
 use Rattle.journal_model.specs.Notification.{Text}
 use Rattle.journal_model.specs.Cause.{those_that_hold}
 use Rattle.store_refusals.specs.declared.refusal.Refusal.{Refusal}
-use Rattle.store_refusals.specs.Prepared.{TellsOrRefuses}
-use Rattle.store_refusals.specs.Refused.{IsRefused}
+use Rattle.store_refusals.specs.Preparations.{TellsOrRefuses}
+use Rattle.store_refusals.specs.RefusalConditions.{IsRefused}
 use Rattle.store_invocations.specs.Rows.{Decides, known_tests}
 use Rattle.store_live.specs.Attempts.{Attempts}
 use Rattle.store_calls.specs.AbstractStore.{Standing, StaysStanding}
-use Rattle.journal_store.specs.Stored.{Stored}
-use Rattle.journal_store.specs.Stands.{Endures, EnduresAlways, IsQuiet, Leads, Stands, output_of}
+use Rattle.journal_store.specs.StoreView.{Stored}
+use Rattle.journal_store.specs.StoreStanding.{Endures, EnduresAlways, IsQuiet, Leads, Stands, output_of}
 use Rattle.journal_store.proofs.Enduring.{always_endures, endures_on, endures_so, quiet_endures, same_endures}
 use Rattle.store_server.specs.StoreChanges.{CommitsNothing, ReachesStore, Tells, TellsKnown}
-use Rattle.store_server.specs.Answered.{Answers, MakesAnswer, Shown, answer_text, refusal_line}
+use Rattle.store_server.specs.RequestAnswers.{Answers, MakesAnswer, Shown, answer_text, refusal_line}
 
 pub stays : (s : Standing) → StaysStanding s s
 stays s = record { events = refl; outputs = λ id. refl }

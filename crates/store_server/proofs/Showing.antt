@@ -9,22 +9,22 @@ use Rattle.journal_model.specs.Event.{Event}
 use Rattle.journal_model.specs.Journal.{is_open, object_state}
 use Rattle.journal_model.specs.Cause.{those_that_hold}
 use Rattle.store_refusals.specs.declared.refusal.Refusal.{Refusal}
-use Rattle.store_refusals.specs.Refused.{IsRefused}
+use Rattle.store_refusals.specs.RefusalConditions.{IsRefused}
 use Rattle.store_tables.specs.declared.row.StateRow.{StateRow}
-use Rattle.store_model.specs.Kept.{state_row}
+use Rattle.store_model.specs.KeptRecords.{state_row}
 use Rattle.store_invocations.specs.Rows.{known_tests}
 use Rattle.store_invocations.specs.declared.recorded.RecordedEntry.{RecordedEntry}
-use Rattle.store_invocations.specs.Told.{entries_told}
-use Rattle.store_invocations.specs.Answered.{answer_told}
-use Rattle.journal_store.specs.Stored.{Stored}
+use Rattle.store_invocations.specs.JournalContent.{entries_told}
+use Rattle.store_invocations.specs.InvocationAnswers.{answer_told}
+use Rattle.journal_store.specs.StoreView.{Stored}
 use Rattle.shown_records.specs.declared.entry.ShownEntry.{ShownEntry}
 use Rattle.shown_records.specs.Entries.{AreShown, SomeUnread}
 use Rattle.shown_records.specs.Invocation.{shown_text}
 use Rattle.shown_records.specs.Rows.{rows_text}
-use Rattle.shown_records.specs.Shown.{HasEntries, HasRecords, IsKnown, RefusesShow, Shows, TellsState}
+use Rattle.shown_records.specs.ShownTexts.{HasEntries, HasRecords, IsKnown, RefusesShow, Shows, TellsState}
 use Rattle.shown_records.proofs.Rows.{rows_shown}
 use Rattle.store_server.specs.StoreChanges.{CommitsNothing, ReachesStore}
-use Rattle.store_server.specs.Answered.{Shown, refusal_line}
+use Rattle.store_server.specs.RequestAnswers.{Shown, refusal_line}
 use Rattle.store_server.proofs.Reaching.{reaches_both, reaches_so}
 
 -- ---- what is told, question by question

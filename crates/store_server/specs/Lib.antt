@@ -1,7 +1,7 @@
-pub mod Answered
+pub mod RequestAnswers
 pub mod Fault
 pub mod Pages
-pub mod Reading
+pub mod LineReads
 pub mod Rows
-pub mod Served
+pub mod Dialogue
 pub mod StoreChanges

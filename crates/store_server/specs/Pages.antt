@@ -6,12 +6,12 @@ use Rattle.journal_model.specs.Notification.{Text}
 use Rattle.journal_model.specs.Event.{Event}
 use Rattle.journal_model.specs.Cause.{IsAccepted}
 use Rattle.store_reads.specs.Page.{invocations_after, rows_behind}
-use Rattle.journal_store.specs.Stored.{Stored}
+use Rattle.journal_store.specs.StoreView.{Stored}
 use Rattle.store_server.specs.declared.fault.ServerFault.{ServerFault}
 use Rattle.store_server.specs.declared.fault.ServerFault.TheVariants.{InputUnreadable, LineTooLong, LineOutOfMemory, AnswerOutOfMemory, Untold, OutputUnwritable}
 use Rattle.store_server.specs.declared.rows.ListedInvocation.{ListedInvocation}
 use Rattle.store_server.specs.StoreChanges.{CommitsNothing, ReachesStore}
-use Rattle.store_server.specs.Answered.{Shown}
+use Rattle.store_server.specs.RequestAnswers.{Shown}
 use Rattle.store_server.specs.Rows.{all_listed_text, end_line, listed_of}
 
 -- how many invocations a page has at most

@@ -4,11 +4,11 @@ use Rattle.sqlite_trees.specs.declared.store.Store.{Ghosts}
 use Rattle.journal_model.specs.Notification.{Text}
 use Rattle.journal_model.specs.Event.{Event}
 use Rattle.store_refusals.specs.declared.refusal.Refusal.{Refusal}
-use Rattle.store_refusals.specs.Prepared.{TellsOrRefuses}
+use Rattle.store_refusals.specs.Preparations.{TellsOrRefuses}
 use Rattle.store_invocations.specs.Rows.{Decides, known_tests}
 use Rattle.store_calls.specs.AbstractStore.{Standing, StaysStanding}
-use Rattle.journal_store.specs.Stored.{Stored}
-use Rattle.journal_store.specs.Stands.{Endures, Leads}
+use Rattle.journal_store.specs.StoreView.{Stored}
+use Rattle.journal_store.specs.StoreStanding.{Endures, Leads}
 
 module _ {S : Type 0} (g : Ghosts S) where
   -- Whatever it stood for, it stands for something in this relation to it then, if the disk returned what was written; and what a

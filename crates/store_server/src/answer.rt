@@ -4,7 +4,7 @@ ghost use Rattle.script_lines.specs.Text.{reply_text};
 ghost use Rattle.server_lines.specs.Reply.{not_understood_text, output_line};
 ghost use Rattle.store_refusals.specs.Names.{refusal_name_of};
 ghost use Rattle.journal_store.specs.OutputAcceptance.{accepted_told};
-ghost use Rattle.store_server.specs.Answered.{answer_text, attempt_line, done_line, handed_line, line_of, place_line, refusal_line, taken_frame, taken_line, ticked_line};
+ghost use Rattle.store_server.specs.RequestAnswers.{answer_text, attempt_line, done_line, handed_line, line_of, place_line, refusal_line, taken_frame, taken_line, ticked_line};
 
 use bytes::Bytes;
 use journal_store::{Accepted, BegunAttempt, FrameReply, Refusal};

@@ -3,12 +3,12 @@ ghost use Rattle.std.specs.Prelude.{◌≡◌, ◌++◌, map, IfErr, IfOk, Ok, S
 ghost use Rattle.journal_model.specs.Attempt.{due};
 ghost use Rattle.due_laws.specs.NextMoment.{IsNextMoment};
 ghost use Rattle.server_lines.specs.Reply.{error_text};
-ghost use Rattle.shown_records.specs.Shown.{HasEntries, HasRecords, RefusesShow, Shows, TellsState};
+ghost use Rattle.shown_records.specs.ShownTexts.{HasEntries, HasRecords, RefusesShow, Shows, TellsState};
 ghost use Rattle.store_model.specs.Progress.{last_error_of};
 ghost use Rattle.store_reads.specs.Page.{invocations_after};
 ghost use Rattle.store_reads.specs.OpenRequests.{open_requests};
 ghost use Rattle.store_server.specs.StoreChanges.{CommitsNothing, ReachesStore, Tells, TellsKnown, items_told};
-ghost use Rattle.store_server.specs.Answered.{Answers, MakesAnswer, Shown, ids_line, last_error_line, last_error_text, line_of, moment_line};
+ghost use Rattle.store_server.specs.RequestAnswers.{Answers, MakesAnswer, Shown, ids_line, last_error_line, last_error_text, line_of, moment_line};
 ghost use Rattle.store_server.specs.Rows.{all_listed_text, end_line, listed_of, open_requests_text};
 
 use crate::answer::refused;

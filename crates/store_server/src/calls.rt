@@ -6,7 +6,7 @@ ghost use Rattle.store_calls.specs.Calls.{BeginsAttempt, Cancels, ClosesStoredIn
 ghost use Rattle.store_calls.specs.Frames.{Accepts, AcceptsFirst};
 ghost use Rattle.journal_store.specs.Attempts.{BeginsSome};
 ghost use Rattle.store_server.specs.StoreChanges.{CommitsNothing, ReachesStore};
-ghost use Rattle.store_server.specs.Answered.{Answers, MakesAnswer, attempt_line, done_line, handed_line, place_line, taken_line, ticked_line};
+ghost use Rattle.store_server.specs.RequestAnswers.{Answers, MakesAnswer, attempt_line, done_line, handed_line, place_line, taken_line, ticked_line};
 
 use crate::answer::{accepted, begun, done, handed, placed, ticked};
 use bytes::{ByteStr, Bytes};

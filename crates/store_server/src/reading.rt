@@ -1,6 +1,6 @@
 //! Reading a line, of a bounded length.
 ghost use Rattle.std.specs.Prelude.{◌≡◌, ◌≢◌, ◌++◌, ◌∷◌, [], List, ℕ, IfErr, IfOk, IfSome, IsNone, option_map};
-ghost use Rattle.store_server.specs.Reading.{IsOpenLine, ReadsLine, StopsReading};
+ghost use Rattle.store_server.specs.LineReads.{IsOpenLine, ReadsLine, StopsReading};
 
 use crate::fault::ServerFault;
 use std::alloc::Global;

@@ -2,8 +2,8 @@
 ghost use Rattle.std.specs.Prelude.{◌≡◌, ◌≤◌, ℕ, length, take, IfErr, IfOk, OnErr, OnOk, string_bytes};
 ghost use Rattle.std.specs.Io.KnownBytes.{Appends};
 ghost use Rattle.store_server.specs.StoreChanges.{ReachesStore};
-ghost use Rattle.store_server.specs.Answered.{CutsLine, CutsRequest, DoesLine, DoesRequest, MakesAnswer};
-ghost use Rattle.store_server.specs.Served.{DoesGiven, GoesOn, Serves, StopsAtLine};
+ghost use Rattle.store_server.specs.RequestAnswers.{CutsLine, CutsRequest, DoesLine, DoesRequest, MakesAnswer};
+ghost use Rattle.store_server.specs.Dialogue.{DoesGiven, GoesOn, Serves, StopsAtLine};
 
 use crate::answer::not_understood;
 use crate::asks::{due, error, list, next, requests, show, state};

@@ -13,7 +13,7 @@ use Rattle.store_tables.specs.declared.row.Write.{Write}
 use Rattle.store_tables.specs.declared.row.Write.TheVariants.{AddInvocation, AddEntry, CloseSleeps, CloseSleepsUntil, DropState, DropStates, OpenSleep, PutState, SetProgress}
 use Rattle.store_tables.specs.declared.row.EntryRow.{EntryRow}
 use Rattle.store_tables.specs.declared.row.SleepRow.{SleepRow}
-use Rattle.store_model.specs.Kept.{IsKept, invocation_row, state_row}
+use Rattle.store_model.specs.KeptRecords.{IsKept, invocation_row, state_row}
 use Rattle.store_model.specs.Sleeps.{sleeps_opened}
 use Rattle.store_model.specs.Writes.{changed_by, invocation_writes, rows_added, sleep_writes, sleep_writes_of, state_write, state_writes, writes_of}
 use Rattle.store_model.proofs.Finding.{all_found}

@@ -11,7 +11,7 @@ use Rattle.store_tables.specs.Records.{Holds, Records}
 use Rattle.store_tables.specs.declared.row.Write.{Write}
 use Rattle.store_tables.specs.Statements.{statements_of_all}
 use Rattle.store_tables.specs.declared.row.Write.TheVariants.{AddInvocation}
-use Rattle.store_model.specs.Kept.{IsKept}
+use Rattle.store_model.specs.KeptRecords.{IsKept}
 use Rattle.store_model.specs.Writes.{writes_of}
 use Rattle.store_sql_laws.specs.Keys.{key_taken}
 

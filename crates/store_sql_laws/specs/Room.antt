@@ -11,7 +11,7 @@ use Rattle.store_tables.specs.Tables.{store_schema}
 use Rattle.store_tables.specs.Records.{Holds, Records}
 use Rattle.store_tables.specs.declared.row.Write.{Write}
 use Rattle.store_tables.specs.Statements.{statements_of_all}
-use Rattle.store_model.specs.Kept.{IsKept}
+use Rattle.store_model.specs.KeptRecords.{IsKept}
 use Rattle.store_sql_laws.specs.Events.{AreItsWrites}
 use Rattle.store_sql_laws.specs.Keys.{AreNew, KeysAreApart}
 use Rattle.store_sql_laws.specs.Rowids.{TablesAscend}

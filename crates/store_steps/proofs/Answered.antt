@@ -25,26 +25,26 @@ use Rattle.store_tables.specs.declared.row.InvocationRow.{InvocationRow}
 use Rattle.store_tables.specs.declared.row.Progress.{Progress}
 use Rattle.store_tables.specs.declared.row.Write.TheVariants.{SetProgress, AddEntry, OpenSleep}
 use Rattle.store_model.specs.Progress.{progress_of}
-use Rattle.store_model.specs.Kept.{answered_by, entry_row, rows_from}
+use Rattle.store_model.specs.KeptRecords.{answered_by, entry_row, rows_from}
 use Rattle.store_model.specs.Sleeps.{sleeps_opened}
 use Rattle.store_model.specs.Writes.{state_writes, writes_of}
 use Rattle.store_model.specs.Steps.{after_command, answers_at_once, grown, noted_into, payload_or}
 use Rattle.store_model.proofs.Following.{follows}
 use Rattle.store_model.proofs.States.{itself}
-use Rattle.due_laws.specs.Noted.{Noted}
+use Rattle.due_laws.specs.AwakeNotes.{Noted}
 use Rattle.due_laws.proofs.Noting.{noted_follows}
 use Rattle.store_model.proofs.Answering.{asked_below, arrivals_in-append}
 use Rattle.store_invocations.specs.Rows.{Decides, payload_tests}
 use Rattle.store_refusals.specs.declared.refusal.Refusal.{Refusal}
-use Rattle.store_refusals.specs.Refused.{refusal_by, IsRefused}
-use Rattle.store_refusals.specs.Prepared.{Prepares}
+use Rattle.store_refusals.specs.RefusalConditions.{refusal_by, IsRefused}
+use Rattle.store_refusals.specs.Preparations.{Prepares}
 use Rattle.store_arrivals.specs.Arrivals.{HasFewArrivals, entry_of_arrival}
 use Rattle.store_arrivals.proofs.Written.{few_arrivals}
 use Rattle.store_steps.specs.declared.frame.PreparedFrame.{PreparedFrame}
 use Rattle.store_steps.specs.declared.reads.ReadAnswer.{ReadAnswer}
 use Rattle.store_steps.specs.Reads.{IsReadMade, answer_told, with_read}
-use Rattle.store_steps.specs.Taken.{IsReply, IsFrameTaken}
-use Rattle.store_steps.specs.Told.{after_recorded, answers_told, ids_asked_by, command_row, tests_of_told}
+use Rattle.store_steps.specs.PreparedFrames.{IsReply, IsFrameTaken}
+use Rattle.store_steps.specs.FrameAnswers.{after_recorded, answers_told, ids_asked_by, command_row, tests_of_told}
 use Rattle.store_steps.proofs.Tests.{asked_same, command_tests, tests_left}
 use Rattle.store_steps.proofs.Writes.{put_out_same, row_same}
 

@@ -4,13 +4,13 @@ use Rattle.store_frames.specs.declared.frame.AttemptFrame.{AttemptFrame}
 use Rattle.store_tables.specs.declared.row.Progress.{Progress}
 use Rattle.store_refusals.specs.declared.refusal.Refusal.{Refusal}
 use Rattle.store_refusals.specs.declared.refusal.Refusal.TheVariants.{OutOfMemory}
-use Rattle.store_refusals.specs.Refused.{refusal_by}
+use Rattle.store_refusals.specs.RefusalConditions.{refusal_by}
 use Rattle.store_refusals.specs.Causes.{IsUnasked}
 use Rattle.store_refusals.proofs.Causes.{test_unasked}
 use Rattle.store_steps.specs.declared.frame.LiveFacts.{LiveFacts}
 use Rattle.store_steps.specs.declared.frame.PreparedFrame.{PreparedFrame}
-use Rattle.store_steps.specs.Taken.{IsWhy}
-use Rattle.store_steps.specs.Told.{tests_of_told}
+use Rattle.store_steps.specs.PreparedFrames.{IsWhy}
+use Rattle.store_steps.specs.FrameAnswers.{tests_of_told}
 
 first_or_memory : (o : Option Refusal) → ((why : Refusal) → o ≡ Some why → IsUnasked why) → IsUnasked (unwrap_or o OutOfMemory)
 first_or_memory None each = λ cause is. cc

@@ -23,16 +23,16 @@ use Rattle.store_model.specs.Progress.{progress_of}
 use Rattle.store_invocations.specs.Rows.{Decides, IsRowOf, payload_tests}
 use Rattle.store_invocations.proofs.Refusing.{refused_anyway}
 use Rattle.store_refusals.specs.declared.refusal.Refusal.{Refusal}
-use Rattle.store_refusals.specs.Refused.{IsRefused, refusal_of_first_cause, refusal_by}
-use Rattle.store_refusals.specs.Prepared.{TellsOrRefuses}
+use Rattle.store_refusals.specs.RefusalConditions.{IsRefused, refusal_of_first_cause, refusal_by}
+use Rattle.store_refusals.specs.Preparations.{TellsOrRefuses}
 use Rattle.store_refusals.proofs.First.{first_holds, none_holds}
 use Rattle.store_steps.specs.declared.frame.LiveFacts.{LiveFacts}
 use Rattle.store_steps.specs.declared.frame.PreparedFrame.{PreparedFrame}
 use Rattle.store_steps.specs.declared.reads.ReadAnswer.{ReadAnswer}
 use Rattle.store_steps.proofs.LazyReads.{is_lazy_read}
 use Rattle.store_steps.specs.Reads.{IsReadMade, answer_told}
-use Rattle.store_steps.specs.Taken.{KnowsLive, TakesAttemptFrame}
-use Rattle.store_steps.specs.Told.{HasRoom, answers_told, ids_asked_by, tests_of_told}
+use Rattle.store_steps.specs.PreparedFrames.{KnowsLive, TakesAttemptFrame}
+use Rattle.store_steps.specs.FrameAnswers.{HasRoom, answers_told, ids_asked_by, tests_of_told}
 use Rattle.store_steps.proofs.Live.{live_open}
 use Rattle.store_steps.proofs.Answered.{answer_of, prepared_read}
 use Rattle.store_steps.proofs.Taking.{IsUnread, causes_by_row}

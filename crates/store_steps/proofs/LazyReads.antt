@@ -6,7 +6,7 @@ use Rattle.journal_model.specs.Event.{Frame}
 use Rattle.journal_model.specs.Journal.{read_answer}
 use Rattle.store_frames.specs.Commands.{state_use}
 use Rattle.store_model.specs.Steps.{answers_at_once}
-use Rattle.store_steps.specs.Told.{answers_told}
+use Rattle.store_steps.specs.FrameAnswers.{answers_told}
 
 -- whether the store has to answer a request from the state of its object
 abbrev pub is_lazy_read : Request → Bool

@@ -10,7 +10,7 @@ use Rattle.journal_model.specs.Attempt.{attempts_begun, ends_live, live_attempt,
 use Rattle.journal_model.specs.Cause.{IsAccepted}
 use Rattle.journal_laws.proofs.ObjectState.{begin_when_new, open_when_accepted}
 use Rattle.store_model.proofs.Same.{opened}
-use Rattle.store_steps.specs.Live.{LiveAreOpen}
+use Rattle.store_steps.specs.LiveAreOpen.{LiveAreOpen}
 
 -- ---- one more frame
 

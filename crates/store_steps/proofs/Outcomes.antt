@@ -19,13 +19,13 @@ use Rattle.store_invocations.specs.Rows.{IsRowOf}
 use Rattle.store_arrivals.specs.Arrivals.{DecidesOutcome}
 use Rattle.store_arrivals.specs.declared.arrival.PreparedArrival.{PreparedArrival}
 use Rattle.store_refusals.specs.declared.refusal.Refusal.{Refusal}
-use Rattle.store_refusals.specs.Prepared.{Prepares}
-use Rattle.store_refusals.specs.Refused.{IsRefused}
+use Rattle.store_refusals.specs.Preparations.{Prepares}
+use Rattle.store_refusals.specs.RefusalConditions.{IsRefused}
 use Rattle.store_steps.specs.declared.frame.FrameReply.TheVariants as replies
 use Rattle.store_steps.specs.declared.frame.LiveFacts.{LiveFacts}
 use Rattle.store_steps.specs.declared.frame.PreparedFrame.{PreparedFrame}
 use Rattle.store_steps.specs.Reads.{acknowledged_if}
-use Rattle.store_steps.specs.Taken.{KnowsLive, IsReply, IsFrameTaken, TakesAttemptFrame}
+use Rattle.store_steps.specs.PreparedFrames.{KnowsLive, IsReply, IsFrameTaken, TakesAttemptFrame}
 use Rattle.store_steps.proofs.Live.{live_open}
 use Rattle.store_steps.proofs.Taking.{causes_by_row, version_by_row}
 

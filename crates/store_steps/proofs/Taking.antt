@@ -19,20 +19,20 @@ use Rattle.store_tables.specs.Questions.{IsFound, IsAmbiguous, has_id}
 use Rattle.store_tables.specs.declared.row.InvocationRow.{InvocationRow}
 use Rattle.store_tables.specs.declared.row.Progress.{Progress}
 use Rattle.store_model.specs.Progress.{progress_of}
-use Rattle.store_model.specs.Kept.{invocation_row}
+use Rattle.store_model.specs.KeptRecords.{invocation_row}
 use Rattle.store_model.proofs.Versions.{begun_number}
 use Rattle.store_model.proofs.Only.{only_found, only_one}
 use Rattle.store_model.proofs.Finding.{all_found}
 use Rattle.store_invocations.specs.Rows.{IsRowOf}
 use Rattle.store_refusals.specs.declared.refusal.Refusal.{Refusal}
 use Rattle.store_refusals.specs.declared.refusal.Refusal.TheVariants.{OutOfMemory}
-use Rattle.store_refusals.specs.Refused.{IsRefused, refusal_of_first_cause, is_circumstance, refusal_by, reading_refusal}
-use Rattle.store_refusals.specs.Prepared.{Keeps, Prepares}
+use Rattle.store_refusals.specs.RefusalConditions.{IsRefused, refusal_of_first_cause, is_circumstance, refusal_by, reading_refusal}
+use Rattle.store_refusals.specs.Preparations.{Keeps, Prepares}
 use Rattle.store_refusals.proofs.First.{first_holds, none_holds}
 use Rattle.store_steps.specs.declared.frame.LiveFacts.{LiveFacts}
 use Rattle.store_steps.specs.declared.frame.PreparedFrame.{PreparedFrame}
-use Rattle.store_steps.specs.Told.{tests_of_told, writes_of_told}
-use Rattle.store_steps.specs.Taken.{IsAwakeAtOnce, KnowsLive, IsReply, IsFrameTaken, TakesAttemptFrame, IsFrameMade, IsWhy, WakesAtOnce}
+use Rattle.store_steps.specs.FrameAnswers.{tests_of_told, writes_of_told}
+use Rattle.store_steps.specs.PreparedFrames.{IsAwakeAtOnce, KnowsLive, IsReply, IsFrameTaken, TakesAttemptFrame, IsFrameMade, IsWhy, WakesAtOnce}
 use Rattle.store_steps.proofs.LazyReads.{IsByRow}
 use Rattle.store_steps.proofs.Live.{begun_open, live_open}
 use Rattle.store_steps.proofs.Tests.{tests_left, causes_left, tests_same}

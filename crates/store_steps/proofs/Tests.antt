@@ -9,14 +9,14 @@ use Rattle.journal_model.specs.Journal.{Entry, Recorded, Arrived, invocation_beg
 use Rattle.journal_model.specs.Attempt.{is_live, is_input_closed}
 use Rattle.journal_model.specs.Cause.{Tests, those_that_hold, do_ascend, last_completion, frame_tests, adding_tests, entry_payload, is_too_long, causes_of}
 use Rattle.journal_model.specs.declared.cause.Cause.TheVariants.{UnknownInvocation, InvocationClosed, AttemptNotLive, BadCompletion, KeyNotText, NumbersUsedUp, PayloadTooLong}
-use Rattle.store_refusals.specs.Refused.{refusal_by}
+use Rattle.store_refusals.specs.RefusalConditions.{refusal_by}
 use Rattle.store_frames.specs.declared.frame.RecordedCommand.{RecordedCommand}
 use Rattle.store_frames.specs.declared.frame.AttemptFrame.{AttemptFrame}
 use Rattle.store_frames.specs.declared.frame.AttemptFrame.TheVariants as told
 use Rattle.store_frames.specs.Commands.{first_asked, second_asked}
 use Rattle.store_frames.specs.Answer.{IsCommand, IsFrame}
 use Rattle.store_model.specs.Progress.{progress_of}
-use Rattle.store_steps.specs.Told.{answers_told, asked, ids_asked_by, tests_of_told}
+use Rattle.store_steps.specs.FrameAnswers.{answers_told, asked, ids_asked_by, tests_of_told}
 use Rattle.store_steps.proofs.LazyReads.{is_lazy_read, IsByRow, no_answer, none_told}
 
 -- ---- completions

@@ -10,10 +10,10 @@ use Rattle.journal_model.specs.State.{StateMap, state_keys, value_of_key}
 use Rattle.store_tables.specs.Records.{Records, is_at_key}
 use Rattle.store_tables.specs.Questions.{IsFound}
 use Rattle.store_tables.specs.declared.row.StateRow.{StateRow}
-use Rattle.store_model.specs.Kept.{state_row}
+use Rattle.store_model.specs.KeptRecords.{state_row}
 use Rattle.store_model.proofs.Finding.{all_found}
 use Rattle.store_invocations.proofs.Reading.{KeepsOnly, found_is}
-use Rattle.store_refusals.specs.Prepared.{Keeps}
+use Rattle.store_refusals.specs.Preparations.{Keeps}
 
 -- ---- the value of a key
 

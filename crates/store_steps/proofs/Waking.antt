@@ -11,16 +11,16 @@ use Rattle.store_frames.specs.declared.frame.RecordedCommand.{RecordedCommand}
 use Rattle.store_frames.specs.declared.frame.AttemptFrame.{AttemptFrame}
 use Rattle.store_frames.specs.declared.frame.AttemptFrame.TheVariants as told
 use Rattle.store_frames.specs.Answer.{IsFrame, KeepsSuspension}
-use Rattle.store_frames.specs.Read.{IsFrameRead}
+use Rattle.store_frames.specs.ReadFrames.{IsFrameRead}
 use Rattle.store_tables.specs.declared.row.InvocationRow.{InvocationRow}
 use Rattle.store_model.specs.Progress.{progress_of}
 use Rattle.store_model.proofs.Versions.{kept_number}
 use Rattle.store_invocations.specs.Rows.{IsRowOf}
 use Rattle.store_refusals.specs.declared.refusal.Refusal.{Refusal}
-use Rattle.store_refusals.specs.Refused.{IsRefused}
-use Rattle.store_refusals.specs.Prepared.{TellsOrRefuses}
+use Rattle.store_refusals.specs.RefusalConditions.{IsRefused}
+use Rattle.store_refusals.specs.Preparations.{TellsOrRefuses}
 use Rattle.store_steps.specs.declared.frame.LiveFacts.{LiveFacts}
-use Rattle.store_steps.specs.Taken.{IsAwakeAtOnce, IsOtherFrame, TakesAttemptFrame, WakesAtOnce}
+use Rattle.store_steps.specs.PreparedFrames.{IsAwakeAtOnce, IsOtherFrame, TakesAttemptFrame, WakesAtOnce}
 use Rattle.store_steps.proofs.Taking.{IsUnread}
 
 -- a command is no suspension

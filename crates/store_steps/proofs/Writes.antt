@@ -8,7 +8,7 @@ use Rattle.journal_model.specs.Spelling.{request_type, request_payload}
 use Rattle.journal_model.specs.Event.{Behavior, Frame, Event}
 use Rattle.journal_model.specs.Journal.{Entry, Recorded, Arrived, invocation_begun, version_of, object_of, closes, sleep_in, never, starting_state, requests_in, entries_of}
 use Rattle.journal_model.specs.Cause.{greatest, causes_of, IsAccepted}
-use Rattle.due_laws.specs.Noted.{Noted, noted_of}
+use Rattle.due_laws.specs.AwakeNotes.{Noted, noted_of}
 use Rattle.due_laws.specs.Awake.{noted_after_frame}
 use Rattle.due_laws.proofs.Noting.{noted_follows}
 use Rattle.store_frames.specs.declared.frame.RecordedCommand.{RecordedCommand}
@@ -18,7 +18,7 @@ use Rattle.store_frames.specs.declared.frame.AttemptFrame.{AttemptFrame}
 use Rattle.store_frames.specs.declared.frame.AttemptFrame.TheVariants as told
 use Rattle.store_frames.specs.Commands.{first_asked, second_asked, moment_of as moment_told, state_use}
 use Rattle.store_frames.specs.Answer.{behavior_meant, IsCommand, IsError, IsFrame}
-use Rattle.store_refusals.specs.Refused.{refusal_by}
+use Rattle.store_refusals.specs.RefusalConditions.{refusal_by}
 use Rattle.store_tables.specs.declared.row.Closing.TheVariants.{Ended, Failed}
 use Rattle.store_tables.specs.declared.row.Progress.{Progress}
 use Rattle.store_tables.specs.declared.row.EntryRow.{EntryRow}
@@ -27,16 +27,16 @@ use Rattle.store_tables.specs.declared.row.Write.{Write}
 use Rattle.store_tables.specs.declared.row.Write.TheVariants.{SetProgress, AddEntry, OpenSleep}
 use Rattle.store_model.specs.Places.{handed_place}
 use Rattle.store_model.specs.Progress.{first_item, second_of, output_payload, behavior_number, progress_of}
-use Rattle.store_model.specs.Kept.{moment_of, entry_row, rows_from}
+use Rattle.store_model.specs.KeptRecords.{moment_of, entry_row, rows_from}
 use Rattle.store_model.specs.Sleeps.{sleep_row, sleeps_opened}
 use Rattle.store_model.specs.Writes.{state_write, state_writes, writes_of}
 use Rattle.store_model.specs.Steps.{noted_into, grown, payload_or, after_command, progress_after_frame}
 use Rattle.store_model.proofs.Following.{follows}
 use Rattle.store_model.proofs.States.{itself}
 use Rattle.store_steps.specs.declared.frame.LiveFacts.{LiveFacts}
-use Rattle.store_steps.specs.Taken.{IsAwakeAtOnce, KnowsLive, IsReply}
+use Rattle.store_steps.specs.PreparedFrames.{IsAwakeAtOnce, KnowsLive, IsReply}
 use Rattle.protocol_stream.specs.CommandFacts.{facts_of}
-use Rattle.store_steps.specs.Told.{puts_out, value_put_out, command_row, keeps_moment, sleep_if, sleep_told, state_told, closing_writes, tests_of_told, reply_to_told, after_recorded, number_of_behavior, does_fail, after_suspension, after_error, after_end, error_told, writes_of_told}
+use Rattle.store_steps.specs.FrameAnswers.{puts_out, value_put_out, command_row, keeps_moment, sleep_if, sleep_told, state_told, closing_writes, tests_of_told, reply_to_told, after_recorded, number_of_behavior, does_fail, after_suspension, after_error, after_end, error_told, writes_of_told}
 use Rattle.store_steps.proofs.LazyReads.{is_lazy_read, IsByRow, no_answer, none_at_once}
 use Rattle.store_steps.proofs.Tests.{asked_same}
 use Rattle.store_steps.proofs.Lists.{payload_kept}

@@ -1,4 +1,4 @@
-pub mod Live
-pub mod Told
+pub mod LiveAreOpen
+pub mod FrameAnswers
 pub mod Reads
-pub mod Taken
+pub mod PreparedFrames

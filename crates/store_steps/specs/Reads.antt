@@ -13,13 +13,13 @@ use Rattle.store_frames.specs.declared.frame.StateUse.{StateUse}
 use Rattle.store_frames.specs.declared.frame.StateUse.TheVariants as uses
 use Rattle.store_tables.specs.declared.row.InvocationRow.{InvocationRow}
 use Rattle.store_tables.specs.declared.row.Write.TheVariants.{SetProgress, AddEntry}
-use Rattle.store_model.specs.Kept.{answered_by}
+use Rattle.store_model.specs.KeptRecords.{answered_by}
 use Rattle.store_model.specs.Steps.{grown}
 use Rattle.store_arrivals.specs.Arrivals.{HasFewArrivals, entry_of_arrival}
 use Rattle.store_steps.specs.declared.frame.FrameReply.TheVariants as replies
 use Rattle.store_steps.specs.declared.frame.PreparedFrame.{PreparedFrame}
 use Rattle.store_steps.specs.declared.reads.ReadAnswer.{ReadAnswer}
-use Rattle.store_steps.specs.Told.{after_recorded, command_row}
+use Rattle.store_steps.specs.FrameAnswers.{after_recorded, command_row}
 
 -- an attempt that asks for it is told only that the outcome is recorded, where its version has acknowledgements
 abbrev pub acknowledged_if : (version n : ℕ) (asks : Bool) → Option ℕ

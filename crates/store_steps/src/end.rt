@@ -1,7 +1,7 @@
 // Whether an attempt is over once its frame was answered.
 ghost use Rattle.std.specs.Prelude.{◌≡◌};
 ghost use Rattle.journal_model.specs.Cause.{is_of_frame};
-ghost use Rattle.store_steps.specs.Taken.{TellsFrameCause, TellsEnd, does_end, lies_in_frame};
+ghost use Rattle.store_steps.specs.PreparedFrames.{TellsFrameCause, TellsEnd, does_end, lies_in_frame};
 
 use crate::frame::FrameReply;
 use store_refusals::{Cause, Refusal};

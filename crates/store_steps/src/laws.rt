@@ -1,5 +1,5 @@
 // What holds of frames and of attempts, for whoever takes a frame. The functions do nothing: their contracts are the laws.
-ghost use Rattle.store_steps.specs.Live.{LiveAreOpen};
+ghost use Rattle.store_steps.specs.LiveAreOpen.{LiveAreOpen};
 
 /// An invocation with a live attempt is open.
 pub fn live_are_open()

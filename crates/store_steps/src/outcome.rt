@@ -10,7 +10,7 @@ ghost use Rattle.store_tables.specs.Looks.{OnlyAsks};
 ghost use Rattle.store_invocations.specs.Rows.{IsRowOf, IsStoreOf};
 ghost use Rattle.store_steps.specs.declared.frame.LiveFacts.{LiveFacts};
 ghost use Rattle.store_steps.specs.Reads.{acknowledged_if};
-ghost use Rattle.store_steps.specs.Taken.{TakesAttemptFrame};
+ghost use Rattle.store_steps.specs.PreparedFrames.{TakesAttemptFrame};
 ghost use Rattle.store_refusals.specs.Causes.{TellsCause};
 
 use crate::frame::{FrameReply, PreparedFrame};

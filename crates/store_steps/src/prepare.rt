@@ -8,8 +8,8 @@ ghost use Rattle.journal_model.specs.Event.{Event};
 ghost use Rattle.journal_model.specs.Journal.{object_state};
 ghost use Rattle.store_invocations.specs.Rows.{Decides, IsRowOf, IsStoreOf};
 ghost use Rattle.store_steps.specs.Reads.{answer_told};
-ghost use Rattle.store_steps.specs.Told.{tests_of_told};
-ghost use Rattle.store_steps.specs.Taken.{IsFrameMade, IsOtherFrame, IsWhy, TakesAttemptFrame, WakesAtOnce};
+ghost use Rattle.store_steps.specs.FrameAnswers.{tests_of_told};
+ghost use Rattle.store_steps.specs.PreparedFrames.{IsFrameMade, IsOtherFrame, IsWhy, TakesAttemptFrame, WakesAtOnce};
 ghost use Rattle.store_refusals.specs.Causes.{TellsCause};
 
 use crate::frame::{LiveFacts, PreparedFrame};

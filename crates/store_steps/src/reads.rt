@@ -12,10 +12,10 @@ ghost use Rattle.journal_model.specs.State.{state_keys, value_of_key};
 ghost use Rattle.store_tables.specs.Looks.{OnlyAsks};
 ghost use Rattle.store_tables.specs.declared.row.StateRow.{StateRow};
 ghost use Rattle.store_tables.specs.declared.row.Write.{Write};
-ghost use Rattle.store_refusals.specs.Prepared.{TellsOrRefuses};
+ghost use Rattle.store_refusals.specs.Preparations.{TellsOrRefuses};
 ghost use Rattle.store_invocations.specs.Rows.{Decides, IsStoreOf, payload_tests};
 ghost use Rattle.store_steps.specs.Reads.{IsReadMade, answer_told, with_read};
-ghost use Rattle.store_steps.specs.Told.{answers_told, command_row};
+ghost use Rattle.store_steps.specs.FrameAnswers.{answers_told, command_row};
 ghost use Rattle.store_refusals.specs.Causes.{IsUnasked, TellsCause};
 
 use crate::frame::{FrameReply, PreparedFrame};

@@ -1,8 +1,8 @@
 // Why a frame is refused.
 ghost use Rattle.std.specs.Prelude.{◌≡◌, ◌+◌, ◌-◌, ◌^◌, nat_lt, not, true};
 ghost use Rattle.journal_model.specs.Cause.{do_ascend};
-ghost use Rattle.store_refusals.specs.Refused.{refusal_by};
-ghost use Rattle.store_steps.specs.Told.{answers_told, asked, tests_of_told};
+ghost use Rattle.store_refusals.specs.RefusalConditions.{refusal_by};
+ghost use Rattle.store_steps.specs.FrameAnswers.{answers_told, asked, tests_of_told};
 
 use crate::frame::LiveFacts;
 use store_frames::{AttemptFrame, RecordedCommand, StateUse};

@@ -5,7 +5,7 @@ ghost use Rattle.store_tables.specs.declared.row.Write.TheVariants.{AddEntry, Op
 ghost use Rattle.store_model.specs.Steps.{payload_or};
 ghost use Rattle.protocol_types.specs.Version.{version_number};
 ghost use Rattle.protocol_stream.specs.CommandFacts.{facts_of};
-ghost use Rattle.store_steps.specs.Told.{HasRoom, after_end, after_error, after_recorded, after_suspension, asked, closing_writes, command_row, does_fail, keeps_moment, number_of_behavior, puts_out, reply_to_told, sleep_told, state_told, value_put_out, writes_of_told};
+ghost use Rattle.store_steps.specs.FrameAnswers.{HasRoom, after_end, after_error, after_recorded, after_suspension, asked, closing_writes, command_row, does_fail, keeps_moment, number_of_behavior, puts_out, reply_to_told, sleep_told, state_told, value_put_out, writes_of_told};
 
 use crate::frame::{FrameReply, LiveFacts};
 use bytes::{ByteStr, Bytes};

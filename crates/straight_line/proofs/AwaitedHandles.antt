@@ -16,7 +16,7 @@ use Rattle.journal_model.specs.History.{Step, place_of, next_completion, next_si
 use Rattle.journal_model.specs.Delivery.{results_for, known_result, known_results, deliveries, front, last_of, takes_id, taken_is, count_taken, takes_of, passed_at_take, or_else, first_found, leaf_state, state_of_result}
 use Rattle.journal_model.specs.Await.{least_from, is_awake_at, awaited_tree, awaited_ids, awake_place, ends_awaits, is_cancelled_at, children_place, cancellation_outcome, WokenAt, outcome_from, await_outcome}
 use Rattle.journal_model.specs.Run.{front_of_handle}
-use Rattle.straight_line.specs.Takes.{TakesBring}
+use Rattle.straight_line.specs.TakenValues.{TakesBring}
 
 -- the least number that passes a test
 least : (test : ℕ → Bool) (from more place : ℕ) → least_from test from more ≡ Some place

@@ -12,8 +12,8 @@ use Rattle.journal_model.specs.Await.{AwaitOutcome, WaitsFor, WokenAt, Cancelled
 use Rattle.journal_model.specs.Run.{Invocation, Progress, Ending, GoesOn, Waits, RefusedCall, Ended, answer_to, answered_step, front_of_handle, call_kind, after_await, carried_out, unless_refused, continued_by, run}
 use Rattle.straight_line.specs.Steps.{Steps, next_of}
 use Rattle.straight_line.specs.Laws.{kind_of_answer, kind_of_call}
-use Rattle.straight_line.specs.Takes.{ComesOfKind}
-use Rattle.straight_line.specs.Fitting.{AreNext, finds, has_found, Fits, AllFit, AreCallsOf, handler_of, NeverGoesAstray}
+use Rattle.straight_line.specs.TakenValues.{ComesOfKind}
+use Rattle.straight_line.specs.FittingAnswers.{AreNext, finds, has_found, Fits, AllFit, AreCallsOf, handler_of, NeverGoesAstray}
 use Rattle.straight_line.proofs.TakenValues.{takes_of_kind}
 use Rattle.straight_line.proofs.AwaitedHandles.{woken-stands, takes_bring}
 

@@ -4,7 +4,7 @@ use Rattle.journal_model.specs.declared.call.Answer.{Answer}
 use Rattle.journal_model.specs.declared.value.Value.{Value}
 use Rattle.straight_line.specs.Calls.{take_outcome, take_peeked, take_state, take_keys, take_id}
 use Rattle.straight_line.specs.Laws.{is_astray}
-use Rattle.straight_line.specs.Takes.{OfOutcome, OfState, OfKeys, OfInvocationId, is_of}
+use Rattle.straight_line.specs.TakenValues.{OfOutcome, OfState, OfKeys, OfInvocationId, is_of}
 
 pub outcome : (handle : ℕ) (value : Value) (answers : List Answer) → is_of OfOutcome value ≡ true → is_astray (take_outcome handle (Answer.Taken (Some value) ∷ answers)) ≡ false
 unfolding take_outcome

@@ -15,7 +15,7 @@ use Rattle.journal_model.specs.Options.{replaces}
 use Rattle.journal_model.specs.History.{Step, place_of, ids_created, takes_handle, stands_for}
 use Rattle.journal_model.specs.Delivery.{results_for, known_results, deliveries, front, last_of, takes_of, passed_at_take}
 use Rattle.journal_model.specs.Run.{Invocation, front_of_handle, answer_to}
-use Rattle.straight_line.specs.Takes.{ValueKind, is_of, kinds_created, kind_of_handle, AreOf, ComesOfKind}
+use Rattle.straight_line.specs.TakenValues.{ValueKind, is_of, kinds_created, kind_of_handle, AreOf, ComesOfKind}
 
 -- of what is true of all
 first-true : (a b : Bool) → (a && b) ≡ true → a ≡ true

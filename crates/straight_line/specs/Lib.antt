@@ -4,5 +4,5 @@ pub mod Everyday
 pub mod Combinators
 pub mod Rounds
 pub mod Laws
-pub mod Takes
-pub mod Fitting
+pub mod TakenValues
+pub mod FittingAnswers

@@ -1,7 +1,7 @@
 //! What holds of every straight-line handler: each function does nothing, and its contract is the law.
 ghost use Rattle.straight_line.specs.Laws as laws;
-ghost use Rattle.straight_line.specs.Takes as takes;
-ghost use Rattle.straight_line.specs.Fitting as fitting;
+ghost use Rattle.straight_line.specs.TakenValues as takes;
+ghost use Rattle.straight_line.specs.FittingAnswers as fitting;
 
 /// The next call of a handler that makes a call first is that call, until it has an answer, and then the next call of what follows.
 pub fn calls_come_in_order()

@@ -8,7 +8,7 @@ use Rattle.vm_refusals.specs.declared.retries.RetryPolicy.{RetryPolicy}
 use Rattle.vm_refusals.specs.declared.runs.RunExitResult.{RunExitResult}
 use Rattle.vm_refusals.specs.BodyExits.{Ending, Outcome, ending, ending_by}
 use Rattle.vm_refusals.specs.RetryDecisions.{Tried, one_more, AfterFailure, TriedAgain, FailsAsTerminal, Pauses, after_failure}
-use Rattle.vm_attempt.specs.Typed.{IsTypedError, IsTypedExit}
+use Rattle.vm_attempt.specs.ExitTypes.{IsTypedError, IsTypedExit}
 
 abbrev IsTypedEnding : Ending → Type 0
 IsTypedEnding (Outcome value) = IsTypedValue value

@@ -6,7 +6,7 @@ use Rattle.protocol_errors.specs.declared.error.Error.{Error}
 use Rattle.protocol_types.specs.Version.{version_content_type}
 use Rattle.protocol_types.specs.declared.version.Version.{Version}
 use Rattle.vm_feeding.specs.NewMachine.{BeginsMachine}
-use Rattle.vm_core.specs.Closed.{state_made}
+use Rattle.vm_core.specs.MadeMachine.{state_made}
 use Rattle.vm_core.specs.declared.core_vm.CoreVM.{CoreVM}
 use Rattle.vm_start.specs.declared.phase.Phase.{Phase}
 use Rattle.vm_start.specs.declared.phase.Phase.TheVariants as phases

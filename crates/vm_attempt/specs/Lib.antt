@@ -2,7 +2,7 @@ pub mod Attempt
 pub mod Bodies
 pub mod AttemptCode
 pub mod Output
-pub mod Typed
+pub mod ExitTypes
 pub mod TurnOutcomes
 pub mod Machine
 pub mod Outcomes

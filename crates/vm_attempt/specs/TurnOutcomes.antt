@@ -14,7 +14,7 @@ use Rattle.vm_core.specs.Outcomes.outcomes
 use Rattle.vm_core.specs.Outcomes.{CarriesOut, CallOutcome}
 use Rattle.vm_core.specs.declared.core_vm.CoreVM.{CoreVM}
 use Rattle.vm_attempt.specs.Bodies.{by_policy}
-use Rattle.vm_attempt.specs.Typed.{IsTypedOutcome}
+use Rattle.vm_attempt.specs.ExitTypes.{IsTypedOutcome}
 use Rattle.vm_attempt.specs.declared.attempt.Attempt.{Attempt}
 use Rattle.vm_attempt.specs.declared.run_outcome.RunOutcome.{RunOutcome}
 use Rattle.vm_attempt.specs.declared.turn.Finish.{Finish}

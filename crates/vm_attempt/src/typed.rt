@@ -3,7 +3,7 @@ ghost use Rattle.std.specs.Prelude.{◌<◌, ◌^◌, IsUtf8, IfSome};
 ghost use Rattle.std.specs.List.{AllByRecursion};
 ghost use Rattle.vm_request_laws.specs.Calls.{IsTypedPair, IsTypedFailure, IsTypedValue, IsTypedHeader, IsTypedTarget, IsTypedAttach, NumbersFit, IsTypedCall};
 ghost use Rattle.journal_model.specs.Future.{tree_of};
-ghost use Rattle.vm_attempt.specs.Typed.{IsTypedCommand, IsTypedError, IsTypedExit, IsTypedOutcome};
+ghost use Rattle.vm_attempt.specs.ExitTypes.{IsTypedCommand, IsTypedError, IsTypedExit, IsTypedOutcome};
 
 use crate::run_outcome::RunOutcome;
 use bytes::ByteStr;

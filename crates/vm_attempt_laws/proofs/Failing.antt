@@ -9,7 +9,7 @@ use Rattle.attempt_model.specs.Machine.{FailedBy, Fault, Mismatch, UncompletedIn
 use Rattle.vm_awaits.specs.Views.{slots_of}
 use Rattle.vm_outcomes.specs.Causes.{TellsEither, CauseTells}
 use Rattle.vm_outcomes.proofs.Midway.{stops_midway}
-use Rattle.vm_progress.specs.Uncompleted.{started_id}
+use Rattle.vm_progress.specs.UncompletedAwaits.{started_id}
 use Rattle.vm_refusals.specs.Refusals.{refusal_code}
 use Rattle.vm_types.specs.declared.options.JournalMismatchRetryBehavior.{JournalMismatchRetryBehavior}
 use Rattle.vm_types.specs.declared.options.JournalReplay.{JournalReplay}

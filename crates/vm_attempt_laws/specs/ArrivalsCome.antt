@@ -6,7 +6,7 @@ use Rattle.protocol_wire.specs.Items.{items}
 use Rattle.protocol_wire.specs.declared.record.TheConstants.{LEVELS}
 use Rattle.protocol_controls.specs.Notification.{notification_of}
 use Rattle.protocol_controls.specs.ProposeRunCompletionAck.{propose_run_completion_ack_of}
-use Rattle.protocol_messages.specs.Told.{notification_told}
+use Rattle.protocol_messages.specs.NotificationContent.{notification_told}
 use Rattle.protocol_stream.specs.Header.{message_type}
 use Rattle.protocol_stream.specs.Item.{Item, unknown}
 use Rattle.protocol_stream.specs.declared.decoder.NotificationField.{NotificationField}

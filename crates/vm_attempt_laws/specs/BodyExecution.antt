@@ -14,7 +14,7 @@ use Rattle.vm_machine.specs.CallAdmission.{IsAbout}
 use Rattle.vm_machine.specs.Causes.{TellsPlainError}
 use Rattle.vm_start.specs.Failure.{failed_with}
 use Rattle.vm_types.specs.declared.options.JournalMismatchRetryBehavior.TheVariants.{FailTerminally}
-use Rattle.run_laws.specs.Suspended.{left_of}
+use Rattle.run_laws.specs.SuspensionContent.{left_of}
 use Rattle.vm_attempt_laws.specs.Bodies.{NonEmptyValue, Body, has_handle, bodies_of, Among, has_arrived, count_proposed, RunOutcome, by_policy, RunExitResult, feature_name_of, run_told, with_delay, about, pausing, Tried, inherits, proposal, proposal_message, ending, Outcome, Retry, Pause, feature_lacked, Run, run_at}
 use Rattle.vm_attempt_laws.specs.AttemptInvariants.{FailsWith}
 use Rattle.vm_attempt_laws.specs.Machine.{are_any, MachineState, out_of_memory, told_error}

@@ -4,7 +4,7 @@ use Rattle.std.specs.Prelude.{Bool, ◌≡◌, ◌⊎◌, ◌+◌, ℕ, suc, tru
 use Rattle.std.specs.List.{AllByRecursion}
 use Rattle.journal_model.specs.Event.{Suspension, Frame}
 use Rattle.journal_model.specs.Run.{Handler, Invocation, Ending, RefusedCall, Ended, run}
-use Rattle.run_laws.specs.Suspended.{WaitsAll}
+use Rattle.run_laws.specs.SuspensionContent.{WaitsAll}
 use Rattle.vm_awaits.specs.Views.{slots_of}
 use Rattle.vm_outcomes.specs.Causes.{CauseTells}
 use Rattle.vm_attempt_laws.specs.Attempts.{output_of, Turns, Attempt, Turn}

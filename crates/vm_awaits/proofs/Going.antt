@@ -9,7 +9,7 @@ use Rattle.journal_model.specs.PrunedTrees.{pruned, earlier_or_later}
 use Rattle.journal_model.specs.declared.future.UnresolvedFuture.{UnresolvedFuture}
 use Rattle.journal_model.specs.declared.options.SignalDelivery.{SignalDelivery}
 use Rattle.attempt_model.specs.Results.{Ready, Slots, handle_state, ready_after, ready_after_all, Awake, Asleep, resolution_of}
-use Rattle.vm_flat_trees.specs.Awaited.{Awaited, has_woken, leaf_over, awaited_over, delivered, still_waits}
+use Rattle.vm_flat_trees.specs.SleepingTree.{Awaited, has_woken, leaf_over, awaited_over, delivered, still_waits}
 use Rattle.vm_flat_trees.specs.NotificationDelivery.{brought}
 use Rattle.vm_flat_trees.specs.NotificationRecipients.{waits_for}
 use Rattle.vm_flat_trees.proofs.Awaiting.{over-asleep, over-woken, over-later, over-left}

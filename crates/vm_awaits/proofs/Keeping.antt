@@ -9,7 +9,7 @@ use Rattle.journal_model.specs.declared.future.UnresolvedFuture.{UnresolvedFutur
 use Rattle.journal_model.specs.PrunedTrees.{pruned, earlier_or_later}
 use Rattle.attempt_model.specs.Results.{Slots}
 use Rattle.vm_flat_trees.specs.declared.node.FlatNode.{FlatNode}
-use Rattle.vm_flat_trees.specs.Awaited.{AwaitedLeaf, Awaited, leaf_over, awaited_over, delivered, awaited_in, has_woken, still_waits, ways_for}
+use Rattle.vm_flat_trees.specs.SleepingTree.{AwaitedLeaf, Awaited, leaf_over, awaited_over, delivered, awaited_in, has_woken, still_waits, ways_for}
 use Rattle.vm_flat_trees.specs.NotificationRecipients.{waits_for}
 use Rattle.vm_flat_trees.specs.NotificationDelivery.{brought, places_of, CanHear, CanHearOf, Delivers, Hears}
 use Rattle.vm_flat_trees.specs.Flat.{flat_of}

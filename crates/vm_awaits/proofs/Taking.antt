@@ -7,7 +7,7 @@ use Rattle.journal_model.specs.declared.notification.NotificationResult.{Notific
 use Rattle.journal_model.specs.Notification.{same_id, cancel_id}
 use Rattle.journal_model.proofs.Ids.{same_id-same}
 use Rattle.attempt_model.specs.Results.{Ready, Slots, first_waiting_result, slot_in, slot_of, ready_without_first}
-use Rattle.vm_awaits.specs.Taken.{ready_left}
+use Rattle.vm_awaits.specs.TakenNotifications.{ready_left}
 
 none_first : (results : List NotificationResult) → first_waiting_result results ≡ None → drop 1 results ≡ results
 none_first [] e = refl

@@ -9,7 +9,7 @@ use Rattle.journal_model.specs.Journal.{completes}
 use Rattle.journal_model.specs.Notification.{Arrival}
 use Rattle.attempt_model.specs.Results.{Ready, first_waiting_result, ready_after}
 use Rattle.vm_awaits.specs.ReadyViews.{none_ready}
-use Rattle.vm_awaits.specs.Taken.{ready_left, slots_left}
+use Rattle.vm_awaits.specs.TakenNotifications.{ready_left, slots_left}
 use Rattle.vm_awaits.specs.Views.{AsyncResults}
 
 -- nothing has come, and no handle was made

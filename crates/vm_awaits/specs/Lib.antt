@@ -1,5 +1,5 @@
 pub mod ReadyViews
-pub mod Taken
+pub mod TakenNotifications
 pub mod Children
 pub mod Views
 pub mod Lines

@@ -5,7 +5,7 @@ ghost use Rattle.journal_model.specs.declared.notification.NotificationId.{Notif
 ghost use Rattle.journal_model.specs.AwaitTree.{Pending};
 ghost use Rattle.journal_model.specs.Future.{tree_of};
 ghost use Rattle.attempt_model.specs.Results.{handle_state};
-ghost use Rattle.vm_flat_trees.specs.Awaited.{has_woken, awaited_over, delivered, ways_for, still_waits};
+ghost use Rattle.vm_flat_trees.specs.SleepingTree.{has_woken, awaited_over, delivered, ways_for, still_waits};
 ghost use Rattle.vm_flat_trees.specs.Counts.{state_meant};
 ghost use Rattle.vm_awaits.specs.ReadyViews.{ready_in};
 ghost use Rattle.vm_awaits.specs.Ids.{FindsLeaves, leaves_in, with_node};
@@ -41,7 +41,7 @@ pub struct FlatTree<'a> {
 }
 
 impl<'a> Model for FlatTree<'a> {
-    ghost use Rattle.vm_flat_trees.specs.Awaited.{Awaited, awaited_in};
+    ghost use Rattle.vm_flat_trees.specs.SleepingTree.{Awaited, awaited_in};
     ghost use Rattle.vm_flat_trees.specs.AwaitedCode.{awaited_code};
 
     ghost Value = { Awaited };

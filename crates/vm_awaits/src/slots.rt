@@ -4,7 +4,7 @@ ghost use Rattle.std.specs.Option.{option_copied};
 ghost use Rattle.protocol_trees.specs.Shape.{state_meant};
 ghost use Rattle.protocol_trees.specs.Future.{id_meant};
 ghost use Rattle.attempt_model.specs.Results.{slot_in, slot_of, waiting_for, handle_state};
-ghost use Rattle.vm_awaits.specs.Taken.{ready_left, slots_left};
+ghost use Rattle.vm_awaits.specs.TakenNotifications.{ready_left, slots_left};
 ghost use Rattle.vm_awaits.specs.ReadyViews.{ready_in};
 
 use crate::ready::ReadyNotifications;

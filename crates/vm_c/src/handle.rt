@@ -26,7 +26,7 @@ pub struct Handle {
 }
 
 impl Model for Handle {
-    ghost use Rattle.handle_slot.specs.Held.{held};
+    ghost use Rattle.handle_slot.specs.SlotOwnership.{held};
     ghost use Rattle.vm_c.specs.contracts.held.Held.{the_row};
 
     ghost also_owns = { λ h. held h.alloc the_row h.at h.value };

@@ -19,7 +19,7 @@ use Rattle.protocol_stream.specs.Header.{header_of}
 use Rattle.protocol_stream.specs.Frame.{spelled, message_of}
 use Rattle.protocol_stream.proofs.Spellings.{spelled-frame_bytes}
 use Rattle.protocol_messages.specs.RecordMessage.{type_of_record}
-use Rattle.protocol_messages.specs.Encoded.{payload_message, record_message, type_or_end, plain_message}
+use Rattle.protocol_messages.specs.Encodings.{payload_message, record_message, type_or_end, plain_message}
 use Rattle.vm_context.specs.Output.{Written, with_command}
 
 -- no command requests an acknowledgement

@@ -17,7 +17,7 @@ use Rattle.vm_calls.specs.declared.call_error.NumberError.{NumberError}
 use Rattle.vm_calls.specs.declared.put_error.PutError.{PutError}
 use Rattle.vm_calls.specs.declared.put_error.PutError.TheVariants.{Replay, Encoding}
 use Rattle.vm_calls.specs.RequestPuts.{PutsAs}
-use Rattle.vm_calls.specs.Spent.{KeepsRest}
+use Rattle.vm_calls.specs.SpentReplay.{KeepsRest}
 use Rattle.vm_calls.specs.MismatchedCommands.{TellsUnmatched, TellsPut, FindsAs}
 
 pub one_type : (t : RecordType) (ty other : MessageType) → type_of_record t ≡ Some ty → type_of_record t ≡ Some other → other ≡ ty

@@ -18,7 +18,7 @@ use Rattle.vm_calls.specs.declared.call_error.NumberError.{NumberError}
 use Rattle.vm_calls.specs.declared.call_error.NumberError.TheVariants as numbers
 use Rattle.vm_calls.specs.RequestPuts.{PutsAs, Puts}
 use Rattle.vm_calls.specs.Active.{asking, LacksCompletions, HasCompletions, TakesCompletion}
-use Rattle.vm_calls.specs.Spent.{IsSpent, FindsNone, SpentAs, FailsSpent, KeepsRest}
+use Rattle.vm_calls.specs.SpentReplay.{IsSpent, FindsNone, SpentAs, FailsSpent, KeepsRest}
 
 -- ---- the step of a command
 

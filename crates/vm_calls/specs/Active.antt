@@ -20,7 +20,7 @@ use Rattle.vm_context.specs.Output.{Written}
 use Rattle.vm_commands.specs.declared.replay_error.ReplayError.TheVariants as unmatched
 use Rattle.vm_commands.specs.HeaderEquality.{header_equal}
 use Rattle.vm_commands.specs.NextCommand.{IsNextUnread}
-use Rattle.vm_commands.specs.Recorded.{commands_of}
+use Rattle.vm_commands.specs.RecordedCommands.{commands_of}
 use Rattle.vm_calls.specs.declared.active.Active.{Active}
 use Rattle.vm_calls.specs.declared.put_error.PutError.{PutError}
 use Rattle.vm_calls.specs.declared.put_error.PutError.TheVariants.{Replay, Encoding}

@@ -4,5 +4,5 @@ pub mod Active
 pub mod CommandCalls
 pub mod Handles
 pub mod ImmediateCalls
-pub mod Spent
+pub mod SpentReplay
 pub mod MismatchedCommands

@@ -4,7 +4,7 @@ ghost use Rattle.vm_calls.specs.Words.{Call, Answer, Request, Invocation, Machin
 ghost use Rattle.vm_commands.specs.HeaderEquality.{is_unstable};
 ghost use Rattle.vm_calls.specs.Active.{left_of, still_replays, asking, TellsSame, IsAtCommand, IsActiveSettled, TakesCompletion, LacksCompletions, HasCompletions, PutsIn};
 ghost use Rattle.vm_calls.specs.CommandCalls.{CompletesOne, HasCallBegun, MakesCommand};
-ghost use Rattle.vm_calls.specs.Spent.{IsSpent, FindsNone, FailsSpent, KeepsRest};
+ghost use Rattle.vm_calls.specs.SpentReplay.{IsSpent, FindsNone, FailsSpent, KeepsRest};
 ghost use Rattle.vm_calls.specs.MismatchedCommands.{command_place, TellsPut, FindsAs};
 ghost use Rattle.protocol_messages.specs.RecordMessage.{type_of_record};
 ghost use Rattle.vm_awaits.specs.Views.{results_of, slots_of};

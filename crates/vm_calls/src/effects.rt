@@ -5,7 +5,7 @@ ghost use Rattle.vm_commands.specs.HeaderEquality.{is_unstable};
 ghost use Rattle.vm_calls.specs.Active.{HasCompletions};
 ghost use Rattle.vm_calls.specs.CommandCalls.{MakesCommand};
 ghost use Rattle.vm_calls.specs.ImmediateCalls.{DoesOne, HasAsked};
-ghost use Rattle.vm_calls.specs.Spent.{IsSpent, FailsSpent, KeepsRest};
+ghost use Rattle.vm_calls.specs.SpentReplay.{IsSpent, FailsSpent, KeepsRest};
 ghost use Rattle.vm_calls.specs.MismatchedCommands.{FindsAs};
 ghost use Rattle.protocol_messages.specs.RecordMessage.{type_of_record};
 ghost use Rattle.protocol_types.specs.declared.message_type.MessageType.{MessageType};

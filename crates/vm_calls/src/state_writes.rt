@@ -6,7 +6,7 @@ ghost use Rattle.protocol_types.specs.declared.message_type.MessageType.TheVaria
 ghost use Rattle.vm_context.specs.StateKnowledge.{Follows};
 ghost use Rattle.vm_calls.specs.Active.{Sees, IsAtCommand};
 ghost use Rattle.vm_calls.specs.CommandCalls.{MakesCommand};
-ghost use Rattle.vm_calls.specs.Spent.{IsSpent, FailsSpent};
+ghost use Rattle.vm_calls.specs.SpentReplay.{IsSpent, FailsSpent};
 ghost use Rattle.vm_calls.specs.MismatchedCommands.{FindsAs};
 
 use crate::{Active, CallError, ignores, or_empty};

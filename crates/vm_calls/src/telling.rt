@@ -8,7 +8,7 @@ ghost use Rattle.journal_model.specs.Refusal.{refusal_of};
 ghost use Rattle.protocol_types.specs.declared.message_type.MessageType.TheVariants.{OutputCommand, SendSignalCommand, CompleteAwakeableCommand};
 ghost use Rattle.vm_calls.specs.Active.{Sees, IsAtCommand};
 ghost use Rattle.vm_calls.specs.CommandCalls.{MakesCommand};
-ghost use Rattle.vm_calls.specs.Spent.{IsSpent, FailsSpent};
+ghost use Rattle.vm_calls.specs.SpentReplay.{IsSpent, FailsSpent};
 ghost use Rattle.vm_calls.specs.MismatchedCommands.{FindsAs};
 
 use crate::{Active, CallError, ignores};

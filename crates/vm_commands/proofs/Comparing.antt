@@ -2,12 +2,12 @@
 use Rattle.std.proofs.Common.{◌≡◌, Bool, true, false, true≢false, ◌||◌, nat_eq, refl, ap, sym, ◌∙◌}
 use Rattle.std.proofs.lemmas.Bool.{eq-eqb}
 use Rattle.protocol_types.specs.MessageType.{type_number}
-use Rattle.protocol_equality.specs.Tells.{DecidesErased}
+use Rattle.protocol_equality.specs.EqualityTests.{DecidesErased}
 use Rattle.protocol_equality.specs.Commands.{output_command_tells, sleep_command_tells, get_lazy_state_command_tells, get_lazy_state_keys_command_tells, get_eager_state_command_tells, get_eager_state_keys_command_tells, set_state_command_tells, clear_state_command_tells, clear_all_state_command_tells, get_promise_command_tells, peek_promise_command_tells, complete_promise_command_tells, run_command_tells, send_signal_command_tells, attach_invocation_command_tells, get_invocation_output_command_tells, complete_awakeable_command_tells}
 use Rattle.protocol_equality.specs.Calls.{call_command_tells, one_way_call_command_tells}
 use Rattle.protocol_laws.specs.Commands.{CommandRecord, command_record}
 use Rattle.vm_commands.specs.HeaderEquality.{same_record, erased_command, type_of_command, is_unstable, ComparesReflexively, ComparesTypes, ComparesHeaders}
-use Rattle.vm_commands.specs.Meant.{request_typed}
+use Rattle.vm_commands.specs.RecordMeanings.{request_typed}
 
 -- records of two types are not the same
 apart : {A : Type 0} {x y : CommandRecord} → x ≡ y → nat_eq (type_number (type_of_command x)) (type_number (type_of_command y)) ≡ false → A

@@ -6,7 +6,7 @@ use Rattle.protocol_wire.specs.Fields.{fields}
 use Rattle.protocol_wire.specs.Check.{payload_fault}
 use Rattle.protocol_wire.specs.declared.check.Fault.{Fault}
 use Rattle.protocol_wire.specs.Parts.{Part}
-use Rattle.protocol_wire.specs.Decodes.{IsRead}
+use Rattle.protocol_wire.specs.DecodingAnswers.{IsRead}
 use Rattle.protocol_wire.specs.declared.record.TheConstants.{LEVELS}
 use Rattle.journal_model.specs.Request.{Request}
 use Rattle.journal_model.specs.Spelling.{request_type}
@@ -15,14 +15,14 @@ use Rattle.protocol_types.specs.declared.message_type.MessageType.{MessageType}
 use Rattle.protocol_stream.specs.declared.decoder.RawMessage.{RawMessage}
 use Rattle.protocol_stream.specs.declared.decoder.DecodingError.{DecodingError}
 use Rattle.protocol_stream.specs.declared.decoder.DecodingError.TheVariants as unread
-use Rattle.protocol_messages.specs.Decoded.{DecodesTo, HasItsType, IsOtherType}
+use Rattle.protocol_messages.specs.Decodings.{DecodesTo, HasItsType, IsOtherType}
 use Rattle.protocol_equality.specs.Laws.{AreHeaderEqual}
 use Rattle.protocol_differences.specs.declared.mismatch.CommandMismatchError.{CommandMismatchError}
 use Rattle.vm_commands.specs.declared.replay_error.ReplayError.{ReplayError}
 use Rattle.vm_commands.specs.declared.replay_error.ReplayError.TheVariants.{Unavailable, Decoding, Mismatch, OutOfMemory}
 use Rattle.vm_commands.specs.HeaderEquality.{header_equal, is_recorded}
-use Rattle.vm_commands.specs.Recorded.{unless_wrong, command_of, commands_of}
-use Rattle.vm_commands.specs.Meant.{MeansRequests}
+use Rattle.vm_commands.specs.RecordedCommands.{unless_wrong, command_of, commands_of}
+use Rattle.vm_commands.specs.RecordMeanings.{MeansRequests}
 use Rattle.vm_commands.specs.NextCommand.{next_of, unread_as, both_told, Compares, TakesAs, IsNoRequest, Matches}
 use Rattle.vm_commands.proofs.Comparing.{compares_types}
 use Rattle.vm_commands.proofs.Recording.{keeps_types}

@@ -23,7 +23,7 @@ use Rattle.protocol_calls.specs.AttachInvocationCommand.{attach_invocation_comma
 use Rattle.protocol_calls.specs.GetInvocationOutputCommand.{get_invocation_output_command_of}
 use Rattle.protocol_calls.specs.CompleteAwakeableCommand.{complete_awakeable_command_of}
 use Rattle.protocol_laws.specs.Requests.{request_of_output, request_of_get_lazy_state, request_of_get_eager_state, request_of_get_lazy_state_keys, request_of_get_eager_state_keys, request_of_set_state, request_of_clear_state, request_of_clear_all_state, request_of_get_promise, request_of_peek_promise, request_of_complete_promise, request_of_sleep, request_of_call, request_of_one_way_call, request_of_send_signal, request_of_run, request_of_attach_invocation, request_of_get_invocation_output, request_of_complete_awakeable}
-use Rattle.vm_commands.specs.Recorded.{unless_wrong, request_read, command_by, KeepsTypes, ReadsAsRecorded}
+use Rattle.vm_commands.specs.RecordedCommands.{unless_wrong, request_read, command_by, KeepsTypes, ReadsAsRecorded}
 
 -- a request, where there is one, is of this type
 abbrev IsOfType : MessageType → Option Request → Type 0

@@ -8,7 +8,7 @@ use Rattle.attempt_model.specs.Requests.{Commands, put_one}
 use Rattle.protocol_stream.specs.declared.decoder.RawMessage.{RawMessage}
 use Rattle.protocol_stream.specs.declared.decoder.DecodingError.{DecodingError}
 use Rattle.protocol_stream.specs.declared.decoder.DecodingError.TheVariants as unread
-use Rattle.protocol_messages.specs.Decoded.{DecodesTo, HasItsType, IsOtherType}
+use Rattle.protocol_messages.specs.Decodings.{DecodesTo, HasItsType, IsOtherType}
 use Rattle.protocol_stream.specs.Header.{message_type}
 use Rattle.protocol_types.specs.declared.message_type.MessageType.{MessageType}
 use Rattle.protocol_equality.specs.Laws.{AreHeaderEqual}
@@ -21,8 +21,8 @@ use Rattle.vm_commands.specs.declared.state_read.StateRead.TheVariants as reads
 use Rattle.vm_commands.specs.declared.state_read.StateReadError.{StateReadError}
 use Rattle.vm_commands.specs.declared.state_read.StateReadError.TheVariants as errors
 use Rattle.vm_commands.specs.HeaderEquality.{header_equal, is_recorded}
-use Rattle.vm_commands.specs.Recorded.{command_of, commands_of, as_recorded}
-use Rattle.vm_commands.specs.Meant.{MeansRequests}
+use Rattle.vm_commands.specs.RecordedCommands.{command_of, commands_of, as_recorded}
+use Rattle.vm_commands.specs.RecordMeanings.{MeansRequests}
 use Rattle.vm_commands.specs.NextCommand.{next_of, unread_as, IsNextUnread}
 use Rattle.vm_commands.specs.StateReads.{tells_type, IsNoRead, ReadsAs, MatchesRead, IsRetold}
 use Rattle.vm_commands.proofs.Recording.{keeps_types}

@@ -1,7 +1,7 @@
 pub mod HeaderEquality
 pub mod Meanings
-pub mod Meant
+pub mod RecordMeanings
 pub mod NextCommand
-pub mod Recorded
-pub mod Retold
+pub mod RecordedCommands
+pub mod RereadState
 pub mod StateReads

@@ -28,7 +28,7 @@ use Rattle.protocol_equality.specs.Calls.{same_call_command, erased_call_command
 use Rattle.protocol_equality.specs.Payloads.{erased_output_result, erased_state_result, erased_value, erased_completion, erased_awakeable_result}
 use Rattle.protocol_laws.specs.Commands.{CommandRecord}
 use Rattle.protocol_laws.specs.Requests.{request_of_output, request_of_get_lazy_state, request_of_get_eager_state, request_of_get_lazy_state_keys, request_of_get_eager_state_keys, request_of_set_state, request_of_clear_state, request_of_clear_all_state, request_of_get_promise, request_of_peek_promise, request_of_complete_promise, request_of_sleep, request_of_call, request_of_one_way_call, request_of_send_signal, request_of_run, request_of_attach_invocation, request_of_get_invocation_output, request_of_complete_awakeable}
-use Rattle.vm_commands.specs.Meant.{MeansRequests, means, as_present}
+use Rattle.vm_commands.specs.RecordMeanings.{MeansRequests, means, as_present}
 
 pub output_means : MeansRequests records.OutputCommand output_command_of output_command_parts erased_output_command request_of_output
 output_means =

@@ -9,7 +9,7 @@ use Rattle.protocol_stream.specs.declared.decoder.RawMessage.{RawMessage}
 use Rattle.protocol_stream.specs.declared.decoder.DecodingError.{DecodingError}
 use Rattle.protocol_stream.specs.declared.decoder.DecodingError.TheVariants as unread
 use Rattle.protocol_messages.specs.RecordMessage.{type_of_record}
-use Rattle.protocol_messages.specs.Decoded.{DecodesTo}
+use Rattle.protocol_messages.specs.Decodings.{DecodesTo}
 use Rattle.protocol_errors.specs.Code.{journal_mismatch, internal}
 use Rattle.protocol_errors.specs.Error.{decoding_code}
 use Rattle.protocol_errors.specs.Texts.{mismatch_text, unavailable_text}
@@ -19,7 +19,7 @@ use Rattle.protocol_equality.specs.Laws.{AreHeaderEqual}
 use Rattle.vm_commands.specs.declared.replay_error.ReplayError.{ReplayError}
 use Rattle.vm_commands.specs.declared.replay_error.ReplayError.TheVariants.{Unavailable, Decoding, Mismatch, OutOfMemory}
 use Rattle.vm_commands.specs.HeaderEquality.{header_equal}
-use Rattle.vm_commands.specs.Recorded.{commands_of}
+use Rattle.vm_commands.specs.RecordedCommands.{commands_of}
 
 -- ---- what is taken
 

@@ -10,7 +10,7 @@ use Rattle.protocol_stream.specs.declared.decoder.DecodingError.{DecodingError}
 use Rattle.protocol_stream.specs.declared.decoder.DecodingError.TheVariants as unread
 use Rattle.protocol_stream.specs.Header.{message_type}
 use Rattle.protocol_messages.specs.RecordMessage.{type_of_record}
-use Rattle.protocol_messages.specs.Decoded.{DecodesTo, HasItsType}
+use Rattle.protocol_messages.specs.Decodings.{DecodesTo, HasItsType}
 use Rattle.protocol_errors.specs.declared.mismatch.CommandTypeMismatchError.{CommandTypeMismatchError}
 use Rattle.protocol_equality.specs.Laws.{AreHeaderEqual}
 use Rattle.vm_commands.specs.declared.replay_error.ReplayError.{ReplayError}
@@ -20,7 +20,7 @@ use Rattle.vm_commands.specs.declared.state_read.StateRead.TheVariants as reads
 use Rattle.vm_commands.specs.declared.state_read.StateReadError.{StateReadError}
 use Rattle.vm_commands.specs.declared.state_read.StateReadError.TheVariants as errors
 use Rattle.vm_commands.specs.HeaderEquality.{header_equal}
-use Rattle.vm_commands.specs.Recorded.{commands_of, as_recorded}
+use Rattle.vm_commands.specs.RecordedCommands.{commands_of, as_recorded}
 use Rattle.vm_commands.specs.NextCommand.{both_told, TakesAs, IsNoRequest, IsNextUnread}
 
 -- ---- the answer, exactly

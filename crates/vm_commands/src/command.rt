@@ -1,7 +1,7 @@
 // What makes a record the command of a call.
 ghost use Rattle.std.specs.Prelude.{Option};
 ghost use Rattle.journal_model.specs.Request.{Request};
-ghost use Rattle.vm_commands.specs.Meant.{MeansRequests};
+ghost use Rattle.vm_commands.specs.RecordMeanings.{MeansRequests};
 
 use protocol_differences::{CommandMessageHeaderDiff, NamedCommandMessage};
 use protocol_messages::PlainMessage;

@@ -1,7 +1,7 @@
 // The reads of an object's state whose answer was known when they were made.
 ghost use Rattle.std.specs.Prelude.{◌≡◌, Option, None};
 ghost use Rattle.vm_commands.specs.StateReads.{IsRetold};
-ghost use Rattle.vm_commands.specs.Retold.{value_retold, keys_retold};
+ghost use Rattle.vm_commands.specs.RereadState.{value_retold, keys_retold};
 
 use crate::Command;
 use protocol_commands::{

@@ -1,7 +1,7 @@
 //! Laws of recorded commands. Each function does nothing: its contract is the law.
 
 ghost use Rattle.vm_commands.specs.HeaderEquality.{ComparesReflexively, ComparesTypes, ComparesHeaders};
-ghost use Rattle.vm_commands.specs.Recorded.{KeepsTypes, ReadsAsRecorded};
+ghost use Rattle.vm_commands.specs.RecordedCommands.{KeepsTypes, ReadsAsRecorded};
 
 /// Two requests have the same header exactly where what is compared of their records is the same: so a call's request has the
 /// header of itself, whatever the call leaves out, and what has the same header is of one type.

@@ -1,7 +1,7 @@
 // Taking the recorded read of an object's state: its kind, and what was known, are the record's.
 ghost use Rattle.std.specs.Prelude.{◌≡◌, List, Some, Ok, drop};
 ghost use Rattle.journal_model.specs.Request.{Request};
-ghost use Rattle.protocol_messages.specs.Decoded.{DecodesTo, HasItsType};
+ghost use Rattle.protocol_messages.specs.Decodings.{DecodesTo, HasItsType};
 ghost use Rattle.protocol_stream.specs.declared.decoder.RawMessage.{RawMessage};
 ghost use Rattle.vm_commands.specs.NextCommand.{next_of};
 ghost use Rattle.vm_commands.specs.StateReads.{tells_type, ReadsAs, MatchesRead};

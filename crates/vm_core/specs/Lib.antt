@@ -1,3 +1,3 @@
-pub mod Closed
+pub mod MadeMachine
 pub mod Calls
 pub mod Outcomes

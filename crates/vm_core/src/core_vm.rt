@@ -17,7 +17,7 @@ ghost use Rattle.vm_progress.specs.EndEffects.{EndsAs};
 ghost use Rattle.vm_proposals.specs.RunCallEffects.{CallsRun};
 ghost use Rattle.vm_proposals.specs.ProposalEffects.{ProposesRun};
 ghost use Rattle.vm_outcomes.specs.Runs.{BodiesAreKept};
-ghost use Rattle.vm_core.specs.Closed.{state_made};
+ghost use Rattle.vm_core.specs.MadeMachine.{state_made};
 ghost use Rattle.vm_start.specs.Negotiation.{content_type};
 ghost use Rattle.vm_core.specs.Calls.{SysStateGet, SysStateGetKeys, SysStateSet, SysStateClear, SysStateClearAll, SysSleep, SysCall, SysSend, SysAwakeable, SysCompleteAwakeable, CreateSignalHandle, SysCompleteSignal, SysGetPromise, SysPeekPromise, SysCompletePromise, SysCancelInvocation, SysAttachInvocation, SysGetInvocationOutput, TakeNotification, SysWriteOutput};
 

@@ -17,7 +17,7 @@ use Rattle.vm_feeding.specs.InputAnswer.{Gives, ReadsAs, AnswersReading, ReadsIn
 use Rattle.vm_feeding.specs.declared.reading.Reading.{Reading}
 use Rattle.vm_feeding.specs.declared.reading.Reading.TheVariants as readings
 use Rattle.vm_calls.specs.Active.{has_left, still_replays}
-use Rattle.vm_commands.specs.Recorded.{commands_of}
+use Rattle.vm_commands.specs.RecordedCommands.{commands_of}
 use Rattle.vm_calls.specs.declared.active.Active.{Active}
 use Rattle.vm_context.specs.Eager.{KnownState}
 use Rattle.vm_context.specs.StateKnowledge.{KnowsState, start_state_of}

@@ -22,8 +22,8 @@ use Rattle.vm_awaits.specs.Children.{AreMade}
 use Rattle.vm_commands.specs.HeaderEquality.{same_header}
 use Rattle.vm_calls.specs.Active.{Sees, left_of, has_left, HasCompletions}
 use Rattle.vm_calls.specs.CommandCalls.{Replies}
-use Rattle.vm_commands.specs.Recorded.{commands_of}
-use Rattle.vm_calls.specs.Spent.{IsSpent}
+use Rattle.vm_commands.specs.RecordedCommands.{commands_of}
+use Rattle.vm_calls.specs.SpentReplay.{IsSpent}
 use Rattle.vm_calls.specs.declared.active.Active.{Active}
 use Rattle.vm_context.specs.Eager.{KnownState}
 use Rattle.vm_context.specs.StateKnowledge.{KnowsState}

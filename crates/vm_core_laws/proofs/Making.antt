@@ -19,7 +19,7 @@ use Rattle.vm_awaits.specs.Views.{AsyncResults, slots_of}
 use Rattle.vm_calls.specs.Active.{Sees}
 use Rattle.vm_calls.specs.Handles.{LacksHandle, LacksSignal}
 use Rattle.vm_calls.specs.CommandCalls.{MakesCommand}
-use Rattle.vm_calls.specs.Spent.{IsSpent, FailsSpent}
+use Rattle.vm_calls.specs.SpentReplay.{IsSpent, FailsSpent}
 use Rattle.vm_calls.specs.declared.active.Active.{Active}
 use Rattle.vm_calls.specs.declared.call_error.CallError.{CallError}
 use Rattle.vm_machine.specs.Calls.{checks_off, IsMade, IsOf, Calls}
@@ -32,7 +32,7 @@ use Rattle.vm_feeding.specs.CommandlessCalls.{AnswersBy, IsCalled}
 use Rattle.vm_feeding.specs.Handles.{started_id, MakesSignal, IsNoSignal, MakesAwakeable, IsAwakeableWhere, IsAwakeable, IsNoAwakeableWhere, IsNoAwakeable, TakesFirstResult, TakeCauses}
 use Rattle.vm_progress.specs.StateReadEffects.{ReadKind, IsStateRead, MissesNext, SettlesRead, StepsOfRead}
 use Rattle.vm_state_reads.specs.ReadAnswers.{Reads}
-use Rattle.vm_state_reads.specs.Spent.{ReadFailsSpent}
+use Rattle.vm_state_reads.specs.SpentReplay.{ReadFailsSpent}
 use Rattle.vm_state_reads.specs.declared.read_error.ReadError.{ReadError}
 use Rattle.vm_types.specs.declared.handles.AwakeableHandle.{AwakeableHandle}
 use Rattle.vm_types.specs.declared.options.JournalReplay.{JournalReplay}

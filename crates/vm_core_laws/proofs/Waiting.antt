@@ -32,7 +32,7 @@ use Rattle.vm_machine.specs.Calls.{checks_off}
 use Rattle.vm_machine.specs.CallAdmission.{is_active}
 use Rattle.vm_machine.specs.Steps.{IsUnexpected}
 use Rattle.vm_machine.specs.declared.machine_state.MachineState.{MachineState}
-use Rattle.vm_progress.specs.Asleep.{too_deep_error, FailsUntold, SettlesStay, ClosesAs, SleepsAs, SleepsWhere}
+use Rattle.vm_progress.specs.SleepingAwaits.{too_deep_error, FailsUntold, SettlesStay, ClosesAs, SleepsAs, SleepsWhere}
 use Rattle.vm_progress.specs.AwaitedRuns.{executes_any, is_executing_for, run_for}
 use Rattle.vm_progress.specs.AwaitEffects.{ready_read, GoesOnAs, IsAwaited, DoesAwaitWhere, DoesAwait}
 use Rattle.vm_progress.specs.EndEffects.{end_place, closed_active, ClosesEnd, EndsAt, EndsAs}

@@ -5,7 +5,7 @@ use Rattle.attempt_model.specs.Machine.{Machine}
 use Rattle.protocol_types.specs.declared.version.Version.{Version}
 use Rattle.vm_feeding.specs.NewMachine.{IsNew}
 use Rattle.vm_calls.specs.Active.{Sees}
-use Rattle.vm_calls.specs.Spent.{IsSpent}
+use Rattle.vm_calls.specs.SpentReplay.{IsSpent}
 use Rattle.vm_start.specs.declared.phase.Phase.TheVariants as phases
 use Rattle.vm_machine.specs.Calls.{IsOf}
 use Rattle.vm_machine.specs.declared.machine_state.MachineState.{MachineState}

@@ -1,7 +1,7 @@
 -- No more input comes.
 use Rattle.std.specs.Prelude.{◌≡◌, Bool, true, false, Ok}
 use Rattle.protocol_errors.specs.Error.{plain_error}
-use Rattle.protocol_errors.specs.Fixed.{fixed_code, fixed_text}
+use Rattle.protocol_errors.specs.FixedErrors.{fixed_code, fixed_text}
 use Rattle.protocol_errors.specs.declared.fixed.FixedError.TheVariants.{InputClosedWhileWaitingEntries}
 use Rattle.vm_start.specs.declared.phase.Phase.{Phase}
 use Rattle.vm_start.specs.declared.phase.Phase.TheVariants as phases

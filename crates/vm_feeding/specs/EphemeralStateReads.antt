@@ -7,10 +7,10 @@ use Rattle.journal_model.specs.declared.value.Value.TheVariants as values
 use Rattle.protocol_controls.specs.GetStateEphemeralCommand.{get_state_ephemeral_command_parts}
 use Rattle.protocol_errors.specs.Code.{internal}
 use Rattle.protocol_errors.specs.Error.{plain_error}
-use Rattle.protocol_errors.specs.Fixed.{fixed_code, fixed_text}
+use Rattle.protocol_errors.specs.FixedErrors.{fixed_code, fixed_text}
 use Rattle.protocol_errors.specs.declared.error.Error.{Error}
 use Rattle.protocol_errors.specs.declared.fixed.FixedError.TheVariants as fixed
-use Rattle.protocol_messages.specs.Encoded.{record_message}
+use Rattle.protocol_messages.specs.Encodings.{record_message}
 use Rattle.protocol_stream.specs.ErrorText.{too_long_text}
 use Rattle.protocol_stream.specs.Frame.{spelled}
 use Rattle.protocol_stream.specs.declared.decoder.RawMessage.{RawMessage}

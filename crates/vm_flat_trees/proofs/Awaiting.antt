@@ -7,7 +7,7 @@ use Rattle.journal_model.specs.PrunedTrees.{pruned, earlier_or_later}
 use Rattle.attempt_model.specs.Results.{Slots}
 use Rattle.attempt_laws.proofs.Waking.{awake-map, pruned-map}
 use Rattle.vm_flat_trees.specs.declared.node.FlatNode.{FlatNode}
-use Rattle.vm_flat_trees.specs.Awaited.{handle_in, state_in, awaited, has_woken, leaf_over, awaited_over, heard, delivered, ways_for, still_waits, leaf_read, first_read, awaited_in}
+use Rattle.vm_flat_trees.specs.SleepingTree.{handle_in, state_in, awaited, has_woken, leaf_over, awaited_over, heard, delivered, ways_for, still_waits, leaf_read, first_read, awaited_in}
 use Rattle.vm_flat_trees.specs.NotificationRecipients.{is_for, waits_for}
 use Rattle.vm_flat_trees.specs.NotificationDelivery.{brought, sites, all_sites, total, depth_at, ways_of}
 use Rattle.vm_flat_trees.specs.Flat.{size_of, sizes_of, flat_of, read_back}

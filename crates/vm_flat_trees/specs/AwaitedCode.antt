@@ -5,7 +5,7 @@ use Rattle.journal_model.specs.AwaitTree.{AwaitState, Pending, Succeeded, Failed
 use Rattle.journal_model.specs.TreeCode.{number_of_combinator, of_number, of_number-number_of}
 use Rattle.journal_model.specs.declared.notification.NotificationId.{NotificationId}
 use Rattle.journal_model.specs.contracts.notification.NotificationId as ids
-use Rattle.vm_flat_trees.specs.Awaited.{AwaitedLeaf}
+use Rattle.vm_flat_trees.specs.SleepingTree.{AwaitedLeaf}
 
 -- a leaf, or the number of another constructor
 abbrev pub Mark : Type 0

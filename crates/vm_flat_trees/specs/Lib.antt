@@ -1,4 +1,4 @@
-pub mod Awaited
+pub mod SleepingTree
 pub mod AwaitedCode
 pub mod NotificationRecipients
 pub mod LeafDelivery

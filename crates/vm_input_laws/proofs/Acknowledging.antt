@@ -11,7 +11,7 @@ use Rattle.protocol_controls.specs.ReadBack.{propose_run_completion_ack_reads}
 use Rattle.protocol_stream.specs.Frame.{message_of}
 use Rattle.protocol_stream.specs.Item.{message, item_at}
 use Rattle.protocol_stream.proofs.Frames.{item_at-frame_bytes}
-use Rattle.protocol_messages.specs.Decoded.{DecodesTo}
+use Rattle.protocol_messages.specs.Decodings.{DecodesTo}
 use Rattle.protocol_laws.proofs.Notifications.{acknowledgements_spelled}
 
 -- ---- its length

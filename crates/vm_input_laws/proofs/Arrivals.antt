@@ -18,8 +18,8 @@ use Rattle.protocol_controls.specs.ReadBack.{notification_reads}
 use Rattle.protocol_stream.specs.Records.{pair_record, pair_told}
 use Rattle.protocol_stream.specs.Frame.{message_of}
 use Rattle.protocol_stream.proofs.Frames.{item_at-frame_bytes}
-use Rattle.protocol_messages.specs.Told.{id_told, result_told, notification_told}
-use Rattle.protocol_messages.specs.Decoded.{DecodesNotification}
+use Rattle.protocol_messages.specs.NotificationContent.{id_told, result_told, notification_told}
+use Rattle.protocol_messages.specs.Decodings.{DecodesNotification}
 use Rattle.protocol_laws.specs.Records.{id_record, notification_record, result_record}
 use Rattle.protocol_laws.proofs.Notifications.{notifications_spelled}
 use Rattle.vm_input_laws.specs.Arrivals.{ArrivalFits, IsCompletionAsked, IsNotificationType, ArrivalsReadBack}

@@ -31,7 +31,7 @@ use Rattle.vm_machine.specs.declared.machine_state.MachineState.{MachineState}
 use Rattle.vm_types.specs.declared.options.JournalReplay.{JournalReplay}
 use Rattle.vm_types.specs.declared.options.JournalReplay.TheVariants.{Enabled}
 use Rattle.vm_input_laws.proofs.MessagesRead.{not_unread}
-use Rattle.vm_input_laws.specs.InputsAnswered.{IsInputReady, IsGiven, LacksMemoryForInput, InputsAreRead}
+use Rattle.vm_input_laws.specs.InputAnswers.{IsInputReady, IsGiven, LacksMemoryForInput, InputsAreRead}
 use Rattle.vm_feeding.specs.InputAnswer.{Gives, ReadsAs, AnswersReading, ReadsInputs}
 use Rattle.vm_feeding.specs.declared.reading.Reading.{Reading}
 use Rattle.vm_feeding.specs.declared.reading.Reading.TheVariants.{Given, Fails, Elsewhere}

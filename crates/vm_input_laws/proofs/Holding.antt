@@ -7,7 +7,7 @@ use Rattle.std.proofs.Math.Seq.{take-append_seam}
 use Rattle.protocol_stream.specs.Item.{item_at, message}
 use Rattle.journal_model.specs.Attempt.{input_bytes, arrivals_within}
 use Rattle.input_laws.specs.Message.{piece_of}
-use Rattle.vm_input_laws.specs.InputsKept.{NoArrivalIsHeld}
+use Rattle.vm_input_laws.specs.InputMessages.{NoArrivalIsHeld}
 use Rattle.vm_input_laws.specs.Messages.{raw_of}
 use Rattle.vm_input_laws.proofs.Inputs.{front, some_is_none}
 

@@ -17,7 +17,7 @@ use Rattle.input_laws.specs.Message.{InputMessage, CarriesInput}
 use Rattle.attempt_model.specs.Machine.{Machine, machine_at_start}
 use Rattle.live_laws.specs.StartFrame.{AttemptStart, ShowsStart}
 use Rattle.live_laws.specs.MachinePosition.{with_messages}
-use Rattle.vm_input_laws.specs.InputsAnswered.{HasInput, IsInputReady, IsGiven, LacksMemoryForInput, InputsAreRead}
+use Rattle.vm_input_laws.specs.InputAnswers.{HasInput, IsInputReady, IsGiven, LacksMemoryForInput, InputsAreRead}
 use Rattle.vm_feeding.specs.InputAnswer.{IsInputRead}
 use Rattle.vm_calls.specs.Active.{Sees}
 use Rattle.vm_commands.specs.NextCommand.{next_of}
@@ -28,7 +28,7 @@ use Rattle.vm_machine.specs.declared.machine_state.MachineState.{MachineState}
 use Rattle.vm_start.specs.Starts.{without_state}
 use Rattle.vm_types.specs.Options.{run_options}
 use Rattle.vm_input_laws.specs.Messages.{raw_of, MessageFits}
-use Rattle.vm_input_laws.specs.InputsKept.{gathered_all, commands_in}
+use Rattle.vm_input_laws.specs.InputMessages.{gathered_all, commands_in}
 use Rattle.vm_input_laws.proofs.StartSpelled.{inputs_read_back}
 use Rattle.vm_input_laws.proofs.Memory.{fails_for_memory, answers_memory}
 use Rattle.vm_input_laws.specs.MachineFeed.{HasFailed, has_failed}

@@ -34,7 +34,7 @@ use Rattle.protocol_stream.proofs.Fronts.{item_at_extends}
 use Rattle.protocol_wire.proofs.Extends.{Extends}
 use Rattle.vm_input_laws.specs.Memory.{FailsForMemory}
 use Rattle.vm_input_laws.specs.Messages.{raw_of, MessageFits, IsWaitedFor, IsExpected, KeepsMessage, command_in, gathered, runs_then, phase_then, Kept, Unkept, MessagesAreKept}
-use Rattle.vm_input_laws.specs.InputsKept.{bytes_of, IsFedEach, gathered_all, commands_in, phase_behind, runs_behind, AreWaitedFor, KnowsRuns, AreKept, TakesFirstMessages, InputsAreKept}
+use Rattle.vm_input_laws.specs.InputMessages.{bytes_of, IsFedEach, gathered_all, commands_in, phase_behind, runs_behind, AreWaitedFor, KnowsRuns, AreKept, TakesFirstMessages, InputsAreKept}
 use Rattle.vm_input_laws.proofs.Acknowledging.{acknowledgement_front}
 use Rattle.vm_input_laws.proofs.StartSpelled.{inputs_read_back}
 use Rattle.vm_request_laws.proofs.Requests.{requests_read_back}

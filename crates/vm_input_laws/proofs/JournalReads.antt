@@ -19,7 +19,7 @@ use Rattle.vm_start.specs.declared.phase.Phase.TheVariants as phases
 use Rattle.vm_machine.specs.declared.machine_state.MachineState.{MachineState}
 use Rattle.vm_input_laws.specs.Memory.{FailsForMemory}
 use Rattle.vm_input_laws.specs.Messages.{MessageFits, phase_then, MessagesAreKept}
-use Rattle.vm_input_laws.specs.InputsKept.{gathered_all, commands_in, phase_behind, runs_behind, AreWaitedFor, KnowsRuns, AreKept, TakesFirstMessages}
+use Rattle.vm_input_laws.specs.InputMessages.{gathered_all, commands_in, phase_behind, runs_behind, AreWaitedFor, KnowsRuns, AreKept, TakesFirstMessages}
 use Rattle.vm_input_laws.proofs.Inputs.{gathered_append, commands_append, phase_append, stays_active, well_then, inputs_are_kept}
 use Rattle.vm_input_laws.specs.MachineFeed.{has_failed}
 use Rattle.vm_input_laws.specs.InputPhases.{IsArrival, Kind, phase_kind, HasStarted, IsInputAsked}

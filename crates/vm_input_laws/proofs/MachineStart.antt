@@ -27,7 +27,7 @@ use Rattle.vm_machine.specs.declared.machine_state.MachineState.{MachineState}
 use Rattle.vm_input_laws.specs.Memory.{FailsForMemory}
 use Rattle.vm_input_laws.specs.Messages.{MessagesAreKept}
 use Rattle.vm_input_laws.specs.MachineStart.{HasAttemptBegun, StartsAreKept}
-use Rattle.vm_input_laws.specs.InputsKept.{bytes_of, IsFedEach, AreWaitedFor}
+use Rattle.vm_input_laws.specs.InputMessages.{bytes_of, IsFedEach, AreWaitedFor}
 use Rattle.vm_input_laws.proofs.StartSpelled.{starts_read_back}
 use Rattle.vm_input_laws.proofs.Inputs.{extended, same_found, same_message, unknown_is_none, Took, took_none, took_bytes, took_next, took_whole, memory_stays}
 use Rattle.vm_input_laws.proofs.Memory.{unless_refused, fails_for_memory, memory_over}

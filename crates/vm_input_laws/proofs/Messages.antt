@@ -13,7 +13,7 @@ use Rattle.live_laws.specs.MachinePosition.{with_messages}
 use Rattle.vm_start.specs.declared.phase.Phase.{Phase}
 use Rattle.vm_start.specs.declared.phase.Phase.TheVariants as phases
 use Rattle.vm_input_laws.specs.Messages.{IsWaitedFor, phase_then}
-use Rattle.vm_input_laws.specs.InputsKept.{gathered_all, phase_behind, AreWaitedFor}
+use Rattle.vm_input_laws.specs.InputMessages.{gathered_all, phase_behind, AreWaitedFor}
 use Rattle.vm_input_laws.proofs.Inputs.{stays_active}
 use Rattle.vm_input_laws.specs.InputPhases.{IsEntry, IsArrival, IsInputOf}
 use Rattle.live_laws.specs.StartFrame.{AttemptStart}

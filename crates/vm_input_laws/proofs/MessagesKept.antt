@@ -11,7 +11,7 @@ use Rattle.protocol_stream.specs.declared.decoder.DecodingError.{DecodingError}
 use Rattle.protocol_stream.specs.declared.decoder.DecodingError.TheVariants as unread
 use Rattle.protocol_controls.specs.ProposeRunCompletionAck.{propose_run_completion_ack_of}
 use Rattle.protocol_controls.specs.declared.propose_run_completion_ack.ProposeRunCompletionAckMessage.{ProposeRunCompletionAckMessage}
-use Rattle.protocol_messages.specs.Decoded.{DecodesNotification}
+use Rattle.protocol_messages.specs.Decodings.{DecodesNotification}
 use Rattle.protocol_table.specs.declared.table.RecordType.TheVariants as records
 use Rattle.journal_model.specs.declared.invocation.NewInvocation.{NewInvocation}
 use Rattle.journal_model.specs.declared.value.NonEmptyValue.{NonEmptyValue}
@@ -27,7 +27,7 @@ use Rattle.body_laws.specs.Bodies.{Executor}
 use Rattle.replay_laws.specs.AttemptWithBodies.{reads_message}
 use Rattle.vm_runs.specs.Runs.{Runs, outcome_at}
 use Rattle.vm_runs.specs.KeptBodies.{KeepsBodies}
-use Rattle.vm_commands.specs.Recorded.{command_of}
+use Rattle.vm_commands.specs.RecordedCommands.{command_of}
 use Rattle.vm_calls.specs.declared.active.Active.{Active}
 use Rattle.vm_awaits.specs.Views.{results_of}
 use Rattle.vm_awaits.specs.Calls.{with_queued}

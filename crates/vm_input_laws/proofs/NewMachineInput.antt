@@ -32,7 +32,7 @@ use Rattle.vm_machine.specs.declared.machine_state.MachineState.{MachineState}
 use Rattle.vm_types.specs.declared.options.VMOptions.{VMOptions}
 use Rattle.vm_input_laws.specs.Memory.{FailsForMemory}
 use Rattle.vm_input_laws.specs.Messages.{raw_of, MessageFits}
-use Rattle.vm_input_laws.specs.InputsKept.{bytes_of}
+use Rattle.vm_input_laws.specs.InputMessages.{bytes_of}
 use Rattle.vm_input_laws.proofs.Inputs.{front, nothing_at, some_is_none}
 use Rattle.vm_input_laws.proofs.StartSpelled.{starts_read_back}
 use Rattle.vm_input_laws.specs.InputPhases.{IsInputOf, start_told, CanBegin, IsRunOf, phase_kind, new_kind, HasStarted}

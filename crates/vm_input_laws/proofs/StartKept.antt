@@ -7,7 +7,7 @@ use Rattle.protocol_errors.specs.declared.typed.BadEagerStateKeyError.{BadEagerS
 use Rattle.protocol_records.specs.Start.{start_message_of}
 use Rattle.protocol_records.specs.declared.start.StartMessage.{StartMessage}
 use Rattle.protocol_records.specs.declared.start.StateEntry.{StateEntry}
-use Rattle.protocol_messages.specs.Decoded.{DecodesTo}
+use Rattle.protocol_messages.specs.Decodings.{DecodesTo}
 use Rattle.protocol_stream.specs.Decoder.{ConsumesNext}
 use Rattle.protocol_stream.specs.Records.{start_record}
 use Rattle.protocol_stream.specs.Frame.{message_of}

@@ -9,7 +9,7 @@ use Rattle.vm_start.specs.declared.phase.Phase.TheVariants as phases
 use Rattle.vm_feeding.specs.InputBytes.{has_failed, with_input, TakesEach, RestsWhere, TakesAll, IsFed}
 use Rattle.vm_feeding.specs.UnansweredFailure.{HasFailed}
 use Rattle.vm_machine.specs.declared.machine_state.MachineState.{MachineState}
-use Rattle.vm_input_laws.specs.InputsKept.{StaysFailed, FailedMachinesStay}
+use Rattle.vm_input_laws.specs.InputMessages.{StaysFailed, FailedMachinesStay}
 
 -- it fails again with nothing
 again : (error : Error) (refused : AllocError) (old new : MachineState) → old.phase ≡ phases.Failed error → HasFailed (Err refused) old new → new ≡ old

@@ -13,7 +13,7 @@ use Rattle.journal_model.specs.Attempt.{notification_type}
 use Rattle.protocol_controls.specs.Notification.{NotificationFits}
 use Rattle.protocol_stream.specs.Frame.{message_of}
 use Rattle.protocol_stream.specs.Item.{message, item_at}
-use Rattle.protocol_messages.specs.Decoded.{DecodesNotification}
+use Rattle.protocol_messages.specs.Decodings.{DecodesNotification}
 use Rattle.protocol_laws.specs.Records.{notification_record}
 use Rattle.vm_machine.specs.MessageKinds.{incoming_of}
 use Rattle.vm_machine.specs.declared.incoming.Incoming.TheVariants as incoming

@@ -16,8 +16,8 @@ use Rattle.protocol_records.specs.declared.start.StartMessage.{StartMessage}
 use Rattle.protocol_stream.specs.Frame.{message_of}
 use Rattle.protocol_stream.specs.Item.{message, item_at}
 use Rattle.protocol_stream.specs.Records.{input_record, start_record}
-use Rattle.protocol_messages.specs.Decoded.{DecodesTo}
-use Rattle.vm_commands.specs.Recorded.{command_of}
+use Rattle.protocol_messages.specs.Decodings.{DecodesTo}
+use Rattle.vm_commands.specs.RecordedCommands.{command_of}
 use Rattle.vm_context.specs.StateKnowledge as following
 use Rattle.vm_machine.specs.MessageKinds.{incoming_of}
 use Rattle.vm_machine.specs.declared.incoming.Incoming.TheVariants as incoming

@@ -23,7 +23,7 @@ use Rattle.vm_types.specs.declared.options.VMOptions.{VMOptions}
 use Rattle.vm_types.specs.declared.options.JournalReplay.TheVariants.{Enabled}
 use Rattle.vm_input_laws.specs.Messages.{MessageFits}
 use Rattle.vm_input_laws.specs.MachineStart.{WaitsForStart, BeginsWell}
-use Rattle.vm_input_laws.specs.InputsKept.{gathered_all, commands_in, phase_behind}
+use Rattle.vm_input_laws.specs.InputMessages.{gathered_all, commands_in, phase_behind}
 
 -- ---- the attempt
 

@@ -24,7 +24,7 @@ use Rattle.vm_machine.specs.declared.machine_state.MachineState.{MachineState}
 use Rattle.vm_types.specs.declared.options.VMOptions.{VMOptions}
 use Rattle.vm_input_laws.specs.Memory.{FailsForMemory}
 use Rattle.vm_input_laws.specs.Messages.{MessageFits}
-use Rattle.vm_input_laws.specs.InputsKept.{bytes_of, IsFedEach, KnowsRuns}
+use Rattle.vm_input_laws.specs.InputMessages.{bytes_of, IsFedEach, KnowsRuns}
 use Rattle.vm_input_laws.specs.InputPhases.{IsArrival, IsInputOf, start_told, CanBegin, IsRunOf, Kind, new_kind, AwaitsStart, HasStarted, IsInputAsked}
 
 -- ---- the bodies of runs

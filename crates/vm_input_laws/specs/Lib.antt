@@ -3,9 +3,9 @@ pub mod FirstFrames
 pub mod Memory
 pub mod Messages
 pub mod MachineStart
-pub mod InputsKept
+pub mod InputMessages
 pub mod MachineFeed
-pub mod InputsAnswered
+pub mod InputAnswers
 pub mod InputPhases
 pub mod Laws
 pub mod MessagesBehindJournal

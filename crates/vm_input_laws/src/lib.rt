@@ -7,8 +7,8 @@ ghost use Rattle.vm_input_laws.specs.Arrivals.{ArrivalsReadBack};
 ghost use Rattle.vm_input_laws.specs.Messages.{MessagesAreKept};
 ghost use Rattle.vm_input_laws.specs.FirstFrames.{InputsReadBack, StartsReadBack};
 ghost use Rattle.vm_input_laws.specs.MachineStart.{StartsAreKept};
-ghost use Rattle.vm_input_laws.specs.InputsKept.{FailedMachinesStay, InputsAreKept, NoArrivalIsHeld};
-ghost use Rattle.vm_input_laws.specs.InputsAnswered.{InputsAreRead};
+ghost use Rattle.vm_input_laws.specs.InputMessages.{FailedMachinesStay, InputsAreKept, NoArrivalIsHeld};
+ghost use Rattle.vm_input_laws.specs.InputAnswers.{InputsAreRead};
 ghost use Rattle.vm_input_laws.specs.Laws.{ArrivalsAreRead, AttemptsBegin, InputsAreAnswered, JournalsAreRead, StartsAreRead};
 
 use vm_machine::{calls_follow_the_input, entries_are_gathered, starts_begin_attempts};

@@ -13,7 +13,7 @@ use Rattle.protocol_types.specs.declared.version.Version.{Version}
 use Rattle.protocol_types.specs.declared.message_type.MessageType.{MessageType}
 use Rattle.vm_calls.specs.Active.{Sees, IsAtCommand}
 use Rattle.vm_calls.specs.CommandCalls.{MakesCommand}
-use Rattle.vm_calls.specs.Spent.{IsSpent, FailsSpent}
+use Rattle.vm_calls.specs.SpentReplay.{IsSpent, FailsSpent}
 use Rattle.vm_calls.specs.MismatchedCommands.{FindsAs}
 use Rattle.vm_calls.specs.declared.active.Active.{Active}
 use Rattle.vm_calls.specs.declared.call_error.CallError.{CallError}

@@ -9,7 +9,7 @@ use Rattle.vm_awaits.specs.Calls.{with_queued}
 use Rattle.vm_awaits.specs.Views.{AsyncResults, results_of}
 use Rattle.vm_calls.specs.declared.active.Active.{Active}
 use Rattle.vm_calls.specs.Active.{Sees, left_of, has_left, still_replays}
-use Rattle.vm_commands.specs.Recorded.{command_of, commands_of}
+use Rattle.vm_commands.specs.RecordedCommands.{command_of, commands_of}
 use Rattle.vm_context.specs.Eager.{KnownState}
 use Rattle.vm_context.specs.StateKnowledge.{KnowsState}
 use Rattle.vm_context.specs.Journal.{JournalCounts}

@@ -5,7 +5,7 @@ use Rattle.journal_model.specs.Value.{result_of_value}
 use Rattle.journal_model.specs.declared.value.NonEmptyValue.{NonEmptyValue}
 use Rattle.protocol_controls.specs.ProposeRunCompletionAck.{propose_run_completion_ack_of}
 use Rattle.protocol_controls.specs.declared.propose_run_completion_ack.ProposeRunCompletionAckMessage.{ProposeRunCompletionAckMessage}
-use Rattle.protocol_messages.specs.Decoded.{DecodesTo}
+use Rattle.protocol_messages.specs.Decodings.{DecodesTo}
 use Rattle.protocol_stream.specs.declared.decoder.DecodingError.TheVariants as unread
 use Rattle.protocol_stream.specs.declared.decoder.RawMessage.{RawMessage}
 use Rattle.protocol_table.specs.declared.table.RecordType.TheVariants as records

@@ -7,7 +7,7 @@ use Rattle.protocol_controls.specs.declared.get_state_ephemeral_notification.Get
 use Rattle.protocol_controls.specs.declared.get_state_ephemeral_notification.GetStateEphemeralNotificationResult.TheVariants as brought
 use Rattle.protocol_errors.specs.declared.fixed.FixedError.{FixedError}
 use Rattle.protocol_errors.specs.declared.fixed.FixedError.TheVariants as fixed
-use Rattle.protocol_messages.specs.Decoded.{DecodesTo}
+use Rattle.protocol_messages.specs.Decodings.{DecodesTo}
 use Rattle.protocol_stream.specs.declared.decoder.DecodingError.TheVariants as unread
 use Rattle.protocol_stream.specs.declared.decoder.RawMessage.{RawMessage}
 use Rattle.protocol_table.specs.declared.table.RecordType.TheVariants as records

@@ -14,7 +14,7 @@ use Rattle.protocol_types.specs.declared.version.Version.{Version}
 use Rattle.protocol_types.specs.declared.message_type.MessageType.{MessageType}
 use Rattle.vm_calls.specs.Active.{Sees, IsAtCommand}
 use Rattle.vm_calls.specs.CommandCalls.{MakesCommand}
-use Rattle.vm_calls.specs.Spent.{IsSpent, FailsSpent}
+use Rattle.vm_calls.specs.SpentReplay.{IsSpent, FailsSpent}
 use Rattle.vm_calls.specs.MismatchedCommands.{FindsAs}
 use Rattle.vm_calls.specs.declared.call_error.CallError.{CallError}
 use Rattle.vm_refusals.specs.Refusals.{refusal_meant}

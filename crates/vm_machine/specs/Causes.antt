@@ -4,7 +4,7 @@ use Rattle.std.specs.declared.alloc.AllocError.{AllocError}
 use Rattle.protocol_differences.specs.declared.relationship.CommandRelationship.TheVariants.{Last}
 use Rattle.protocol_errors.specs.Code.{internal, journal_mismatch, protocol_violation}
 use Rattle.protocol_errors.specs.Error.{plain_error, decoding_code}
-use Rattle.protocol_errors.specs.Fixed.{fixed_code, fixed_text}
+use Rattle.protocol_errors.specs.FixedErrors.{fixed_code, fixed_text}
 use Rattle.protocol_errors.specs.Texts.{bad_ack_text, unavailable_text}
 use Rattle.protocol_errors.specs.declared.error.Error.{Error}
 use Rattle.protocol_stream.specs.ErrorText.{decoding_text}

@@ -3,7 +3,7 @@ use Rattle.std.specs.Prelude.{◌≡◌, ◌≢◌, ℕ, [], ◌∷◌, ◌++◌
 use Rattle.journal_model.specs.declared.notification.Notification.{Notification}
 use Rattle.protocol_errors.specs.declared.fixed.FixedError.{FixedError}
 use Rattle.protocol_errors.specs.declared.fixed.FixedError.TheVariants as fixed
-use Rattle.protocol_messages.specs.Decoded.{DecodesNotification}
+use Rattle.protocol_messages.specs.Decodings.{DecodesNotification}
 use Rattle.protocol_stream.specs.declared.decoder.DecodingError.{DecodingError}
 use Rattle.protocol_stream.specs.declared.decoder.DecodingError.TheVariants as unread
 use Rattle.protocol_stream.specs.declared.decoder.RawMessage.{RawMessage}

@@ -1,6 +1,6 @@
 -- What reading the input answers and leaves.
 use Rattle.std.specs.Prelude.{◌≡◌, ◌≢◌, ◌-◌, ◌-ℤ◌, ◌^◌, ℕ, ℤ, pos, min, List, [], drop, length, Option, Some, None, Result, Ok, Err}
-use Rattle.protocol_messages.specs.Decoded.{DecodesTo}
+use Rattle.protocol_messages.specs.Decodings.{DecodesTo}
 use Rattle.protocol_records.specs.InputCommand.{input_command_of}
 use Rattle.protocol_records.specs.declared.input_command.InputCommandMessage.{InputCommandMessage}
 use Rattle.protocol_stream.specs.declared.decoder.DecodingError.TheVariants as unread

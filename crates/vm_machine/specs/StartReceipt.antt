@@ -2,7 +2,7 @@
 use Rattle.std.specs.Prelude.{◌≡◌, ◌≢◌, pos, true, false, [], Result, Ok, Err}
 use Rattle.journal_model.specs.declared.options.SignalDelivery.{SignalDelivery}
 use Rattle.protocol_errors.specs.declared.fixed.FixedError.TheVariants as fixed
-use Rattle.protocol_messages.specs.Decoded.{DecodesTo}
+use Rattle.protocol_messages.specs.Decodings.{DecodesTo}
 use Rattle.protocol_records.specs.Start.{start_message_of}
 use Rattle.protocol_records.specs.declared.start.StartMessage.{StartMessage}
 use Rattle.protocol_stream.specs.declared.decoder.DecodingError.TheVariants as unread

@@ -11,7 +11,7 @@ use Rattle.vm_awaits.specs.Calls.{with_queued}
 use Rattle.vm_awaits.specs.Views.{results_of}
 use Rattle.vm_calls.specs.declared.active.Active.{Active}
 use Rattle.vm_calls.specs.Active.{Sees, left_of}
-use Rattle.vm_commands.specs.Recorded.{command_of}
+use Rattle.vm_commands.specs.RecordedCommands.{command_of}
 use Rattle.vm_awaits.specs.Children.{AreMade}
 use Rattle.vm_context.specs.StateKnowledge.{KnowsState}
 use Rattle.vm_types.specs.declared.options.JournalReplay.TheVariants.{Enabled}

@@ -21,7 +21,7 @@ use Rattle.vm_machine.specs.Calls.{checks_off}
 use Rattle.vm_machine.specs.declared.machine_state.MachineState.{MachineState}
 use Rattle.vm_outcomes.specs.CallOutcomes.{Answers}
 use Rattle.vm_outcomes.specs.Causes.{NumbersLeft}
-use Rattle.vm_outcomes.specs.Driven.{IsDriven, reply_of}
+use Rattle.vm_outcomes.specs.DrivenMachine.{IsDriven, reply_of}
 use Rattle.vm_outcomes.specs.Runs.{KeepsBodiesOf, runs_after}
 
 -- what a call has changed is what it keeps for calls and of runs alone

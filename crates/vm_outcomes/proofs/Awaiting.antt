@@ -44,10 +44,10 @@ use Rattle.vm_machine.specs.MachineFailure.{MachineFails}
 use Rattle.vm_machine.specs.Steps.{IsUnexpected}
 use Rattle.vm_machine.specs.declared.machine_state.MachineState.{MachineState}
 use Rattle.vm_machine.specs.CallAnswers.{Settles}
-use Rattle.vm_progress.specs.Asleep.{too_deep_error, LacksMemoryToAwait, FailsUntold, SettlesStay, ClosesAs, HandsOutRun, SleepIs, SleepsAs, SleepsWhere}
+use Rattle.vm_progress.specs.SleepingAwaits.{too_deep_error, LacksMemoryToAwait, FailsUntold, SettlesStay, ClosesAs, HandsOutRun, SleepIs, SleepsAs, SleepsWhere}
 use Rattle.vm_progress.specs.AwaitEffects.{ready_read, AwaitsUnread, GoesOnAs, IsAwaited, DoesAwaitWhere, DoesAwait}
 use Rattle.vm_progress.specs.AwaitedRuns.{executes_any, is_executing_for, run_for}
-use Rattle.vm_progress.specs.Uncompleted.{started_id, TellsUncompleted}
+use Rattle.vm_progress.specs.UncompletedAwaits.{started_id, TellsUncompleted}
 use Rattle.vm_progress.proofs.Naming.{uncompleted_code}
 use Rattle.vm_progress.specs.declared.asleep.Sleep.{Sleep}
 use Rattle.vm_progress.specs.declared.asleep.Sleep.TheVariants as sleeps
@@ -70,7 +70,7 @@ use Rattle.vm_waiting.specs.declared.waits_for.WaitsFor.{WaitsFor}
 use Rattle.vm_waiting.specs.declared.waits_for.WaitsFor.TheVariants as waitings
 use Rattle.vm_outcomes.specs.CallOutcomes.{tells_waiting, Answers, Waits, Executes, Suspends as IsSuspended, Comes, CarriesOut}
 use Rattle.vm_outcomes.specs.Causes.{ByFault, TooLong, TooDeep as Deep, Unread, Differs, AreRequestsAsked, IsLookedAt, IsAsleep, waiting_payload, is_wait_too_deep, HasCause}
-use Rattle.vm_outcomes.specs.Driven.{IsDriven, reply_of}
+use Rattle.vm_outcomes.specs.DrivenMachine.{IsDriven, reply_of}
 use Rattle.vm_outcomes.specs.Outcomes.{awaited_as}
 use Rattle.vm_outcomes.specs.PartialCalls.{unless_refused, HasPut, IsUnmatchedNext}
 use Rattle.vm_outcomes.specs.declared.outcome.CallOutcome.{CallOutcome}

@@ -33,7 +33,7 @@ use Rattle.vm_machine.specs.declared.machine_state.MachineState.{MachineState}
 use Rattle.vm_machine.specs.Causes.{CallCauses}
 use Rattle.vm_outcomes.specs.CallOutcomes.{Answers, Fails, Comes, CarriesOut}
 use Rattle.vm_outcomes.specs.Causes.{Unread, Differs, NoNumber, TooLong, LacksNumber, AreRequestsAsked, moment_event, HasCause}
-use Rattle.vm_outcomes.specs.Driven.{IsDriven}
+use Rattle.vm_outcomes.specs.DrivenMachine.{IsDriven}
 use Rattle.vm_outcomes.specs.PartialCalls.{requests_passed_on}
 use Rattle.vm_outcomes.specs.Outcomes.{answered_as}
 use Rattle.vm_outcomes.specs.declared.outcome.CallOutcome.{CallOutcome}

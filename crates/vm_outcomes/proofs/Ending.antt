@@ -22,7 +22,7 @@ use Rattle.vm_progress.specs.declared.ending.EndPlace.TheVariants.{Elsewhere}
 use Rattle.vm_waiting.specs.SuspensionFrames.{WritesFrame}
 use Rattle.vm_outcomes.specs.CallOutcomes.{Ends, Comes, CarriesOut}
 use Rattle.vm_outcomes.specs.Causes.{ByFault}
-use Rattle.vm_outcomes.specs.Driven.{IsDriven}
+use Rattle.vm_outcomes.specs.DrivenMachine.{IsDriven}
 use Rattle.vm_outcomes.specs.Outcomes.{ended_as}
 use Rattle.vm_outcomes.specs.declared.outcome.CallOutcome.{CallOutcome}
 use Rattle.vm_outcomes.proofs.Failing.{memory_cause, failed}

@@ -21,7 +21,7 @@ use Rattle.vm_context.specs.Output.{Written}
 use Rattle.vm_start.specs.FailureReport.{FailsAs, FailsNow}
 use Rattle.vm_start.specs.Phases.{kept_error}
 use Rattle.vm_start.specs.declared.phase.Phase.TheVariants as phases
-use Rattle.vm_progress.specs.Uncompleted.{started_id}
+use Rattle.vm_progress.specs.UncompletedAwaits.{started_id}
 use Rattle.vm_refusals.specs.Refusals.{refusal_meant, refusal_code, refusal_text, text_of_refusal}
 use Rattle.vm_runs.specs.Runs.{Runs}
 use Rattle.vm_refusals.specs.declared.refusal_error.RefusalError.{RefusalError}
@@ -32,7 +32,7 @@ use Rattle.vm_machine.specs.declared.machine_state.MachineState.{MachineState}
 use Rattle.vm_machine.specs.Causes.{TellsPlainError, TellsLast, Unless}
 use Rattle.vm_outcomes.specs.CallOutcomes.{Fails}
 use Rattle.vm_outcomes.specs.Causes.{Cause, ByFault, NoNumber, TooLong, TooDeep, NoReplay, NoMemory, FailsAt, AreRequestsAsked, IsAsBefore, IsLookedAt, LeavesPartly, Unmatched, IsUnmatched, unmatched_code, unmatched_text, TellsEither, FaultTells, CauseTells, moment_event, HasCause}
-use Rattle.vm_outcomes.specs.Driven.{reply_of}
+use Rattle.vm_outcomes.specs.DrivenMachine.{reply_of}
 use Rattle.vm_outcomes.specs.PartialCalls.{HasPut, requests_passed_on, IsUnmatchedNext}
 use Rattle.vm_outcomes.proofs.Answering.{MayBe, nothing_written}
 

@@ -36,7 +36,7 @@ use Rattle.vm_waiting.specs.declared.taking.TakeError.{TakeError}
 use Rattle.vm_waiting.specs.declared.taking.TakeError.TheVariants as untaken
 use Rattle.vm_outcomes.specs.CallOutcomes.{Answers, Comes, CarriesOut}
 use Rattle.vm_outcomes.specs.Causes.{ByFault, NoNumber, NoReplay, NoMemory, LacksNumber, AreRequestsAsked, IsLookedAt, HasCause}
-use Rattle.vm_outcomes.specs.Driven.{IsDriven}
+use Rattle.vm_outcomes.specs.DrivenMachine.{IsDriven}
 use Rattle.vm_outcomes.specs.Outcomes.{answered_as}
 use Rattle.vm_outcomes.specs.declared.outcome.CallOutcome.{CallOutcome}
 use Rattle.vm_outcomes.specs.declared.outcome.CallOutcome.TheVariants.{Answered}

@@ -15,7 +15,7 @@ use Rattle.attempt_model.specs.Results.{Resolution, Awake, Asleep, resolution_of
 use Rattle.vm_commands.specs.HeaderEquality.{same_header}
 use Rattle.vm_machine.specs.Calls.{checks_off}
 use Rattle.vm_machine.specs.declared.machine_state.MachineState.{MachineState}
-use Rattle.vm_outcomes.specs.Driven.{reply_of}
+use Rattle.vm_outcomes.specs.DrivenMachine.{reply_of}
 use Rattle.vm_outcomes.specs.PartialCalls.{children_requests, awake_requests, await_requests, unless_refused, requests_at, HasPut}
 
 -- what was matched and written by a machine that answers

@@ -9,7 +9,7 @@ use Rattle.journal_model.specs.declared.call.Answer.{Answer}
 use Rattle.journal_model.specs.declared.call.Call.{Call}
 use Rattle.attempt_model.specs.Machine.{Machine}
 use Rattle.protocol_errors.specs.Code.{internal, protocol_violation}
-use Rattle.protocol_errors.specs.Fixed.{fixed_code}
+use Rattle.protocol_errors.specs.FixedErrors.{fixed_code}
 use Rattle.protocol_errors.specs.declared.error.Error.{Error}
 use Rattle.protocol_errors.specs.declared.fixed.FixedError.{FixedError}
 use Rattle.protocol_stream.specs.ErrorText.{too_long_text}
@@ -30,7 +30,7 @@ use Rattle.vm_machine.specs.Calls.{checks_off}
 use Rattle.vm_machine.specs.declared.machine_state.MachineState.{MachineState}
 use Rattle.vm_outcomes.specs.CallOutcomes.{Answers, Comes, CarriesOut}
 use Rattle.vm_outcomes.specs.Causes.{Unread, NoRead, Differs, Unanswered, NoNumber, TooLong, AreRequestsAsked, HasCause}
-use Rattle.vm_outcomes.specs.Driven.{IsDriven}
+use Rattle.vm_outcomes.specs.DrivenMachine.{IsDriven}
 use Rattle.vm_outcomes.specs.PartialCalls.{requests_passed_on}
 use Rattle.vm_outcomes.specs.Outcomes.{answered_as}
 use Rattle.vm_outcomes.specs.declared.outcome.CallOutcome.{CallOutcome}

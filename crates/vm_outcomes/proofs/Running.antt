@@ -25,7 +25,7 @@ use Rattle.vm_refusals.specs.declared.runs.RunHandle.{RunHandle}
 use Rattle.vm_runs.specs.Runs.{Runs, with_run}
 use Rattle.vm_runs.specs.declared.run.Run.{Run}
 use Rattle.vm_outcomes.specs.CallOutcomes.{Comes, CarriesOut, StaysFailed, StaysClosed}
-use Rattle.vm_outcomes.specs.Driven.{IsDriven}
+use Rattle.vm_outcomes.specs.DrivenMachine.{IsDriven}
 use Rattle.vm_outcomes.specs.Outcomes.{answered_as}
 use Rattle.vm_outcomes.specs.Runs.{BodiesAreKept, runs_after}
 use Rattle.vm_outcomes.specs.declared.outcome.CallOutcome.{CallOutcome}

@@ -23,7 +23,7 @@ use Rattle.vm_waiting.specs.WaitsFor.{awaited_ids, waits_for_any, waits_as}
 use Rattle.vm_waiting.specs.declared.waits_for.WaitsFor.{WaitsFor}
 use Rattle.vm_machine.specs.declared.machine_state.MachineState.{MachineState}
 use Rattle.vm_outcomes.specs.Causes.{NumbersLeft, HasCause}
-use Rattle.vm_outcomes.specs.Driven.{IsDriven, reply_of}
+use Rattle.vm_outcomes.specs.DrivenMachine.{IsDriven, reply_of}
 use Rattle.vm_outcomes.specs.Runs.{KeepsBodiesOf, runs_after}
 use Rattle.vm_outcomes.specs.PartialCalls.{HasPut}
 use Rattle.vm_outcomes.specs.declared.outcome.CallOutcome.{CallOutcome}

@@ -15,7 +15,7 @@ use Rattle.attempt_model.specs.Requests.{Commands}
 use Rattle.attempt_model.specs.Results.{Slots}
 use Rattle.protocol_errors.specs.Code.{internal, journal_mismatch, protocol_violation, unsupported_feature}
 use Rattle.protocol_errors.specs.Error.{plain_error, decoding_code}
-use Rattle.protocol_errors.specs.Fixed.{fixed_code, fixed_text}
+use Rattle.protocol_errors.specs.FixedErrors.{fixed_code, fixed_text}
 use Rattle.protocol_errors.specs.Texts.{mismatch_text, type_mismatch_text}
 use Rattle.protocol_errors.specs.declared.error.Error.{Error}
 use Rattle.protocol_errors.specs.declared.fixed.FixedError.{FixedError}
@@ -32,9 +32,9 @@ use Rattle.vm_commands.specs.NextCommand.{IsNoRequest, IsNextUnread}
 use Rattle.vm_context.specs.Journal.{JournalCounts, no_id_text}
 use Rattle.vm_start.specs.Phases.{unexpected_error}
 use Rattle.vm_start.specs.declared.phase.Phase.TheVariants as phases
-use Rattle.vm_progress.specs.Asleep.{too_deep_error}
+use Rattle.vm_progress.specs.SleepingAwaits.{too_deep_error}
 use Rattle.vm_progress.specs.AwaitedRuns.{executes_any, is_executing_for, run_for}
-use Rattle.vm_progress.specs.Uncompleted.{started_id, TellsUncompleted}
+use Rattle.vm_progress.specs.UncompletedAwaits.{started_id, TellsUncompleted}
 use Rattle.vm_refusals.specs.Refusals.{refusal_meant, refusal_code, text_of_refusal}
 use Rattle.vm_refusals.specs.declared.refusal.CallRefusal.{CallRefusal}
 use Rattle.vm_machine.specs.Causes.{child_not_id_error, TellsPlainError, TellsLast}
@@ -47,7 +47,7 @@ use Rattle.vm_waiting.specs.declared.waits_for.WaitsFor.{WaitsFor}
 use Rattle.protocol_differences.specs.Mismatch.{place_text}
 use Rattle.vm_machine.specs.Calls.{checks_off}
 use Rattle.vm_machine.specs.declared.machine_state.MachineState.{MachineState}
-use Rattle.vm_outcomes.specs.Driven.{reply_of}
+use Rattle.vm_outcomes.specs.DrivenMachine.{reply_of}
 use Rattle.vm_outcomes.specs.PartialCalls.{HasPut, IsUnmatchedNext}
 
 -- why a call fails

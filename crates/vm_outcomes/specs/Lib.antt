@@ -1,4 +1,4 @@
-pub mod Driven
+pub mod DrivenMachine
 pub mod Runs
 pub mod PartialCalls
 pub mod Causes

@@ -7,7 +7,7 @@ use Rattle.protocol_wire.specs.Wire.{Field}
 use Rattle.protocol_wire.specs.Fields.{fields}
 use Rattle.protocol_wire.specs.Check.{payload_fault}
 use Rattle.protocol_wire.specs.Parts.{Part, payload_of}
-use Rattle.protocol_wire.specs.Decodes.{IsRead}
+use Rattle.protocol_wire.specs.DecodingAnswers.{IsRead}
 use Rattle.protocol_wire.specs.declared.check.Fault.{Fault}
 use Rattle.protocol_wire.specs.declared.record.TheConstants.{LEVELS}
 use Rattle.protocol_wire.proofs.Holds.{Reads}
@@ -47,7 +47,7 @@ use Rattle.protocol_controls.specs.Choices.{proposal_choice}
 use Rattle.protocol_controls.specs.ProposeRunCompletion.{propose_run_completion_of, propose_run_completion_parts, ProposeRunCompletionFits}
 use Rattle.protocol_controls.specs.declared.propose_run_completion.ProposeRunCompletionMessage.{ProposeRunCompletionMessage}
 use Rattle.protocol_controls.specs.ReadBack.{error_reads, propose_run_completion_reads}
-use Rattle.protocol_messages.specs.Carried.{proposed_record}
+use Rattle.protocol_messages.specs.ProposedValues.{proposed_record}
 use Rattle.protocol_stream.specs.Records.{future_record, awaiting_on_record}
 use Rattle.protocol_stream.specs.Item.{message, item_at}
 use Rattle.protocol_stream.proofs.Fronts.{item_at-spelled}
@@ -56,7 +56,7 @@ use Rattle.protocol_stream.proofs.RecordSpellings.{awaiting_on_spelled}
 use Rattle.protocol_laws.specs.Requests.{request_of_output, request_of_get_lazy_state, request_of_get_eager_state, request_of_get_lazy_state_keys, request_of_get_eager_state_keys, request_of_set_state, request_of_clear_state, request_of_clear_all_state, request_of_get_promise, request_of_peek_promise, request_of_complete_promise, request_of_sleep, request_of_call, request_of_one_way_call, request_of_send_signal, request_of_run, request_of_attach_invocation, request_of_get_invocation_output, request_of_complete_awakeable}
 use Rattle.protocol_laws.proofs.Notifications.{suspensions_spelled}
 use Rattle.protocol_laws.proofs.Told.{output_told}
-use Rattle.vm_commands.specs.Recorded.{unless_wrong, request_read}
+use Rattle.vm_commands.specs.RecordedCommands.{unless_wrong, request_read}
 use Rattle.store_frames.specs.FrameMeanings.{unless_faulty, read_as, command_or_broken, error_frame, unless_numbered, suspension_frame, awaiting_frame, outcome_or_broken, frame_of}
 use Rattle.store_frames.specs.Requests.{suspension_of_tree, suspension_of_lists, outcome_told, proposal_told}
 use Rattle.store_frames.proofs.Payloads.{lists_payload as lists_spelled}
@@ -69,7 +69,7 @@ use Rattle.vm_request_laws.proofs.Records.{output_fits}
 use Rattle.vm_request_laws.proofs.Requests.{payload_read}
 use Rattle.vm_request_laws.specs.Trees.{IsSpoken, TreeFits}
 use Rattle.vm_output_laws.proofs.Told.{told_number}
-use Rattle.vm_output_laws.specs.Sent.{Sent, Asks, Proposes, Awaits, Suspends, Fails, Ends, sent_payload, sent_frame, sent_message, SuspendedFits, SentFits, suspension_told, frame_meant}
+use Rattle.vm_output_laws.specs.SentFrames.{Sent, Asks, Proposes, Awaits, Suspends, Fails, Ends, sent_payload, sent_frame, sent_message, SuspendedFits, SentFits, suspension_told, frame_meant}
 use Rattle.vm_output_laws.specs.OutputMeaning.{FramesAreRead, ErrorsAreMeant}
 use Rattle.vm_request_laws.proofs.RequestBounds.{future_fits}
 use Rattle.vm_output_laws.proofs.Fitting.{completions_listed, signals_listed, names_listed}

@@ -5,7 +5,7 @@ use Rattle.journal_model.specs.declared.notification.NotificationId.{Notificatio
 use Rattle.journal_model.specs.AwaitTree.{AwaitTree, Single, Combined, AwaitTrees, no_trees, and_trees}
 use Rattle.vm_waiting.specs.SuspensionFrames.{is_nested_within, are_nested_within, is_too_deep}
 use Rattle.vm_request_laws.specs.Trees.{LeavesFit, IsWithin, AreWithin, TreeFits}
-use Rattle.vm_output_laws.specs.Sent.{SuspendedFits}
+use Rattle.vm_output_laws.specs.SentFrames.{SuspendedFits}
 
 and_true : (a b : Bool) → (a && b) ≡ true → (a ≡ true) × (b ≡ true)
 and_true true b e = (refl, e)

@@ -5,7 +5,7 @@ use Rattle.protocol_types.specs.declared.version.Version.{Version}
 use Rattle.protocol_stream.specs.Item.{Item, message, item_at}
 use Rattle.protocol_stream.proofs.Fronts.{item_at_extends}
 use Rattle.protocol_wire.proofs.Extends.{Extends}
-use Rattle.vm_output_laws.specs.Sent.{Sent, sent_frame, sent_stream, sent_message, SentFits, AllFit, frame_meant}
+use Rattle.vm_output_laws.specs.SentFrames.{Sent, sent_frame, sent_stream, sent_message, SentFits, AllFit, frame_meant}
 use Rattle.vm_output_laws.specs.OutputMeaning.{TakesFirstItem, StreamsAreRead, StreamsJoin}
 use Rattle.vm_request_laws.proofs.RequestBounds.{all_append}
 use Rattle.vm_output_laws.proofs.FrameMeanings.{frames_are_read, read_as_meant}

@@ -12,10 +12,10 @@ use Rattle.journal_laws.proofs.Leaving.{or-false}
 use Rattle.protocol_stream.specs.Records.{future_record}
 use Rattle.protocol_trees.specs.Future.{ids_in, future_tree}
 use Rattle.vm_waiting.specs.SuspensionFrames.{below, leaves_by_node}
-use Rattle.run_laws.specs.Suspended.{TellsAwaitedTree, leaf_ids, leaf_ids_of_trees}
+use Rattle.run_laws.specs.SuspensionContent.{TellsAwaitedTree, leaf_ids, leaf_ids_of_trees}
 use Rattle.run_laws.proofs.SameTrees.{same_awake}
 use Rattle.run_laws.proofs.Suspending.{tells_leaf, tells_ids}
-use Rattle.vm_output_laws.specs.Sent.{suspension_told}
+use Rattle.vm_output_laws.specs.SentFrames.{suspension_told}
 use Rattle.vm_output_laws.specs.SuspensionContent.{SuspensionsTell}
 use Rattle.vm_output_laws.proofs.Told.{node_same, leaf_told}
 

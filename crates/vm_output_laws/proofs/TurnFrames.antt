@@ -15,7 +15,7 @@ use Rattle.journal_model.specs.PrunedTrees.{only_leaves}
 use Rattle.attempt_model.specs.Results.{Slots, slot_of}
 use Rattle.attempt_model.specs.Machine.{Machine}
 use Rattle.live_laws.specs.Replies.{SendsReply, SendsWaiting}
-use Rattle.run_laws.specs.Suspended.{TellsAwaitedTree}
+use Rattle.run_laws.specs.SuspensionContent.{TellsAwaitedTree}
 use Rattle.vm_context.specs.Output.{Written}
 use Rattle.vm_calls.specs.declared.active.Active.{Active}
 use Rattle.vm_waiting.specs.WaitsFor.{ids_over, awaited_ids, waits_as}
@@ -24,7 +24,7 @@ use Rattle.vm_waiting.specs.declared.waits_for.WaitsFor.TheVariants.{Future, Chi
 use Rattle.vm_waiting.proofs.TellsAsRun.{left_out}
 use Rattle.vm_start.specs.Failure.{told_error}
 use Rattle.vm_request_laws.specs.RequestBounds.{RequestFits}
-use Rattle.vm_output_laws.specs.Sent.{Asks, Awaits, Suspends, Fails, Ends, sent_stream, AllFit, is_recorded, suspension_told, frame_meant}
+use Rattle.vm_output_laws.specs.SentFrames.{Asks, Awaits, Suspends, Fails, Ends, sent_stream, AllFit, is_recorded, suspension_told, frame_meant}
 use Rattle.vm_output_laws.specs.WrittenFrames.{Sends}
 use Rattle.vm_output_laws.specs.TurnFrames.{AnswersSend, ProposalsSend, leaves_over, StaysSend, SuspensionsSend, EndsSend, FailuresSend, StopsSend, TurnsSend}
 use Rattle.vm_output_laws.proofs.Streams.{streams_join}

@@ -16,7 +16,7 @@ use Rattle.protocol_stream.proofs.Spellings.{spelled-frame_bytes}
 use Rattle.vm_context.specs.Output.{Written, with_frame}
 use Rattle.vm_calls.specs.declared.active.Active.{Active}
 use Rattle.vm_start.specs.Failure.{told_error}
-use Rattle.vm_output_laws.specs.Sent.{Sent, Asks, Proposes, Awaits, Suspends, Fails, Ends, sent_frame, sent_stream}
+use Rattle.vm_output_laws.specs.SentFrames.{Sent, Asks, Proposes, Awaits, Suspends, Fails, Ends, sent_frame, sent_stream}
 use Rattle.vm_output_laws.proofs.Nested.{shallow_fits, suspended_fits}
 use Rattle.vm_output_laws.specs.WrittenFrames.{Sends, CommandsAreWritten, ProposalsAreWritten, AwaitsAreWritten, SuspensionsAreWritten, ErrorsAreWritten, EndsAreWritten, FramesAreWritten}
 

@@ -1,4 +1,4 @@
-pub mod Sent
+pub mod SentFrames
 pub mod OutputMeaning
 pub mod SuspensionContent
 pub mod WrittenFrames

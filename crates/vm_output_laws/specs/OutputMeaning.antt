@@ -1,7 +1,7 @@
 -- What an attempt has written is read as what it was meant as.
 use Rattle.std.specs.Prelude.{◌≡◌, List, [], ◌∷◌, ◌++◌, map, Some, None, option_map}
 use Rattle.protocol_table.specs.declared.table.RecordType.TheVariants as records
-use Rattle.protocol_wire.specs.Decodes.{IsRead}
+use Rattle.protocol_wire.specs.DecodingAnswers.{IsRead}
 use Rattle.protocol_wire.specs.declared.record.TheConstants.{LEVELS}
 use Rattle.protocol_types.specs.declared.version.Version.{Version}
 use Rattle.protocol_types.specs.Version.{version_number}
@@ -13,7 +13,7 @@ use Rattle.protocol_errors.specs.declared.error.Error.{Error}
 use Rattle.store_frames.specs.FrameMeanings.{frame_of}
 use Rattle.store_frames.specs.Requests.{behavior_in}
 use Rattle.vm_start.specs.Failure.{told_error, told_delay, behavior_number}
-use Rattle.vm_output_laws.specs.Sent.{Sent, Fails, sent_frame, sent_stream, sent_payload, sent_message, SentFits, AllFit, frame_meant}
+use Rattle.vm_output_laws.specs.SentFrames.{Sent, Fails, sent_frame, sent_stream, sent_payload, sent_message, SentFits, AllFit, frame_meant}
 
 -- ---- one frame
 

@@ -5,8 +5,8 @@ use Rattle.protocol_types.specs.Feature.{lacks_feature}
 use Rattle.journal_model.specs.declared.notification.NotificationId.{NotificationId}
 use Rattle.journal_model.specs.AwaitTree.{AwaitTree, Pending, is_awake}
 use Rattle.journal_model.specs.PrunedTrees.{only_leaves}
-use Rattle.run_laws.specs.Suspended.{TellsAwaitedTree}
-use Rattle.vm_output_laws.specs.Sent.{suspension_told}
+use Rattle.run_laws.specs.SuspensionContent.{TellsAwaitedTree}
+use Rattle.vm_output_laws.specs.SentFrames.{suspension_told}
 
 -- A suspension tells the tree over the ids that are left, or before version 7 all of them in three lists; that is what a run waits for
 -- which waits for that tree, if the tree is not awake by itself.

@@ -31,7 +31,7 @@ use Rattle.vm_proposals.specs.ProposalEffects.{proposal, WritesProposal}
 use Rattle.vm_request_laws.specs.Calls.{IsTypedValue}
 use Rattle.vm_request_laws.specs.RequestBounds.{RequestFits}
 use Rattle.vm_request_laws.specs.Trees.{IsSpoken, LeavesFit}
-use Rattle.vm_output_laws.specs.Sent.{Sent, Asks, Proposes, AllFit, is_recorded, frame_meant}
+use Rattle.vm_output_laws.specs.SentFrames.{Sent, Asks, Proposes, AllFit, is_recorded, frame_meant}
 use Rattle.vm_output_laws.specs.WrittenFrames.{Sends}
 
 -- frames that fit are behind what was written, and the frames that they are meant as are what such a reply sends

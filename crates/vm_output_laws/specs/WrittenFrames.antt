@@ -16,7 +16,7 @@ use Rattle.vm_proposals.specs.ProposalEffects.{proposal, WritesProposal}
 use Rattle.vm_request_laws.specs.Calls.{IsTypedValue}
 use Rattle.protocol_types.specs.Version.{version_number}
 use Rattle.vm_request_laws.specs.Trees.{IsSpoken, LeavesFit}
-use Rattle.vm_output_laws.specs.Sent.{Sent, Asks, Proposes, Awaits, Suspends, Fails, Ends, sent_stream, SentFits}
+use Rattle.vm_output_laws.specs.SentFrames.{Sent, Asks, Proposes, Awaits, Suspends, Fails, Ends, sent_stream, SentFits}
 
 -- these frames are behind what was written, and no other
 pub record Sends (coming : List Sent) (old new : Written) : Type 0 where

@@ -15,7 +15,7 @@ use Rattle.vm_waiting.specs.WaitsFor.{awaited_ids, waits_for_any}
 use Rattle.vm_waiting.specs.declared.suspending.TellError.{TellError}
 use Rattle.vm_waiting.specs.declared.waits_for.WaitsFor.{WaitsFor}
 use Rattle.vm_waiting.specs.declared.waits_for.WaitsFor.TheVariants.{Future, Child}
-use Rattle.vm_progress.specs.Asleep.{SettlesStay, RemainsAsleep, SleepsOn, SleepsWhere}
+use Rattle.vm_progress.specs.SleepingAwaits.{SettlesStay, RemainsAsleep, SleepsOn, SleepsWhere}
 use Rattle.vm_progress.specs.AwaitedRuns.{run_for, is_executing_for, executes_any, LooksForRun}
 
 -- ---- looking for a run

@@ -5,7 +5,7 @@ use Rattle.journal_model.specs.AwaitTree.{AwaitTree}
 use Rattle.journal_model.specs.Future.{trees_from}
 use Rattle.body_laws.specs.Bodies.{has_handle, some_has_handle}
 use Rattle.vm_runs.specs.Runs.{Table, run_at}
-use Rattle.vm_progress.specs.Uncompleted.{IsGreatest, is_unfinished, greater}
+use Rattle.vm_progress.specs.UncompletedAwaits.{IsGreatest, is_unfinished, greater}
 
 abbrev pub some_unfinished : Table → List (AwaitTree ℕ) → ℕ → Bool
 some_unfinished table trees n = is_some (run_at table n) && some_has_handle n (trees_from trees)

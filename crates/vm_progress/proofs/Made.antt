@@ -7,10 +7,10 @@ use Rattle.attempt_model.specs.Machine.{Machine}
 use Rattle.protocol_errors.specs.declared.error.Error.{Error}
 use Rattle.vm_calls.specs.Active.{Sees}
 use Rattle.vm_calls.specs.declared.active.Active.{Active}
-use Rattle.vm_calls.specs.Spent.{IsSpent}
+use Rattle.vm_calls.specs.SpentReplay.{IsSpent}
 use Rattle.vm_state_reads.specs.MismatchedReads.{FindsRead}
 use Rattle.vm_state_reads.specs.ReadAnswers.{Reads}
-use Rattle.vm_state_reads.specs.Spent.{ReadFailsSpent}
+use Rattle.vm_state_reads.specs.SpentReplay.{ReadFailsSpent}
 use Rattle.vm_state_reads.specs.ReadDescriptions.{IsAtRead}
 use Rattle.vm_state_reads.specs.declared.read_error.ReadError.{ReadError}
 use Rattle.vm_machine.specs.CallAdmission.{Admits}

@@ -16,7 +16,7 @@ use Rattle.vm_runs.specs.Runs.{Table, Runs, run_at}
 use Rattle.vm_runs.specs.declared.run.Run.{Run}
 use Rattle.vm_waiting.specs.WaitsFor.{ids_over}
 use Rattle.vm_waiting.specs.declared.waits_for.WaitsFor.{WaitsFor}
-use Rattle.vm_progress.specs.Uncompleted.{lists_over, NamesIn, IsLast, uncompleted_run, IsLastRun, TellsAbout, TellsAwaited, TellsUncompleted}
+use Rattle.vm_progress.specs.UncompletedAwaits.{lists_over, NamesIn, IsLast, uncompleted_run, IsLastRun, TellsAbout, TellsAwaited, TellsUncompleted}
 
 pub told_by : (invocation : Bytes) (table : Table) (tree : AwaitTree NotificationId) (error : UncompletedDoProgressDuringReplay) (told : Result Error AllocError)
     → NamesIn invocation table (lists_over tree) error → IfOk told (TellsPlainError journal_mismatch (Some (uncompleted_text error))) → IfOk told (TellsAwaited invocation table tree)

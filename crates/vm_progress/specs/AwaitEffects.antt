@@ -25,8 +25,8 @@ use Rattle.vm_waiting.specs.declared.awaiting.Awaited.{Awaited}
 use Rattle.vm_waiting.specs.declared.awaiting.Awaited.TheVariants.{AnyCompleted, Cancelled, Asleep}
 use Rattle.vm_waiting.specs.declared.awaiting.AwaitError.{AwaitError}
 use Rattle.vm_waiting.specs.declared.awaiting.AwaitError.TheVariants.{UncompletedInReplay, ChildNotId, Put, OutOfMemory}
-use Rattle.vm_progress.specs.Asleep.{LacksMemoryToAwait, Sleeps}
-use Rattle.vm_progress.specs.Uncompleted.{IsUncompleted}
+use Rattle.vm_progress.specs.SleepingAwaits.{LacksMemoryToAwait, Sleeps}
+use Rattle.vm_progress.specs.UncompletedAwaits.{IsUncompleted}
 
 -- behind the journal, and nowhere else, the least read whose answer can be taken is told before anything else
 abbrev pub ready_read : Phase → (is_replaying : Bool) → EphemeralReads → Option EphemeralCompletionId

@@ -3,7 +3,7 @@ use Rattle.std.specs.Prelude.{ℕ, true, false, List, Some, None, Result}
 use Rattle.std.specs.declared.alloc.AllocError.{AllocError}
 use Rattle.protocol_errors.specs.Code.{internal, journal_mismatch}
 use Rattle.protocol_errors.specs.Error.{decoding_code}
-use Rattle.protocol_errors.specs.Fixed.{fixed_code, fixed_text}
+use Rattle.protocol_errors.specs.FixedErrors.{fixed_code, fixed_text}
 use Rattle.protocol_errors.specs.Texts.{type_mismatch_text, unavailable_text}
 use Rattle.protocol_errors.specs.declared.error.Error.{Error}
 use Rattle.protocol_errors.specs.declared.fixed.FixedError.{FixedError}

@@ -11,7 +11,7 @@ use Rattle.vm_start.specs.declared.phase.Phase.TheVariants as phases
 use Rattle.vm_machine.specs.Steps.{IsUnexpected}
 use Rattle.vm_machine.specs.declared.machine_state.MachineState.{MachineState}
 use Rattle.vm_waiting.specs.SuspensionFrames.{WritesFrame}
-use Rattle.vm_progress.specs.Asleep.{LacksMemoryToAwait}
+use Rattle.vm_progress.specs.SleepingAwaits.{LacksMemoryToAwait}
 use Rattle.vm_progress.specs.declared.ending.EndPlace.{EndPlace}
 use Rattle.vm_progress.specs.declared.ending.EndPlace.TheVariants.{Behind, Processing, Elsewhere}
 

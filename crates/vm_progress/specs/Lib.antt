@@ -1,7 +1,7 @@
 pub mod Causes
 pub mod StateReadEffects
-pub mod Uncompleted
+pub mod UncompletedAwaits
 pub mod AwaitedRuns
-pub mod Asleep
+pub mod SleepingAwaits
 pub mod AwaitEffects
 pub mod EndEffects

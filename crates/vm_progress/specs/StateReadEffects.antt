@@ -23,10 +23,10 @@ use Rattle.vm_calls.specs.Active.{Sees}
 use Rattle.vm_calls.specs.declared.active.Active.{Active}
 use Rattle.vm_context.specs.Journal.{command_told}
 use Rattle.vm_start.specs.declared.phase.Phase.{Phase}
-use Rattle.vm_calls.specs.Spent.{IsSpent}
+use Rattle.vm_calls.specs.SpentReplay.{IsSpent}
 use Rattle.vm_state_reads.specs.MismatchedReads.{FindsRead}
 use Rattle.vm_state_reads.specs.ReadAnswers.{Reads}
-use Rattle.vm_state_reads.specs.Spent.{ReadFailsSpent}
+use Rattle.vm_state_reads.specs.SpentReplay.{ReadFailsSpent}
 use Rattle.vm_state_reads.specs.ReadDescriptions.{IsAtRead}
 use Rattle.vm_state_reads.specs.declared.read_error.ReadError.{ReadError}
 use Rattle.vm_machine.specs.CallAdmission.{MissedCauses, IsAbout}

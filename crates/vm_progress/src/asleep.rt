@@ -1,6 +1,6 @@
 // An await that waits behind the journal.
 ghost use Rattle.std.specs.Prelude.{◌≡◌};
-ghost use Rattle.vm_progress.specs.Asleep.{SleepIs, LacksMemoryToAwait, too_deep_error, FailsUntold, FailsUnanswered, SettlesStay, RemainsAsleep, ClosesAs, SuspendsWith, SleepsOn, Sleeps};
+ghost use Rattle.vm_progress.specs.SleepingAwaits.{SleepIs, LacksMemoryToAwait, too_deep_error, FailsUntold, FailsUnanswered, SettlesStay, RemainsAsleep, ClosesAs, SuspendsWith, SleepsOn, Sleeps};
 ghost use Rattle.vm_progress.specs.AwaitedRuns.{LooksForRun, is_executing_for};
 
 use bytes::ByteStr;

@@ -4,7 +4,7 @@ ghost use Rattle.std.specs.List.{flat_map};
 ghost use Rattle.journal_model.specs.Awakeable.{awakeable_id};
 ghost use Rattle.vm_awaits.specs.Views.{slots_of};
 ghost use Rattle.vm_waiting.specs.WaitsFor.{ids_over};
-ghost use Rattle.vm_progress.specs.Uncompleted.{lists_over, started_id, known_of, known_run, known_runs, ids_in};
+ghost use Rattle.vm_progress.specs.UncompletedAwaits.{lists_over, started_id, known_of, known_run, known_runs, ids_in};
 
 use bytes::{ByteStr, Bytes};
 use protocol_errors::{AwaitedId, NotificationMetadata};

@@ -2,7 +2,7 @@
 ghost use Rattle.std.specs.Prelude.{◌≡◌, IfOk};
 ghost use Rattle.vm_awaits.specs.Views.{slots_of};
 ghost use Rattle.vm_waiting.specs.WaitsFor.{ids_over};
-ghost use Rattle.vm_progress.specs.Uncompleted.{started_id, lists_over, NamesIn, TellsAwaited, TellsUncompleted, IsUncompleted};
+ghost use Rattle.vm_progress.specs.UncompletedAwaits.{started_id, lists_over, NamesIn, TellsAwaited, TellsUncompleted, IsUncompleted};
 
 use crate::lists::{ids_in, known_ids, lists_of};
 use crate::unfinished::last_command;

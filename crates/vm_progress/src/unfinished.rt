@@ -2,7 +2,7 @@
 ghost use Rattle.std.specs.Prelude.{◌≡◌, is_some, IfOk};
 ghost use Rattle.journal_model.specs.Future.{tree_of};
 ghost use Rattle.vm_runs.specs.Runs.{run_at};
-ghost use Rattle.vm_progress.specs.Uncompleted.{greater, IsGreatest, is_unfinished, IsLast, IsLastRun};
+ghost use Rattle.vm_progress.specs.UncompletedAwaits.{greater, IsGreatest, is_unfinished, IsLast, IsLastRun};
 
 use journal_model::{NotificationHandle, UnresolvedFuture};
 use protocol_errors::CommandMetadata;

@@ -6,7 +6,7 @@ use Rattle.protocol_controls.specs.declared.propose_run_completion.ProposeRunCom
 use Rattle.protocol_controls.specs.declared.propose_run_completion.ProposeRunCompletionResult.{ProposeRunCompletionResult}
 use Rattle.protocol_errors.specs.declared.metadata.CommandMetadata.{CommandMetadata}
 use Rattle.protocol_errors.specs.declared.error.Error.{Error}
-use Rattle.protocol_messages.specs.Carried.{proposed_record}
+use Rattle.protocol_messages.specs.ProposedValues.{proposed_record}
 use Rattle.protocol_stream.specs.Frame.{spelled}
 use Rattle.protocol_stream.specs.declared.encoder.EncodingError.{EncodingError}
 use Rattle.protocol_stream.specs.declared.encoder.EncodingError.TheVariants.{PayloadTooLong, OutOfMemory}

@@ -19,7 +19,7 @@ use Rattle.vm_awaits.specs.Views.{AsyncResults, results_of}
 use Rattle.vm_calls.specs.Active.{Sees, TakesCompletion, asking}
 use Rattle.vm_calls.specs.MismatchedCommands.{FindsAs}
 use Rattle.vm_calls.specs.CommandCalls.{CompletesOne, MakesCommand}
-use Rattle.vm_calls.specs.Spent.{FailsSpent}
+use Rattle.vm_calls.specs.SpentReplay.{FailsSpent}
 use Rattle.vm_calls.specs.declared.active.Active.{Active}
 use Rattle.vm_calls.specs.declared.call_error.CallError.{CallError}
 use Rattle.vm_calls.specs.declared.call_error.CallError.TheVariants.{Number, Put, OutOfMemory}

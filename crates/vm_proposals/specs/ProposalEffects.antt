@@ -8,8 +8,8 @@ use Rattle.protocol_controls.specs.declared.propose_run_completion.ProposeRunCom
 use Rattle.protocol_errors.specs.declared.metadata.CommandMetadata.{CommandMetadata}
 use Rattle.protocol_errors.specs.Code.{internal}
 use Rattle.protocol_errors.specs.declared.error.Error.{Error}
-use Rattle.protocol_messages.specs.Carried.{proposed_record}
-use Rattle.protocol_messages.specs.Encoded.{record_message}
+use Rattle.protocol_messages.specs.ProposedValues.{proposed_record}
+use Rattle.protocol_messages.specs.Encodings.{record_message}
 use Rattle.protocol_records.specs.declared.start.StartMessage.{StartMessage}
 use Rattle.protocol_stream.specs.ErrorText.{too_long_text}
 use Rattle.protocol_stream.specs.Frame.{spelled}

@@ -7,7 +7,7 @@ ghost use Rattle.vm_awaits.specs.Views.{results_of};
 ghost use Rattle.vm_calls.specs.Words.{Call, Answer, Invocation, Machine};
 ghost use Rattle.vm_calls.specs.Active.{Sees, IsAtCommand};
 ghost use Rattle.vm_calls.specs.CommandCalls.{MakesCommand};
-ghost use Rattle.vm_calls.specs.Spent.{IsSpent, FailsSpent};
+ghost use Rattle.vm_calls.specs.SpentReplay.{IsSpent, FailsSpent};
 ghost use Rattle.vm_calls.specs.MismatchedCommands.{FindsAs};
 ghost use Rattle.vm_proposals.specs.RunRegistration.{last_run_asked, Inserts, Keeps, KeepsRun, called};
 

@@ -5,7 +5,7 @@ use Rattle.protocol_types.specs.declared.version.Version.{Version}
 use Rattle.protocol_types.specs.declared.feature.Feature.TheVariants as features
 use Rattle.protocol_types.specs.Feature.{first_version}
 use Rattle.protocol_errors.specs.Code.{internal, unsupported_feature}
-use Rattle.protocol_errors.specs.Fixed.{fixed_code, fixed_text}
+use Rattle.protocol_errors.specs.FixedErrors.{fixed_code, fixed_text}
 use Rattle.protocol_errors.specs.Texts.{feature_text, out_of_bounds_text}
 use Rattle.protocol_errors.specs.declared.fixed.FixedError.TheVariants as fixed
 use Rattle.vm_refusals.specs.declared.refusal.CallRefusal.{CallRefusal}

@@ -29,7 +29,7 @@ use Rattle.protocol_stream.proofs.Frames.{item_at-frame_bytes}
 use Rattle.protocol_laws.specs.Requests.{request_of_output, request_of_get_lazy_state, request_of_get_eager_state, request_of_get_lazy_state_keys, request_of_get_eager_state_keys, request_of_set_state, request_of_clear_state, request_of_clear_all_state, request_of_get_promise, request_of_peek_promise, request_of_complete_promise, request_of_sleep, request_of_call, request_of_one_way_call, request_of_send_signal, request_of_run, request_of_attach_invocation, request_of_get_invocation_output, request_of_complete_awakeable}
 use Rattle.protocol_laws.proofs.Told.{requests_told}
 use Rattle.protocol_laws.proofs.Requests.{requests_spelled}
-use Rattle.vm_commands.specs.Recorded.{request_read, command_by, command_of}
+use Rattle.vm_commands.specs.RecordedCommands.{request_read, command_by, command_of}
 use Rattle.vm_request_laws.specs.RequestBounds.{RequestFits}
 use Rattle.vm_request_laws.specs.Requests.{RequestsReadBack}
 

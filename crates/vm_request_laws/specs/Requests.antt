@@ -4,7 +4,7 @@ use Rattle.journal_model.specs.Request.{Request}
 use Rattle.journal_model.specs.Spelling.{request_frame, request_type, request_payload}
 use Rattle.protocol_stream.specs.Frame.{message_of}
 use Rattle.protocol_stream.specs.Item.{message, item_at}
-use Rattle.vm_commands.specs.Recorded.{command_of}
+use Rattle.vm_commands.specs.RecordedCommands.{command_of}
 use Rattle.vm_request_laws.specs.RequestBounds.{RequestFits}
 
 -- The frame of a request that fits is the message at the front of its bytes, whatever stands behind it, and as a recorded command that

@@ -13,7 +13,7 @@ use Rattle.protocol_errors.specs.Error.{plain_error}
 use Rattle.protocol_errors.specs.declared.error.Error.{Error}
 use Rattle.vm_types.specs.declared.options.JournalMismatchRetryBehavior.{JournalMismatchRetryBehavior}
 use Rattle.vm_context.specs.Output.{Written, with_frame}
-use Rattle.protocol_messages.specs.Encoded.{record_message}
+use Rattle.protocol_messages.specs.Encodings.{record_message}
 use Rattle.vm_start.specs.Failure.{failed_with, told_error}
 use Rattle.vm_start.specs.Phases.{kept_error}
 use Rattle.vm_start.specs.declared.phase.Phase.{Phase}

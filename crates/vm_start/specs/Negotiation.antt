@@ -5,7 +5,7 @@ use Rattle.protocol_types.specs.declared.version.ContentTypeError.TheVariants.{R
 use Rattle.protocol_types.specs.declared.version.Version.{Version}
 use Rattle.protocol_types.specs.Version.{version_name, version_number, version_spoken, content_type_read, oldest_version, newest_version}
 use Rattle.protocol_errors.specs.Code.{bad_request, internal, unsupported_media_type}
-use Rattle.protocol_errors.specs.Fixed.{fixed_text}
+use Rattle.protocol_errors.specs.FixedErrors.{fixed_text}
 use Rattle.protocol_errors.specs.declared.fixed.FixedError.TheVariants as fixed
 use Rattle.vm_start.specs.declared.negotiation.NegotiationError.{NegotiationError}
 use Rattle.vm_start.specs.declared.negotiation.NegotiationError.TheVariants.{UnreadableHeader, MissingContentType, UnknownContentType, UnsupportedVersion, OutOfMemory}

@@ -8,7 +8,7 @@ use Rattle.protocol_records.specs.declared.start.StartMessage.{StartMessage}
 use Rattle.protocol_records.specs.declared.start.StateEntry.{StateEntry}
 use Rattle.protocol_errors.specs.Code.{internal, protocol_violation}
 use Rattle.protocol_errors.specs.declared.fixed.FixedError.TheVariants as fixed
-use Rattle.protocol_errors.specs.Fixed.{fixed_text}
+use Rattle.protocol_errors.specs.FixedErrors.{fixed_text}
 use Rattle.protocol_errors.specs.Texts.{bad_state_key_text}
 use Rattle.protocol_stream.specs.ErrorText.{no_memory_text}
 use Rattle.vm_context.specs.Eager.{known_from}

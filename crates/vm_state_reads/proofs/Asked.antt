@@ -9,7 +9,7 @@ use Rattle.journal_model.specs.Run.{Invocation, name_or_empty}
 use Rattle.attempt_model.specs.Requests.{Commands, read_value, read_keys, fresh_value, fresh_keys, requests_by}
 use Rattle.attempt_model.specs.Machine.{Machine}
 use Rattle.vm_context.specs.StateKnowledge.{changes_state}
-use Rattle.vm_commands.specs.Recorded.{as_recorded}
+use Rattle.vm_commands.specs.RecordedCommands.{as_recorded}
 use Rattle.vm_commands.proofs.Recording.{reads_as_recorded}
 use Rattle.vm_calls.specs.Active.{has_left}
 use Rattle.vm_calls.proofs.Calls.{brings_none}

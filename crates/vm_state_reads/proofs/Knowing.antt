@@ -16,7 +16,7 @@ use Rattle.vm_context.specs.declared.eager_state.EagerGetState.TheVariants as ge
 use Rattle.vm_context.specs.Eager.{told_of}
 use Rattle.vm_commands.specs.declared.state_read.StateRead.{StateRead}
 use Rattle.vm_commands.specs.declared.state_read.StateRead.TheVariants as reads
-use Rattle.vm_commands.specs.Recorded.{as_recorded}
+use Rattle.vm_commands.specs.RecordedCommands.{as_recorded}
 use Rattle.vm_state_reads.specs.ReadAnswers.{arrivals_of}
 use Rattle.vm_state_reads.specs.RecordedReads.{TellsNext, value_known, keys_known}
 

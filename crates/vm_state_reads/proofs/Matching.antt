@@ -11,8 +11,8 @@ use Rattle.vm_commands.specs.declared.state_read.StateRead.{StateRead}
 use Rattle.vm_commands.specs.declared.state_read.StateRead.TheVariants as reads
 use Rattle.vm_commands.specs.declared.state_read.StateReadError.{StateReadError}
 use Rattle.vm_commands.specs.declared.state_read.StateReadError.TheVariants as errors
-use Rattle.vm_commands.specs.Recorded.{as_recorded, commands_of}
-use Rattle.vm_commands.specs.Meant.{MeansRequests}
+use Rattle.vm_commands.specs.RecordedCommands.{as_recorded, commands_of}
+use Rattle.vm_commands.specs.RecordMeanings.{MeansRequests}
 use Rattle.vm_commands.specs.NextCommand.{next_of}
 use Rattle.vm_commands.specs.StateReads.{ReadsAs, MatchesRead}
 use Rattle.vm_commands.proofs.NextCommand.{read_as}
@@ -21,7 +21,7 @@ use Rattle.vm_calls.specs.RequestPuts.{Puts, RefusesLong}
 use Rattle.vm_calls.specs.Active.{has_left, left_of, still_replays, IsActiveSettled, PutsOne}
 use Rattle.vm_calls.proofs.Settling.{put_settles}
 use Rattle.vm_state_reads.specs.RecordedReads.{MatchFails, TellsNext}
-use Rattle.vm_state_reads.specs.Spent.{MatchFindsNone}
+use Rattle.vm_state_reads.specs.SpentReplay.{MatchFindsNone}
 
 module _ (ignoring : Bool) (made : Request) (written : List Request) (old : Active) (t : old.is_replaying ≡ true) (settled : IsActiveSettled old) where
   pub match_settles : {K : Type 0} (L E : Type 0) (read : StateRead K) (new : Active) → new.is_replaying ≡ still_replays true new.commands.items

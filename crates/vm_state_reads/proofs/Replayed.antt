@@ -21,7 +21,7 @@ use Rattle.vm_commands.specs.declared.state_read.StateRead.{StateRead}
 use Rattle.vm_commands.specs.declared.state_read.StateReadError.{StateReadError}
 use Rattle.vm_commands.specs.declared.state_read.StateReadError.TheVariants as errors
 use Rattle.vm_commands.specs.NextCommand.{IsNoRequest, IsNextUnread}
-use Rattle.vm_commands.specs.Recorded.{as_recorded}
+use Rattle.vm_commands.specs.RecordedCommands.{as_recorded}
 use Rattle.vm_calls.specs.declared.active.Active.{Active}
 use Rattle.vm_calls.specs.Active.{Sees, asking, TakesCompletion, HasCompletions, left_of, IsActiveSettled, PutsOne}
 use Rattle.vm_calls.specs.CommandCalls.{Replies, HasCallBegun}

@@ -10,11 +10,11 @@ use Rattle.vm_calls.specs.declared.active.Active.{Active}
 use Rattle.vm_calls.specs.declared.call_error.NumberError.{NumberError}
 use Rattle.vm_calls.specs.declared.call_error.NumberError.TheVariants as numbers
 use Rattle.vm_calls.specs.Active.{asking, TakesCompletion, LacksCompletions}
-use Rattle.vm_calls.specs.Spent.{IsSpent}
+use Rattle.vm_calls.specs.SpentReplay.{IsSpent}
 use Rattle.vm_calls.proofs.Spending.{takes_rest, spent_behind}
 use Rattle.vm_state_reads.specs.declared.read_error.ReadError.{ReadError}
 use Rattle.vm_state_reads.specs.declared.read_error.ReadError.TheVariants.{Number, Replay, OutOfMemory}
-use Rattle.vm_state_reads.specs.Spent.{MatchFindsNone, ReadSpentAs, ReadFailsSpent}
+use Rattle.vm_state_reads.specs.SpentReplay.{MatchFindsNone, ReadSpentAs, ReadFailsSpent}
 
 module _ {handle id : ℕ} (ty : MessageType) (old : Active) {begun : Active} (taken : TakesCompletion (id, handle) (asking ty [] old) begun) (spent : IsSpent old) where
   pub none_then : begun.commands.items ≡ []

@@ -2,5 +2,5 @@ pub mod Errors
 pub mod ReadDescriptions
 pub mod ReadAnswers
 pub mod RecordedReads
-pub mod Spent
+pub mod SpentReplay
 pub mod MismatchedReads

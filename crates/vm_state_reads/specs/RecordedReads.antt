@@ -14,7 +14,7 @@ use Rattle.vm_commands.specs.declared.state_read.StateReadError.{StateReadError}
 use Rattle.vm_commands.specs.declared.state_read.StateReadError.TheVariants as errors
 use Rattle.vm_commands.specs.HeaderEquality.{header_equal}
 use Rattle.vm_commands.specs.StateReads.{IsNotRead}
-use Rattle.vm_commands.specs.Recorded.{as_recorded}
+use Rattle.vm_commands.specs.RecordedCommands.{as_recorded}
 use Rattle.vm_calls.specs.declared.active.Active.{Active}
 use Rattle.vm_calls.specs.Active.{left_of, PutsOne}
 

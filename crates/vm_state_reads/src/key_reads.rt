@@ -4,12 +4,12 @@ ghost use Rattle.vm_calls.specs.Words.{Call, Request};
 ghost use Rattle.journal_model.specs.Run.{name_or_empty};
 ghost use Rattle.attempt_model.specs.Requests.{fresh_keys};
 ghost use Rattle.protocol_types.specs.declared.message_type.MessageType.TheVariants.{GetEagerStateKeysCommand, GetLazyStateKeysCommand};
-ghost use Rattle.vm_commands.specs.Recorded.{as_recorded};
+ghost use Rattle.vm_commands.specs.RecordedCommands.{as_recorded};
 ghost use Rattle.vm_calls.specs.Active.{IsAtCommand};
-ghost use Rattle.vm_calls.specs.Spent.{IsSpent};
+ghost use Rattle.vm_calls.specs.SpentReplay.{IsSpent};
 ghost use Rattle.vm_state_reads.specs.ReadAnswers.{ReadsByCall, ReadsFor};
 ghost use Rattle.vm_state_reads.specs.RecordedReads.{keys_known};
-ghost use Rattle.vm_state_reads.specs.Spent.{ReadFailsSpent};
+ghost use Rattle.vm_state_reads.specs.SpentReplay.{ReadFailsSpent};
 ghost use Rattle.vm_state_reads.specs.MismatchedReads.{FindsRead};
 ghost use Rattle.vm_state_reads.specs.ReadDescriptions.{type_in_replay, type_behind, IsAtRead};
 

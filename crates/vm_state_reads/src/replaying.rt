@@ -7,7 +7,7 @@ ghost use Rattle.vm_state_reads.specs.MismatchedReads.{TellsUnread};
 ghost use Rattle.vm_calls.specs.Words.{Request};
 ghost use Rattle.vm_calls.specs.Active.{left_of, still_replays, IsActiveSettled};
 ghost use Rattle.vm_state_reads.specs.RecordedReads.{MatchesIn, TellsNext};
-ghost use Rattle.vm_state_reads.specs.Spent.{MatchFindsNone};
+ghost use Rattle.vm_state_reads.specs.SpentReplay.{MatchFindsNone};
 
 use protocol_stream::RawMessage;
 use std::alloc::Global;

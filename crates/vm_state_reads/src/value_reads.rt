@@ -7,12 +7,12 @@ ghost use Rattle.attempt_model.specs.Requests.{fresh_value};
 ghost use Rattle.protocol_types.specs.declared.message_type.MessageType.TheVariants.{GetEagerStateCommand, GetLazyStateCommand};
 ghost use Rattle.protocol_laws.specs.Requests.{state_told};
 ghost use Rattle.vm_context.specs.Eager.{is_known};
-ghost use Rattle.vm_commands.specs.Recorded.{as_recorded};
+ghost use Rattle.vm_commands.specs.RecordedCommands.{as_recorded};
 ghost use Rattle.vm_calls.specs.Active.{IsAtCommand};
-ghost use Rattle.vm_calls.specs.Spent.{IsSpent};
+ghost use Rattle.vm_calls.specs.SpentReplay.{IsSpent};
 ghost use Rattle.vm_state_reads.specs.ReadAnswers.{ReadsByCall, ReadsFor};
 ghost use Rattle.vm_state_reads.specs.RecordedReads.{value_known};
-ghost use Rattle.vm_state_reads.specs.Spent.{ReadFailsSpent};
+ghost use Rattle.vm_state_reads.specs.SpentReplay.{ReadFailsSpent};
 ghost use Rattle.vm_state_reads.specs.MismatchedReads.{FindsRead};
 ghost use Rattle.vm_state_reads.specs.ReadDescriptions.{type_in_replay, type_behind, IsAtRead};
 

@@ -8,7 +8,7 @@ use Rattle.journal_model.specs.declared.call.Moment.{Moment}
 use Rattle.journal_model.specs.declared.call.Target.{Target}
 use Rattle.vm_calls.specs.Words.{Machine}
 use Rattle.vm_calls.specs.CommandCalls.{MakesCommand}
-use Rattle.vm_calls.specs.Spent.{FailsSpent}
+use Rattle.vm_calls.specs.SpentReplay.{FailsSpent}
 use Rattle.vm_calls.specs.MismatchedCommands.{FindsAs}
 use Rattle.protocol_types.specs.declared.message_type.MessageType.{MessageType}
 use Rattle.vm_calls.specs.declared.active.Active.{Active}

@@ -10,7 +10,7 @@ use Rattle.vm_awaits.specs.Calls.{results_after_take}
 use Rattle.vm_awaits.specs.declared.state.AsyncResultsState.{AsyncResultsState}
 use Rattle.vm_calls.specs.declared.active.Active.{Active}
 use Rattle.vm_calls.specs.Active.{IsActiveSettled}
-use Rattle.vm_calls.specs.Spent.{IsSpent}
+use Rattle.vm_calls.specs.SpentReplay.{IsSpent}
 use Rattle.vm_waiting.specs.AwaitSteps.{CancelsAll, StopsAmong}
 use Rattle.vm_waiting.specs.ChildCancellation.{LooksFor, ids_known, cancels, PutsEach, PutsNone}
 use Rattle.vm_waiting.specs.declared.cancelling.CancelError.{CancelError}

@@ -16,7 +16,7 @@ use Rattle.vm_awaits.specs.Calls.{with_handle}
 use Rattle.vm_context.specs.Journal.{JournalCounts, after_command, after_completions}
 use Rattle.vm_calls.specs.declared.active.Active.{Active}
 use Rattle.vm_calls.specs.Active.{asking, HasCompletions, TakesCompletion}
-use Rattle.vm_calls.specs.Spent.{KeepsRest}
+use Rattle.vm_calls.specs.SpentReplay.{KeepsRest}
 use Rattle.vm_calls.specs.CommandCalls.{IsReadyToPut}
 use Rattle.vm_calls.proofs.Calls.{neither}
 use Rattle.vm_calls.proofs.CommandCalls.{is_ready}

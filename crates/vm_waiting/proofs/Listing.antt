@@ -17,7 +17,7 @@ use Rattle.protocol_records.specs.SuspensionV6.{suspension_v6_parts}
 use Rattle.protocol_stream.specs.Records.{combinator_record, future_record, nested_records}
 use Rattle.protocol_stream.proofs.Spellings.{packed-is, repeated_bytes-is, spelled-cons, spelled-last, payload_is}
 use Rattle.protocol_stream.proofs.RecordSpellings.{tree_spelled}
-use Rattle.protocol_messages.specs.Encoded.{suspension_parts_as}
+use Rattle.protocol_messages.specs.Encodings.{suspension_parts_as}
 use Rattle.protocol_messages.specs.Leaves.{own_first, completions_of, signals_of, named_signals_of, three_lists}
 use Rattle.protocol_messages.proofs.Preorder.{completions_is, signals_is, named_signals_is}
 use Rattle.vm_waiting.specs.SuspensionFrames.{below, leaves_by_node, lists_payload}

@@ -18,7 +18,7 @@ use Rattle.vm_calls.specs.declared.put_error.PutError.TheVariants.{Replay, Encod
 use Rattle.vm_calls.specs.Active.{RequestFits, IsActiveSettled, left_of, asking, writes_frames, PutsOne, PutFails, PutsIn}
 use Rattle.vm_calls.proofs.Settling.{frames_joined}
 use Rattle.vm_calls.specs.MismatchedCommands.{command_place, TellsPut}
-use Rattle.vm_calls.specs.Spent.{IsSpent, FindsNone}
+use Rattle.vm_calls.specs.SpentReplay.{IsSpent, FindsNone}
 use Rattle.vm_waiting.specs.ChildCancellation.{cancels, after_cancels, PutsAll, StopsAt, PutsEach, PutsNone}
 use Rattle.vm_waiting.specs.declared.cancelling.CancelError.{CancelError}
 use Rattle.vm_waiting.specs.declared.cancelling.CancelError.TheVariants as uncancelled

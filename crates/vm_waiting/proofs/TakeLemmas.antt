@@ -16,7 +16,7 @@ use Rattle.attempt_model.specs.Results.{slot_of, waiting_for, ready_without_firs
 use Rattle.attempt_model.specs.Machine.{Machine, Answered, reply_to_take, reply_where_taken}
 use Rattle.protocol_messages.specs.declared.taken.TakeError as untaken
 use Rattle.protocol_messages.specs.declared.taken.TakeError.TheVariants as unheld
-use Rattle.protocol_messages.specs.Taken.{NotTaken}
+use Rattle.protocol_messages.specs.TakeErrors.{NotTaken}
 use Rattle.vm_waiting.specs.declared.taking.TakeError.{TakeError}
 use Rattle.vm_waiting.specs.declared.taking.TakeError.TheVariants.{KeyNotText, ChildNotId, OutOfMemory}
 use Rattle.vm_awaits.specs.Views.{AsyncResults, results_of, slots_of, ready_of}

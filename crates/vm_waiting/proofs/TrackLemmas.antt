@@ -18,7 +18,7 @@ use Rattle.attempt_model.specs.Machine.{Machine}
 use Rattle.vm_awaits.specs.Children.{AreMade, has_child}
 use Rattle.vm_awaits.proofs.Kept.{new_comes_last}
 use Rattle.vm_calls.specs.declared.active.Active.{Active}
-use Rattle.vm_calls.specs.Spent.{KeepsRest}
+use Rattle.vm_calls.specs.SpentReplay.{KeepsRest}
 use Rattle.vm_calls.proofs.Tracking.{none_made, one_made}
 use Rattle.vm_waiting.specs.CompletionPairs.{KeepsChild}
 use Rattle.vm_waiting.specs.TrackedChildren.{tracks_calls, tracks_sends, children_kept, child_at, child_of_id, is_allowed, with_taken}

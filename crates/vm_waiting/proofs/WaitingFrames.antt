@@ -19,7 +19,7 @@ use Rattle.protocol_stream.specs.Frame.{spelled, message_of}
 use Rattle.protocol_stream.specs.Records.{future_record}
 use Rattle.protocol_stream.proofs.Spellings.{spelled-frame_bytes}
 use Rattle.protocol_stream.proofs.RecordSpellings.{awaiting_on_spelled}
-use Rattle.protocol_messages.specs.Encoded.{suspends_by_lists, payload_message, suspension_message, plain_message}
+use Rattle.protocol_messages.specs.Encodings.{suspends_by_lists, payload_message, suspension_message, plain_message}
 use Rattle.vm_context.specs.Output.{Written, with_frame}
 use Rattle.vm_calls.specs.declared.active.Active.{Active}
 use Rattle.vm_waiting.specs.SuspensionFrames.{suspension_payload_in, WritesFrame, IsSuspensionWritten}

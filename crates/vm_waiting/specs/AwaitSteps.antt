@@ -29,7 +29,7 @@ use Rattle.vm_calls.specs.declared.put_error.PutError.{PutError}
 use Rattle.vm_calls.specs.declared.put_error.PutError.TheVariants.{Replay, Encoding}
 use Rattle.vm_calls.specs.Active.{Sees, RequestFits, IsActiveSettled, writes_frames}
 use Rattle.vm_calls.specs.CommandCalls.{Replies}
-use Rattle.vm_calls.specs.Spent.{IsSpent}
+use Rattle.vm_calls.specs.SpentReplay.{IsSpent}
 use Rattle.vm_waiting.specs.ChildCancellation.{LooksFor, PutsEach, PutsNone}
 use Rattle.vm_waiting.specs.TakeEffects.{Becomes}
 use Rattle.vm_waiting.specs.WaitsFor.{waits_as}

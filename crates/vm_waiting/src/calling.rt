@@ -10,7 +10,7 @@ ghost use Rattle.protocol_messages.specs.RecordMessage.{type_of_record};
 ghost use Rattle.vm_calls.specs.Words.{Call, Answer, Request, Invocation, Machine};
 ghost use Rattle.vm_calls.specs.Active.{Sees, asking, IsAtCommand, TellsSame, LacksCompletions, HasCompletions};
 ghost use Rattle.vm_calls.specs.CommandCalls.{MakesCommand, AsksOne, IsReadyToPut};
-ghost use Rattle.vm_calls.specs.Spent.{IsSpent, FailsSpent, KeepsRest};
+ghost use Rattle.vm_calls.specs.SpentReplay.{IsSpent, FailsSpent, KeepsRest};
 ghost use Rattle.vm_calls.specs.MismatchedCommands.{FindsAs};
 ghost use Rattle.vm_calls.specs.declared.call_error.NumberError.TheVariants.{IdsExhausted};
 ghost use Rattle.vm_waiting.specs.CompletionPairs.{TakesTwo};

@@ -2,7 +2,7 @@
 ghost use Rattle.std.specs.Prelude.{◌≡◌, List, [], ◌∷◌, Some, map};
 ghost use Rattle.journal_model.specs.Request.{Request};
 ghost use Rattle.vm_calls.specs.Active.{IsActiveSettled};
-ghost use Rattle.vm_calls.specs.Spent.{IsSpent};
+ghost use Rattle.vm_calls.specs.SpentReplay.{IsSpent};
 ghost use Rattle.vm_waiting.specs.ChildCancellation.{cancels, PutsEach, PutsNone};
 
 use bytes::ByteStr;

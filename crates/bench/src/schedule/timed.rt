@@ -1,6 +1,6 @@
 // The handlers of the invocations whose events are timed.
 ghost use Rattle.std.specs.Prelude.{◌≡◌, decimal, IfOk};
-ghost use Rattle.bench.specs.Timed.{get_of, run_behind, set_of};
+ghost use Rattle.bench.specs.TimedHandlers.{get_of, run_behind, set_of};
 
 use built_in_handlers::handlers::{Ask, Race};
 use bytes::{ByteStr, Bytes};
@@ -64,7 +64,7 @@ fn run(answers: &[Answer]) -> Call
 }
 
 impl Handler for Timed {
-    ghost use Rattle.bench.specs.Timed.{function_of};
+    ghost use Rattle.bench.specs.TimedHandlers.{function_of};
 
     ghost next_call = { function_of };
 

@@ -1,10 +1,10 @@
 use Rattle.std.proofs.Common.{◌≡◌, refl, ap, length, List, [], ◌∷◌, ◌++◌, sym, subst, ◌∙◌, arith, length-append}
 use Rattle.std.specs.List.{AllByRecursion}
-use Rattle.journal_store.specs.Stored.{Stored}
+use Rattle.journal_store.specs.StoreView.{Stored}
 use Rattle.vm_types.specs.declared.options.VMOptions.{VMOptions}
 use Rattle.schedule_laws.specs.Schedules.{Event, Reply, FitsEvent}
-use Rattle.journal_store.specs.Stands.{Endures}
-use Rattle.scheduler.specs.Scheduled.{AppliesWith}
+use Rattle.journal_store.specs.StoreStanding.{Endures}
+use Rattle.scheduler.specs.SchedulerCalls.{AppliesWith}
 use Rattle.durable_schedule.specs.Runs.{AppliesFirst}
 use Rattle.journal_store.proofs.Enduring.{same_endures}
 use Rattle.durable_schedule.proofs.Running.{LeadsFirst, all_kept, all_left, all_written, each_more, one_endures}

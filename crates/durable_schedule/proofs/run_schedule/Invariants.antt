@@ -1,7 +1,7 @@
 use Rattle.std.proofs.Common.{◌≡◌, ◌≤◌, length, vec_len, vec_capacity}
 use Rattle.std.specs.List.{AllByRecursion}
 use Rattle.schedule_laws.specs.Schedules.{FitsEvent}
-use Rattle.journal_store.specs.Stands.{Endures}
+use Rattle.journal_store.specs.StoreStanding.{Endures}
 use Rattle.durable_schedule.specs.Causes.{TellsCauses}
 use Rattle.durable_schedule.specs.Runs.{AppliesFirst}
 use Rattle.durable_schedule.proofs.Running.{LeadsFirst}

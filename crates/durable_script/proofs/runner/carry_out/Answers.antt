@@ -6,7 +6,7 @@ use Rattle.durable_schedule.specs.Schedules.event
 use Rattle.durable_schedule.specs.Schedules.{Event}
 use Rattle.script_lines.specs.declared.line.Line.TheVariants as line
 use Rattle.durable_script.specs.Line.{DoesEvent, DoesSomeEvent}
-use Rattle.durable_script.specs.Printed.{MakesText}
+use Rattle.durable_script.specs.ReplyTexts.{MakesText}
 use Rattle.durable_script.specs.SchedulerChanges.{Reaches}
 use Rattle.durable_script.proofs.Printing.{makes_begun, makes_quiet}
 use Rattle.durable_script.proofs.runner.carry_out.Goals as goal

@@ -1,6 +1,6 @@
 use Rattle.std.proofs.Common.{◌≡◌, ℕ, List, ◌∷◌, [], ◌++◌, refl, subst}
 use Rattle.std.specs.Prelude.{string_bytes, IfOk}
-use Rattle.durable_script.specs.Printed.{printed}
+use Rattle.durable_script.specs.ReplyTexts.{printed}
 use Rattle.durable_script.proofs.Printing.{event_printed}
 use Rattle.durable_script.proofs.SchedulerChanges.{reaches_applied}
 use Rattle.durable_script.proofs.runner.do_event.Goals as goal

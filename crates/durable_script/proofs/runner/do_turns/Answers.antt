@@ -1,6 +1,6 @@
 use Rattle.std.proofs.Common.{◌≡◌, ℕ, List, ◌∷◌, [], ◌++◌, refl, subst}
 use Rattle.std.specs.Prelude.{string_bytes, IfOk}
-use Rattle.durable_script.specs.Printed.{printed}
+use Rattle.durable_script.specs.ReplyTexts.{printed}
 use Rattle.durable_script.proofs.Printing.{turns_printed}
 use Rattle.durable_script.proofs.runner.do_turns.Goals as goal
 

@@ -4,7 +4,7 @@ use Rattle.std.specs.Prelude.{vec_len}
 use Rattle.sqlite.specs.Held.{state}
 use Rattle.sql_tables.specs.QueryAnswers.{AreTablesKept}
 use Rattle.store_calls.specs.Frames.{TakesEach, TakesFirstFrames}
-use Rattle.journal_store.specs.Stands.{Endures, Leads, Settles}
+use Rattle.journal_store.specs.StoreStanding.{Endures, Leads, Settles}
 use Rattle.journal_store.proofs.OutputAcceptance.{GoesOn}
 use Rattle.journal_store.proofs.accept.take_all.Given as goal
 

@@ -1,7 +1,7 @@
 use Rattle.std.proofs.Common.{inl, inr, sym, ap, subst, ◌∙◌, List, [], ◌∷◌, ◌++◌, Option, Ok}
 use Rattle.store_steps.specs.declared.frame.FrameReply.{FrameReply}
 use Rattle.store_calls.specs.Frames.{StepsAttempt}
-use Rattle.journal_store.specs.Stands.{Leads}
+use Rattle.journal_store.specs.StoreStanding.{Leads}
 use Rattle.journal_store.specs.FrameAcceptance.{SettlesStep}
 use Rattle.journal_store.proofs.OutputAcceptance.{more_behind, next_none, next_refused, next_taken, next_unroomed}
 use Rattle.journal_store.proofs.Lasting.{same_kept}

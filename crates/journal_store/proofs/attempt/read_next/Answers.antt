@@ -1,6 +1,6 @@
 use Rattle.std.proofs.Common.{sym, subst, []}
 use Rattle.sqlite.specs.Held.{state}
-use Rattle.store_refusals.specs.Refused.{IsRefused}
+use Rattle.store_refusals.specs.RefusalConditions.{IsRefused}
 use Rattle.store_refusals.proofs.Causes.{cause_by}
 use Rattle.journal_store.proofs.Reading.{reads_none, reads_on}
 use Rattle.journal_store.proofs.attempt.read_next.Goals as goal

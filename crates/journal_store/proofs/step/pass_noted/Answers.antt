@@ -1,4 +1,4 @@
-use Rattle.store_steps.specs.Taken.{does_end}
+use Rattle.store_steps.specs.PreparedFrames.{does_end}
 use Rattle.journal_store.proofs.Answering.{room_behind}
 use Rattle.journal_store.proofs.step.pass_noted.Goals as goal
 

@@ -3,7 +3,7 @@ use Rattle.std.proofs.Common.{arith}
 use Rattle.protocol_wire.specs.Parts.{payload_of}
 use Rattle.protocol_wire.specs.declared.record.TheConstants.{LEVELS}
 use Rattle.protocol_stream.proofs.Fronts.{item_at-spelled}
-use Rattle.protocol_messages.specs.Encoded.{record_message}
+use Rattle.protocol_messages.specs.Encodings.{record_message}
 use Rattle.protocol_messages.proofs.Frames.{wire_type, is_frame}
 use Rattle.protocol_messages.proofs.laws.messages_read_back.Goals as goal
 

@@ -1,8 +1,8 @@
 use Rattle.std.proofs.Common.{◌-◌, refl, arith, rules}
 use Rattle.std.proofs.lemmas.List.{append-nil}
-use Rattle.protocol_wire.specs.Seen.{field}
+use Rattle.protocol_wire.specs.CodeFields.{field}
 use Rattle.protocol_wire.specs.Fields.{fields}
-use Rattle.protocol_wire.specs.Listed.{coming}
+use Rattle.protocol_wire.specs.ComingFields.{coming}
 use Rattle.protocol_wire.specs.Check.{payload_fault}
 use Rattle.protocol_wire.specs.Selection.{texts}
 use Rattle.protocol_table.specs.declared.table.RecordType.TheVariants.{Future as future_type}

@@ -1,6 +1,6 @@
 use Rattle.std.proofs.Common.{◌≡◌, ◌++◌, ◌-◌, map}
 use Rattle.protocol_wire.specs.Fields.{fields}
-use Rattle.protocol_wire.specs.Listed.{coming}
+use Rattle.protocol_wire.specs.ComingFields.{coming}
 use Rattle.protocol_wire.specs.Check.{payload_fault}
 use Rattle.protocol_wire.specs.Sound.{AreSound}
 use Rattle.protocol_wire.specs.Selection.{values, each_bytes, records}

@@ -1,6 +1,6 @@
 use Rattle.std.proofs.Common.{◌∙◌, ◌-◌, ◌<◌, sym, arith}
-use Rattle.protocol_wire.specs.Seen.{field}
-use Rattle.protocol_wire.specs.Listed.{coming, are_all}
+use Rattle.protocol_wire.specs.CodeFields.{field}
+use Rattle.protocol_wire.specs.ComingFields.{coming, are_all}
 use Rattle.protocol_wire.specs.Check.{payload_fault}
 use Rattle.protocol_wire.proofs.Steps.{is_shorter, is_end_is}
 use Rattle.protocol_wire.proofs.Faults.{left_fault_read, left_fault_ended, left_fault_is, payload_fault_zero, are_fields_ended, none_behind}

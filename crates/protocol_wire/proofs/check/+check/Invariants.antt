@@ -1,5 +1,5 @@
 use Rattle.std.proofs.Common.{length, ◌≡◌, ◌+◌, ◌*◌, ◌-◌}
-use Rattle.protocol_wire.specs.Listed.{coming}
+use Rattle.protocol_wire.specs.ComingFields.{coming}
 use Rattle.protocol_wire.specs.Check.{worse, payload_fault}
 use Rattle.protocol_wire.proofs.Faults.{left_fault}
 use Rattle.protocol_wire.proofs.check.+check.Given as goal

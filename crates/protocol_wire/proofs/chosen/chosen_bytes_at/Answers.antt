@@ -1,5 +1,5 @@
 use Rattle.protocol_wire.specs.Fields.{fields}
-use Rattle.protocol_wire.specs.Listed.{coming}
+use Rattle.protocol_wire.specs.ComingFields.{coming}
 use Rattle.protocol_wire.proofs.Choices.{chosen_text}
 use Rattle.protocol_wire.proofs.chosen.chosen_bytes_at.Goals as goal
 

@@ -2,7 +2,7 @@ use Rattle.std.proofs.Common.{◌-◌}
 use Rattle.protocol_wire.specs.Check.{payload_fault}
 use Rattle.protocol_wire.proofs.Runs.{run_records_sound}
 use Rattle.protocol_wire.specs.Fields.{fields}
-use Rattle.protocol_wire.specs.Listed.{coming}
+use Rattle.protocol_wire.specs.ComingFields.{coming}
 use Rattle.protocol_wire.proofs.Choices.{chosen_record}
 use Rattle.protocol_wire.proofs.chosen.chosen_record_at.Goals as goal
 

@@ -1,6 +1,6 @@
 use Rattle.protocol_wire.proofs.Runs.{run_texts_sound}
 use Rattle.protocol_wire.specs.Fields.{fields}
-use Rattle.protocol_wire.specs.Listed.{coming}
+use Rattle.protocol_wire.specs.ComingFields.{coming}
 use Rattle.protocol_wire.proofs.Choices.{chosen_text}
 use Rattle.protocol_wire.proofs.chosen.chosen_text_at.Goals as goal
 

@@ -1,5 +1,5 @@
 use Rattle.std.proofs.Common.{◌∙◌, [], ap}
-use Rattle.protocol_wire.specs.Listed.{coming}
+use Rattle.protocol_wire.specs.ComingFields.{coming}
 use Rattle.protocol_wire.specs.Selection.{run}
 use Rattle.protocol_wire.proofs.Steps.{field_at_nil, fields-none}
 use Rattle.protocol_wire.proofs.Choices.{among_nothing}

@@ -1,6 +1,6 @@
 use Rattle.std.proofs.Common.{◌∙◌, ◌<◌, length, sym, arith}
 use Rattle.std.proofs.lemmas.List.{length-set}
-use Rattle.protocol_wire.specs.Seen.{field}
+use Rattle.protocol_wire.specs.CodeFields.{field}
 use Rattle.protocol_wire.proofs.Steps.{are_fields-some}
 use Rattle.protocol_wire.proofs.Listing.{listed_more}
 use Rattle.protocol_wire.proofs.listed.list_fields.Goals as goal

@@ -1,6 +1,6 @@
 use Rattle.std.proofs.Common.{◌≡◌, ◌≤◌, ◌-◌, ◌++◌, map, take, length}
 use Rattle.protocol_wire.specs.Fields.{fields, are_fields}
-use Rattle.protocol_wire.specs.Seen.{field}
+use Rattle.protocol_wire.specs.CodeFields.{field}
 use Rattle.protocol_wire.proofs.listed.list_fields.Given as goal
 
 abbrev pub invariant-loop-count : goal.invariant-loop-count

@@ -1,6 +1,6 @@
 use Rattle.std.proofs.Common.{◌∙◌, refl}
-use Rattle.protocol_wire.specs.Seen.{field}
-use Rattle.protocol_wire.specs.Listed.{coming}
+use Rattle.protocol_wire.specs.CodeFields.{field}
+use Rattle.protocol_wire.specs.ComingFields.{coming}
 use Rattle.protocol_wire.proofs.Joined.{joined_step}
 use Rattle.protocol_wire.proofs.record.joined_bytes.Goals as goal
 

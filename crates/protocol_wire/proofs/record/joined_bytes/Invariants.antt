@@ -1,5 +1,5 @@
 use Rattle.std.proofs.Common.{◌≡◌, [], false}
-use Rattle.protocol_wire.specs.Listed.{coming}
+use Rattle.protocol_wire.specs.ComingFields.{coming}
 use Rattle.protocol_wire.specs.Selection.{values, each_bytes, joined_bytes}
 use Rattle.protocol_wire.proofs.Joined.{joined_from}
 use Rattle.protocol_wire.proofs.record.joined_bytes.Given as goal

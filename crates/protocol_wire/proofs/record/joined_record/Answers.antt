@@ -1,6 +1,6 @@
 use Rattle.std.proofs.Common.{sym, ap, ◌∙◌, ◌-◌}
 use Rattle.std.specs.Prelude.{option_map}
-use Rattle.protocol_wire.specs.Listed.{coming}
+use Rattle.protocol_wire.specs.ComingFields.{coming}
 use Rattle.protocol_wire.specs.Selection.{values, texts}
 use Rattle.protocol_wire.proofs.Joined.{sole_sound, sound_joined}
 use Rattle.protocol_wire.proofs.record.joined_record.Goals as goal

@@ -1,6 +1,6 @@
 use Rattle.std.proofs.Common.{◌≡◌, None, option_map}
 use Rattle.std.specs.Prelude.{IfSome, IsUtf8}
-use Rattle.protocol_wire.specs.Listed.{coming}
+use Rattle.protocol_wire.specs.ComingFields.{coming}
 use Rattle.protocol_wire.specs.Sound.{AreTexts}
 use Rattle.protocol_wire.specs.Selection.{values, last_bytes_or}
 use Rattle.protocol_wire.proofs.select.last_bytes.Given as goal

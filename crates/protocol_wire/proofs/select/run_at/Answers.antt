@@ -1,8 +1,8 @@
 use Rattle.std.proofs.Common.{◌≡◌, ◌∙◌, ℕ, List, [], Option, Some, None, refl, sym}
 use Rattle.std.specs.Prelude.{option_map, IfNone, IfSome}
 use Rattle.protocol_wire.specs.Wire.{Field}
-use Rattle.protocol_wire.specs.Seen.{field}
-use Rattle.protocol_wire.specs.Listed.{coming}
+use Rattle.protocol_wire.specs.CodeFields.{field}
+use Rattle.protocol_wire.specs.ComingFields.{coming}
 use Rattle.protocol_wire.specs.declared.listed.Fields.{Fields}
 use Rattle.protocol_wire.specs.Selection.{among, last_run, run, variant_of, is_run}
 use Rattle.protocol_wire.proofs.Steps.{is_shorter}

@@ -1,5 +1,5 @@
 use Rattle.std.proofs.Common.{length}
-use Rattle.protocol_wire.specs.Listed.{coming}
+use Rattle.protocol_wire.specs.ComingFields.{coming}
 use Rattle.protocol_wire.specs.Selection.{among, last_run}
 use Rattle.protocol_wire.proofs.Runs.{Running, onward}
 use Rattle.protocol_wire.proofs.select.run_at.Given as goal

@@ -1,6 +1,6 @@
 use Rattle.std.proofs.Common.{◌≡◌, ◌++◌}
 use Rattle.protocol_wire.specs.Fields.{fields}
-use Rattle.protocol_wire.specs.Listed.{coming}
+use Rattle.protocol_wire.specs.ComingFields.{coming}
 use Rattle.protocol_wire.specs.Sound.{AreTexts}
 use Rattle.protocol_wire.specs.Selection.{values, each_bytes}
 use Rattle.protocol_wire.proofs.select.texts_at.Given as goal

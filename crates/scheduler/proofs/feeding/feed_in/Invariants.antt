@@ -1,6 +1,6 @@
 -- What went to the attempt so far. Each part adds bytes.
 use Rattle.std.proofs.Common.{◌≤◌, ◌-◌}
-use Rattle.journal_store.specs.Stands.{IsQuiet, Leads}
+use Rattle.journal_store.specs.StoreStanding.{IsQuiet, Leads}
 use Rattle.schedule_model.specs.Lends.{held_as}
 use Rattle.scheduler.proofs.Parts.{HasFed}
 use Rattle.scheduler.proofs.feeding.feed_in.Given as goal

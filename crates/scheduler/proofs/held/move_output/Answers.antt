@@ -7,13 +7,13 @@ use Rattle.store_calls.specs.Frames.{Accepts, AcceptsFirst, TakesEach}
 use Rattle.store_calls.proofs.Taking.{same_stays}
 use Rattle.journal_store.specs.OutputAcceptance.{OutlastsFrames}
 use Rattle.journal_store.specs.Causes.{TellsWhyUnwritten, TriesFrameOf}
-use Rattle.journal_store.specs.Stands.{Endures}
+use Rattle.journal_store.specs.StoreStanding.{Endures}
 use Rattle.store_calls.specs.AbstractStore.{Standing}
 use Rattle.journal_store.proofs.Enduring.{same_endures}
 use Rattle.schedule_model.specs.Lends.{held_as}
 use Rattle.schedule_model.specs.declared.event.Reply.TheVariants as reply
 use Rattle.schedule_model.specs.declared.event.EventRefusal.TheVariants as refusal
-use Rattle.scheduler.specs.Scheduled.{MovesSome}
+use Rattle.scheduler.specs.SchedulerCalls.{MovesSome}
 use Rattle.scheduler.proofs.Lasting.{rest_lasts}
 use Rattle.scheduler.proofs.Moving.{memory_refuses, moves_crashed, moves_shown, shown_cause}
 use Rattle.scheduler.proofs.held.move_output.Goals as goal

@@ -7,10 +7,10 @@ use Rattle.store_tables.specs.Questions.{asks_for}
 use Rattle.store_model.specs.Lookups.{asked_at, first_row}
 use Rattle.store_model.proofs.Asking.{asked_found}
 use Rattle.store_model.proofs.Only.{only_one}
-use Rattle.store_refusals.specs.Refused.{is_circumstance}
+use Rattle.store_refusals.specs.RefusalConditions.{is_circumstance}
 use Rattle.store_refusals.proofs.Causes.{read_cause_by}
 use Rattle.store_invocations.proofs.Reading.{asked_once, found_is, told_err}
-use Rattle.store_arrivals.specs.Asked.{first_type}
+use Rattle.store_arrivals.specs.AskedCompletions.{first_type}
 use Rattle.store_arrivals.proofs.Waiting.{type_first}
 use Rattle.store_arrivals.proofs.asking.first_type.Goals as goal
 

@@ -2,11 +2,11 @@ use Rattle.std.proofs.Common.{◌≡◌, ◌∙◌, sym, ap, subst, arith, optio
 use Rattle.sqlite.specs.Held.{state}
 use Rattle.sqlite.specs.State.{State, HasCleanDisk}
 use Rattle.journal_model.specs.Journal.{entries_of, request_asking}
-use Rattle.store_refusals.specs.Refused.{IsRefused}
+use Rattle.store_refusals.specs.RefusalConditions.{IsRefused}
 use Rattle.store_refusals.proofs.Causes.{cause_by, err_later}
 use Rattle.store_invocations.proofs.Reading.{told_err}
 use Rattle.store_invocations.proofs.Standing.{store_kept}
-use Rattle.store_arrivals.specs.Asked.{as_second, completion_asked_by}
+use Rattle.store_arrivals.specs.AskedCompletions.{as_second, completion_asked_by}
 use Rattle.store_arrivals.proofs.Waiting.{first_asked, second_asked}
 use Rattle.store_arrivals.proofs.asking.request_of.Goals as goal
 

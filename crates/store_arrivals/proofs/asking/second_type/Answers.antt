@@ -7,10 +7,10 @@ use Rattle.store_tables.specs.Questions.{asks_second_for}
 use Rattle.store_model.specs.Lookups.{asked_at, second_row}
 use Rattle.store_model.proofs.Asking.{asked_found}
 use Rattle.store_model.proofs.Only.{only_one}
-use Rattle.store_refusals.specs.Refused.{is_circumstance}
+use Rattle.store_refusals.specs.RefusalConditions.{is_circumstance}
 use Rattle.store_refusals.proofs.Causes.{read_cause_by}
 use Rattle.store_invocations.proofs.Reading.{asked_once, found_is, told_err}
-use Rattle.store_arrivals.specs.Asked.{second_type}
+use Rattle.store_arrivals.specs.AskedCompletions.{second_type}
 use Rattle.store_arrivals.proofs.Waiting.{type_second}
 use Rattle.store_arrivals.proofs.asking.second_type.Goals as goal
 

@@ -1,7 +1,7 @@
 use Rattle.std.proofs.Common.{◌≡◌, ◌∙◌, sym, subst, ℕ, List, ◌++◌, append-nil, map}
 use Rattle.std.proofs.lemmas.List.{drop_all}
 use Rattle.store_tables.specs.declared.row.Write.TheVariants.{AddEntry}
-use Rattle.store_arrivals.specs.Ended.{end_rows}
+use Rattle.store_arrivals.specs.SleepEnds.{end_rows}
 use Rattle.store_arrivals.proofs.ended.end_each.Goals as goal
 
 pub returns : goal.returns

@@ -1,7 +1,7 @@
 -- What was ended, and what is to be ended of the sleeps that are left, are the ends of all.
 use Rattle.std.proofs.Common.{◌≡◌, ◌+◌, ◌++◌, drop, map}
 use Rattle.store_tables.specs.declared.row.Write.TheVariants.{AddEntry}
-use Rattle.store_arrivals.specs.Ended.{end_rows}
+use Rattle.store_arrivals.specs.SleepEnds.{end_rows}
 use Rattle.store_arrivals.proofs.ended.end_each.Given as goal
 
 abbrev pub invariant-loop-completion : goal.invariant-loop-completion

@@ -2,7 +2,7 @@ use Rattle.std.proofs.Common.{◌≡◌, ◌∙◌, sym, ap, subst, [], List, ma
 use Rattle.store_tables.specs.declared.row.SleepRow.{SleepRow}
 use Rattle.store_arrivals.specs.Groups.{Group, grouped}
 use Rattle.store_arrivals.specs.declared.groups.SleepGroup.{SleepGroup}
-use Rattle.store_arrivals.specs.Grouped.{as_group}
+use Rattle.store_arrivals.specs.SleepGroups.{as_group}
 use Rattle.store_arrivals.proofs.Grouping.{put_each, put_last, put_none}
 use Rattle.store_arrivals.proofs.groups.groups_of.Goals as goal
 

@@ -1,7 +1,7 @@
 -- The rows that are left, put before the groups that stand, are the groups of all.
 use Rattle.std.proofs.Common.{◌≡◌, length, map}
 use Rattle.store_arrivals.specs.Groups.{grouped}
-use Rattle.store_arrivals.specs.Grouped.{as_group}
+use Rattle.store_arrivals.specs.SleepGroups.{as_group}
 use Rattle.store_arrivals.proofs.Grouping.{put_each}
 use Rattle.store_arrivals.proofs.groups.groups_of.Given as goal
 

@@ -7,7 +7,7 @@ use Rattle.protocol_records.specs.declared.future.Future.{out-Future}
 use Rattle.protocol_trees.specs.Future.{children_in, future_tree, id_meant, leaves_in, shape_in}
 use Rattle.protocol_trees.specs.FutureShape.{future_shaped}
 use Rattle.protocol_trees.proofs.Forests.{child_smaller}
-use Rattle.store_arrivals.specs.Named.{is_completed_among, names_any}
+use Rattle.store_arrivals.specs.NamedArrivals.{is_completed_among, names_any}
 use Rattle.store_arrivals.proofs.Naming.{among_is, child_names, leaf_names, none_more, none_names}
 use Rattle.store_arrivals.proofs.named.+names_any.Goals as goal
 

@@ -5,7 +5,7 @@ use Rattle.journal_model.specs.Notification.{Arrival}
 use Rattle.protocol_trees.specs.Future.{future_tree, leaves_in, children_in}
 use Rattle.protocol_trees.proofs.Forests.{tree_size}
 use Rattle.store_frames.specs.First.{AreFirst}
-use Rattle.store_arrivals.specs.Named.{is_completed_among, names_any}
+use Rattle.store_arrivals.specs.NamedArrivals.{is_completed_among, names_any}
 use Rattle.store_arrivals.proofs.named.+names_any.Given as goal
 
 abbrev pub decreases-names_any : goal.decreases-names_any

@@ -2,7 +2,7 @@ use Rattle.std.proofs.Common.{◌≡◌, ◌∙◌, sym, subst, []}
 use Rattle.sqlite.specs.Held.{state}
 use Rattle.journal_model.specs.Journal.{entries_of, open_request}
 use Rattle.journal_model.specs.Cause.{is_run}
-use Rattle.store_refusals.specs.Refused.{IsRefused}
+use Rattle.store_refusals.specs.RefusalConditions.{IsRefused}
 use Rattle.store_refusals.proofs.Causes.{cause_by}
 use Rattle.store_invocations.proofs.Reading.{told_err}
 use Rattle.store_arrivals.proofs.Outcomes.{no_run_told, run_told}

@@ -7,7 +7,7 @@ use Rattle.protocol_types.specs.MessageType.{type_number}
 use Rattle.store_refusals.proofs.Causes.{err_later}
 use Rattle.store_invocations.proofs.Refusing.{refused_more}
 use Rattle.store_invocations.proofs.Standing.{store_kept}
-use Rattle.store_arrivals.specs.Asked.{completion_tests}
+use Rattle.store_arrivals.specs.AskedCompletions.{completion_tests}
 use Rattle.store_arrivals.proofs.Written.{all_ready}
 use Rattle.store_arrivals.proofs.result.prepare_for.Goals as goal
 

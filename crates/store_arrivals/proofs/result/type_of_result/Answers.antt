@@ -6,14 +6,14 @@ use Rattle.journal_model.specs.Attempt.{notification_type}
 use Rattle.journal_model.specs.Cause.{those_that_hold}
 use Rattle.protocol_types.specs.MessageType.{type_number}
 use Rattle.protocol_types.specs.declared.message_type.MessageType.{MessageType}
-use Rattle.store_refusals.specs.Refused.{IsRefused}
+use Rattle.store_refusals.specs.RefusalConditions.{IsRefused}
 use Rattle.store_refusals.specs.declared.refusal.Refusal.{Refusal}
 use Rattle.store_refusals.specs.Causes.{IsUnasked}
 use Rattle.store_refusals.proofs.Causes.{cause_by, err_unasked}
 use Rattle.store_invocations.specs.Rows.{Decides}
 use Rattle.store_invocations.proofs.Reading.{decided_err}
 use Rattle.store_invocations.proofs.Refusing.{refused_anyway}
-use Rattle.store_arrivals.specs.Asked.{completion_tests, completion_for}
+use Rattle.store_arrivals.specs.AskedCompletions.{completion_tests, completion_for}
 use Rattle.store_arrivals.proofs.Completing.{given, not_open}
 use Rattle.store_arrivals.proofs.Unasked.{type_unasked}
 use Rattle.store_arrivals.proofs.result.type_of_result.Goals as goal

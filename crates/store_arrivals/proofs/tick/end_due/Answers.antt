@@ -4,12 +4,12 @@ use Rattle.std.proofs.lemmas.List.{length-map}
 use Rattle.sqlite.specs.Held.{state}
 use Rattle.journal_model.specs.Cause.{those_that_hold}
 use Rattle.store_tables.specs.declared.row.Write.{Write}
-use Rattle.store_refusals.specs.Refused.{IsRefused}
+use Rattle.store_refusals.specs.RefusalConditions.{IsRefused}
 use Rattle.store_refusals.proofs.Causes.{cause_by, memory_tells}
 use Rattle.store_invocations.proofs.Reading.{decided_err}
 use Rattle.store_invocations.proofs.Refusing.{refused_memory}
-use Rattle.store_arrivals.specs.Grouped.{as_group}
-use Rattle.store_arrivals.specs.Made.{AreGroupsEnded, IsEndedUntil, tests_of}
+use Rattle.store_arrivals.specs.SleepGroups.{as_group}
+use Rattle.store_arrivals.specs.PreparedTicks.{AreGroupsEnded, IsEndedUntil, tests_of}
 use Rattle.store_arrivals.proofs.Rowed.{closed_with}
 use Rattle.store_arrivals.proofs.tick.end_due.Goals as goal
 

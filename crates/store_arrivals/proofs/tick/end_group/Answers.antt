@@ -3,8 +3,8 @@ use Rattle.sqlite.specs.Held.{state}
 use Rattle.sqlite.specs.State.{State, HasCleanDisk}
 use Rattle.store_refusals.proofs.Causes.{err_later}
 use Rattle.store_invocations.proofs.Standing.{store_kept}
-use Rattle.store_arrivals.specs.Grouped.{as_group}
-use Rattle.store_arrivals.specs.Made.{group_tests}
+use Rattle.store_arrivals.specs.SleepGroups.{as_group}
+use Rattle.store_arrivals.specs.PreparedTicks.{group_tests}
 use Rattle.store_arrivals.proofs.Rowed.{group_ended, is_no_cause}
 use Rattle.store_arrivals.proofs.tick.end_group.Goals as goal
 

@@ -3,12 +3,12 @@ use Rattle.sqlite.specs.Held.{state}
 use Rattle.sqlite.specs.State.{State, HasCleanDisk}
 use Rattle.journal_model.specs.Cause.{those_that_hold}
 use Rattle.store_tables.proofs.Chained.{looks_on}
-use Rattle.store_refusals.specs.Refused.{IsRefused}
+use Rattle.store_refusals.specs.RefusalConditions.{IsRefused}
 use Rattle.store_refusals.proofs.Causes.{cause_by, err_later}
 use Rattle.store_invocations.proofs.Reading.{decided_err}
 use Rattle.store_invocations.proofs.Standing.{store_kept}
-use Rattle.store_arrivals.specs.Grouped.{as_group}
-use Rattle.store_arrivals.specs.Made.{AreGroupsEnded, tests_of}
+use Rattle.store_arrivals.specs.SleepGroups.{as_group}
+use Rattle.store_arrivals.specs.PreparedTicks.{AreGroupsEnded, tests_of}
 use Rattle.store_arrivals.proofs.Rowed.{ends_all, goes_on, looks_first, none_ended, stops}
 use Rattle.store_arrivals.proofs.tick.end_groups.Goals as goal
 

@@ -5,8 +5,8 @@ use Rattle.sqlite.specs.State.{HasCleanDisk}
 use Rattle.journal_model.specs.Event.{Event}
 use Rattle.store_tables.specs.Looks.{OnlyAsks}
 use Rattle.store_invocations.specs.Rows.{IsStoreOf}
-use Rattle.store_arrivals.specs.Grouped.{as_group}
-use Rattle.store_arrivals.specs.Made.{AreOpen}
+use Rattle.store_arrivals.specs.SleepGroups.{as_group}
+use Rattle.store_arrivals.specs.PreparedTicks.{AreOpen}
 use Rattle.store_arrivals.proofs.Rowed.{HasEnded}
 use Rattle.store_arrivals.proofs.tick.end_groups.Given as goal
 

@@ -5,8 +5,8 @@ use Rattle.store_tables.specs.declared.row.InvocationRow.{InvocationRow}
 use Rattle.store_refusals.proofs.Causes.{err_unasked}
 use Rattle.store_invocations.specs.Rows.{Decides}
 use Rattle.store_invocations.proofs.Refusing.{refused_anyway}
-use Rattle.store_arrivals.specs.Made.{AreEndsOf, room_tests}
-use Rattle.store_arrivals.specs.Woken.{ends_of, row_then}
+use Rattle.store_arrivals.specs.PreparedTicks.{AreEndsOf, room_tests}
+use Rattle.store_arrivals.specs.ArrivalRows.{ends_of, row_then}
 use Rattle.store_arrivals.proofs.tick.end_open.Goals as goal
 
 pub returns-in-Ok-woken-clause-decided : goal.returns-in-Ok-woken-clause-decided

@@ -4,10 +4,10 @@ use Rattle.sqlite.specs.State.{State, HasCleanDisk}
 use Rattle.journal_model.specs.Event.{Event}
 use Rattle.journal_model.specs.Cause.{causes_of}
 use Rattle.store_tables.proofs.Chained.{looks_on}
-use Rattle.store_refusals.specs.Refused.{IsRefused}
+use Rattle.store_refusals.specs.RefusalConditions.{IsRefused}
 use Rattle.store_refusals.proofs.Causes.{read_cause_by, err_later, memory_tells}
 use Rattle.store_invocations.proofs.Standing.{store_kept}
-use Rattle.store_arrivals.specs.Made.{IsTickReady}
+use Rattle.store_arrivals.specs.PreparedTicks.{IsTickReady}
 use Rattle.store_arrivals.proofs.Whole.{asked_due, open_due, prepared_err, rows_due, tick_ready}
 use Rattle.store_arrivals.proofs.tick.prepare_tick.Goals as goal
 

@@ -2,7 +2,7 @@
 use Rattle.std.proofs.Common.{List, take}
 use Rattle.journal_model.specs.Notification.{Arrival}
 use Rattle.store_frames.specs.First.{AreFirst}
-use Rattle.store_arrivals.specs.Woken.{AreRowsOf}
+use Rattle.store_arrivals.specs.ArrivalRows.{AreRowsOf}
 use Rattle.store_arrivals.proofs.wake.hear_rows.Given as goal
 
 abbrev pub invariant-loop-row : goal.invariant-loop-row

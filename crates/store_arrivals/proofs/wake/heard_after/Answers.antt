@@ -3,11 +3,11 @@ use Rattle.sqlite.specs.Held.{state}
 use Rattle.sqlite.specs.State.{State, HasCleanDisk}
 use Rattle.journal_model.specs.Journal.{recorded_arrivals}
 use Rattle.store_tables.specs.declared.row.EntryRow.{EntryRow}
-use Rattle.store_refusals.specs.Refused.{is_circumstance}
+use Rattle.store_refusals.specs.RefusalConditions.{is_circumstance}
 use Rattle.store_frames.specs.First.{AreFirst}
 use Rattle.store_refusals.proofs.Causes.{read_cause_by, err_unasked}
 use Rattle.store_invocations.proofs.Reading.{told_err}
-use Rattle.store_arrivals.specs.Woken.{AreRowsOf}
+use Rattle.store_arrivals.specs.ArrivalRows.{AreRowsOf}
 use Rattle.store_arrivals.proofs.HeardRows.{foreign_never, rows_found, rows_heard}
 use Rattle.store_arrivals.proofs.wake.heard_after.Goals as goal
 

@@ -1,6 +1,6 @@
 use Rattle.std.proofs.Common.{subst}
 use Rattle.store_frames.specs.First.{AreFirst}
-use Rattle.store_frames.specs.Kept.{ReadsKept}
+use Rattle.store_frames.specs.KeptArrivals.{ReadsKept}
 use Rattle.store_arrivals.proofs.Hearing.{fault_refused}
 use Rattle.store_arrivals.proofs.Unasked.{fault_unasked}
 use Rattle.store_arrivals.proofs.wake.with_new.Goals as goal

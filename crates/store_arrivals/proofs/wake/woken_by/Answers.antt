@@ -1,5 +1,5 @@
 use Rattle.std.proofs.Common.{◌∙◌, subst}
-use Rattle.store_refusals.specs.Prepared.{TellsOrRefuses}
+use Rattle.store_refusals.specs.Preparations.{TellsOrRefuses}
 use Rattle.store_frames.specs.First.{AreFirst}
 use Rattle.store_arrivals.proofs.wake.woken_by.Goals as goal
 

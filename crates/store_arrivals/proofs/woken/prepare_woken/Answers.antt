@@ -6,7 +6,7 @@ use Rattle.store_refusals.proofs.Causes.{err_unasked}
 use Rattle.store_invocations.specs.Rows.{Decides}
 use Rattle.store_invocations.proofs.Refusing.{refused_anyway}
 use Rattle.store_arrivals.specs.Arrivals.{IsArrival, arrival_tests}
-use Rattle.store_arrivals.specs.Woken.{row_then}
+use Rattle.store_arrivals.specs.ArrivalRows.{row_then}
 use Rattle.store_arrivals.proofs.woken.prepare_woken.Goals as goal
 
 pub returns-in-Ok-clause-decided : goal.returns-in-Ok-clause-decided

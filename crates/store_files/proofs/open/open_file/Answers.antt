@@ -1,6 +1,6 @@
 use Rattle.std.proofs.Common.{true, false, ap₂, None}
 use Rattle.sqlite_std_file.specs.File.{IsFresh}
-use Rattle.store_files.specs.Refused.{IsNoStore, IsUnopened}
+use Rattle.store_files.specs.RefusedFiles.{IsNoStore, IsUnopened}
 use Rattle.store_files.proofs.Opening.{by_error, by_store, fresh_left, fresh_read, given_back, image, is_spared, is_taken, kept_stands, none_stands, seen_again, unmade}
 use Rattle.sqlite.specs.Files.{file_state}
 use Rattle.sqlite_wal.specs.Files.{image_at}

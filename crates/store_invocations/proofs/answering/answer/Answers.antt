@@ -1,9 +1,9 @@
 use Rattle.std.proofs.Common.{◌≡◌, sym, subst}
 use Rattle.journal_model.specs.Cause.{those_that_hold}
-use Rattle.store_refusals.specs.Refused.{IsRefused}
+use Rattle.store_refusals.specs.RefusalConditions.{IsRefused}
 use Rattle.store_invocations.specs.Rows.{known_tests}
 use Rattle.store_invocations.proofs.Reading.{decided_err}
-use Rattle.store_invocations.specs.Answered.{answer_told, answer_by}
+use Rattle.store_invocations.specs.InvocationAnswers.{answer_told, answer_by}
 use Rattle.store_invocations.proofs.Putting.{answered, reads_unasked}
 use Rattle.sqlite.specs.Held.{state}
 use Rattle.store_refusals.proofs.Causes.{err_unasked}

@@ -1,8 +1,8 @@
 use Rattle.std.proofs.Common.{sym, subst, arith}
 use Rattle.journal_model.specs.Cause.{open_tests, those_that_hold}
-use Rattle.store_refusals.specs.Refused.{IsRefused}
+use Rattle.store_refusals.specs.RefusalConditions.{IsRefused}
 use Rattle.store_invocations.proofs.Standing.{store_kept}
-use Rattle.store_invocations.specs.Begun.{IsBegun}
+use Rattle.store_invocations.specs.BegunAttempts.{IsBegun}
 use Rattle.store_invocations.proofs.Deciding.{prepares_err, prepares_then}
 use Rattle.sqlite.specs.Held.{state}
 use Rattle.store_refusals.proofs.Causes.{err_later}

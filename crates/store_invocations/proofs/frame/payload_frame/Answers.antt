@@ -1,7 +1,7 @@
 use Rattle.std.proofs.Common.{◌≡◌, subst, sym}
 use Rattle.journal_model.specs.Spelling.{frame_bytes}
 use Rattle.journal_model.specs.Cause.{those_that_hold}
-use Rattle.store_refusals.specs.Refused.{IsRefused}
+use Rattle.store_refusals.specs.RefusalConditions.{IsRefused}
 use Rattle.store_invocations.specs.Rows.{payload_tests}
 use Rattle.store_invocations.proofs.Framing.{fits, long_of, not_framed, short_of}
 use Rattle.store_invocations.proofs.Reading.{decided_err}

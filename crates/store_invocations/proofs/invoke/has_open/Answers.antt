@@ -4,7 +4,7 @@ use Rattle.sqlite.specs.State.{State, HasCleanDisk}
 use Rattle.journal_model.specs.Journal.{is_busy}
 use Rattle.store_tables.specs.Questions.{is_open_of}
 use Rattle.store_model.proofs.Opening.{open_found}
-use Rattle.store_refusals.specs.Refused.{is_circumstance}
+use Rattle.store_refusals.specs.RefusalConditions.{is_circumstance}
 use Rattle.store_invocations.proofs.Reading.{asked_once, told_err}
 use Rattle.store_refusals.proofs.Causes.{read_cause_by}
 use Rattle.store_invocations.proofs.invoke.has_open.Goals as goal

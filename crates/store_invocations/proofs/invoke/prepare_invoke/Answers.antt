@@ -4,8 +4,8 @@ use Rattle.sqlite.specs.State.{State, HasCleanDisk}
 use Rattle.journal_model.specs.Event.{Event}
 use Rattle.journal_model.specs.Cause.{tests_of, those_that_hold}
 use Rattle.store_model.specs.Writes.{writes_of}
-use Rattle.store_refusals.specs.Refused.{IsRefused}
-use Rattle.store_invocations.specs.New.{id_tests, input_tests, object_tests}
+use Rattle.store_refusals.specs.RefusalConditions.{IsRefused}
+use Rattle.store_invocations.specs.NewInvocations.{id_tests, input_tests, object_tests}
 use Rattle.store_invocations.proofs.Beginning.{prepared_by}
 use Rattle.store_invocations.proofs.Reading.{decided_err}
 use Rattle.store_invocations.proofs.Refusing.{refused_later, refused_more}

@@ -4,8 +4,8 @@ use Rattle.journal_model.specs.Cause.{those_that_hold}
 use Rattle.journal_model.specs.declared.cause.Cause.{Cause}
 use Rattle.protocol_types.specs.Version.{version_number}
 use Rattle.protocol_types.proofs.Versions.{spoken_none, spoken_some}
-use Rattle.store_refusals.specs.Refused.{IsRefused}
-use Rattle.store_invocations.specs.New.{id_tests}
+use Rattle.store_refusals.specs.RefusalConditions.{IsRefused}
+use Rattle.store_invocations.specs.NewInvocations.{id_tests}
 use Rattle.store_invocations.proofs.Reading.{decided_err}
 use Rattle.store_invocations.proofs.Refusing.{first_of_two, none_of_two, refused_anyway, second_of_two}
 use Rattle.store_invocations.proofs.Opened.{some-map}

@@ -1,8 +1,8 @@
 use Rattle.std.proofs.Common.{◌∙◌, sym, subst}
 use Rattle.journal_model.specs.Cause.{those_that_hold}
 use Rattle.journal_model.specs.declared.cause.Cause.{Cause}
-use Rattle.store_refusals.specs.Refused.{IsRefused}
-use Rattle.store_invocations.specs.New.{object_tests}
+use Rattle.store_refusals.specs.RefusalConditions.{IsRefused}
+use Rattle.store_invocations.specs.NewInvocations.{object_tests}
 use Rattle.store_invocations.proofs.Beginning.{nameless_is}
 use Rattle.store_invocations.proofs.Reading.{decided_err}
 use Rattle.store_invocations.proofs.Refusing.{first_of_two, none_of_two, refused_anyway, second_of_two}

@@ -2,8 +2,8 @@ use Rattle.std.proofs.Common.{◌≡◌, ◌∙◌, sym, subst, ap, ◌∷◌, [
 use Rattle.journal_model.specs.Notification.{Bytes}
 use Rattle.journal_model.specs.Cause.{those_that_hold}
 use Rattle.store_tables.specs.declared.row.Write.TheVariants.{AddInvocation, AddEntry}
-use Rattle.store_refusals.specs.Refused.{IsRefused}
-use Rattle.store_invocations.specs.New.{entry_of_input, first_row, first_writes, input_tests}
+use Rattle.store_refusals.specs.RefusalConditions.{IsRefused}
+use Rattle.store_invocations.specs.NewInvocations.{entry_of_input, first_row, first_writes, input_tests}
 use Rattle.store_invocations.proofs.Reading.{decided_err}
 use Rattle.store_invocations.proofs.Refusing.{refused_memory}
 use Rattle.store_invocations.proofs.invoke.writes_at_first.Goals as goal

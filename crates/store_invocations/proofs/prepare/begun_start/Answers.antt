@@ -3,11 +3,11 @@ use Rattle.journal_model.specs.Spelling.{frame_bytes}
 use Rattle.journal_model.specs.Cause.{those_that_hold}
 use Rattle.protocol_types.specs.declared.message_type.MessageType.{MessageType}
 use Rattle.store_tables.specs.declared.row.StateRow.{StateRow}
-use Rattle.store_refusals.specs.Refused.{IsRefused}
+use Rattle.store_refusals.specs.RefusalConditions.{IsRefused}
 use Rattle.store_invocations.specs.Rows.{Decides, payload_tests}
 use Rattle.store_invocations.proofs.Reading.{decided_err}
 use Rattle.store_invocations.proofs.Refusing.{refused_anyway}
-use Rattle.store_invocations.specs.Begun.{shown_states}
+use Rattle.store_invocations.specs.BegunAttempts.{shown_states}
 use Rattle.store_invocations.specs.Start.{start_frame_payload}
 use Rattle.store_invocations.proofs.prepare.begun_start.Goals as goal
 

@@ -1,9 +1,9 @@
 use Rattle.std.proofs.Common.{◌+◌, ◌<◌, ◌^◌, refl, sym, subst, arith, inr}
 use Rattle.journal_model.specs.Event.{Event}
 use Rattle.journal_model.specs.Cause.{own_tests, those_that_hold}
-use Rattle.store_refusals.specs.Refused.{IsRefused}
+use Rattle.store_refusals.specs.RefusalConditions.{IsRefused}
 use Rattle.store_invocations.proofs.Reading.{decided_err}
-use Rattle.store_invocations.specs.Begun.{IsBegun}
+use Rattle.store_invocations.specs.BegunAttempts.{IsBegun}
 use Rattle.store_invocations.proofs.Next.{among, next_made, next_none, next_refused}
 use Rattle.store_invocations.proofs.prepare.prepare_next.Goals as goal
 

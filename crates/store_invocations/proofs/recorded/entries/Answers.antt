@@ -1,10 +1,10 @@
 use Rattle.std.proofs.Common.{◌≡◌, refl, ◌∙◌, sym, ap, subst, inr, map, filter, List}
 use Rattle.journal_model.specs.Cause.{those_that_hold}
 use Rattle.store_tables.specs.declared.row.EntryRow.{EntryRow}
-use Rattle.store_refusals.specs.Refused.{IsRefused}
+use Rattle.store_refusals.specs.RefusalConditions.{IsRefused}
 use Rattle.store_invocations.specs.Rows.{known_tests}
 use Rattle.store_invocations.proofs.Reading.{decided_err}
-use Rattle.store_invocations.specs.Told.{entries_told, entry_read, is_entry}
+use Rattle.store_invocations.specs.JournalContent.{entries_told, entry_read, is_entry}
 use Rattle.store_invocations.proofs.Rows.{entries_read}
 use Rattle.store_invocations.proofs.recorded.entries.Goals as goal
 

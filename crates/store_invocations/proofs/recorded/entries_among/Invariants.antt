@@ -1,5 +1,5 @@
 use Rattle.std.proofs.Common.{◌≡◌, ◌++◌, map, filter, drop}
-use Rattle.store_invocations.specs.Told.{entry_read, is_entry}
+use Rattle.store_invocations.specs.JournalContent.{entry_read, is_entry}
 use Rattle.store_invocations.proofs.recorded.entries_among.Given as goal
 
 -- what was told, and what is left

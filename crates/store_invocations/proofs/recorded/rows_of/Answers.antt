@@ -2,9 +2,9 @@ use Rattle.std.proofs.Common.{◌≡◌, sym, subst, arith, inr, IsTrue}
 use Rattle.sqlite.specs.Held.{state}
 use Rattle.sqlite.specs.State.{State, HasCleanDisk}
 use Rattle.journal_model.specs.Cause.{those_that_hold}
-use Rattle.store_model.specs.Kept.{journal_rows}
+use Rattle.store_model.specs.KeptRecords.{journal_rows}
 use Rattle.store_refusals.specs.declared.refusal.Refusal.TheVariants.{ForeignRow}
-use Rattle.store_refusals.specs.Refused.{IsRefused, is_circumstance}
+use Rattle.store_refusals.specs.RefusalConditions.{IsRefused, is_circumstance}
 use Rattle.store_invocations.specs.Rows.{known_tests}
 use Rattle.store_invocations.proofs.Reading.{decided_err}
 use Rattle.store_invocations.proofs.Standing.{store_kept}

@@ -1,6 +1,6 @@
 use Rattle.std.proofs.Common.{◌∙◌, sym, subst}
 use Rattle.journal_model.specs.Cause.{those_that_hold}
-use Rattle.store_refusals.specs.Refused.{IsRefused}
+use Rattle.store_refusals.specs.RefusalConditions.{IsRefused}
 use Rattle.store_invocations.specs.Rows.{IsRowOf, known_tests}
 use Rattle.store_invocations.proofs.Opened.{known_by, unknown_by}
 use Rattle.store_invocations.proofs.Reading.{decided_err}

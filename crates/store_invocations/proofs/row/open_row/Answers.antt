@@ -2,7 +2,7 @@ use Rattle.std.proofs.Common.{◌∙◌, sym, subst, ◌∷◌, [], not, ◌&&�
 use Rattle.journal_model.specs.Journal.{invocation_begun, is_open}
 use Rattle.journal_model.specs.Cause.{open_tests, those_that_hold}
 use Rattle.journal_model.specs.declared.cause.Cause.{Cause}
-use Rattle.store_refusals.specs.Refused.{IsRefused}
+use Rattle.store_refusals.specs.RefusalConditions.{IsRefused}
 use Rattle.store_invocations.specs.Rows.{IsOpenRow, known_tests}
 use Rattle.store_invocations.proofs.Opened.{closed_by, opened_by}
 use Rattle.store_invocations.proofs.Reading.{decided_err}

@@ -2,7 +2,7 @@ use Rattle.std.proofs.Common.{◌≡◌, sym, subst, arith, inr, IsTrue}
 use Rattle.sqlite.specs.Held.{state}
 use Rattle.sqlite.specs.State.{State, HasCleanDisk}
 use Rattle.store_tables.specs.Questions.{has_id}
-use Rattle.store_refusals.specs.Refused.{is_circumstance}
+use Rattle.store_refusals.specs.RefusalConditions.{is_circumstance}
 use Rattle.store_invocations.specs.Rows.{row_at}
 use Rattle.store_invocations.proofs.Reading.{asked_once, found_is, once_of, row_kept, told_err}
 use Rattle.store_refusals.proofs.Causes.{read_cause_by}

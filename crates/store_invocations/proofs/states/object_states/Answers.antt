@@ -5,9 +5,9 @@ use Rattle.sqlite.specs.Held.{state}
 use Rattle.sqlite.specs.State.{State, HasCleanDisk}
 use Rattle.journal_model.specs.Journal.{object_state}
 use Rattle.store_tables.specs.declared.row.StateRow.{StateRow}
-use Rattle.store_model.specs.Kept.{state_row}
+use Rattle.store_model.specs.KeptRecords.{state_row}
 use Rattle.store_refusals.specs.declared.refusal.Refusal.TheVariants.{ForeignRow}
-use Rattle.store_refusals.specs.Refused.{IsRefused}
+use Rattle.store_refusals.specs.RefusalConditions.{IsRefused}
 use Rattle.store_invocations.proofs.Reading.{told_err}
 use Rattle.store_invocations.proofs.Deciding.{states_are, states_known}
 use Rattle.store_invocations.proofs.KeysOfStates.{text_kept}

@@ -2,7 +2,7 @@ use Rattle.std.proofs.Common.{◌≡◌, refl, [], filter, sym, subst, arith, in
 use Rattle.sqlite.specs.Held.{state}
 use Rattle.sqlite.specs.State.{State, HasCleanDisk}
 use Rattle.journal_model.specs.Attempt.{due, is_none, live_attempt}
-use Rattle.store_refusals.specs.Refused.{IsRefused}
+use Rattle.store_refusals.specs.RefusalConditions.{IsRefused}
 use Rattle.store_invocations.proofs.Reading.{told_err}
 use Rattle.store_reads.proofs.Deciding.{awake_are, awake_known}
 use Rattle.store_refusals.proofs.Causes.{read_cause_by}

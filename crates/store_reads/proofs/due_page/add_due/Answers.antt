@@ -2,7 +2,7 @@ use Rattle.std.proofs.Common.{◌≡◌, [], Bool, List, Some, take, refl, sym, 
 use Rattle.sqlite.specs.Held.{state}
 use Rattle.sqlite.specs.State.{State, HasCleanDisk}
 use Rattle.store_tables.proofs.Chained.{looks_on}
-use Rattle.store_refusals.specs.Refused.{IsRefused}
+use Rattle.store_refusals.specs.RefusalConditions.{IsRefused}
 use Rattle.store_refusals.proofs.Causes.{cause_by, err_later}
 use Rattle.store_invocations.proofs.Reading.{told_err}
 use Rattle.store_invocations.proofs.Standing.{store_kept}

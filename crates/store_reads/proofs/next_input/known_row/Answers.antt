@@ -3,8 +3,8 @@ use Rattle.std.specs.List.{slice_get}
 use Rattle.sqlite.specs.Held.{state}
 use Rattle.sqlite.specs.State.{State, HasCleanDisk}
 use Rattle.store_tables.specs.Questions.{is_at_place}
-use Rattle.store_model.specs.Kept.{journal_rows}
-use Rattle.store_refusals.specs.Refused.{is_circumstance}
+use Rattle.store_model.specs.KeptRecords.{journal_rows}
+use Rattle.store_refusals.specs.RefusalConditions.{is_circumstance}
 use Rattle.store_invocations.proofs.Reading.{asked_once, found_is, once_of, told_err}
 use Rattle.store_reads.proofs.Finding.{entry_kept}
 use Rattle.store_refusals.proofs.Causes.{read_cause_by}

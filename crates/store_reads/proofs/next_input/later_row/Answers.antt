@@ -4,7 +4,7 @@ use Rattle.sqlite.specs.Held.{state}
 use Rattle.sqlite.specs.State.{State, HasCleanDisk}
 use Rattle.store_tables.specs.Questions.{is_arrival_at}
 use Rattle.store_model.specs.Lookups.{arrival_rows}
-use Rattle.store_refusals.specs.Refused.{is_circumstance}
+use Rattle.store_refusals.specs.RefusalConditions.{is_circumstance}
 use Rattle.store_invocations.proofs.Reading.{asked_once, found_is, once_of, told_err}
 use Rattle.store_reads.proofs.Finding.{arrival_kept}
 use Rattle.store_refusals.proofs.Causes.{read_cause_by}

@@ -1,5 +1,5 @@
 use Rattle.std.proofs.Common.{◌≡◌, map, take}
-use Rattle.store_server.specs.Answered.{taken_frame}
+use Rattle.store_server.specs.RequestAnswers.{taken_frame}
 use Rattle.store_server.proofs.answer.taken_frames.Given as goal
 
 abbrev pub invariant-loop-reply : goal.invariant-loop-reply

@@ -1,7 +1,7 @@
 use Rattle.std.proofs.Common.{◌≡◌, ℕ, List, subst}
 use Rattle.std.specs.Prelude.{IfOk, string_bytes}
 use Rattle.journal_model.specs.Attempt.{due}
-use Rattle.store_server.specs.Answered.{ids_line}
+use Rattle.store_server.specs.RequestAnswers.{ids_line}
 use Rattle.store_server.proofs.Reaching.{tells_none, tells_so}
 use Rattle.store_server.proofs.asks.due.Goals as goal
 

@@ -1,7 +1,7 @@
 use Rattle.std.proofs.Common.{◌≡◌, ℕ, List, subst}
 use Rattle.std.specs.Prelude.{IfOk, string_bytes}
 use Rattle.store_model.specs.Progress.{last_error_of}
-use Rattle.store_server.specs.Answered.{last_error_line, line_of}
+use Rattle.store_server.specs.RequestAnswers.{last_error_line, line_of}
 use Rattle.store_server.proofs.Reaching.{knows_none, knows_so}
 use Rattle.store_server.proofs.asks.error.Goals as goal
 

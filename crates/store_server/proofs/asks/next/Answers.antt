@@ -1,6 +1,6 @@
 use Rattle.std.specs.Prelude.{string_bytes}
 use Rattle.due_laws.specs.NextMoment.{IsNextMoment}
-use Rattle.store_server.specs.Answered.{moment_line}
+use Rattle.store_server.specs.RequestAnswers.{moment_line}
 use Rattle.store_server.proofs.Reaching.{tells_none, tells_so}
 use Rattle.store_server.proofs.asks.next.Goals as goal
 

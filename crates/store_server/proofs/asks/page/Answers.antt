@@ -1,5 +1,5 @@
 use Rattle.std.proofs.Common.{[]}
-use Rattle.store_refusals.specs.Refused.{IsRefused}
+use Rattle.store_refusals.specs.RefusalConditions.{IsRefused}
 use Rattle.store_server.proofs.Pages.{page_told}
 use Rattle.store_server.proofs.Reaching.{reaches_told}
 use Rattle.store_server.proofs.asks.page.Goals as goal

@@ -1,5 +1,5 @@
 use Rattle.shown_records.specs.Invocation.{shown_text}
-use Rattle.store_server.specs.Answered.{refusal_line}
+use Rattle.store_server.specs.RequestAnswers.{refusal_line}
 use Rattle.store_server.proofs.Showing.{records_printed, refusal_printed}
 use Rattle.store_server.proofs.asks.show.Goals as goal
 

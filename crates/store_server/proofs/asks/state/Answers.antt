@@ -1,7 +1,7 @@
 use Rattle.std.proofs.Common.{[]}
-use Rattle.store_refusals.specs.Refused.{IsRefused}
+use Rattle.store_refusals.specs.RefusalConditions.{IsRefused}
 use Rattle.shown_records.specs.Rows.{rows_text}
-use Rattle.store_server.specs.Answered.{refusal_line}
+use Rattle.store_server.specs.RequestAnswers.{refusal_line}
 use Rattle.store_server.proofs.Reaching.{reaches_told}
 use Rattle.store_server.proofs.Showing.{AreStates, no_states_printed, states_printed}
 use Rattle.store_server.proofs.asks.state.Goals as goal

@@ -1,7 +1,7 @@
 use Rattle.std.specs.Prelude.{string_bytes}
 use Rattle.store_calls.specs.Calls.{BeginsAttempt}
 use Rattle.journal_store.specs.Attempts.{BeginsSome}
-use Rattle.store_server.specs.Answered.{attempt_line}
+use Rattle.store_server.specs.RequestAnswers.{attempt_line}
 use Rattle.store_server.proofs.Reaching.{answers_always}
 use Rattle.store_server.proofs.calls.begin.Goals as goal
 

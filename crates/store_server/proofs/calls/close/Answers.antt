@@ -1,6 +1,6 @@
 use Rattle.std.specs.Prelude.{string_bytes}
 use Rattle.store_calls.specs.Calls.{ClosesStoredInput}
-use Rattle.store_server.specs.Answered.{done_line}
+use Rattle.store_server.specs.RequestAnswers.{done_line}
 use Rattle.store_server.proofs.Reaching.{answers_quiet}
 use Rattle.store_server.proofs.calls.close.Goals as goal
 

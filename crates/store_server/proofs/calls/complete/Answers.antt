@@ -2,7 +2,7 @@ use Rattle.std.specs.Prelude.{string_bytes}
 use Rattle.journal_model.specs.Event.{Event}
 use Rattle.store_calls.specs.AbstractStore.{Adds}
 use Rattle.store_calls.specs.Calls.{CompletesCall}
-use Rattle.store_server.specs.Answered.{place_line}
+use Rattle.store_server.specs.RequestAnswers.{place_line}
 use Rattle.store_server.proofs.Reaching.{answers_always}
 use Rattle.store_server.proofs.calls.complete.Goals as goal
 

@@ -1,6 +1,6 @@
 use Rattle.std.specs.Prelude.{string_bytes}
 use Rattle.store_calls.specs.Calls.{HandsOut}
-use Rattle.store_server.specs.Answered.{handed_line}
+use Rattle.store_server.specs.RequestAnswers.{handed_line}
 use Rattle.store_server.proofs.Reaching.{answers_quiet}
 use Rattle.store_server.proofs.calls.input.Goals as goal
 

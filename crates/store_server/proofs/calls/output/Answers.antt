@@ -2,8 +2,8 @@ use Rattle.std.proofs.Common.{List, ℕ, subst}
 use Rattle.std.specs.Prelude.{string_bytes}
 use Rattle.store_calls.specs.Frames.{Accepts, AcceptsFirst}
 use Rattle.journal_store.specs.OutputAcceptance.{accepted_told}
-use Rattle.journal_store.specs.Stands.{Endures, Leads}
-use Rattle.store_server.specs.Answered.{taken_line}
+use Rattle.journal_store.specs.StoreStanding.{Endures, Leads}
+use Rattle.store_server.specs.RequestAnswers.{taken_line}
 use Rattle.store_server.proofs.Reaching.{answers}
 use Rattle.store_server.proofs.calls.output.Goals as goal
 

@@ -2,7 +2,7 @@ use Rattle.std.specs.Prelude.{string_bytes}
 use Rattle.journal_model.specs.Event.{Event}
 use Rattle.store_calls.specs.AbstractStore.{Adds}
 use Rattle.store_calls.specs.Calls.{Ticks}
-use Rattle.store_server.specs.Answered.{ticked_line}
+use Rattle.store_server.specs.RequestAnswers.{ticked_line}
 use Rattle.store_server.proofs.Reaching.{answers_always}
 use Rattle.store_server.proofs.calls.tick.Goals as goal
 

@@ -1,7 +1,7 @@
 use Rattle.std.proofs.Common.{Some, None, refl, sym, ◌∙◌}
 use Rattle.std.specs.Prelude.{string_bytes}
 use Rattle.server_lines.specs.Reply.{not_understood_text}
-use Rattle.store_server.specs.Answered.{DoesRead, line_of}
+use Rattle.store_server.specs.RequestAnswers.{DoesRead, line_of}
 use Rattle.store_server.specs.StoreChanges.{CommitsNothing}
 use Rattle.store_server.proofs.Answering.{line_answered, line_unanswered}
 use Rattle.store_server.proofs.Reaching.{reaches_none, stays}

@@ -1,6 +1,6 @@
 use Rattle.std.proofs.Common.{ℕ, List, subst}
 use Rattle.std.specs.Prelude.{string_bytes}
-use Rattle.store_server.specs.Served.{StopsAtLine}
+use Rattle.store_server.specs.Dialogue.{StopsAtLine}
 use Rattle.store_server.proofs.Answering.{part_given, text_given}
 use Rattle.store_server.proofs.LinesServed.{stops_given}
 use Rattle.store_server.proofs.serving.do_line.Goals as goal

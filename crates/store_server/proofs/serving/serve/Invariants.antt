@@ -1,5 +1,5 @@
 use Rattle.std.proofs.Common.{List}
-use Rattle.store_server.specs.Served.{DoneLine, HasServed}
+use Rattle.store_server.specs.Dialogue.{DoneLine, HasServed}
 use Rattle.store_server.proofs.serving.serve.Given as goal
 
 abbrev pub invariant-loop : goal.invariant-loop

@@ -6,7 +6,7 @@ use Rattle.store_frames.specs.declared.frame.AttemptFrame.TheVariants as told
 use Rattle.store_invocations.proofs.Refusing.{refused_by}
 use Rattle.store_refusals.proofs.Causes.{test_unasked, unasked_tells}
 use Rattle.store_steps.specs.Reads.{answer_told}
-use Rattle.store_steps.specs.Told.{tests_of_told}
+use Rattle.store_steps.specs.FrameAnswers.{tests_of_told}
 use Rattle.store_steps.proofs.Commands.{decided_told, room_for_answer}
 use Rattle.store_steps.proofs.prepare.answer_at_once.Goals as goal
 

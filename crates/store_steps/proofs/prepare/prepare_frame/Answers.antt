@@ -5,13 +5,13 @@ use Rattle.sqlite.specs.Held.{state}
 use Rattle.sqlite.specs.State.{State, HasCleanDisk}
 use Rattle.store_tables.specs.Questions.{IsFound, has_id}
 use Rattle.store_tables.specs.declared.row.InvocationRow.{InvocationRow}
-use Rattle.store_refusals.specs.Prepared.{Keeps}
+use Rattle.store_refusals.specs.Preparations.{Keeps}
 use Rattle.store_refusals.specs.declared.refusal.Refusal.{Refusal}
 use Rattle.journal_model.specs.declared.cause.Cause.{Cause}
 use Rattle.store_refusals.specs.declared.refusal.Refusal.TheVariants as refusal
 use Rattle.store_refusals.proofs.Causes.{err_later, read_cause}
 use Rattle.store_invocations.proofs.Standing.{store_kept}
-use Rattle.store_steps.specs.Taken.{TakesAttemptFrame}
+use Rattle.store_steps.specs.PreparedFrames.{TakesAttemptFrame}
 use Rattle.store_steps.proofs.Taking.{row_of, never_missing, never_foreign, read_failed, was_asked}
 use Rattle.store_steps.proofs.Waking.{no_other}
 use Rattle.store_steps.proofs.prepare.prepare_frame.Goals as goal

@@ -6,7 +6,7 @@ use Rattle.journal_model.specs.State.{state_keys}
 use Rattle.store_tables.specs.declared.row.StateRow.{StateRow}
 use Rattle.sqlite.specs.Held.{state}
 use Rattle.store_invocations.proofs.Reading.{told_err}
-use Rattle.store_refusals.specs.Refused.{IsRefused}
+use Rattle.store_refusals.specs.RefusalConditions.{IsRefused}
 use Rattle.store_refusals.proofs.Causes.{cause_by, memory_tells}
 use Rattle.store_steps.proofs.Values.{keys_read}
 use Rattle.store_steps.proofs.reads.keys_of.Goals as goal

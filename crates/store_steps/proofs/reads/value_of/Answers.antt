@@ -9,7 +9,7 @@ use Rattle.store_tables.specs.Records.{is_at_key}
 use Rattle.store_tables.specs.Questions.{IsFound}
 use Rattle.store_tables.specs.declared.row.StateRow.{StateRow}
 use Rattle.store_invocations.proofs.Reading.{asked_once, once_of, told_err}
-use Rattle.store_refusals.specs.Refused.{is_circumstance}
+use Rattle.store_refusals.specs.RefusalConditions.{is_circumstance}
 use Rattle.store_refusals.proofs.Causes.{read_cause_by}
 use Rattle.store_steps.proofs.Values.{none_found, row_at_key, value_found, value_kept}
 use Rattle.store_steps.proofs.reads.value_of.Goals as goal

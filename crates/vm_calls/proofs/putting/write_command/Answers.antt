@@ -1,4 +1,4 @@
-use Rattle.protocol_messages.specs.Encoded.{plain_message}
+use Rattle.protocol_messages.specs.Encodings.{plain_message}
 use Rattle.vm_calls.proofs.Framing.{command_message, writes_request}
 use Rattle.vm_calls.proofs.putting.write_command.Goals as goal
 

@@ -1,6 +1,6 @@
 -- What is wrong with a message is told: in `Popping`.
 use Rattle.std.proofs.Common.{◌≡◌, ℤ, subst, to_z, of_z, to_z-of_z, w64}
-use Rattle.protocol_messages.specs.Decoded.{DecodesTo}
+use Rattle.protocol_messages.specs.Decodings.{DecodesTo}
 use Rattle.vm_commands.proofs.NextCommand.{tells_next}
 use Rattle.vm_commands.proofs.pop.take_next.Goals as goal
 

@@ -1,6 +1,6 @@
 use Rattle.std.proofs.Common.{◌≡◌, ◌++◌, drop}
 use Rattle.std.specs.List.{flat_map}
-use Rattle.vm_progress.specs.Uncompleted.{started_id, known_of, known_runs}
+use Rattle.vm_progress.specs.UncompletedAwaits.{started_id, known_of, known_runs}
 use Rattle.vm_progress.proofs.lists.known_ids.Given as goal
 
 abbrev pub invariant-loop-signal : goal.invariant-loop-signal

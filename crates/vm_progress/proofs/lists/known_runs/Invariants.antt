@@ -1,5 +1,5 @@
 use Rattle.std.proofs.Common.{◌≡◌, ◌++◌, map}
-use Rattle.vm_progress.specs.Uncompleted.{known_run, known_runs}
+use Rattle.vm_progress.specs.UncompletedAwaits.{known_run, known_runs}
 use Rattle.vm_progress.proofs.lists.known_runs.Given as goal
 
 -- the runs that were told, and those that are left

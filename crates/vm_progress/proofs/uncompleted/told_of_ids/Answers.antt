@@ -1,6 +1,6 @@
 use Rattle.vm_awaits.specs.Views.{slots_of}
 use Rattle.vm_waiting.specs.WaitsFor.{ids_over}
-use Rattle.vm_progress.specs.Uncompleted.{started_id}
+use Rattle.vm_progress.specs.UncompletedAwaits.{started_id}
 use Rattle.vm_progress.proofs.Naming.{told_by}
 use Rattle.vm_progress.proofs.uncompleted.told_of_ids.Goals as goal
 

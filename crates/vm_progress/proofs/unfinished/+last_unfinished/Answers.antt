@@ -3,7 +3,7 @@ use Rattle.journal_model.specs.AwaitTree.{AwaitTree}
 use Rattle.journal_model.specs.Future.{tree_of}
 use Rattle.vm_flat_trees.specs.FutureRoots.{kind_combinator}
 use Rattle.vm_flat_trees.proofs.Growing.{child-smaller, next-child}
-use Rattle.vm_progress.specs.Uncompleted.{IsGreatest, greater}
+use Rattle.vm_progress.specs.UncompletedAwaits.{IsGreatest, greater}
 use Rattle.vm_progress.proofs.Greatest.{some_unfinished, more_greatest}
 use Rattle.vm_progress.proofs.unfinished.+last_unfinished.Goals as goal
 

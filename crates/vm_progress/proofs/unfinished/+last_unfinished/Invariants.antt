@@ -3,7 +3,7 @@ use Rattle.journal_model.specs.AwaitTree.{Combined}
 use Rattle.journal_model.specs.Future.{tree_of, trees_from}
 use Rattle.vm_flat_trees.specs.Flat.{size_of}
 use Rattle.vm_flat_trees.specs.FutureRoots.{kind_combinator}
-use Rattle.vm_progress.specs.Uncompleted.{IsGreatest}
+use Rattle.vm_progress.specs.UncompletedAwaits.{IsGreatest}
 use Rattle.vm_progress.proofs.Greatest.{some_unfinished}
 use Rattle.vm_progress.proofs.unfinished.+last_unfinished.Given as goal
 

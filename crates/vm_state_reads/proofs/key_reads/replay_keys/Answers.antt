@@ -3,7 +3,7 @@ use Rattle.protocol_types.specs.declared.message_type.MessageType.TheVariants.{G
 use Rattle.journal_model.specs.Request.{Request}
 use Rattle.attempt_model.specs.Machine.{Machine}
 use Rattle.protocol_records.specs.declared.state_keys.StateKeys.{StateKeys}
-use Rattle.vm_commands.specs.Recorded.{as_recorded}
+use Rattle.vm_commands.specs.RecordedCommands.{as_recorded}
 use Rattle.vm_state_reads.specs.RecordedReads.{keys_known}
 use Rattle.vm_state_reads.proofs.Answering.{number_fails}
 use Rattle.vm_state_reads.proofs.Knowing.{keys_are_known}

@@ -2,7 +2,7 @@ use Rattle.std.proofs.Common.{◌≡◌, ◌∙◌, true, false, sym, subst}
 use Rattle.journal_model.specs.declared.call.Call.{Call}
 use Rattle.journal_model.specs.Notification.{Bytes}
 use Rattle.journal_model.specs.Request.{Request}
-use Rattle.vm_commands.specs.Recorded.{as_recorded}
+use Rattle.vm_commands.specs.RecordedCommands.{as_recorded}
 use Rattle.vm_state_reads.specs.ReadAnswers.{ReadsOne}
 use Rattle.vm_state_reads.proofs.Asked.{replays_value, writes_value}
 use Rattle.vm_state_reads.proofs.value_reads.state_get.Goals as goal

@@ -39,7 +39,7 @@ use Rattle.std.specs.contracts.alloc.Global as heap
 use Rattle.std.proofs.alloc.Global.TheLaws as heap_laws
 use Rattle.std.specs.contracts.impls.GlobalAllocator.TheImpl.{ghosts}
 use Rattle.std.proofs.raw_atomic.Walks.{proved_at, leaves}
-use Rattle.handle_slot.specs.Held.{held}
+use Rattle.handle_slot.specs.SlotOwnership.{held}
 use Rattle.handle_slot.proofs.Values.{both, Loose, loose_good, loose_in}
 use Rattle.handle_slot.proofs.SlotValues.{Slot, slot_out, pair_good, word, Ptr-Good}
 use Rattle.handle_slot.specs.contracts.slot.Slot.into_loose.{ended, clauses}

@@ -4,7 +4,7 @@ use Rattle.sqlite.specs.Held.{state}
 use Rattle.journal_model.specs.Event.{Event}
 use Rattle.store_calls.specs.Calls.{BeginsAttempt}
 use Rattle.journal_store.specs.Attempts.{BeginsSome}
-use Rattle.journal_store.specs.Stored.{stored}
+use Rattle.journal_store.specs.StoreView.{stored}
 use Rattle.journal_store.specs.Causes.{TriesEvent}
 use Rattle.journal_store.proofs.Enduring.{begin_landed}
 use Rattle.journal_store.proofs.Lasting.{settled_written, undone_kept}

@@ -1,13 +1,13 @@
 use Rattle.std.proofs.Common.{rules, ◌≡◌, ◌∙◌, sym, subst, true, false, [], Ok, Err, refl}
 use Rattle.sqlite.specs.Held.{state}
 use Rattle.journal_model.specs.Event.{Event}
-use Rattle.store_refusals.specs.Refused.{IsRefused}
+use Rattle.store_refusals.specs.RefusalConditions.{IsRefused}
 use Rattle.store_refusals.proofs.Causes.{cause_by}
 use Rattle.store_live.specs.Attempts.{attempt_of}
-use Rattle.store_live_laws.specs.Agrees.{has_number}
+use Rattle.store_live_laws.specs.LiveAttempts.{has_number}
 use Rattle.store_calls.specs.Calls.{ClosesStoredInput}
 use Rattle.journal_store.specs.Attempts.{has_closed, has_rest}
-use Rattle.journal_store.specs.Stored.{stored}
+use Rattle.journal_store.specs.StoreView.{stored}
 use Rattle.journal_store.proofs.Calls.{dead, close_dead, closes, closes_rest, closes_closed, none_read}
 use Rattle.journal_store.proofs.Framed.{gives_closed, gives_none}
 use Rattle.journal_store.proofs.Waiting.{closed_waits}

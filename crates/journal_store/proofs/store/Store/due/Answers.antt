@@ -1,7 +1,7 @@
 use Rattle.std.proofs.Common.{◌≡◌, [], sym, subst}
 use Rattle.sqlite.specs.Held.{state}
 use Rattle.journal_model.specs.Attempt.{due}
-use Rattle.store_refusals.specs.Refused.{IsRefused}
+use Rattle.store_refusals.specs.RefusalConditions.{IsRefused}
 use Rattle.store_refusals.proofs.Causes.{cause_by}
 use Rattle.store_invocations.proofs.Reading.{told_err}
 use Rattle.journal_store.proofs.Asking.{asked, asked_live}

@@ -5,7 +5,7 @@ use Rattle.journal_model.specs.Event.{Event}
 use Rattle.store_calls.specs.AbstractStore.{Adds}
 use Rattle.store_calls.specs.Calls.{Invokes}
 use Rattle.store_calls.proofs.Landing.{invoked}
-use Rattle.journal_store.specs.Stored.{stored}
+use Rattle.journal_store.specs.StoreView.{stored}
 use Rattle.journal_store.specs.Causes.{TriesEvent}
 use Rattle.journal_store.proofs.Lasting.{settled_written, undone_kept}
 use Rattle.journal_store.proofs.Recording.{invokes, looked}

@@ -4,13 +4,13 @@ use Rattle.journal_model.specs.Notification.{Bytes}
 use Rattle.journal_model.specs.Event.{Event}
 use Rattle.journal_model.specs.declared.cause.Cause.{Cause}
 use Rattle.store_refusals.specs.declared.refusal.Refusal.{Refusal}
-use Rattle.store_refusals.specs.Refused.{IsRefused}
+use Rattle.store_refusals.specs.RefusalConditions.{IsRefused}
 use Rattle.store_refusals.proofs.Causes.{cause_by, memory_tells}
 use Rattle.store_live.specs.Attempts.{attempt_of}
-use Rattle.store_live_laws.specs.Agrees.{has_number}
+use Rattle.store_live_laws.specs.LiveAttempts.{has_number}
 use Rattle.store_calls.specs.Calls.{HandsOut}
 use Rattle.journal_store.specs.Attempts.{has_closed}
-use Rattle.journal_store.specs.Stored.{stored}
+use Rattle.journal_store.specs.StoreView.{stored}
 use Rattle.journal_store.proofs.Calls.{dead, hand_out_dead, hands_out, hands_closed, hands_none, is_memory, none_read}
 use Rattle.journal_store.proofs.Framed.{few_given, gives_bytes, gives_none, none_given}
 use Rattle.journal_store.proofs.Waiting.{handed_waits, same_waits}

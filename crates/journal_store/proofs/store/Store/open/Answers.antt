@@ -1,6 +1,6 @@
 use Rattle.sqlite.specs.State.{State}
 use Rattle.sqlite.specs.Held.{state}
-use Rattle.journal_store.specs.Opened.{MakesTables}
+use Rattle.journal_store.specs.OpeningConditions.{MakesTables}
 use Rattle.journal_store.proofs.Standing.{store_still}
 use Rattle.journal_store.proofs.Opening.{opened_fresh, opened_left}
 use Rattle.journal_store.proofs.store.Store.open.Goals as goal

@@ -2,7 +2,7 @@ use Rattle.std.proofs.Common.{rules, ◌≡◌, true, Err}
 use Rattle.sqlite.specs.Held.{state}
 use Rattle.store_refusals.proofs.Causes.{memory_tells}
 use Rattle.store_live.specs.Attempts.{attempt_of}
-use Rattle.store_live_laws.specs.Agrees.{has_number}
+use Rattle.store_live_laws.specs.LiveAttempts.{has_number}
 use Rattle.store_calls.specs.Calls.{Pushes}
 use Rattle.journal_store.proofs.Calls.{dead, push_dead, pushes, pushes_none, is_memory}
 use Rattle.journal_store.proofs.store.Store.push.Goals as goal

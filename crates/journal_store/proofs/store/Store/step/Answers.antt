@@ -1,8 +1,8 @@
 use Rattle.std.proofs.Common.{rules, ◌≡◌, true, refl, Err}
 use Rattle.store_live.specs.Attempts.{attempt_of}
-use Rattle.store_live_laws.specs.Agrees.{has_number}
+use Rattle.store_live_laws.specs.LiveAttempts.{has_number}
 use Rattle.store_calls.specs.Frames.{StepsAttempt}
-use Rattle.journal_store.specs.Stored.{stored}
+use Rattle.journal_store.specs.StoreView.{stored}
 use Rattle.journal_store.specs.Causes.{TriesFrame}
 use Rattle.journal_store.proofs.Calls.{dead, step_dead}
 use Rattle.journal_store.proofs.Causing.{asked_unwritten}

@@ -1,6 +1,6 @@
 use Rattle.std.proofs.Common.{rules, ◌≡◌, true, Err}
 use Rattle.store_live.specs.Attempts.{attempt_of}
-use Rattle.store_live_laws.specs.Agrees.{has_number}
+use Rattle.store_live_laws.specs.LiveAttempts.{has_number}
 use Rattle.store_calls.specs.Calls.{Stops}
 use Rattle.journal_store.proofs.Calls.{dead, stop_dead, stops}
 use Rattle.journal_store.proofs.Waiting.{stopped_waits}

@@ -1,7 +1,7 @@
 use Rattle.std.proofs.Common.{arith}
 use Rattle.sqlite.specs.State.{State}
 use Rattle.sqlite.specs.Held.{state}
-use Rattle.journal_store.specs.Stored.{stored}
+use Rattle.journal_store.specs.StoreView.{stored}
 use Rattle.journal_store.specs.Causes.{TriesFrame}
 use Rattle.journal_store.proofs.Enduring.{quiet_endures}
 use Rattle.journal_store.proofs.Lasting.{undone_kept}

@@ -1,5 +1,5 @@
 use Rattle.std.proofs.Common.{◌∙◌, refl, sym}
-use Rattle.protocol_wire.specs.Listed.{are_all}
+use Rattle.protocol_wire.specs.ComingFields.{are_all}
 use Rattle.protocol_wire.proofs.Listing.{coming_none, coming_nothing, coming_listed, coming_read, all_read}
 use Rattle.protocol_wire.proofs.listed.Fields.split_first.Goals as goal
 

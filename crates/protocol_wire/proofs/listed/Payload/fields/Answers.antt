@@ -1,6 +1,6 @@
 use Rattle.std.proofs.Common.{◌∙◌, ap}
 use Rattle.protocol_wire.specs.Fields.{fields, are_fields}
-use Rattle.protocol_wire.specs.Listed.{coming, are_all}
+use Rattle.protocol_wire.specs.ComingFields.{coming, are_all}
 use Rattle.protocol_wire.proofs.listed.Payload.fields.Goals as goal
 
 pub returns-clause-all : goal.returns-clause-all

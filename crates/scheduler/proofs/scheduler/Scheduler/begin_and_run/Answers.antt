@@ -1,7 +1,7 @@
 use Rattle.std.proofs.Common.{subst}
 use Rattle.journal_model.specs.Notification.{Text}
 use Rattle.schedule_model.specs.declared.event.Event.TheVariants as event
-use Rattle.scheduler.specs.Scheduled.{Performs}
+use Rattle.scheduler.specs.SchedulerCalls.{Performs}
 use Rattle.scheduler.proofs.Looping.{begun_on, none_begun, not_begun}
 use Rattle.scheduler.proofs.scheduler.Scheduler.begin_and_run.Goals as goal
 

@@ -1,7 +1,7 @@
 use Rattle.std.proofs.Common.{subst, sym, ◌∙◌}
 use Rattle.schedule_model.specs.Attempts.{RunOutcome}
 use Rattle.schedule_model.specs.declared.event.Event.TheVariants as event
-use Rattle.scheduler.specs.Scheduled.{Performs}
+use Rattle.scheduler.specs.SchedulerCalls.{Performs}
 use Rattle.scheduler.proofs.Looping.{none_turned, not_turned, turned_last}
 use Rattle.scheduler.proofs.scheduler.Scheduler.make_turn.Goals as goal
 

@@ -1,7 +1,7 @@
 use Rattle.std.proofs.Common.{refl}
 use Rattle.schedule_model.specs.declared.event.Event.TheVariants as event
 use Rattle.schedule_model.specs.Schedule.{MovesOne}
-use Rattle.scheduler.specs.Scheduled.{refusal_told}
+use Rattle.scheduler.specs.SchedulerCalls.{refusal_told}
 use Rattle.scheduler.proofs.Holding.{misses, finds, finds_cause, finds_lasting, finds_crashed}
 use Rattle.scheduler.proofs.Scheduling.{performs_unheld, spares_all, spares_taken_up}
 use Rattle.scheduler.proofs.scheduler.Scheduler.move_output.Goals as goal

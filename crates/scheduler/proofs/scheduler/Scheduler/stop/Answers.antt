@@ -4,7 +4,7 @@ use Rattle.schedule_model.specs.declared.event.Reply.TheVariants as reply
 use Rattle.schedule_model.specs.Schedule.{StopsOne}
 use Rattle.store_calls.specs.Calls.{Stops}
 use Rattle.journal_store.specs.Causes.{TellsWhy}
-use Rattle.scheduler.specs.Scheduled.{reply_to}
+use Rattle.scheduler.specs.SchedulerCalls.{reply_to}
 use Rattle.scheduler.proofs.Holding.{misses, finds}
 use Rattle.scheduler.proofs.Replying.{is_done, replies_done, told_refused, told_taken_up}
 use Rattle.scheduler.proofs.Scheduling.{performs_quiet, performs_unheld, same_quiet, spares_taken_up}

@@ -1,7 +1,7 @@
 use Rattle.std.proofs.Common.{refl, sym, ◌∙◌}
 use Rattle.schedule_model.specs.declared.event.Event.TheVariants as event
 use Rattle.schedule_model.specs.declared.event.Reply.TheVariants as reply
-use Rattle.schedule_model.specs.Held.{held_of}
+use Rattle.schedule_model.specs.HeldAttempts.{held_of}
 use Rattle.schedule_model.specs.Outcomes.{tells_mismatch}
 use Rattle.schedule_model.specs.Schedule.{TurnsOne}
 use Rattle.store_calls.proofs.Taking.{same_stays}

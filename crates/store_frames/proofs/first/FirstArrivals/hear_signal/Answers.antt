@@ -2,7 +2,7 @@ use Rattle.std.proofs.Common.{◌∙◌, ap, arith, subst}
 use Rattle.protocol_trees.specs.declared.tree.AwaitState.{AwaitState}
 use Rattle.protocol_wire.specs.Fields.{fields}
 use Rattle.store_frames.specs.First.{IsPut, first_state}
-use Rattle.store_frames.specs.Kept.{ReadsKept}
+use Rattle.store_frames.specs.KeptArrivals.{ReadsKept}
 use Rattle.store_frames.proofs.Hearing.{signal_found, signal_named, signal_state}
 use Rattle.store_frames.proofs.first.FirstArrivals.hear_signal.Goals as goal
 
