@@ -36,12 +36,12 @@ opened_frame frame old opened = ap (λ (b : Bool). if b then old else record old
 nothing_recorded : (old : Active) → IsActiveSettled old → old.is_replaying ≡ false → left_of old ≡ []
 nothing_recorded old settled f = none_left (left_of old) (sym settled.replaying ∙ f)
 
-module _ {M : Type 0} (ignoring : Bool) (request : Request) (written : List Request) (old : Active) (settled : IsActiveSettled old) where
+module _ (M : Type 0) (ignoring : Bool) (request : Request) (written : List Request) (old : Active) (settled : IsActiveSettled old) where
   -- an equal recorded command was matched
-  matched : (new : Active) (stands : M) → old.is_replaying ≡ true → new.is_replaying ≡ still_replays old.is_replaying new.commands.items
-      → Puts ignoring true request written old.commands.items old.output (Ok stands) new.commands.items new.output
+  matched : (new : Active) → old.is_replaying ≡ true → new.is_replaying ≡ still_replays old.is_replaying new.commands.items
+      → Puts {M = M} ignoring true request written old.commands.items old.output (Ok tt) new.commands.items new.output
       → new ≡ record old { is_replaying = new.is_replaying; commands = new.commands; output = new.output } → PutsOne ignoring request written old new
-  matched new stands t replays puts others = record {
+  matched new t replays puts others = record {
     put = record { left = left_of new; written = written };
     puts = puts.0;
     left = refl;
@@ -57,7 +57,7 @@ module _ {M : Type 0} (ignoring : Bool) (request : Request) (written : List Requ
   }
 
   -- what is not refused for its length fits a frame
-  not_long : (result : Result M (PutError M)) → (result ≡ Err (Encoding unsent.PayloadTooLong) → ⊥) → RefusesLong false request old.output result → RequestFits request
+  not_long : (result : Result (Unit {0}) (PutError M)) → (result ≡ Err (Encoding unsent.PayloadTooLong) → ⊥) → RefusesLong false request old.output result → RequestFits request
   not_long result other refuses =
       elim (cases_lt (length (request_payload request)) (2 ^ 32)) [
         | inl lt ↦ lt
@@ -65,10 +65,10 @@ module _ {M : Type 0} (ignoring : Bool) (request : Request) (written : List Requ
       ]
 
   -- behind the journal it was written
-  sent : (new : Active) (stands : M) → old.is_replaying ≡ false → RefusesLong false request old.output (Ok stands) → new.is_replaying ≡ still_replays old.is_replaying new.commands.items
-      → Puts ignoring false request written old.commands.items old.output (Ok stands) new.commands.items new.output
+  sent : (new : Active) → old.is_replaying ≡ false → RefusesLong {M = M} false request old.output (Ok tt) → new.is_replaying ≡ still_replays old.is_replaying new.commands.items
+      → Puts {M = M} ignoring false request written old.commands.items old.output (Ok tt) new.commands.items new.output
       → new ≡ record old { is_replaying = new.is_replaying; commands = new.commands; output = new.output } → PutsOne ignoring request written old new
-  sent new stands f refuses replays puts others =
+  sent new f refuses replays puts others =
       let none : left_of old ≡ [] = nothing_recorded old settled f in
       let left : left_of new ≡ [] = ap commands_of puts.1 ∙ none in
       let frame : new.output ≡ record old.output { bytes = old.output.bytes ++ request_frame request; has_commands = true } = puts.0 ∙ opened_frame (request_frame request) old.output settled.opened in
@@ -82,18 +82,18 @@ module _ {M : Type 0} (ignoring : Bool) (request : Request) (written : List Requ
         };
         more = request ∷ [];
         requests = refl;
-        fit = (not_long (Ok stands) (λ wrong. cc wrong) refuses, tt);
+        fit = (not_long (Ok tt) (λ wrong. cc wrong) refuses, tt);
         frames = frame ∙ ap (λ (bytes : List ℕ). record old.output { bytes = old.output.bytes ++ bytes; has_commands = true }) (sym (append-nil (request_frame request)));
         others = others;
       }
 
-  pub put_settles : (new : Active) (stands : M) → RefusesLong old.is_replaying request old.output (Ok stands) → new.is_replaying ≡ still_replays old.is_replaying new.commands.items
-      → Puts ignoring old.is_replaying request written old.commands.items old.output (Ok stands) new.commands.items new.output
+  pub put_settles : (new : Active) → RefusesLong {M = M} old.is_replaying request old.output (Ok tt) → new.is_replaying ≡ still_replays old.is_replaying new.commands.items
+      → Puts {M = M} ignoring old.is_replaying request written old.commands.items old.output (Ok tt) new.commands.items new.output
       → new ≡ record old { is_replaying = new.is_replaying; commands = new.commands; output = new.output } → PutsOne ignoring request written old new
-  put_settles new stands refuses replays puts others =
+  put_settles new refuses replays puts others =
       elim (cases_Bool old.is_replaying) [
-        | inl t ↦ matched new stands t replays (subst (λ (b : Bool). Puts ignoring b request written old.commands.items old.output (Ok stands) new.commands.items new.output) t puts) others
-        | inr f ↦ sent new stands f (subst (λ (b : Bool). RefusesLong b request old.output (Ok stands)) f refuses) replays (subst (λ (b : Bool). Puts ignoring b request written old.commands.items old.output (Ok stands) new.commands.items new.output) f puts) others
+        | inl t ↦ matched new t replays (subst (λ (b : Bool). Puts {M = M} ignoring b request written old.commands.items old.output (Ok tt) new.commands.items new.output) t puts) others
+        | inr f ↦ sent new f (subst (λ (b : Bool). RefusesLong {M = M} b request old.output (Ok tt)) f refuses) replays (subst (λ (b : Bool). Puts {M = M} ignoring b request written old.commands.items old.output (Ok tt) new.commands.items new.output) f puts) others
       ]
 
   -- ---- why it is not

@@ -22,13 +22,13 @@ use Rattle.vm_calls.specs.SpentReplay.{IsSpent, FindsNone, SpentAs, FailsSpent, 
 
 -- ---- the step of a command
 
-module _ {M : Type 0} (ignoring replaying : Bool) (queue : List RawMessage) (result : Result M (PutError M)) (is : replaying ≡ true) where
+module _ {M : Type 0} (ignoring replaying : Bool) (queue : List RawMessage) (result : Result (Unit {0}) (PutError M)) (is : replaying ≡ true) where
   pub finds_none : (t : RecordType) (of : ℕ → List Field → M) (erased : Bool → M → M) (index : ℤ) (made : M) → queue ≡ [] → PutsAs t of erased index ignoring replaying made queue result → FindsNone result
   finds_none t of erased index made none puts =
       by_result result (subst (λ (q : List RawMessage). PutsAs t of erased index ignoring true made q result) none (subst (λ (b : Bool). PutsAs t of erased index ignoring b made queue result) is puts))
     where
-      by_result : (r : Result M (PutError M)) → PutsAs t of erased index ignoring true made [] r → FindsNone r
-      by_result (Ok stands) h = h
+      by_result : (r : Result (Unit {0}) (PutError M)) → PutsAs t of erased index ignoring true made [] r → FindsNone r
+      by_result (Ok done) h = h.1
       by_result (Err (Replay (unmatched.Unavailable error))) h = tt
       by_result (Err (Replay (unmatched.Decoding error))) h = h
       by_result (Err (Replay (unmatched.Mismatch error))) h = h
@@ -64,20 +64,20 @@ changes_rest ty name old asks state = let rest = asks_rest ty name old asks in r
 -- ---- the call
 
 pub none_for : {M : Type 0} (taken : ℕ) (old mid new : Active) → KeepsRest old mid → HasCompletions taken old → IsSpent old → (error : PutError M)
-    → (IsSpent mid → FindsNone {M = M} {T = M} (Err error) × (new.output ≡ mid.output)) → SpentAs taken old (Put error) × (new.output ≡ old.output)
+    → (IsSpent mid → FindsNone {M = M} {T = Unit {0}} (Err error) × (new.output ≡ mid.output)) → SpentAs taken old (Put error) × (new.output ≡ old.output)
 none_for {M} taken old mid new keeps has spent error finds =
     let found = finds (spent_behind old mid keeps spent) in
     (by_error error found.0, found.1 ∙ keeps.output)
   where
-    by_error : (e : PutError M) → FindsNone {M = M} {T = M} (Err e) → SpentAs taken old (Put e)
+    by_error : (e : PutError M) → FindsNone {M = M} {T = Unit {0}} (Err e) → SpentAs taken old (Put e)
     by_error (Replay (unmatched.Unavailable error)) h = has
     by_error (Replay (unmatched.Decoding error)) h = h
     by_error (Replay (unmatched.Mismatch error)) h = h
     by_error (Replay unmatched.OutOfMemory) h = h
     by_error (Encoding error) h = h
 
-pub none_stands : {M : Type 0} (old mid : Active) → KeepsRest old mid → IsSpent old → (stands : M) (Any : Type 0) → (IsSpent mid → FindsNone {M = M} {T = M} (Ok stands) × Any) → ⊥
-none_stands old mid keeps spent stands Any finds = (finds (spent_behind old mid keeps spent)).0
+pub none_stands : (old mid : Active) → KeepsRest old mid → IsSpent old → (Any : Type 0) → (IsSpent mid → ⊥ × Any) → ⊥
+none_stands old mid keeps spent Any finds = (finds (spent_behind old mid keeps spent)).0
 
 -- a call for which no number was taken fails so
 pub number_spent : {M Taken : Type 0} (taken : ℕ) (old new : Active) (error : NumberError) (result : Result Taken (CallError M)) → (error ≡ numbers.IdsExhausted → LacksCompletions taken old)

@@ -127,6 +127,6 @@ PutFails ignoring request written old (Replay unmatched.OutOfMemory) = Unit {0}
 PutFails ignoring request written old (Encoding unsent.PayloadTooLong) = (left_of old ≡ []) × (2 ^ 32 ≤ length (request_payload request))
 PutFails ignoring request written old (Encoding unsent.OutOfMemory) = (left_of old ≡ []) × RequestFits request
 
-abbrev pub PutsIn : {M : Type 0} → (ignoring : Bool) → Request → (written : List Request) → (old : Active) → Result M (PutError M) → (new : Active) → Type 0
-PutsIn ignoring request written old (Ok stands) new = PutsOne ignoring request written old new
+abbrev pub PutsIn : {M : Type 0} → (ignoring : Bool) → Request → (written : List Request) → (old : Active) → Result (Unit {0}) (PutError M) → (new : Active) → Type 0
+PutsIn ignoring request written old (Ok done) new = PutsOne ignoring request written old new
 PutsIn ignoring request written old (Err error) new = PutFails ignoring request written old error × (new.output ≡ old.output)

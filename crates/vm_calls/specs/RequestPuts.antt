@@ -19,13 +19,13 @@ use Rattle.vm_calls.specs.declared.put_error.PutError.TheVariants.{Replay, Encod
 
 -- ---- what is answered
 
--- While the machine replays, the next recorded command is taken, and stands for the call's; behind that the call's own stands.
+-- While the machine replays, the next recorded command is taken, and stands for the call's.
 abbrev pub PutsAs : {M : Type 0} → RecordType → (ℕ → List Field → M) → (erased : Bool → M → M) → (index : ℤ) → (ignoring replaying : Bool) → (made : M)
-    → List RawMessage → Result M (PutError M) → Type 0
-PutsAs t of erased index ignoring true made queue (Ok recorded) = TakesAs t of erased index ignoring made (next_of queue) (Ok recorded)
+    → List RawMessage → Result (Unit {0}) (PutError M) → Type 0
+PutsAs {M} t of erased index ignoring true made queue (Ok done) = (recorded : M) × TakesAs t of erased index ignoring made (next_of queue) (Ok recorded)
 PutsAs t of erased index ignoring true made queue (Err (Replay error)) = TakesAs t of erased index ignoring made (next_of queue) (Err error)
 PutsAs t of erased index ignoring true made queue (Err (Encoding error)) = ⊥
-PutsAs t of erased index ignoring false made queue (Ok stands) = stands ≡ made
+PutsAs t of erased index ignoring false made queue (Ok done) = Unit {0}
 PutsAs t of erased index ignoring false made queue (Err (Replay error)) = ⊥
 PutsAs t of erased index ignoring false made queue (Err (Encoding error)) = Unit {0}
 
@@ -37,8 +37,8 @@ IsRequestTooLong request output = (output.is_closed ≡ false) × (2 ^ 32 ≤ le
 
 -- While the machine replays: an equal recorded command is matched and leaves, and nothing is written. An unequal one, and one
 -- that cannot be read, is the machine's mismatch. Without one the attempt's journal is at its end.
-abbrev pub Replays : {M : Type 0} → (ignoring : Bool) → Request → (written : List Request) → (old : List RawMessage) → Result M (PutError M) → (new : List RawMessage) → Type 0
-Replays ignoring request written old (Ok recorded) new = put_one (header_equal ignoring) request (commands_of old) written ≡ Some (record { left = commands_of new; written = written })
+abbrev pub Replays : {M : Type 0} → (ignoring : Bool) → Request → (written : List Request) → (old : List RawMessage) → Result (Unit {0}) (PutError M) → (new : List RawMessage) → Type 0
+Replays ignoring request written old (Ok done) new = put_one (header_equal ignoring) request (commands_of old) written ≡ Some (record { left = commands_of new; written = written })
 Replays ignoring request written old (Err (Replay (unmatched.Unavailable error))) new = commands_of old ≡ []
 Replays ignoring request written old (Err (Replay (unmatched.Decoding error))) new = (put_one (header_equal ignoring) request (commands_of old) written ≡ None) × IsNextUnread error (commands_of old)
 Replays ignoring request written old (Err (Replay (unmatched.Mismatch error))) new = put_one (header_equal ignoring) request (commands_of old) written ≡ None
@@ -46,20 +46,20 @@ Replays ignoring request written old (Err (Replay unmatched.OutOfMemory)) new = 
 Replays ignoring request written old (Err (Encoding error)) new = ⊥
 
 -- Behind the journal: exactly the request's frame is written, or nothing.
-abbrev pub WritesRequest : {M : Type 0} → Request → Written → Result M (PutError M) → Written → Type 0
-WritesRequest request old (Ok stands) new = new ≡ with_command (request_frame request) old
+abbrev pub WritesRequest : {M : Type 0} → Request → Written → Result (Unit {0}) (PutError M) → Written → Type 0
+WritesRequest request old (Ok done) new = new ≡ with_command (request_frame request) old
 WritesRequest request old (Err (Replay error)) new = ⊥
 WritesRequest request old (Err (Encoding unsent.PayloadTooLong)) new = (new ≡ old) × IsRequestTooLong request old
 WritesRequest request old (Err (Encoding unsent.OutOfMemory)) new = new ≡ old
 
 -- The one step of every command: this request is put as the machine puts it.
 abbrev pub Puts : {M : Type 0} → (ignoring replaying : Bool) → Request → (written : List Request) → (queue : List RawMessage) → (output : Written)
-    → Result M (PutError M) → (queue' : List RawMessage) → (output' : Written) → Type 0
+    → Result (Unit {0}) (PutError M) → (queue' : List RawMessage) → (output' : Written) → Type 0
 Puts ignoring true request written queue output result queue' output' = Replays ignoring request written queue result queue' × (output' ≡ output)
 Puts ignoring false request written queue output result queue' output' = WritesRequest request output result output' × (queue' ≡ queue)
 
 -- that a payload is too long is answered exactly where it is
-abbrev pub RefusesLong : {M : Type 0} → (replaying : Bool) → Request → Written → Result M (PutError M) → Type 0
+abbrev pub RefusesLong : {M : Type 0} → (replaying : Bool) → Request → Written → Result (Unit {0}) (PutError M) → Type 0
 RefusesLong true request old result = Unit {0}
 RefusesLong false request old result = IsRequestTooLong request old → result ≡ Err (Encoding unsent.PayloadTooLong)
 

@@ -135,7 +135,7 @@ impl Active {
         alloc: Global,
         command: M,
         ignore_payload_equality: bool,
-    ) -> Result<M, PutError<M>>
+    ) -> Result<(), PutError<M>>
         ensures put { (request : Request) (written : List Request) → M.request_of command ≡ Some request → IsActiveSettled self.old
             → PutsIn ignore_payload_equality request written self.old result self.new }
         ensures spent { (request : Request) → M.request_of command ≡ Some request → IsSpent self.old → FindsNone result × (self.new.output ≡ self.old.output) }
@@ -153,9 +153,9 @@ impl Active {
             command,
             ignore_payload_equality,
         ) {
-            Ok(stands) => {
+            Ok(()) => {
                 self.is_replaying = still_replays(self.is_replaying, &self.commands);
-                Ok(stands)
+                Ok(())
             }
             Err(error) => Err(error),
         }
@@ -178,10 +178,7 @@ impl Active {
         ensures journal { self.new.journal ≡ self.old.journal }
     {
         match self.put(alloc, command, ignore_payload_equality) {
-            Ok(stands) => {
-                drop(stands);
-                Ok(handle)
-            }
+            Ok(()) => Ok(handle),
             Err(error) => Err(CallError::Put(error)),
         }
     }

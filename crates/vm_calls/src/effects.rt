@@ -31,10 +31,7 @@ impl Active {
         ensures journal { self.new.journal ≡ self.old.journal }
     {
         match self.put(alloc, command, ignore_payload_equality) {
-            Ok(stands) => {
-                drop(stands);
-                Ok(())
-            }
+            Ok(()) => Ok(()),
             Err(error) => Err(CallError::Put(error)),
         }
     }

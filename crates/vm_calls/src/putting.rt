@@ -28,9 +28,8 @@ fn write_command<M: Command>(
 
 /// Matches a call's command with the next recorded one, or writes it.
 ///
-/// While the machine replays, the next recorded command leaves the queue in every case, and nothing is written: the answer is the
-/// recorded command, which stands for the call's. Behind the journal the frame is written, whole or not at all, and the answer is
-/// the call's own command.
+/// While the machine replays, the next recorded command leaves the queue in every case, and nothing is written: the recorded
+/// command stands for the call's. Behind the journal the frame is written, whole or not at all.
 pub fn put<M: Command>(
     alloc: Global,
     is_replaying: bool,
@@ -39,7 +38,7 @@ pub fn put<M: Command>(
     command_index: i64,
     command: M,
     ignore_payload_equality: bool,
-) -> Result<M, PutError<M>>
+) -> Result<(), PutError<M>>
     ensures answer { PutsAs M.record_type M.of M.erased command_index ignore_payload_equality is_replaying command commands.old.items result }
     ensures put { (request : Request) (written : List Request) → M.request_of command ≡ Some request
         → Puts ignore_payload_equality is_replaying request written commands.old.items output.old result commands.new.items output.new }
@@ -53,15 +52,17 @@ pub fn put<M: Command>(
             command,
             ignore_payload_equality,
         ) {
-            Ok(recorded) => Ok(recorded),
+            Ok(recorded) => {
+                drop(recorded);
+                Ok(())
+            }
             Err(error) => Err(PutError::Replay(error)),
         };
     }
-    match write_command(alloc, output, &command) {
-        Ok(()) => Ok(command),
-        Err(error) => {
-            drop(command);
-            Err(PutError::Encoding(error))
-        }
+    let written = write_command(alloc, output, &command);
+    drop(command);
+    match written {
+        Ok(()) => Ok(()),
+        Err(error) => Err(PutError::Encoding(error)),
     }
 }

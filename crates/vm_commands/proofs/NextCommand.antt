@@ -39,7 +39,7 @@ compares_next {M} t of erased index ignoring recorded made m (Err (Mismatch erro
     (sym compared.0) (read, (refl, compared.1))
 compares_next t of erased index ignoring recorded made m (Err (Unavailable error)) read compared = absurd compared
 compares_next t of erased index ignoring recorded made m (Err (Decoding error)) read compared = absurd compared
-compares_next t of erased index ignoring recorded made m (Err OutOfMemory) read compared = absurd compared
+compares_next t of erased index ignoring recorded made m (Err OutOfMemory) read compared = tt
 
 -- a message that cannot be read is told
 pub tells_unread : {M : Type 0} (t : RecordType) (of : ℕ → List Field → M) (erased : Bool → M → M) (index : ℤ) (ignoring : Bool) (made : M) (m : RawMessage) (error : DecodingError)

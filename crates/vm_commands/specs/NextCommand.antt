@@ -37,10 +37,11 @@ unread_as error = Decoding error
 abbrev pub both_told : {M : Type 0} → (index : ℤ) → (recorded made : M) → CommandMismatchError M
 both_told index recorded made = record { command_index = index; actual = recorded; expected = made }
 
--- this recorded command is the one that a call makes, or both are told
+-- this recorded command is the one that a call makes; or both are told, unless memory lacks for that
 abbrev pub Compares : {M : Type 0} → (erased : Bool → M → M) → (index : ℤ) → (ignoring : Bool) → (recorded made : M) → Result M (ReplayError M) → Type 0
 Compares erased index ignoring recorded made (Ok taken) = (taken ≡ recorded) × AreHeaderEqual erased ignoring recorded made
 Compares erased index ignoring recorded made (Err (Mismatch error)) = (error ≡ both_told index recorded made) × (AreHeaderEqual erased ignoring recorded made → ⊥)
+Compares erased index ignoring recorded made (Err OutOfMemory) = AreHeaderEqual erased ignoring recorded made → ⊥
 Compares erased index ignoring recorded made (Err _) = ⊥
 
 -- The next recorded message is taken as the command that a call makes. It is of that command's type, can be read, and has the

@@ -12,6 +12,7 @@ pub mod laws;
 mod pop;
 mod replay_error;
 mod state_read;
+mod told_mismatch;
 
 pub use command::Command;
 pub use eager_read::EagerRead;
@@ -20,3 +21,4 @@ pub use protocol_differences::CommandMessageHeaderDiff;
 pub use protocol_messages::{to_awakeable_result, to_promise_completion, to_signal_result};
 pub use replay_error::ReplayError;
 pub use state_read::{StateRead, StateReadError, pop_state_read};
+pub use told_mismatch::ToldMismatch;

@@ -3,8 +3,7 @@ ghost use Rattle.std.specs.Prelude.{◌≡◌, List, Some, drop};
 ghost use Rattle.journal_model.specs.Request.{Request};
 ghost use Rattle.vm_commands.specs.NextCommand.{next_of, unread_as, Compares, TakesAs, Matches};
 
-use crate::{Command, ReplayError};
-use protocol_differences::CommandMismatchError;
+use crate::{Command, ReplayError, ToldMismatch};
 use protocol_errors::UnavailableEntryError;
 use protocol_messages::RawMessageExt;
 use protocol_stream::{DecodingError, RawMessage};
@@ -31,6 +30,7 @@ pub(crate) fn unread<M>(error: DecodingError) -> ReplayError<M>
 
 // The recorded command, where it has the header of the call's.
 pub(crate) fn compare<M: Command>(
+    alloc: Global,
     command_index: i64,
     recorded: M,
     expected: M,
@@ -42,7 +42,10 @@ pub(crate) fn compare<M: Command>(
         drop(expected);
         return Ok(recorded);
     }
-    Err(ReplayError::Mismatch(CommandMismatchError::new(command_index, recorded, expected)))
+    match ToldMismatch::new(alloc, command_index, recorded, expected) {
+        Ok(told) => Err(ReplayError::Mismatch(told)),
+        Err(_) => Err(ReplayError::OutOfMemory),
+    }
 }
 
 // The message as the command that a call makes.
@@ -63,7 +66,13 @@ pub(crate) fn take_next<M: Command>(
     let read = message.decode_to::<M>(alloc, command_index);
     drop(message);
     match read {
-        Ok(recorded) => compare(command_index, recorded, expected, ignore_payload_equality),
+        Ok(recorded) => compare(
+            alloc,
+            command_index,
+            recorded,
+            expected,
+            ignore_payload_equality,
+        ),
         Err(error) => {
             drop(expected);
             Err(unread(error))

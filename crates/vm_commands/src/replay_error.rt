@@ -2,7 +2,8 @@
 ghost use Rattle.std.specs.Prelude.{Some};
 ghost use Rattle.vm_commands.specs.NextCommand.{replay_code, replay_text};
 
-use protocol_differences::{CommandMessageHeaderDiff, CommandMismatchError};
+use crate::ToldMismatch;
+use protocol_differences::CommandMessageHeaderDiff;
 use protocol_errors::{InvocationErrorCode, UnavailableEntryError, WithInvocationErrorCode, codes};
 use protocol_stream::DecodingError;
 use std::fmt;
@@ -15,7 +16,7 @@ pub enum ReplayError<M> {
     /// The recorded message is of another type, or its payload cannot be read. Want of memory is none of these.
     Decoding(DecodingError),
     /// The recorded command is of the same type, and has another header.
-    Mismatch(CommandMismatchError<M>),
+    Mismatch(ToldMismatch<M>),
     /// Memory was refused.
     OutOfMemory,
 }

@@ -38,6 +38,7 @@ pub enum StateReadError<L, E> {
 
 // The read whose answer was known, where it asks what the call asks. What was known is taken out first, so that it need not be copied.
 fn take_eager<E: EagerRead>(
+    alloc: Global,
     command_index: i64,
     read: E,
     expected: E::Lazy,
@@ -48,6 +49,7 @@ fn take_eager<E: EagerRead>(
     let mut recorded = read;
     let known = recorded.take_known();
     match compare(
+        alloc,
         command_index,
         recorded,
         E::asking(expected),
@@ -131,7 +133,13 @@ fn take_read<E: EagerRead>(
     match message.decode_to::<E>(alloc, command_index) {
         Ok(recorded) => {
             drop(message);
-            take_eager(command_index, recorded, expected, ignore_payload_equality)
+            take_eager(
+                alloc,
+                command_index,
+                recorded,
+                expected,
+                ignore_payload_equality,
+            )
         }
         Err(error) => {
             if is_of_another_type(&error) {

@@ -28,7 +28,7 @@ module _ (ignoring : Bool) (made : Request) (written : List Request) (old : Acti
       → MatchesRead {K = K} {L = L} {E = E} ignoring made written old.commands.items (Ok read) new.commands.items → new.output ≡ old.output
       → new ≡ record old { is_replaying = new.is_replaying; commands = new.commands; output = new.output } → PutsOne ignoring (as_recorded (left_of old) made) written old new
   match_settles L E read new replays matches output others =
-      put_settles {M = Unit {0}} ignoring (as_recorded (left_of old) made) written old settled new tt
+      put_settles (Unit {0}) ignoring (as_recorded (left_of old) made) written old settled new
       (subst (λ (b : Bool). RefusesLong {M = Unit {0}} b (as_recorded (left_of old) made) old.output (Ok tt)) (sym t) tt)
       (replays ∙ ap (λ (b : Bool). still_replays b new.commands.items) (sym t))
       (subst (λ (b : Bool). Puts {M = Unit {0}} ignoring b (as_recorded (left_of old) made) written old.commands.items old.output (Ok tt) new.commands.items new.output) (sym t) (matches, output))

@@ -43,10 +43,7 @@ pub(crate) fn put_read<M: Command>(
     ensures journal { active.new.journal ≡ active.old.journal }
 {
     match active.put(alloc, command, ignoring) {
-        Ok(stands) => {
-            drop(stands);
-            Ok(handle)
-        }
+        Ok(()) => Ok(handle),
         Err(error) => Err(error),
     }
 }

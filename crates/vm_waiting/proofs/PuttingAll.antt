@@ -151,7 +151,7 @@ settled_asked old asked is settled = subst (λ (a : Active). IsActiveSettled a) 
 
 -- ---- where nothing recorded is left
 
-pub none_of_one : (requests : List Request) (old new : Active) (error : PutError SendSignalCommandMessage) → FindsNone {M = SendSignalCommandMessage} {T = SendSignalCommandMessage} (Err error) → new.output ≡ old.output
+pub none_of_one : (requests : List Request) (old new : Active) (error : PutError SendSignalCommandMessage) → FindsNone {M = SendSignalCommandMessage} {T = Unit {0}} (Err error) → new.output ≡ old.output
     → PutsNone requests old (Err (uncancelled.Put error)) new
 none_of_one requests old new (Replay (unmatched.Unavailable refused)) finds is = is
 none_of_one requests old new (Replay (unmatched.Decoding refused)) finds is = absurd finds

@@ -155,10 +155,7 @@ pub(crate) fn put_call<M: Command, T: Copy>(
 {
     match active.put(alloc, command, ignore) {
         Err(error) => Err(CallError::Put(error)),
-        Ok(stands) => {
-            drop(stands);
-            Ok(handles)
-        }
+        Ok(()) => Ok(handles),
     }
 }
 

@@ -35,10 +35,7 @@ fn put_cancel(
     };
     let command = cancel_command(id, entry_name);
     match active.put(alloc, command, checks_off) {
-        Ok(stands) => {
-            drop(stands);
-            Ok(())
-        }
+        Ok(()) => Ok(()),
         Err(error) => Err(CancelError::Put(error)),
     }
 }

@@ -14,7 +14,7 @@ returns-in-Err-clause-makes g c =
     put_fails_as checks_off c.args.ignore given m call request asks ignores old c.args.active.now ready c.in-Err.error c.put.new.self (c.in-Err.ensures.put request m.written h)
 
 pub returns-in-Ok-clause-spent : goal.returns-in-Ok-clause-spent
-returns-in-Ok-clause-spent g c = λ request taken old h keeps has spent. none_stands old c.args.active.now keeps spent c.in-Ok.stands _ (c.in-Ok.ensures.spent request h)
+returns-in-Ok-clause-spent g c = λ request taken old h keeps has spent. none_stands old c.args.active.now keeps spent _ (c.in-Ok.ensures.spent request h)
 
 pub returns-in-Err-clause-spent : goal.returns-in-Err-clause-spent
 returns-in-Err-clause-spent g c = λ request taken old h keeps has spent. none_for taken old c.args.active.now c.put.new.self keeps has spent c.in-Err.error (c.in-Err.ensures.spent request h)

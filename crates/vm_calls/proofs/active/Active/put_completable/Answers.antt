@@ -14,7 +14,7 @@ returns-in-Err-clause-makes g c =
     fails given m call request one c.args.handle old c.args.self.now begun checks_off c.args.ignore_payload_equality ignores c.put.new.self c.in-Err.error (c.in-Err.ensures.put request m.written h)
 
 pub returns-in-Ok-clause-spent : goal.returns-in-Ok-clause-spent
-returns-in-Ok-clause-spent g c = λ request taken old h keeps has spent. none_stands old c.args.self.now keeps spent c.in-Ok.stands _ (c.in-Ok.ensures.spent request h)
+returns-in-Ok-clause-spent g c = λ request taken old h keeps has spent. none_stands old c.args.self.now keeps spent _ (c.in-Ok.ensures.spent request h)
 
 pub returns-in-Err-clause-spent : goal.returns-in-Err-clause-spent
 returns-in-Err-clause-spent g c = λ request taken old h keeps has spent. none_for taken old c.args.self.now c.put.new.self keeps has spent c.in-Err.error (c.in-Err.ensures.spent request h)
