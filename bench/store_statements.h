@@ -37,7 +37,7 @@ static const char *const TEXTS[STATEMENTS] = {
     "DELETE FROM state WHERE object = ?1 AND key = ?2",
     "INSERT INTO state VALUES (?1, ?2, ?3)",
     "SELECT * FROM entry WHERE invocation = ?1 AND arrival > ?2 ORDER BY arrival",
-    "SELECT * FROM invocation WHERE awake = ?1 ORDER BY id",
+    "SELECT id FROM invocation WHERE awake = ?1 ORDER BY id",
 };
 
 static const char *const SCHEMA[] = {

@@ -2,6 +2,7 @@
 use Rattle.std.proofs.Common.{◌≡◌, sym, ap, subst, ◌∙◌, List, map, filter, slice_get, Option, option_map, IsTrue}
 use Rattle.std.proofs.lemmas.List.Sorted.{IsPermutation-sym}
 use Rattle.sqlite_keyed.specs.Lists.{sort_by}
+use Rattle.sqlite_keyed.proofs.ListLemmas.{map-map}
 use Rattle.sqlite_keyed.proofs.SortLemmas.{IsPermutation-sort_by}
 use Rattle.sql_tables.specs.Statements.{IsFirst}
 use Rattle.sqlite.specs.State.{State}
@@ -11,10 +12,12 @@ use Rattle.journal_model.specs.Attempt.{due, is_none, live_attempt}
 use Rattle.due_laws.specs.NextMoment.{IsNextMoment}
 use Rattle.sql_tables.specs.declared.read.ReadError.{ReadError}
 use Rattle.sql_tables.specs.declared.read.ReadError.TheVariants.{Foreign}
-use Rattle.store_tables.specs.Records.{Records, Holds}
+use Rattle.store_tables.specs.Records.{Records, Holds, id_row}
 use Rattle.store_tables.specs.Orders.{IsFirstSleep, IsNextInvocation, IsUnarranged, id_cmp}
-use Rattle.store_tables.specs.Questions.{AreFound, is_awake, is_named_after}
+use Rattle.store_tables.specs.Questions.{AreAwake, DoAscend, is_awake, is_named_after}
+use Rattle.store_tables.specs.declared.row.IdRow.{IdRow}
 use Rattle.store_tables.specs.declared.row.InvocationRow.{InvocationRow}
+use Rattle.store_tables.proofs.AwakeIds.{made_of, rows_ascend}
 use Rattle.store_tables.specs.declared.row.SleepRow.{SleepRow}
 use Rattle.store_live_laws.proofs.Awake.{awake_are_arranged, begun_rise, due_from_records, id_cmp_total}
 use Rattle.store_live_laws.proofs.NextSleep.{next_from_records}
@@ -26,11 +29,13 @@ use Rattle.store_reads.specs.Page.{rows_behind}
 use Rattle.store_reads.proofs.PageRows.{first_is_head}
 
 module _ (events : List Event) (s : State) where
-  pub awake_are : (rows : List InvocationRow) (ids : List Text) → Keeps events s → AreFound (λ r. r.invocations) is_awake (λ i. i.id) s.now.trees rows
-      → ids ≡ map (λ (row : InvocationRow). row.id) rows → due events ≡ filter (λ id. is_none (live_attempt events id)) ids
+  pub awake_are : (rows : List IdRow) (ids : List Text) → Keeps events s → AreAwake s.now.trees rows
+      → ids ≡ map (λ (row : IdRow). row.id) rows → due events ≡ filter (λ id. is_none (live_attempt events id)) ids
   awake_are rows ids k found are =
-      due_from_records events k.records rows k.accepted k.kept found.0 (found.1 k.records k.held)
-      ∙ ap (filter (λ id. is_none (live_attempt events id))) (sym are)
+      let (whole, shown, same) = made_of id_row (filter is_awake k.records.invocations) rows (found.1 k.records k.held) in
+      let rises = rows_ascend whole (subst (DoAscend (λ (row : IdRow). row.id)) (sym shown) found.0) in
+      due_from_records events k.records whole k.accepted k.kept rises same
+      ∙ ap (filter (λ id. is_none (live_attempt events id))) (sym (are ∙ ap (map (λ (row : IdRow). row.id)) (sym shown) ∙ map-map (λ (row : IdRow). row.id) id_row whole))
 
   pub awake_known : (e : ReadError) → (IsTrue s.is_open → Keeps events s) → (e ≡ Foreign → IsTrue s.is_open)
       → (e ≡ Foreign → IsUnarranged (λ r. r.invocations) is_awake (λ i. i.id) s.now.trees) → IsTrue (is_circumstance (reading_refusal e))

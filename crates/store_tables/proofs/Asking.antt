@@ -1,5 +1,5 @@
 -- What the questions ask for.
-use Rattle.std.proofs.Common.{◌≡◌, ◌&&◌, ℕ, suc, Bool, true, false, List, [], ◌∷◌, map, Option, None, Some, refl, ap, subst, ◌∙◌, bytes_eq}
+use Rattle.std.proofs.Common.{◌≡◌, ◌&&◌, ℕ, suc, Bool, true, false, List, [], ◌∷◌, map, take, Option, None, Some, refl, ap, subst, ◌∙◌, bytes_eq}
 use Rattle.std.specs.List.{AllByRecursion}
 use Rattle.std.specs.Cmp.Lexicographic.{slice_cmp}
 use Rattle.std.specs.declared.cmp.Ordering.{Ordering}
@@ -23,17 +23,17 @@ use Rattle.sqlite_tied.specs.Compute.{everything}
 use Rattle.sqlite.proofs.Callers.{IsPlain, command_of}
 use Rattle.sqlite_schema.specs.declared.schema.Column.{Column}
 use Rattle.sql_tables.specs.QueryAnswers.{IsAnswer}
-use Rattle.sql_tables.specs.Cells.{flag_cell, long_cell, short_cell}
+use Rattle.sql_tables.specs.Cells.{long_cell, short_cell}
 use Rattle.sql_tables.specs.Content.{HasRows}
 use Rattle.sql_tables.specs.Statements.{by_columns, first_row_query, rows_of, program_of}
-use Rattle.sql_tables.proofs.Cells.{above_null, above_short, are_same, at_least_int, at_most_int, is_above as is_above_cell, same_blob, same_flag, same_text, same_short, same_null-Int, same_null-Text}
+use Rattle.sql_tables.proofs.Cells.{above_null, above_short, are_same, at_least_int, at_most_int, is_above as is_above_cell, same_blob, same_text, same_short, same_null-Int, same_null-Text}
 use Rattle.sql_tables.proofs.Ordered.{record_first, records_ordered}
 use Rattle.sql_tables.proofs.RowReads.{listed, records_read, rows_shown}
 use Rattle.store_tables.specs.Asks.{AsksRows, AsksFirst, AsksInOrder}
 use Rattle.store_tables.specs.Tables.{store_schema, entry_columns, invocation_columns, meta_columns, sleep_columns, state_columns}
-use Rattle.store_tables.specs.Statements.{arrival_at_text, arrivals_after_text, awake_invocations_text, entries_text, entry_at_text, entry_by_answered_text, entry_by_completion_text, entry_by_second_completion_text, first_invocation_text, first_sleep_text, invocation_after_text, invocation_by_id_text, marks_text, open_invocation_text, sleeps_until_text, state_at_text, states_text}
+use Rattle.store_tables.specs.Statements.{arrival_at_text, arrivals_after_text, awake_ids_text, entries_text, entry_at_text, entry_by_answered_text, entry_by_completion_text, entry_by_second_completion_text, first_invocation_text, first_sleep_text, invocation_after_text, invocation_by_id_text, marks_text, open_invocation_text, sleeps_until_text, state_at_text, states_text}
 use Rattle.store_tables.specs.Records.{EntryRow, FitsEntry, FitsInvocation, FitsMark, FitsSleep, FitsState, Holds, IsMarked, Records, cells_of_mark, ends_by, ends_from, entry_cells, invocation_cells, mark_cells, sleep_cells, state_cells, the_mark}
-use Rattle.store_tables.specs.Questions.{answers, asks_for, asks_second_for, has_id, is_above, is_arrival_after, is_arrival_at, is_at_key, is_at_place, is_awake, is_before, is_named_after, is_number, is_of_object, is_open_of, is_text}
+use Rattle.store_tables.specs.Questions.{answers, asks_for, asks_second_for, has_id, is_above, is_arrival_after, is_arrival_at, is_at_key, is_at_place, is_before, is_named_after, is_number, is_of_object, is_open_of, is_text}
 use Rattle.store_tables.proofs.Back.{entry_back, entry_back_is, invocation_back, invocation_back_is, mark_back, mark_back_is, mark_fits, sleep_back, sleep_back_is, state_back, state_back_is}
 use Rattle.store_tables.proofs.Matching.{Test, behind, cells_match, column_there, columns_from, columns_shown, equal, from, match_cells, one_test, tests_of, two_tests, until}
 
@@ -108,12 +108,10 @@ same_optional_text (Some s) t = same_text s t
 pub asks_open : (s : State) (object : List ℕ) → AsksRows invocation_cells FitsInvocation (λ r. r.invocations) (is_open_of object) open_invocation_text (Text object ∷ []) s
 asks_open s object = asks_of 1 22 invocation_cells FitsInvocation (λ r. r.invocations) kept_invocations invocation_columns _ (equal 5 0 ∷ []) _ selects_open _ s _ (λ i. one_test _ _ (same_optional_text i.progress.open_object object))
 
-pub selects_awake : IsSelect awake_invocations_text 1 invocation_columns 22 (equal 21 0 ∷ []) (by_columns (1 ∷ []))
+-- the first column alone
+pub selects_awake : IsSelect awake_ids_text 1 (take 1 invocation_columns) 1 (equal 21 0 ∷ []) (by_columns (1 ∷ []))
 unfolding understood everything
 selects_awake = record { command = refl; plain = (refl, refl); unlisted = refl }
-
-pub asks_awake : (s : State) → AsksInOrder invocation_cells FitsInvocation (λ r. r.invocations) is_awake (0 ∷ []) awake_invocations_text (flag_cell true ∷ []) s
-asks_awake s = asks_in_order_of 1 22 invocation_cells FitsInvocation (λ r. r.invocations) kept_invocations invocation_columns _ (equal 21 0 ∷ []) (0 ∷ []) selects_awake _ s _ (λ i. one_test _ _ (same_flag i.progress.is_awake))
 
 pub selects_first_invocation : IsFirstSelect first_invocation_text 1 invocation_columns 22 [] (by_columns (1 ∷ []))
 unfolding understood everything

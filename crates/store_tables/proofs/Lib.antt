@@ -1,5 +1,6 @@
 pub mod Asked
 pub mod Asking
+pub mod AwakeIds
 pub mod Back
 pub mod Caused
 pub mod Cells

@@ -23,7 +23,7 @@ use Rattle.sql_tables.specs.Cells.{short_cell}
 use Rattle.sql_tables.specs.Statements.{IsFirst}
 use Rattle.sqlite.specs.Values.{or_null}
 use Rattle.sqlite_value.specs.Order.{value_cmp}
-use Rattle.store_tables.specs.Records.{EntryRow, InvocationRow, SleepRow, StateRow, entry_cells, invocation_cells, sleep_cells, state_cells}
+use Rattle.store_tables.specs.Records.{EntryRow, IdRow, InvocationRow, SleepRow, StateRow, entry_cells, id_cells, invocation_cells, sleep_cells, state_cells}
 use Rattle.store_tables.specs.Questions.{AreCounted, AreInPlace, DoAscend, is_before}
 
 -- ---- places
@@ -188,18 +188,18 @@ no_more Less = refl
 no_more Equal = refl
 no_more Greater = refl
 
-abbrev pub IsNamedBefore : InvocationRow → InvocationRow → Type 0
-IsNamedBefore a b = by_cells invocation_cells (0 ∷ []) a b ≡ Less
+abbrev pub IsNamedBefore : IdRow → IdRow → Type 0
+IsNamedBefore a b = by_cells id_cells (0 ∷ []) a b ≡ Less
 
-ids_rise : (xs : List InvocationRow) → DoAscend (λ (i : InvocationRow). i.id) xs → IsAscending IsNamedBefore xs
+ids_rise : (xs : List IdRow) → DoAscend (λ (i : IdRow). i.id) xs → IsAscending IsNamedBefore xs
 ids_rise xs up =
-    ascending_weaker (IsKeyedBefore (λ (i : InvocationRow). i.id)) IsNamedBefore (λ a b less. first_decides (value_cmp-Text a.id b.id ∙ less)) xs (ascending_rises (λ (i : InvocationRow). i.id) xs up)
+    ascending_weaker (IsKeyedBefore (λ (i : IdRow). i.id)) IsNamedBefore (λ a b less. first_decides (value_cmp-Text a.id b.id ∙ less)) xs (ascending_rises (λ (i : IdRow). i.id) xs up)
 
-pub ids_told : (xs : List InvocationRow) → DoAscend (λ (i : InvocationRow). i.id) xs → AreTold invocation_cells (0 ∷ []) xs
-ids_told xs up = rising_apart (by_cells invocation_cells (0 ∷ [])) xs (ids_rise xs up)
+pub ids_told : (xs : List IdRow) → DoAscend (λ (i : IdRow). i.id) xs → AreTold id_cells (0 ∷ []) xs
+ids_told xs up = rising_apart (by_cells id_cells (0 ∷ [])) xs (ids_rise xs up)
 
-pub ids_sorted : (xs : List InvocationRow) → DoAscend (λ (i : InvocationRow). i.id) xs → sort_by (by_cells invocation_cells (0 ∷ [])) xs ≡ xs
-ids_sorted xs up = rising_sorted (by_cells invocation_cells (0 ∷ [])) xs (ids_rise xs up)
+pub ids_sorted : (xs : List IdRow) → DoAscend (λ (i : IdRow). i.id) xs → sort_by (by_cells id_cells (0 ∷ [])) xs ≡ xs
+ids_sorted xs up = rising_sorted (by_cells id_cells (0 ∷ [])) xs (ids_rise xs up)
 
 id_order : (a b : InvocationRow) → by_cells invocation_cells (0 ∷ []) a b ≡ id_cmp a b
 id_order a b = no_more _ ∙ value_cmp-Text a.id b.id

@@ -1,5 +1,5 @@
 -- The questions are refused for nothing of their own.
-use Rattle.std.proofs.Common.{◌≡◌, ℕ, true, List, [], ◌∷◌, length, map, inl, inr, refl, arith}
+use Rattle.std.proofs.Common.{◌≡◌, ℕ, true, List, [], ◌∷◌, length, map, take, inl, inr, refl, arith}
 use Rattle.sqlite.specs.declared.types.Value.TheVariants.{Blob, Text}
 use Rattle.sqlite_value.specs.Order.{Row}
 use Rattle.sqlite_value.specs.declared.keys.Key.{Key}
@@ -17,7 +17,7 @@ use Rattle.sql_tables.specs.Cells.{flag_cell, long_cell, short_cell}
 use Rattle.sql_tables.specs.Statements.{by_columns, first_row_query, program_of, rows_of}
 use Rattle.sql_tables.proofs.Readable.{IsWhole, readable_by}
 use Rattle.store_tables.specs.Tables.{store_schema, entry_columns, invocation_columns, meta_columns, sleep_columns, state_columns}
-use Rattle.store_tables.specs.Statements.{arrival_at_text, arrivals_after_text, awake_invocations_text, entries_text, entry_at_text, entry_by_answered_text, entry_by_completion_text, entry_by_second_completion_text, first_invocation_text, first_sleep_text, invocation_after_text, invocation_by_id_text, marks_text, open_invocation_text, sleeps_until_text, state_at_text, states_text}
+use Rattle.store_tables.specs.Statements.{arrival_at_text, arrivals_after_text, awake_ids_text, entries_text, entry_at_text, entry_by_answered_text, entry_by_completion_text, entry_by_second_completion_text, first_invocation_text, first_sleep_text, invocation_after_text, invocation_by_id_text, marks_text, open_invocation_text, sleeps_until_text, state_at_text, states_text}
 use Rattle.store_tables.proofs.Asking.{IsFirstSelect, IsSelect, selects_after, selects_answered, selects_arrival, selects_awake, selects_completion, selects_entries, selects_first_invocation, selects_first_sleep, selects_id, selects_invocation_after, selects_marks, selects_open, selects_place, selects_second, selects_sleeps, selects_state, selects_states}
 use Rattle.store_tables.proofs.Matching.{Test, behind, columns_from, equal, from, tests_of, until}
 
@@ -47,12 +47,12 @@ whole_open = (omega arith, refl)
 pub reads_open : (object : List ℕ) → IsReadable store_schema open_invocation_text (Text object ∷ [])
 reads_open object = select_readable 1 invocation_columns 22 (equal 5 0 ∷ []) [] open_invocation_text (Text object ∷ []) selects_open whole_open refl
 
-whole_awake : IsWhole (understood store_schema awake_invocations_text) (length awake_invocations_text) 1
+whole_awake : IsWhole (understood store_schema awake_ids_text) (length awake_ids_text) 1
 unfolding understood everything
 whole_awake = (omega arith, refl)
 
-pub reads_awake : IsReadable store_schema awake_invocations_text (flag_cell true ∷ [])
-reads_awake = select_readable 1 invocation_columns 22 (equal 21 0 ∷ []) (by_columns (1 ∷ [])) awake_invocations_text (flag_cell true ∷ []) selects_awake whole_awake refl
+pub reads_awake : IsReadable store_schema awake_ids_text (flag_cell true ∷ [])
+reads_awake = select_readable 1 (take 1 invocation_columns) 1 (equal 21 0 ∷ []) (by_columns (1 ∷ [])) awake_ids_text (flag_cell true ∷ []) selects_awake whole_awake refl
 
 whole_completion : IsWhole (understood store_schema entry_by_completion_text) (length entry_by_completion_text) 2
 unfolding understood everything

@@ -1,5 +1,5 @@
 -- Records that were asked for in an order.
-use Rattle.std.specs.Prelude.{◌≡◌, ℕ, pos, Bool, false, List, Option, filter}
+use Rattle.std.specs.Prelude.{◌≡◌, ℕ, pos, Bool, false, List, Option, filter, map}
 use Rattle.std.specs.declared.cmp.Ordering.{Ordering}
 use Rattle.std.specs.Int.{w64, cast_signed}
 use Rattle.std.specs.Ordering.{int_cmp, is_eq, nat_cmp, ordering_then}
@@ -8,13 +8,18 @@ use Rattle.std.specs.List.Sorted.{IsPermutation}
 use Rattle.sqlite_trees.specs.Tree.{Trees, IsAscending}
 use Rattle.sqlite_keyed.specs.Lists.{sort_by}
 use Rattle.sql_tables.specs.Statements.{IsFirst}
-use Rattle.store_tables.specs.Records.{Records, Holds, InvocationRow, SleepRow, ends_by, ends_from}
-use Rattle.store_tables.specs.Questions.{DoAscend, is_named_after}
+use Rattle.store_tables.specs.Records.{IdRow, Records, Holds, InvocationRow, SleepRow, ends_by, ends_from, id_row}
+use Rattle.store_tables.specs.Questions.{DoAscend, is_awake, is_named_after}
 
 -- the records that pass, by ascending keys, are these, whatever records the tables have
 abbrev pub IsArranged : {X : Type 0} → (Records → List X) → (X → Bool) → (X → List ℕ) → Trees → List X → Type 0
 IsArranged {X} records test key db found =
     (r : Records) → Holds db r → (xs : List X) → IsPermutation (filter test (records r)) xs → DoAscend key xs → found ≡ xs
+
+-- the ids of what may go on, by ascending ids, are these, whatever records the tables have
+abbrev pub AreArrangedIds : Trees → List IdRow → Type 0
+AreArrangedIds db found =
+    (r : Records) → Holds db r → (xs : List InvocationRow) → IsPermutation (filter is_awake r.invocations) xs → DoAscend (λ i. i.id) xs → found ≡ map id_row xs
 
 -- the tables have no records of which those that pass have ascending keys in some order
 abbrev pub IsUnarranged : {X : Type 0} → (Records → List X) → (X → Bool) → (X → List ℕ) → Trees → Type 0

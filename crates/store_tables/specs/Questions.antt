@@ -1,11 +1,11 @@
 -- What is asked of the records.
-use Rattle.std.specs.Prelude.{◌≡◌, ℕ, ◌+◌, ◌≤◌, ◌==◌, ◌&&◌, nat_lt, Bool, true, false, List, [], ◌∷◌, filter, length, bytes_eq, Option, None, Some, IsTrue, ⊤}
+use Rattle.std.specs.Prelude.{◌≡◌, ℕ, ◌+◌, ◌≤◌, ◌==◌, ◌&&◌, nat_lt, Bool, true, false, List, [], ◌∷◌, filter, length, map, bytes_eq, Option, None, Some, IsTrue, ⊤}
 use Rattle.std.specs.List.{find}
 use Rattle.std.specs.List.Sorted.{IsPermutation}
 use Rattle.std.specs.Ordering.{is_lt, nat_cmp}
 use Rattle.std.specs.Cmp.Lexicographic.{slice_cmp}
 use Rattle.sqlite_trees.specs.Tree.{Trees}
-use Rattle.store_tables.specs.Records.{Records, Holds, InvocationRow, EntryRow}
+use Rattle.store_tables.specs.Records.{Records, Holds, IdRow, InvocationRow, EntryRow, id_row}
 pub use Rattle.store_tables.specs.Records.{is_at_key, is_of_object}
 
 -- the first record that passes, whatever records the tables have
@@ -53,6 +53,14 @@ is_named_after (Some id) i = is_before id i.id
 -- what may go on
 abbrev pub is_awake : InvocationRow → Bool
 is_awake i = i.progress.is_awake
+
+-- the ids alone of what may go on
+abbrev pub awake_ids : Records → List IdRow
+awake_ids r = map id_row (filter is_awake r.invocations)
+
+-- these, in order, whatever records the tables have
+abbrev pub AreAwake : Trees → List IdRow → Type 0
+AreAwake db found = DoAscend (λ i. i.id) found × ((r : Records) → Holds db r → IsPermutation (awake_ids r) found)
 
 -- ---- entries
 

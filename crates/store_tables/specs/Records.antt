@@ -18,6 +18,7 @@ pub use Rattle.store_tables.specs.declared.row.Closing.{Closing}
 pub use Rattle.store_tables.specs.declared.row.LastError.{LastError}
 pub use Rattle.store_tables.specs.declared.row.Progress.{Progress}
 pub use Rattle.store_tables.specs.declared.row.InvocationRow.{InvocationRow}
+pub use Rattle.store_tables.specs.declared.row.IdRow.{IdRow}
 pub use Rattle.store_tables.specs.declared.row.EntryRow.{EntryRow}
 pub use Rattle.store_tables.specs.declared.row.StateRow.{StateRow}
 pub use Rattle.store_tables.specs.declared.row.SleepRow.{SleepRow}
@@ -62,6 +63,9 @@ pub record FitsInvocation (i : InvocationRow) : Type 0 where
   pub seed : IsLong i.seed
   pub progress : FitsProgress i.progress
 
+abbrev pub FitsId : IdRow → Type 0
+FitsId i = IsUtf8 i.id
+
 pub record FitsEntry (e : EntryRow) : Type 0 where
   pub invocation : IsUtf8 e.invocation
   pub place : IsShort e.place
@@ -100,6 +104,13 @@ progress_cells p =
 
 abbrev pub invocation_cells : InvocationRow → Row
 invocation_cells i = Text i.id ∷ Text i.object ∷ short_cell (version_number i.version) ∷ long_cell i.seed ∷ flag_cell i.is_whole ∷ progress_cells i.progress
+
+abbrev pub id_cells : IdRow → Row
+id_cells i = Text i.id ∷ []
+
+-- its id without the rest of it
+abbrev pub id_row : InvocationRow → IdRow
+id_row i = record { id = i.id }
 
 abbrev pub entry_cells : EntryRow → Row
 entry_cells e =

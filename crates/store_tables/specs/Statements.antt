@@ -37,8 +37,8 @@ invocation_by_id_text = codes "SELECT * FROM invocation WHERE id = ?1"
 abbrev pub open_invocation_text : List ℕ
 open_invocation_text = codes "SELECT * FROM invocation WHERE open_object = ?1"
 
-abbrev pub awake_invocations_text : List ℕ
-awake_invocations_text = codes "SELECT * FROM invocation WHERE awake = ?1 ORDER BY id"
+abbrev pub awake_ids_text : List ℕ
+awake_ids_text = codes "SELECT id FROM invocation WHERE awake = ?1 ORDER BY id"
 
 abbrev pub first_invocation_text : List ℕ
 first_invocation_text = codes "SELECT * FROM invocation ORDER BY id LIMIT 1"

@@ -8,10 +8,12 @@ ghost use Rattle.protocol_types.specs.Version.{version_number};
 ghost use Rattle.sql_tables.specs.Cells.{short_cell};
 ghost use Rattle.store_tables.specs.Kinds.{kept_kind};
 ghost use Rattle.store_tables.specs.Parts.{AreCounts, IsErrorAt, IsProgressAt};
-ghost use Rattle.store_tables.specs.Records.{FitsEntry, FitsInvocation, FitsSleep, FitsState, FitsMark, InvocationRow, EntryRow, Mark, SleepRow, StateRow, cells_of_mark, closing_cell, entry_cells, invocation_cells, sleep_cells, state_cells};
+ghost use Rattle.store_tables.specs.Records.{FitsEntry, FitsId, FitsInvocation, FitsSleep, FitsState, FitsMark, IdRow, InvocationRow, EntryRow, Mark, SleepRow, StateRow, cells_of_mark, closing_cell, entry_cells, id_cells, invocation_cells, sleep_cells, state_cells};
 
 use crate::kind::kind_kept;
-use crate::row::{Closing, EntryRow, InvocationRow, LastError, Mark, Progress, SleepRow, StateRow};
+use crate::row::{
+    Closing, EntryRow, IdRow, InvocationRow, LastError, Mark, Progress, SleepRow, StateRow,
+};
 use protocol_types::{MessageType, Version};
 use sql_tables::read::{
     RowError, blob_at, blob_or_none_at, flag_at, long_at, long_or_none_at, short_at,
@@ -42,6 +44,29 @@ impl Stored for Mark {
 
     fn from_row(alloc: Global, row: &Row) -> Result<Mark, RowError> {
         mark_from(alloc, row)
+    }
+}
+
+fn id_from(alloc: Global, row: &Row) -> Result<IdRow, RowError>
+    ensures ok { IfOk result (λ i. (id_cells i ≡ row.now) × FitsId i) }
+    ensures foreign { IfErr result (λ e. e ≡ RowError.Foreign → (x : IdRow) → FitsId x → id_cells x ≢ row.now) }
+{
+    if row.column_count() != 1 {
+        return Err(RowError::Foreign);
+    }
+    let id = text_at(alloc, row, 0)?;
+    Ok(IdRow { id })
+}
+
+impl Stored for IdRow {
+    ghost use Rattle.store_tables.specs.Records.{FitsId, id_cells};
+
+    ghost cells = { id_cells };
+
+    ghost fits = { FitsId };
+
+    fn from_row(alloc: Global, row: &Row) -> Result<IdRow, RowError> {
+        id_from(alloc, row)
     }
 }
 

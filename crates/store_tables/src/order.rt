@@ -3,7 +3,7 @@
 ghost use Rattle.std.specs.Prelude.{◌≡◌, IsTrue};
 ghost use Rattle.store_tables.specs.Questions.{AreInPlace, DoAscend, is_before};
 
-use crate::row::{EntryRow, InvocationRow, StateRow};
+use crate::row::{EntryRow, IdRow, StateRow};
 
 /// Whether the places count up from 0.
 #[tactic(auto, using(crate::proofs::Orders::in_place_at))]
@@ -38,7 +38,7 @@ pub(crate) fn do_states_ascend(states: &[StateRow]) -> bool
     true
 }
 
-fn is_named_first(first: &InvocationRow, second: &InvocationRow) -> bool
+fn is_named_first(first: &IdRow, second: &IdRow) -> bool
     ensures { result ≡ is_before first.now.id second.now.id }
 {
     is_first(
@@ -48,12 +48,12 @@ fn is_named_first(first: &InvocationRow, second: &InvocationRow) -> bool
 }
 
 /// Whether each id is before the next.
-pub(crate) fn do_ids_ascend(invocations: &[InvocationRow]) -> bool
-    ensures exact { IsTrue result → DoAscend (λ i. i.id) invocations.now }
-    ensures complete { DoAscend (λ i. i.id) invocations.now → IsTrue result }
+pub(crate) fn do_ids_ascend(ids: &[IdRow]) -> bool
+    ensures exact { IsTrue result → DoAscend (λ i. i.id) ids.now }
+    ensures complete { DoAscend (λ i. i.id) ids.now → IsTrue result }
 {
-    for at in 1..invocations.len() {
-        if !is_named_first(&invocations[at - 1], &invocations[at]) {
+    for at in 1..ids.len() {
+        if !is_named_first(&ids[at - 1], &ids[at]) {
             return false;
         }
     }

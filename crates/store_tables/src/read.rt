@@ -11,15 +11,15 @@ ghost use Rattle.sqlite_keyed.specs.Lists.{sort_by};
 ghost use Rattle.store_tables.specs.Asks.{AreTold, AsksRows, AsksFirst, AsksInOrder, by_cells};
 ghost use Rattle.store_tables.specs.Looks.{OnlyAsks};
 ghost use Rattle.sql_tables.specs.Statements.{IsFirst};
-ghost use Rattle.store_tables.specs.Questions.{AreArrivals, AreFound, AreNoArrivals, IsAmbiguous, IsFound, IsJournal, IsNoJournal, answers, asks_for, asks_second_for, has_id, is_arrival_at, is_at_key, is_at_place, is_awake, is_of_object, is_open_of};
-ghost use Rattle.store_tables.specs.Orders.{AreAlike, AreDue, IsArranged, IsFirstSleep, IsNextInvocation, IsUnarranged};
+ghost use Rattle.store_tables.specs.Questions.{AreArrivals, AreAwake, AreFound, AreNoArrivals, IsAmbiguous, IsFound, IsJournal, IsNoJournal, answers, asks_for, asks_second_for, has_id, is_arrival_at, is_at_key, is_at_place, is_awake, is_of_object, is_open_of};
+ghost use Rattle.store_tables.specs.Orders.{AreAlike, AreArrangedIds, AreDue, IsArranged, IsFirstSleep, IsNextInvocation, IsUnarranged};
 ghost use Rattle.store_tables.specs.Records.{Holds, Records};
 ghost use Rattle.store_tables.specs.Steps.{WasAsked};
 ghost use Rattle.store_tables.specs.Tables.{store_schema};
 ghost use Rattle.sql_tables.specs.Causes.{IsReadable, TellsReadCause};
 
 use crate::order::{are_in_place, do_ids_ascend, do_states_ascend};
-use crate::row::{EntryRow, InvocationRow, SleepRow, StateRow};
+use crate::row::{EntryRow, IdRow, InvocationRow, SleepRow, StateRow};
 use crate::tables::StoreTables;
 use bytes::{ByteStr, Bytes};
 use sql_tables::cell::{blob, flag, long, short, text};
@@ -110,20 +110,18 @@ pub fn open_invocation<S: Alter>(
     )
 }
 
-/// The invocations of which an attempt may go on, by id.
-pub fn awake_invocations<S: Alter>(
-    tables: &mut StoreTables<S>,
-) -> Result<Vec<InvocationRow>, ReadError>
-    ensures found { HasCleanDisk (state S.Store tables.new) → IfOk result (λ is. AreFound (λ r. r.invocations) is_awake (λ i. i.id) (state S.Store tables.old).now.trees is.items) }
-    ensures arranged { HasCleanDisk (state S.Store tables.new) → IfOk result (λ is. IsArranged (λ r. r.invocations) is_awake (λ i. i.id) (state S.Store tables.old).now.trees is.items) }
+/// The ids of the invocations of which an attempt may go on, in order. No other column of theirs is read.
+pub fn awake_id_rows<S: Alter>(tables: &mut StoreTables<S>) -> Result<Vec<IdRow>, ReadError>
+    ensures found { HasCleanDisk (state S.Store tables.new) → IfOk result (λ ids. AreAwake (state S.Store tables.old).now.trees ids.items) }
+    ensures arranged { HasCleanDisk (state S.Store tables.new) → IfOk result (λ ids. AreArrangedIds (state S.Store tables.old).now.trees ids.items) }
     ensures foreign { HasCleanDisk (state S.Store tables.new) → IfErr result (λ e. e ≡ ReadError.Foreign → IsUnarranged (λ r. r.invocations) is_awake (λ i. i.id) (state S.Store tables.old).now.trees) }
     ensures looks { OnlyAsks S.Store tables.old tables.new }
     ensures cause { IfErr result (TellsReadCause (state S.Store tables.old) (state S.Store tables.new)) }
     ensures open { HasCleanDisk (state S.Store tables.new) → WasAsked result (state S.Store tables.old) }
 {
-    let records: Vec<InvocationRow> = find_all(
+    let records: Vec<IdRow> = find_all(
         tables,
-        "SELECT * FROM invocation WHERE awake = ?1 ORDER BY id",
+        "SELECT id FROM invocation WHERE awake = ?1 ORDER BY id",
         &[flag(true)],
     )?;
     if !do_ids_ascend(records.as_slice()) {

@@ -66,6 +66,12 @@ pub struct InvocationRow {
     pub progress: Progress,
 }
 
+/// The id of an invocation, read without the rest of its row.
+#[derive(Debug, Drop)]
+pub struct IdRow {
+    pub id: ByteStr,
+}
+
 /// A request or an arrival in the journal of an invocation.
 #[derive(Debug, Drop)]
 pub struct EntryRow {

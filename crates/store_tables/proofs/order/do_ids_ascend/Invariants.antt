@@ -3,4 +3,4 @@ use Rattle.store_tables.proofs.Orders.{DoAscendTo}
 use Rattle.store_tables.proofs.order.do_ids_ascend.Given as goal
 
 abbrev pub invariant-loop-at : goal.invariant-loop-at
-invariant-loop-at l = (1 ≤ l.at) × DoAscendTo (λ x. x.id) l.invocations l.at
+invariant-loop-at l = (1 ≤ l.at) × DoAscendTo (λ x. x.id) l.ids l.at
