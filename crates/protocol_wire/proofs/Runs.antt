@@ -173,6 +173,23 @@ run_sound_records fault number (f ∷ fs) h = go (all_numbered f.number fs) (run
     go true k = h
     go false k = k
 
+-- A field that is not there does not stand.
+none_in_run : (number : ℕ) (fs : List Field) → values number fs ≡ [] → values number (last_run fs) ≡ []
+none_in_run number [] h = refl
+none_in_run number (f ∷ fs) h = go (all_numbered f.number fs) (none_in_run number fs (rest (eqb f.number number) f.value h))
+  where
+    rest : (t : Bool) (w : Wire) → cond t (w ∷ values number fs) (values number fs) ≡ [] → values number fs ≡ []
+    rest true w h = absurd cc
+    rest false w h = h
+
+    go : (t : Bool) → values number (last_run fs) ≡ [] → values number (cond t (f ∷ fs) (last_run fs)) ≡ []
+    go true k = h
+    go false k = k
+
+pub none_stands : (variants : List ℕ) (number : ℕ) (fs : List Field) → is_among variants number ≡ true → values number fs ≡ [] → values number (run variants fs) ≡ []
+unfolding run
+none_stands variants number fs h e = none_in_run number (among variants fs) (values-among variants number fs h ∙ e)
+
 -- The fields from the last run on have the values of the run.
 pub run_values : (variants : List ℕ) (number : ℕ) (fs gs : List Field) → is_among variants number ≡ true → among variants gs ≡ run variants fs → values number gs ≡ values number (run variants fs)
 run_values variants number fs gs h e = sym (values-among variants number gs h) ∙ ap (values number) e

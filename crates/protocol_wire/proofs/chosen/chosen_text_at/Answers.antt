@@ -1,11 +1,14 @@
 use Rattle.protocol_wire.proofs.Runs.{run_texts_sound}
 use Rattle.protocol_wire.specs.Fields.{fields}
 use Rattle.protocol_wire.specs.ComingFields.{coming}
-use Rattle.protocol_wire.proofs.Choices.{chosen_text}
+use Rattle.protocol_wire.proofs.Choices.{chosen_text, absent_text}
 use Rattle.protocol_wire.proofs.chosen.chosen_text_at.Goals as goal
 
 pub copied_text-requires : goal.copied_text-requires
 copied_text-requires c = run_texts_sound c.args.variants.now c.args.field.number (fields c.args.payload.now) (coming c.last_run_at.result) c.requires.0 c.last_run_at.ensures c.requires.1
 
-pub returns : goal.returns
-returns c = rw (← chosen_text c.args.variants.now c.args.field.number (fields c.args.payload.now) (coming c.last_run_at.result) c.requires.0 c.last_run_at.ensures) c.copied_text.ensures
+pub returns-else-lacks : goal.returns-else-lacks
+returns-else-lacks c = rw (← chosen_text c.args.variants.now c.args.field.number (fields c.args.payload.now) (coming c.last_run_at.result) c.requires.0 c.last_run_at.ensures) c.copied_text.ensures
+
+pub returns-then-lacks : goal.returns-then-lacks
+returns-then-lacks c = absent_text c.args.variants.now c.args.field.number (fields c.args.payload.now) (coming c.fields.result) c.requires.0 c.fields.ensures.all (c.lacks.ensures c.if-lacks.true)
