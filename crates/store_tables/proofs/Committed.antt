@@ -14,7 +14,7 @@ use Rattle.sql_tables.proofs.InTurn.{cause_to_write, write_cause_before, write_c
 use Rattle.sql_tables.proofs.Queries.{on_ok}
 use Rattle.store_tables.specs.Records.{Records, Write, applied_all}
 use Rattle.store_tables.specs.Statements.{statements_of, statements_of_all}
-use Rattle.store_tables.specs.Steps.{Lands, Steps, TurnsRecords}
+use Rattle.store_tables.specs.Steps.{Lands, ChangesRecords, TurnsRecords}
 use Rattle.store_tables.specs.Looks.{MakesWrites}
 use Rattle.sql_tables.specs.Causes.{IsCause, IsCauseToWrite, Statement, TellsErrorCause, TellsWriteCause}
 use Rattle.store_tables.proofs.Caused.{told_of_commit}
@@ -42,9 +42,9 @@ module _ {S : Type 0} (g : Ghosts S) (old mid : Held S) where
   turns_from began change is t = subst (λ (h : Held S). TurnsRecords change (state g h).now.trees (state g mid).now.trees) is t
 
   pub steps_from : (began : Held S) (change : Records → Records) (statements : List Statement) → began ≡ begun old
-      → (IsTrue (state g began).is_open → Steps change statements (state g began) (state g mid)) → IsTrue (state g old).is_open → Steps change statements (state g old) (state g mid)
+      → (IsTrue (state g began).is_open → ChangesRecords change statements (state g began) (state g mid)) → IsTrue (state g old).is_open → ChangesRecords change statements (state g old) (state g mid)
   steps_from began change statements is s was_open =
-      let it = subst (λ (h : Held S). IsTrue (state g h).is_open → Steps change statements (state g h) (state g mid)) is s was_open in
+      let it = subst (λ (h : Held S). IsTrue (state g h).is_open → ChangesRecords change statements (state g h) (state g mid)) is s was_open in
       record { was_open = it.was_open; schema = it.schema; inside = it.inside; records = it.records; made = it.made }
 
 to_write : {A : Type 0} (writes : List Write) (a b : State) (r : Result A Error) → IfErr r (TellsErrorCause a b) → IfErr r (TellsWriteCause (statements_of_all writes) a b)
@@ -57,7 +57,7 @@ module _ {S : Type 0} (g : Ghosts S) (law : IsSettling g) (old mid new : Held S)
     (kept : HasCleanDisk (state g mid) → KeepsCommit (state g old) (state g mid))
     (opened : HasCleanDisk (state g mid) → (writes ≡ []) ⊎ IsTrue (state g old).is_open)
     (turns : HasCleanDisk (state g mid) → TurnsRecords (applied_all writes) (state g old).now.trees (state g mid).now.trees)
-    (steps : HasCleanDisk (state g mid) → IsTrue (state g old).is_open → Steps (applied_all writes) (statements_of_all writes) (state g old) (state g mid))
+    (steps : HasCleanDisk (state g mid) → IsTrue (state g old).is_open → ChangesRecords (applied_all writes) (statements_of_all writes) (state g old) (state g mid))
     (inside : HasCleanDisk (state g mid) → IsTrue (state g mid).in_transaction)
     (lives : Survives (state g mid) (state g new) (λ db. db ≡ (state g mid).now.trees)) where
   earlier : HasCleanDisk (state g new) → HasCleanDisk (state g mid)
@@ -122,7 +122,7 @@ pub split_at : {X : Type 0} (i : ℕ) (xs : List X) (d : X) → i < length xs �
 split_at i xs d lt = ap (λ (ys : List _). take i xs ++ ys) (sym (drop_more xs i d lt)) ∙ front_rest i xs
 
 -- one of these writes was refused, behind some that were made
-pub refused_behind : (a b c : State) (some more : List Write) (w : Write) (e : Error) → (HasCleanDisk b → IsTrue a.is_open → Steps (applied_all some) (statements_of_all some) a b) → (HasCleanDisk b → KeepsCommit a b)
+pub refused_behind : (a b c : State) (some more : List Write) (w : Write) (e : Error) → (HasCleanDisk b → IsTrue a.is_open → ChangesRecords (applied_all some) (statements_of_all some) a b) → (HasCleanDisk b → KeepsCommit a b)
     → Survives a b (λ _. ⊥) → Survives b c (λ _. ⊥) → TellsWriteCause (statements_of w) b c e → TellsWriteCause (statements_of_all (some ++ w ∷ more)) a c e
 refused_behind a b c some more w e steps kept first then tells clean =
     let early : HasCleanDisk b = omega (arith, then.clean, clean) in

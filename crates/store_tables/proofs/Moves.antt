@@ -30,7 +30,7 @@ use Rattle.sql_tables.proofs.Tables.{delete_changes, insert_changes}
 use Rattle.store_tables.specs.Tables.{store_schema}
 use Rattle.store_tables.specs.Records.{EntryRow, FitsEntry, FitsInvocation, FitsSleep, FitsState, Holds, InvocationRow, Records, SleepRow, StateRow, Write, applied, applied_all, entry_cells, invocation_cells, sleep_cells, state_cells}
 use Rattle.store_tables.specs.Statements.{statement, statements_of, statements_of_all}
-use Rattle.store_tables.specs.Steps.{Alters, IsWriting, Steps, TurnsRecords}
+use Rattle.store_tables.specs.Steps.{Alters, IsWriting, ChangesRecords, TurnsRecords}
 use Rattle.store_tables.proofs.Caused.{survives_on}
 use Rattle.store_tables.proofs.Matching.{Test, cells_match, match_cells, tests_of}
 
@@ -143,7 +143,7 @@ module _ {S : Type 0} (g : Ghosts S) (change : Records → Records) (sql : List 
   has : IsTrue (state g old).is_open → (state g old).now.schema ≡ store_schema
   has opened = writing.0 early opened
 
-  pub step_of : HasRun sql params (state g old) (state g new) → Moves change (state g old) (state g new) → Steps change (statement sql params ∷ []) (state g old) (state g new)
+  pub step_of : HasRun sql params (state g old) (state g new) → Moves change (state g old) (state g new) → ChangesRecords change (statement sql params ∷ []) (state g old) (state g new)
   step_of run moved = record {
     was_open = run.was_open;
     schema = moved.0;
@@ -183,7 +183,7 @@ module _ {S : Type 0} (g : Ghosts S) (change : Records → Records) (sql : List 
 
 -- ---- one after another
 
-pub steps_then : (f g : Records → Records) (xs ys : List Statement) (a b c : State) → b.step_limit ≡ a.step_limit → Steps f xs a b → Steps g ys b c → Steps (λ r. g (f r)) (xs ++ ys) a c
+pub steps_then : (f g : Records → Records) (xs ys : List Statement) (a b c : State) → b.step_limit ≡ a.step_limit → ChangesRecords f xs a b → ChangesRecords g ys b c → ChangesRecords (λ r. g (f r)) (xs ++ ys) a c
 steps_then f g xs ys a b c limit one two = record {
   was_open = one.was_open;
   schema = two.schema;
@@ -193,7 +193,7 @@ steps_then f g xs ys a b c limit one two = record {
 }
 
 -- the second was refused, behind the first
-told_behind : {A : Type 0} (xs ys : List Statement) (f : Records → Records) (a b c : State) (D : Trees → Type 0) → (HasCleanDisk b → Steps f xs a b) → Survives a b (λ _. ⊥) → Survives b c D
+told_behind : {A : Type 0} (xs ys : List Statement) (f : Records → Records) (a b c : State) (D : Trees → Type 0) → (HasCleanDisk b → ChangesRecords f xs a b) → Survives a b (λ _. ⊥) → Survives b c D
     → (result : Result A Error) → IfErr result (TellsWriteCause ys b c) → IfErr result (TellsWriteCause (xs ++ ys) a c)
 told_behind xs ys f a b c D done first then (Ok x) tells = tt
 told_behind xs ys f a b c D done first then (Err e) tells = λ clean.
@@ -202,7 +202,7 @@ told_behind xs ys f a b c D done first then (Err e) tells = λ clean.
 
 -- two in turn, of which the first went well
 pub altered_then : {S : Type 0} (g : Ghosts S) (f h : Records → Records) (xs ys : List Statement) (a b c : Held S) (result : Result (Unit {0}) Error)
-    → (HasCleanDisk (state g b) → Steps f xs (state g a) (state g b)) → (HasCleanDisk (state g b) → KeepsCommit (state g a) (state g b)) → Survives (state g a) (state g b) (λ _. ⊥) → Alters g h ys b c result
+    → (HasCleanDisk (state g b) → ChangesRecords f xs (state g a) (state g b)) → (HasCleanDisk (state g b) → KeepsCommit (state g a) (state g b)) → Survives (state g a) (state g b) (λ _. ⊥) → Alters g h ys b c result
     → Alters g (λ r. h (f r)) (xs ++ ys) a c result
 altered_then g f h xs ys a b c result done kept survives two = record {
   done = λ clean. on_ok result (two.done clean) (steps_then f h xs ys (state g a) (state g b) (state g c) survives.limit (done (omega (arith, two.survives.clean, clean))));
@@ -231,8 +231,8 @@ statements_last : (ws : List Write) (w : Write) → statements_of_all (ws ++ w �
 statements_last [] w = append-nil (statements_of w)
 statements_last (v ∷ ws) w = ap (λ (xs : List Statement). statements_of v ++ xs) (statements_last ws w) ∙ sym (append_assoc (statements_of v) (statements_of_all ws) (statements_of w))
 
-pub steps_on : (ws : List Write) (w : Write) (a b c : State) → b.step_limit ≡ a.step_limit → Steps (applied_all ws) (statements_of_all ws) a b → Steps (applied w) (statements_of w) b c
-    → Steps (applied_all (ws ++ w ∷ [])) (statements_of_all (ws ++ w ∷ [])) a c
+pub steps_on : (ws : List Write) (w : Write) (a b c : State) → b.step_limit ≡ a.step_limit → ChangesRecords (applied_all ws) (statements_of_all ws) a b → ChangesRecords (applied w) (statements_of w) b c
+    → ChangesRecords (applied_all (ws ++ w ∷ [])) (statements_of_all (ws ++ w ∷ [])) a c
 steps_on ws w a b c limit one two =
     let both = steps_then (applied_all ws) (applied w) (statements_of_all ws) (statements_of w) a b c limit one two in
     record {

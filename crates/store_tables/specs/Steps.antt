@@ -18,7 +18,7 @@ abbrev pub TurnsRecords : (Records → Records) → Trees → Trees → Type 0
 TurnsRecords change old new = (r : Records) → Holds old r → Holds new (change r)
 
 -- inside a transaction these statements change the records so
-pub record Steps (change : Records → Records) (statements : List Statement) (old new : State) : Type 0 where
+pub record ChangesRecords (change : Records → Records) (statements : List Statement) (old new : State) : Type 0 where
   pub was_open : IsTrue old.is_open
   pub schema : new.now.schema ≡ store_schema
   pub inside : IsTrue new.in_transaction
@@ -27,7 +27,7 @@ pub record Steps (change : Records → Records) (statements : List Statement) (o
 
 -- inside a transaction these statements change the records so, or one of them is refused; until the commit, a crash knows nothing of it
 pub record Alters {S : Type 0} (g : Ghosts S) (change : Records → Records) (statements : List Statement) (old new : Held S) (result : Result (Unit {0}) Error) : Type 0 where
-  pub done : HasCleanDisk (state g new) → OnOk result (Steps change statements (state g old) (state g new))
+  pub done : HasCleanDisk (state g new) → OnOk result (ChangesRecords change statements (state g old) (state g new))
   pub why : IfErr result (TellsWriteCause statements (state g old) (state g new))
   pub kept : HasCleanDisk (state g new) → KeepsCommit (state g old) (state g new)
   pub survives : Survives (state g old) (state g new) (λ _. ⊥)

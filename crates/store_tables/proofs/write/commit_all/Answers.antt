@@ -7,7 +7,7 @@ use Rattle.sql_tables.specs.Causes.{TellsWriteCause}
 use Rattle.sql_tables.proofs.Queries.{keeps_on}
 use Rattle.store_tables.specs.Records.{Write, applied_all}
 use Rattle.store_tables.specs.Statements.{statements_of_all}
-use Rattle.store_tables.specs.Steps.{Steps, TurnsRecords}
+use Rattle.store_tables.specs.Steps.{ChangesRecords, TurnsRecords}
 use Rattle.store_tables.proofs.Caused.{survives_on}
 use Rattle.store_tables.proofs.Committed.{committed, given_up, kept_from, opened_from, refused_behind, split_at, steps_from, survives_from, turns_from}
 use Rattle.store_tables.proofs.Moves.{steps_on, turns_on}
@@ -51,7 +51,7 @@ returns g c =
     (λ clean. kept_from g.S.Store old mid began begun (i.kept clean))
     (λ clean. opened_from g.S.Store old mid began writes begun (subst (λ (some : List Write). (some ≡ []) ⊎ IsTrue (state g.S.Store began).is_open) all (i.opened clean)))
     (λ clean. turns_from g.S.Store old mid began (applied_all writes) begun (subst (λ (some : List Write). TurnsRecords (applied_all some) (state g.S.Store began).now.trees (state g.S.Store mid).now.trees) all (i.turns clean)))
-    (λ clean. steps_from g.S.Store old mid began (applied_all writes) (statements_of_all writes) begun (subst (λ (some : List Write). IsTrue (state g.S.Store began).is_open → Steps (applied_all some) (statements_of_all some) (state g.S.Store began) (state g.S.Store mid)) all (i.steps clean)))
+    (λ clean. steps_from g.S.Store old mid began (applied_all writes) (statements_of_all writes) begun (subst (λ (some : List Write). IsTrue (state g.S.Store began).is_open → ChangesRecords (applied_all some) (statements_of_all some) (state g.S.Store began) (state g.S.Store mid)) all (i.steps clean)))
     i.inside
     c.commit.ensures.survives c.commit.result c.commit.ensures.ok c.commit.ensures.err)
 

@@ -3,7 +3,7 @@ use Rattle.sqlite.specs.Held.{state}
 use Rattle.sqlite.specs.State.{HasCleanDisk, KeepsCommit, Survives}
 use Rattle.store_tables.specs.Records.{applied_all}
 use Rattle.store_tables.specs.Statements.{statements_of_all}
-use Rattle.store_tables.specs.Steps.{Steps, TurnsRecords}
+use Rattle.store_tables.specs.Steps.{ChangesRecords, TurnsRecords}
 use Rattle.store_tables.proofs.write.commit_all.Given as goal
 
 abbrev pub invariant-loop-write : goal.invariant-loop-write
@@ -16,6 +16,6 @@ invariant-loop-write g l =
       kept : HasCleanDisk now → KeepsCommit old now;
       opened : HasCleanDisk now → (take l.write-index l.writes ≡ []) ⊎ IsTrue old.is_open;
       turns : HasCleanDisk now → TurnsRecords (applied_all (take l.write-index l.writes)) old.now.trees now.now.trees;
-      steps : HasCleanDisk now → IsTrue old.is_open → Steps (applied_all (take l.write-index l.writes)) (statements_of_all (take l.write-index l.writes)) old now;
+      steps : HasCleanDisk now → IsTrue old.is_open → ChangesRecords (applied_all (take l.write-index l.writes)) (statements_of_all (take l.write-index l.writes)) old now;
       inside : HasCleanDisk now → IsTrue now.in_transaction;
     }
