@@ -1,5 +1,5 @@
 -- Worked rows: what is told of a state that was shown in part, and of what was written since; which command an error is about.
-use Rattle.std.proofs.Common.{◌≡◌, refl, true, false, [], ◌∷◌, Some, None, codes}
+use Rattle.std.proofs.Common.{◌≡◌, refl, true, [], ◌∷◌, Some, None, codes}
 use Rattle.protocol_types.specs.declared.message_type.MessageType.TheVariants.{Start, SleepCommand, SetStateCommand}
 use Rattle.protocol_stream.specs.declared.command_type.CommandType.{CommandType}
 use Rattle.protocol_differences.specs.declared.relationship.CommandRelationship.{CommandRelationship}

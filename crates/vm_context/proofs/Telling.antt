@@ -1,5 +1,5 @@
 -- What is told of what is kept: by the library's map, and as the definitions say.
-use Rattle.std.proofs.Common.{◌≡◌, refl, sym, ap, ap₂, subst, ◌∙◌, ℕ, Bool, true, false, not, ◌||◌, if◌then◌else◌, List, [], ◌∷◌, ◌++◌, ◌+◌, length, append_assoc, append-nil, Option, Some, None, is_some, Result, IfOk, OnOk, OnErr, arith}
+use Rattle.std.proofs.Common.{◌≡◌, refl, sym, ap, ap₂, subst, ◌∙◌, ℕ, Bool, true, false, not, ◌||◌, if◌then◌else◌, List, [], ◌∷◌, ◌++◌, append_assoc, append-nil, Option, Some, None, is_some, Result, IfOk, OnOk, OnErr}
 use Rattle.std.specs.FinMap.{find, put}
 use Rattle.std.specs.Map.{lookup}
 use Rattle.std.specs.BTreeMap.{is_at}
@@ -16,24 +16,6 @@ use Rattle.vm_context.proofs.Keeping.{holds, set_keeps, clear_keeps, cleared_kee
 
 abbrev pub state_of : Bool → KnownEntries → KnownState
 state_of is_partial entries = record { is_partial = is_partial; entries = entries }
-
--- ---- the entries of a start, one pair after another
-
-pub pairs_left : (old new : KnownEntries) (key value : Bytes) (left rest : List (Bytes × Bytes)) (all : KnownEntries)
-    → entries_with old left ≡ all → left ≡ (key, value) ∷ rest → new ≡ put bytes_cmp key (Some value) old → entries_with new rest ≡ all
-pairs_left old new key value left rest all inv next made =
-    ap (λ (es : KnownEntries). entries_with es rest) made
-    ∙ sym (ap (λ (ps : List (Bytes × Bytes)). entries_with old ps) next)
-    ∙ inv
-
-pub no_pairs_left : (made all : KnownEntries) (left : List (Bytes × Bytes)) → entries_with made left ≡ all → length left ≡ 0 → made ≡ all
-no_pairs_left made all [] inv none = inv
-no_pairs_left made all (pair ∷ pairs) inv none = absurd (omega (arith, none))
-
-pub one_less : (left rest : List (Bytes × Bytes)) (pair : Bytes × Bytes) (n m : ℕ) → n ≡ length left → left ≡ pair ∷ rest → m + 1 ≡ n → m ≡ length rest
-one_less left rest pair n m sized next less =
-    let same : length left ≡ length (pair ∷ rest) = ap (λ (ps : List (Bytes × Bytes)). length ps) next in
-    omega (arith, sized, same, less)
 
 -- ---- the keys that have a value, one entry after another
 

@@ -54,15 +54,14 @@ impl Model for EagerState {
     ghost view = { λ state. record { is_partial = state.is_partial; entries = state.values.entries } };
 }
 
-// The entries of these pairs: of equal keys the last.
+// The entries of these pairs: of equal keys the last. Keys that ascend are each compared with their neighbours alone.
 fn entries_of(alloc: Global, pairs: Vec<(ByteStr, Bytes)>) -> Result<KnownValues, AllocError>
     ensures { IfOk result (λ values. values.entries ≡ entries_with [] pairs.items) }
 {
-    let mut values = BTreeMap::new(alloc);
-    for (key, value) in pairs {
-        keep(&mut values, key, Some(value))?;
-    }
-    Ok(values)
+    pairs
+        .into_iter()
+        .map(|(key, value)| (key, Some(value)))
+        .collect(alloc)
 }
 
 // What is told of a key of which this is kept.

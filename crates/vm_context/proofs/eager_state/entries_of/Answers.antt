@@ -1,30 +1,16 @@
-use Rattle.std.proofs.Common.{◌≡◌, ◌∙◌, sym, ap, ap₂, List, [], length}
-use Rattle.std.specs.Vec.Iter.{into_iter_items, into_iter_len}
-use Rattle.journal_model.specs.Notification.{Bytes}
-use Rattle.vm_context.specs.Eager.{KnownEntries, entries_with}
-use Rattle.vm_context.proofs.Telling.{pairs_left, no_pairs_left, one_less}
+use Rattle.std.proofs.Common.{rules, tests, ◌∙◌, map}
+use Rattle.std.specs.BTreeMap.{IsFromIterResult}
+use Rattle.std.proofs.lemmas.Iterator.{YieldsList-from_map}
+use Rattle.std.proofs.lemmas.Iterator.Adapters.{YieldsList-from_vec, fact_from_collect}
+use Rattle.std.proofs.lemmas.Iterator.Consumers.{YieldsList-at}
+use Rattle.std.proofs.lemmas.Result.{IfOk-weaker}
+use Rattle.journal_model.specs.State.{bytes_cmp}
+use Rattle.vm_context.proofs.Collecting.{known_pair, collected}
 use Rattle.vm_context.proofs.eager_state.entries_of.Goals as goal
-
-pub loop-key-init : goal.loop-key-init
-loop-key-init c =
-    let h = c.into_iter-key-iterator.ensures.into_iter_gives in
-    record {
-      sized = h.1 ∙ c.args.pairs.ok.0 ∙ sym (ap (λ (pairs : List (Bytes × Bytes)). length pairs) h.0);
-      left = ap₂ (λ (es : KnownEntries) (pairs : List (Bytes × Bytes)). entries_with es pairs) c.new-values.ensures.empty h.0;
-    }
-
-pub loop-key-preserved : goal.loop-key-preserved
-loop-key-preserved c =
-    let left = into_iter_items c.loop-key.key-iterator in
-    let rest = into_iter_items c.next.new.self in
-    let inv = c.loop-key.invariant in
-    let steps = c.in-Some.ensures.steps in
-    record {
-      sized = one_less left rest (c.in-Some.key, c.in-Some.value) (into_iter_len c.loop-key.key-iterator) (into_iter_len c.next.new.self) inv.sized steps.0 steps.1;
-      left = pairs_left c.loop-key.values.entries c.keep.new.values.entries c.in-Some.key c.in-Some.value left rest (entries_with [] c.args.pairs.items) inv.left steps.0 c.in_ok-keep.ensures.ok;
-    }
 
 pub returns : goal.returns
 returns c =
-    let inv = c.loop-key.invariant in
-    no_pairs_left c.loop-key.values.entries (entries_with [] c.args.pairs.items) (into_iter_items c.loop-key.key-iterator) inv.left (sym inv.sized ∙ c.in-None.ensures.steps.0)
+    let sized = c.into_iter.ensures.len ∙ c.args.pairs.ok.0 in
+    IfOk-weaker c.collect.result (IsFromIterResult bytes_cmp (map known_pair c.args.pairs.items)) _ (λ values made. collected c.args.pairs.items values made)
+    (fact_from_collect (IsFromIterResult bytes_cmp) c.collect.result c.collect.ensures.ran
+    (YieldsList-from_map _ known_pair (YieldsList-at c.map.ensures.source (YieldsList-from_vec c.args.pairs.items c.into_iter.ensures.rest sized)) c.map.ensures.closure (λ x r q k. search (rules, tests))))
