@@ -15,20 +15,21 @@ use Rattle.store_refusals.specs.declared.refusal.Refusal.{Refusal}
 use Rattle.store_invocations.specs.declared.attempt.PreparedAttempt.{PreparedAttempt}
 use Rattle.store_invocations.specs.BegunAttempts.{IsBegun}
 use Rattle.store_live.specs.Input.{at_begin}
-use Rattle.store_live.specs.Attempts.{ByInvocation, IsNow, attempt_of}
+use Rattle.store_live.specs.Attempts.{ByInvocation, attempt_of}
 use Rattle.store_live_laws.specs.LiveAttempts.{Agrees, IsBegunAs}
 use Rattle.store_live_laws.proofs.Begun.{begun}
 use Rattle.store_calls.specs.declared.begun.BegunAttempt.{BegunAttempt}
-use Rattle.journal_store.specs.StoreStanding.{Stands}
+use Rattle.journal_store.specs.StoreStanding.{Stands, HasRow}
 use Rattle.journal_store.specs.StoreTransaction.{IsUnwritten}
-use Rattle.journal_store.specs.Attempts.{IsToldAs, fresh}
+use Rattle.journal_store.specs.Attempts.{IsNowNoted, IsToldAs, fresh}
 use Rattle.journal_store.proofs.Leading.{Does, IsBegunAttempt}
-use Rattle.journal_store.proofs.Standing.{all_stored, store_still, stands_after}
+use Rattle.journal_store.proofs.Rows.{keeps_event}
+use Rattle.journal_store.proofs.Standing.{all_stored, store_still, stands_noted}
 
 -- ---- the attempt
 
 begun_as : (events : List Event) (id : Text) (now : ℕ) (made : PreparedAttempt) → IsBegun events id now made
-    → IsBegunAs events id (fresh made.number made.version made.known made.arrivals)
+    → IsBegunAs events id (fresh made.number made.version made.known made.arrivals made.row)
 begun_as events id now made is = record {
   number = is.number;
   version = is.version;
@@ -51,7 +52,7 @@ pub begin_recorded : (events : List Event) (id : Text) (now : ℕ) (old mid new 
     → causes_of events (Event.Begin id now) ≡ those_that_hold ((not (is_some (invocation_begun events id)), UnknownInvocation) ∷ more)
     → Survives old mid P → AreTablesKept old mid → Survives mid new Q → HasCleanDisk new → (causes_of events (Event.Begin id now) ≡ []) × IsBegun events id now made
     → IfOk result (IsToldAs made) → OnOk result (HasWritten made.writes.items mid new)
-    → OnOk result (IsNow id (Some (fresh made.number made.version made.known made.arrivals)) attempts left) → IfErr result (IsUnwritten made.writes.items mid new) → OnErr result (AreTablesKept mid new) → OnErr result (left ≡ attempts)
+    → OnOk result (IsNowNoted made.writes.items id (Some (fresh made.number made.version made.known made.arrivals made.row)) attempts left) → IfErr result (IsUnwritten made.writes.items mid new) → OnErr result (AreTablesKept mid new) → OnErr result (left ≡ attempts)
     → Stands events old attempts → Does events (Event.Begin id now) (IsBegunAttempt events id now) result new left
 begin_recorded events id now old mid new P Q attempts left made more (Ok told) tests before asked lives clean ready is wrote put why undone same stands =
     let store = store_still events old mid P before asked stands.kept in
@@ -59,7 +60,8 @@ begin_recorded events id now old mid new P Q attempts left made more (Ok told) t
     let agrees = begun events id now _ (begun_as events id now made ready.1) in (
       ready.0,
       record { number = is.0 ∙ ready.1.number; version = ap version_number is.1 ∙ ready.1.version; start = is.2 ∙ ready.1.start },
-      stands_after events (Event.Begin id now) id (Some _) new attempts left refl refl after agrees put stands.live,
+      stands_noted events (Event.Begin id now) id (Some _) new attempts left made.writes.items refl refl after (keeps_event events (Event.Begin id now) made.writes.items ready.0 ready.1.writes) agrees ready.1.row put
+          stands.live stands.rows,
     )
 begin_recorded events id now old mid new P Q attempts left made more (Err why) tests before asked lives clean ready is wrote put refused undone same stands =
     let store = store_still events old mid P before asked stands.kept in (
@@ -67,5 +69,6 @@ begin_recorded events id now old mid new P Q attempts left made more (Err why) t
       record {
         kept = store_still events mid new Q lives undone store;
         live = subst (λ (all : ByInvocation). (one : Text) → Agrees events one (attempt_of all one)) (sym same) stands.live;
+        rows = subst (λ (all : ByInvocation). (one : Text) → HasRow events one (attempt_of all one)) (sym same) stands.rows;
       },
     )

@@ -24,6 +24,7 @@ use Rattle.store_calls.specs.Frames.{StepsAttempt}
 use Rattle.journal_store.specs.StoreView.{stored}
 use Rattle.journal_store.specs.StoreStanding.{Stands, IsStanding, Leads}
 use Rattle.journal_store.specs.Attempts.{HasRead, IsStale, has_closed, has_rest}
+use Rattle.journal_store.proofs.Rows.{rows_changed}
 use Rattle.journal_store.proofs.Standing.{stands_asked, true_or_false}
 use Rattle.journal_store.proofs.Quiet.{live_here, this_one, stale_refused, stands_stopped, hand_out_closed, stands_handed, close_remains, close_closed, stands_closed}
 use Rattle.journal_store.proofs.Waiting.{stopped_waits, handed_waits, closed_waits}
@@ -118,6 +119,7 @@ stands_pushed events database old new id bytes stands changes = record {
         (subst (Agrees events id) (sym changes.own) (output_kept events id bytes (attempt_of old id) (stands.live id)))
     | inr apart ↦ subst (Agrees events other) (sym (changes.others other apart)) (stands.live other)
   ];
+  rows = rows_changed events id (after_output bytes) old new (λ one. refl) changes stands.rows;
 }
 
 abbrev output_in : LiveAttempt → Bytes

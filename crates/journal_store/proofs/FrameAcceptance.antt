@@ -1,5 +1,5 @@
 -- A frame is taken, or refused.
-use Rattle.std.proofs.Common.{◌≡◌, ℕ, refl, sym, ap, subst, ◌∙◌, inl, inr, arith, drop, Bool, true, false, not, List, [], ◌∷◌, Option, Some, None, option_map, Result, Ok, Err, IfOk, OnOk, OnErr, IsTrue}
+use Rattle.std.proofs.Common.{◌≡◌, ℕ, refl, sym, ap, subst, ◌∙◌, inl, inr, arith, drop, Bool, true, false, not, List, [], ◌∷◌, ◌++◌, flat_map, map, Option, Some, None, option_map, Result, Ok, Err, IfOk, OnOk, OnErr, IsTrue}
 use Rattle.sqlite_trees.specs.declared.store.Store.{Ghosts}
 use Rattle.sqlite_trees.specs.Tree.{Trees}
 use Rattle.sqlite.specs.Held.{Held, state}
@@ -7,7 +7,7 @@ use Rattle.sqlite.specs.State.{State, HasCleanDisk, Survives}
 use Rattle.sqlite.proofs.StateLemmas.{survives_then}
 use Rattle.journal_model.specs.Notification.{Bytes, Text}
 use Rattle.journal_model.specs.Event.{Event, Frame}
-use Rattle.journal_model.specs.Journal.{ends_attempt, version_of}
+use Rattle.journal_model.specs.Journal.{ends_attempt, frame_of as frame_of_event, object_of, request_of_frame, version_of}
 use Rattle.journal_model.specs.Attempt.{acknowledged, is_live}
 use Rattle.journal_model.specs.Cause.{causes_of, those_that_hold, adding_tests, IsAccepted}
 use Rattle.journal_model.specs.declared.cause.Cause.{Cause}
@@ -18,16 +18,22 @@ use Rattle.protocol_stream.specs.Item.{Item, unknown, message, item_at}
 use Rattle.store_frames.specs.FrameMeanings.{frame_of}
 use Rattle.store_frames.specs.ReadFrames.{IsReadIn}
 use Rattle.store_tables.specs.declared.row.Write.{Write}
+use Rattle.store_tables.specs.declared.row.Write.TheVariants.{AddEntry, SetProgress}
 use Rattle.store_tables.specs.Looks.{Lasts, OnlyAsks}
 use Rattle.store_tables.specs.Records.{Holds, applied_all}
 use Rattle.store_tables.specs.Steps.{Lands}
 use Rattle.store_refusals.specs.declared.refusal.Refusal.{Refusal}
 use Rattle.store_refusals.specs.declared.refusal.Refusal.TheVariants as refusal
 use Rattle.store_refusals.specs.RefusalConditions.{refusal_of_first_cause, is_circumstance, IsRefused}
-use Rattle.store_invocations.specs.Rows.{IsStoreOf}
+use Rattle.store_model.specs.Progress.{progress_of}
+use Rattle.store_model.specs.Writes.{ids_of_frame, invocation_writes, rows_added, sleep_writes, state_writes, writes_of}
+use Rattle.store_invocations.specs.Rows.{IsRowOf, IsStoreOf}
+use Rattle.store_frames.specs.Answer.{IsFrame}
+use Rattle.store_frames.specs.declared.frame.AttemptFrame.{AttemptFrame}
+use Rattle.store_frames.specs.declared.frame.AttemptFrame.TheVariants as answers
 use Rattle.store_steps.specs.declared.frame.FrameReply.{FrameReply}
 use Rattle.store_steps.specs.declared.frame.PreparedFrame.{PreparedFrame}
-use Rattle.store_steps.specs.PreparedFrames.{KnowsLive, IsReply, IsFrameTaken, TakesAttemptFrame, does_end, lies_in_frame}
+use Rattle.store_steps.specs.PreparedFrames.{KnowsLive, IsReply, IsFrameTaken, TakesAttemptFrame, does_end, is_written, lies_in_frame}
 use Rattle.store_steps.proofs.Live.{begun_open}
 use Rattle.store_steps.proofs.Tests.{causes_left}
 use Rattle.store_live.specs.declared.attempt.LiveAttempt.{LiveAttempt}
@@ -44,16 +50,18 @@ use Rattle.store_calls.proofs.Landing.{taken}
 use Rattle.store_calls.proofs.Live.{told_end}
 use Rattle.store_calls.proofs.Taking.{same_stays}
 use Rattle.journal_store.specs.StoreView.{Stored, stored}
-use Rattle.journal_store.specs.StoreStanding.{Stands, IsStanding, Leads, KeepsStanding, KeepsAll, Endures, WaitsNow}
+use Rattle.journal_store.specs.Attempts.{IsNowNoted}
+use Rattle.journal_store.specs.StoreStanding.{Stands, HasRow, IsStanding, Leads, KeepsStanding, KeepsAll, Endures, WaitsNow}
 use Rattle.journal_store.specs.FrameAcceptance.{HasMessage, HasMessageOf, IsEndedBy, IsFirstOf, IsSeen, IsSeenOf, SettlesStep, after_noted, passed}
 use Rattle.journal_store.specs.StoreTransaction.{WritesRows}
 use Rattle.journal_store.specs.Causes.{TriesFrame}
 use Rattle.journal_store.proofs.Causing.{AreTried}
 use Rattle.journal_store.proofs.Lasting.{outlasts_now}
 use Rattle.journal_store.proofs.Outcomes.{outcome_left}
-use Rattle.journal_store.proofs.Standing.{all_stored, landed, store_still, stands_after, stands_still}
+use Rattle.journal_store.proofs.Rows.{keeps_event}
+use Rattle.journal_store.proofs.Standing.{all_stored, landed, store_still, stands_noted, stands_still}
 use Rattle.journal_store.proofs.Quiet.{live_here, stands_stopped, this_one}
-use Rattle.journal_store.proofs.Waiting.{before_waits, now_waits, same_waits, stopped_waits}
+use Rattle.journal_store.proofs.Waiting.{before_waits, noted_now_waits, same_waits, stopped_waits}
 use Rattle.journal_store.proofs.Leading.{leaves, stays}
 
 -- ---- the attempt that is left
@@ -96,6 +104,11 @@ agrees_left events id number frame reply noted attempt rest accepted told replie
         subst (λ (left : LiveAttempt). Agrees (event ∷ events) id (Some left)) (noted_apart noted attempt rest)
         (other_output (event ∷ events) id (after_noted noted attempt) rest (outcome_left events id number n value asks noted attempt accepted told agrees))
     by_frame frame goes accepted told = plain frame goes accepted told refl
+
+row_left : (events : List Event) (id : Text) (noted : Option ℕ) (attempt : LiveAttempt) (rest : Bytes) → HasRow events id (Some attempt) → (b : Bool) → HasRow events id (option_map (after_noted noted) (attempt_left b rest attempt))
+row_left events id noted attempt rest has true = tt
+row_left events id None attempt rest has false = has
+row_left events id (Some n) attempt rest has false = has
 
 passed_left : (b : Bool) (len : ℕ) (found : Option LiveAttempt) (attempt : LiveAttempt) → found ≡ Some attempt → passed b len found ≡ attempt_left b (drop len attempt.output) attempt
 passed_left true len found attempt is = refl
@@ -166,13 +179,43 @@ module _ {S : Type 0} (g : Ghosts S) (old new : Stored S) (s : Standing) (is : I
       → IsStoreOf s.events (state g new.connection) → (b : Bool) → lies_in_frame why ≡ b → IsEndedBy b id old.live.attempts new.live.attempts
       → (t : Standing) × IsStanding g t new × RefusesFrame id n why s t
   item_refused why here cause store true lies ends =
-      let early : Stands s.events (state g new.connection) old.live.attempts = record { kept = store; live = is.stands.live } in
+      let early : Stands s.events (state g new.connection) old.live.attempts = record { kept = store; live = is.stands.live; rows = is.stands.rows } in
       let did = stands_stopped s.events (state g new.connection) old.live.attempts new.live.attempts id n early here ends in
       let it = leaves g s old new is (Event.Stop id n) id None did.2 (stopped_waits id old.live.attempts new.live.attempts ends) in (it.0, it.1, refuses_first why here cause true lies it.0 it.2)
   item_refused why here cause store false lies ends =
       let still : Stands s.events (state g new.connection) new.live.attempts =
-      record { kept = store; live = subst (λ (all : ByInvocation). (one : Text) → Agrees s.events one (attempt_of all one)) (sym ends) is.stands.live } in
+      record {
+        kept = store;
+        live = subst (λ (all : ByInvocation). (one : Text) → Agrees s.events one (attempt_of all one)) (sym ends) is.stands.live;
+        rows = subst (λ (all : ByInvocation). (one : Text) → HasRow s.events one (attempt_of all one)) (sym ends) is.stands.rows;
+      } in
       let it = stays g s old new is still (same_waits old.live.attempts new.live.attempts ends) in (it.0, it.1, refuses_first why here cause false lies it.0 it.2)
+
+-- something is written of each frame of which that is told
+some_written : (before : List Write) (write : Write) (behind : List Write) → ((before ++ write ∷ []) ++ []) ++ behind ≡ [] → ⊥
+some_written [] write behind e = cc
+some_written (first ∷ before) write behind e = cc
+
+-- of an event that changes the invocation
+not_unwritten : (events : List Event) (id : Text) (n : ℕ) (frame : Frame) → ids_of_frame id frame ≡ id ∷ [] → writes_of events (Event.Move id n frame) ≡ [] → ⊥
+not_unwritten events id n frame one none =
+    let event : Event = Event.Move id n frame in
+    let behind : List Write = sleep_writes events event ++ state_writes (object_of events event) (request_of_frame (frame_of_event event)) in
+    some_written (map AddEntry (rows_added events event id)) (SetProgress id (progress_of (event ∷ events) id)) behind
+    (subst (λ (ids : List Text). flat_map (invocation_writes events event) ids ++ behind ≡ []) one none)
+
+unwritten_frame : (events : List Event) (id : Text) (n : ℕ) (frame : Frame) (read : AttemptFrame) → IsFrame frame read → writes_of events (Event.Move id n frame) ≡ [] → is_written read ≡ false
+unwritten_frame events id n (Frame.Command request) (answers.Command command) is none = absurd (not_unwritten events id n (Frame.Command request) refl none)
+unwritten_frame events id n (Frame.RunOutcome m value asks) (answers.RunOutcome completion result acknowledges) is none = absurd (not_unwritten events id n (Frame.RunOutcome m value asks) refl none)
+unwritten_frame events id n (Frame.Suspend (Some suspension)) (answers.Suspension payload) is none = absurd (not_unwritten events id n (Frame.Suspend (Some suspension)) refl none)
+unwritten_frame events id n (Frame.Error code text behavior delay) (answers.Error told_code told_text told_behavior told_delay) is none =
+    absurd (not_unwritten events id n (Frame.Error code text behavior delay) refl none)
+unwritten_frame events id n Frame.End answers.End is none = absurd (not_unwritten events id n Frame.End refl none)
+unwritten_frame events id n frame answers.AwaitingOn is none = refl
+unwritten_frame events id n frame answers.Broken is none = refl
+unwritten_frame events id n frame answers.TooDeep is none = refl
+unwritten_frame events id n frame answers.NotAccepted is none = refl
+unwritten_frame events id n frame read is none = absurd is
 
 -- ---- a whole frame
 
@@ -217,7 +260,11 @@ module _ {S : Type 0} (g : Ghosts S) (a mid b : Held S) (before after : Attempts
 
   -- what was made ready of it, if anything was
   abbrev pub IsPrepared : Result PreparedFrame Refusal → Type 0
-  IsPrepared result = HasCleanDisk (state g mid) → (events : List Event) → IsStoreOf events (state g a) → TakesAttemptFrame events id it.facts it.frame result
+  IsPrepared result = HasCleanDisk (state g mid) → (events : List Event) → IsStoreOf events (state g a) → IsRowOf events id it.row → TakesAttemptFrame events id it.facts it.frame result
+
+  -- it has the row of its invocation
+  row_of : (events : List Event) → Stands events (state g a) before.attempts → IsRowOf events id it.row
+  row_of events stands = subst (IsRowOf events id) (sym one.seen.row) (subst (HasRow events id) one.found (stands.rows id))
 
   -- the frame is that of a message of its invocation's version
   read_of : (events : List Event) → Stands events (state g a) before.attempts → IsReadIn events event
@@ -225,7 +272,7 @@ module _ {S : Type 0} (g : Ghosts S) (a mid b : Held S) (before after : Attempts
 
   ready_of : (made : PreparedFrame) → IsPrepared (Ok made) → HasCleanDisk (state g mid) → (events : List Event) → Stands events (state g a) before.attempts
       → (causes_of events event ≡ []) × IsFrameTaken events id n frame made
-  ready_of made prepared clean events stands = prepared clean events stands.kept n frame (live_of events stands) (read_of events stands) one.seen.read
+  ready_of made prepared clean events stands = prepared clean events stands.kept (row_of events stands) n frame (live_of events stands) (read_of events stands) one.seen.read
 
   -- what was made ready are the writes of this frame
   pub frame_tried : (made : PreparedFrame) → IsPrepared (Ok made) → AreTried g (TriesFrame id n) mid (stored a before) made.writes.items
@@ -238,7 +285,7 @@ module _ {S : Type 0} (g : Ghosts S) (a mid b : Held S) (before after : Attempts
       → IsPrepared (Err why)
       → Leads g (StepsAttempt id n (Err why)) (stored a before) (stored mid after)
   seen_refused why looks ends prepared clean s is =
-      let it = item_refused g (stored a before) (stored mid after) s is id n one.attempt (message one.seen.message_is) left_of one.found one.seen.first why one.here (prepared clean s.events is.stands.kept n frame (live_of s.events is.stands) (read_of s.events is.stands) one.seen.read)
+      let it = item_refused g (stored a before) (stored mid after) s is id n one.attempt (message one.seen.message_is) left_of one.found one.seen.first why one.here (prepared clean s.events is.stands.kept (row_of s.events is.stands) n frame (live_of s.events is.stands) (read_of s.events is.stands) one.seen.read)
       (store_still s.events (state g a) (state g mid) (λ _. ⊥) looks.crash looks.kept is.stands.kept) (lies_in_frame why) refl ends in
       (it.0, it.1, inr it.2)
 
@@ -246,7 +293,7 @@ module _ {S : Type 0} (g : Ghosts S) (a mid b : Held S) (before after : Attempts
   pub seen_taken : (made : PreparedFrame) (result : Result (Option FrameReply) Refusal) → OnlyAsks g a mid → WritesRows g made.writes.items mid b result
       → IsPrepared (Ok made)
       → IfOk result (λ reply. reply ≡ Some made.reply)
-      → OnOk result (IsNow id (option_map (after_noted made.acknowledged) (passed (does_end made.reply) it.len (attempt_of before.attempts id))) before.attempts after.attempts)
+      → OnOk result (IsNowNoted made.writes.items id (option_map (after_noted made.acknowledged) (passed (does_end made.reply) it.len (attempt_of before.attempts id))) before.attempts after.attempts)
       → OnErr result (AreAsBefore before.attempts after.attempts)
       → Leads g (StepsBy result) (stored a before) (stored b after)
   seen_taken made (Ok None) looks wrote prepared replied now same clean s is = cc
@@ -260,13 +307,15 @@ module _ {S : Type 0} (g : Ghosts S) (a mid b : Held S) (before after : Attempts
       let agrees : Agrees s.events id (Some one.attempt) = subst (Agrees s.events id) one.found (is.stands.live id) in
       let is_reply : IsReply s.events id frame reply = subst (IsReply s.events id frame) (sym replied) ready.1.reply in
       let left_live = option_map (after_noted made.acknowledged) (attempt_left (does_end reply) left_of one.attempt) in
-      let is_now : IsNow id left_live before.attempts after.attempts =
-      subst (λ (o : Option LiveAttempt). IsNow id (option_map (after_noted made.acknowledged) o) before.attempts after.attempts)
+      let is_now : IsNowNoted made.writes.items id left_live before.attempts after.attempts =
+      subst (λ (o : Option LiveAttempt). IsNowNoted made.writes.items id (option_map (after_noted made.acknowledged) o) before.attempts after.attempts)
       (ap (λ (r : FrameReply). passed (does_end r) it.len (attempt_of before.attempts id)) (sym replied) ∙ passed_left (does_end reply) it.len (attempt_of before.attempts id) one.attempt one.found) now in
-      let stood_after = stands_after s.events event id left_live (state g b) before.attempts after.attempts refl refl all
-      (agrees_left s.events id n frame reply made.acknowledged one.attempt left_of all.accepted ready.1.acknowledged is_reply agrees (does_end reply) refl) is_now is.stands.live in
+      let stood_after = stands_noted s.events event id left_live (state g b) before.attempts after.attempts made.writes.items refl refl all
+      (keeps_event s.events event made.writes.items ready.0 ready.1.writes)
+      (agrees_left s.events id n frame reply made.acknowledged one.attempt left_of all.accepted ready.1.acknowledged is_reply agrees (does_end reply) refl)
+      (row_left s.events id made.acknowledged one.attempt left_of (subst (HasRow s.events id) one.found (is.stands.rows id)) (does_end reply)) is_now is.stands.live is.stands.rows in
       let waits = subst (λ (output : Option Bytes). WaitsNow id output before.attempts after.attempts) (left_alike made.acknowledged (does_end reply) left_of one.attempt)
-      (now_waits id left_live before.attempts after.attempts is_now) in
+      (noted_now_waits made.writes.items id left_live before.attempts after.attempts is_now) in
       let to = leaves g s (stored a before) (stored b after) is event id (rest_after (does_end reply) left_of) stood_after waits in (
         to.0,
         to.1,
@@ -283,7 +332,7 @@ module _ {S : Type 0} (g : Ghosts S) (a mid b : Held S) (before after : Attempts
       )
   seen_taken made (Err why) looks wrote prepared replied now same clean s is =
       let store = store_still s.events (state g a) (state g mid) (λ _. ⊥) looks.crash looks.kept is.stands.kept in
-      let between : Stands s.events (state g mid) before.attempts = record { kept = store; live = is.stands.live } in
+      let between : Stands s.events (state g mid) before.attempts = record { kept = store; live = is.stands.live; rows = is.stands.rows } in
       let it = item_waits g (stored a before) (stored b after) s is id n one.attempt (message one.seen.message_is) left_of one.found one.seen.first why one.here (inr wrote.why.circumstance) (not_in_frame why wrote.why.circumstance)
       (stands_still s.events (state g mid) (state g b) (Lands made.writes.items (state g mid)) before.attempts after.attempts wrote.crash wrote.undone same between) same in
       (it.0, it.1, (inr it.2, tt))
@@ -293,7 +342,7 @@ module _ {S : Type 0} (g : Ghosts S) (a mid b : Held S) (before after : Attempts
 
   -- what was answered lasts
   pub seen_settled : (made : PreparedFrame) (result : Result (Option FrameReply) Refusal) → OnlyAsks g a mid → WritesRows g made.writes.items mid b result
-      → (IsTrue (state g a).is_open → Lasts (state g a)) → (HasCleanDisk (state g mid) → IsTrue (state g a).is_open)
+      → (IsTrue (state g a).is_open → Lasts (state g a)) → (HasCleanDisk (state g mid) → is_written it.frame ≡ false → IsTrue (state g a).is_open)
       → IsPrepared (Ok made)
       → IfOk result (λ reply. reply ≡ Some made.reply) → Leads g (StepsBy result) (stored a before) (stored b after) → SettlesStep g id n result (stored a before) (stored b after)
   seen_settled made (Ok None) looks wrote idle asked prepared replied leads = cc
@@ -309,11 +358,12 @@ module _ {S : Type 0} (g : Ghosts S) (a mid b : Held S) (before after : Attempts
         t.2.0,
         elim (wrote.lasts clean) [
           | inl none ↦ λ trees may.
+              let opened = asked early (unwritten_frame s.events id n frame it.frame one.seen.read (sym ready.1.writes ∙ none.0)) in
               let before_it : (state g a).may_leave trees =
               elim (looks.crash.crash early trees (subst (λ (held : Held S). (state g held).may_leave trees) none.1 may)) [ inl earlier ↦ earlier | inr never ↦ absurd never ] in
-              let same : trees ≡ (state g a).now.trees = (idle (asked early)).left trees before_it in
+              let same : trees ≡ (state g a).now.trees = (idle opened).left trees before_it in
               subst (λ (events : List Event). KeepsAll events trees) (sym t.2.1)
-              (landed s.events event (state g a) made.writes.items trees is.stands.kept (read_of s.events is.stands) first ready.0 ready.1.writes (asked early)
+              (landed s.events event (state g a) made.writes.items trees is.stands.kept (read_of s.events is.stands) first ready.0 ready.1.writes opened
               (λ records held. subst (λ (writes : List Write). Holds trees (applied_all writes records)) (sym none.0) (subst (λ (db : Trees). Holds db records) (sym same) held)))
           | inr all ↦ outlasts_now t.0.events (state g b) after.attempts clean t.1.stands all
         ],

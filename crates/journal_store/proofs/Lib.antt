@@ -1,3 +1,4 @@
+pub mod Rows
 pub mod Standing
 pub mod Asking
 pub mod Flagged

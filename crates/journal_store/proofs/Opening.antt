@@ -106,10 +106,12 @@ pub opened_left : (events : List Event) (s : State) (attempts : ByInvocation) �
 opened_left events s attempts none store = subst (Stands (after_open events) s) (sym none) (record {
   kept = stops_kept events (filter_map invoked_by events) s store (begun_apart events store.accepted);
   live = λ id. none_live events id store.accepted;
+  rows = λ id. tt;
 })
 
 pub opened_fresh : (s : State) (attempts : ByInvocation) → attempts ≡ [] → Holds s.now.trees no_records → Stands [] s attempts
 opened_fresh s attempts none held = subst (Stands [] s) (sym none) (record {
   kept = record { accepted = tt; read = tt; keeps = λ clean is_open. record { accepted = tt; records = no_records; held = held; kept = kept_at_first } };
   live = λ id. refl;
+  rows = λ id. tt;
 })

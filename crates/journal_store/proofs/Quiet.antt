@@ -22,6 +22,7 @@ use Rattle.store_live_laws.proofs.Tests.{live_told, causes_told}
 use Rattle.store_live_laws.proofs.Steps.{closed as closed_kept, handed_out, stopped}
 use Rattle.journal_store.specs.StoreStanding.{Stands}
 use Rattle.journal_store.specs.Attempts.{HasRead, has_closed, has_rest}
+use Rattle.journal_store.proofs.Rows.{rows_changed, rows_now, rows_quiet}
 use Rattle.journal_store.proofs.Standing.{stands_after, unwritten}
 
 -- the attempt with this number
@@ -58,8 +59,12 @@ pub stands_stopped : (events : List Event) (database : State) (old new : ByInvoc
     → (causes_of events (Event.Stop id number) ≡ []) × Unit {0} × Stands (Event.Stop id number ∷ events) database new
 stands_stopped events database old new id number stands live now =
     let none = stop_causes events database old id number stands live in
-    let kept = unwritten events (Event.Stop id number) database stands.kept tt none (none_written (object_of events (Event.Stop id number))) in
-    (none, tt, stands_after events (Event.Stop id number) id None database old new refl refl kept (stopped events id number) now stands.live)
+    let kept = unwritten events (Event.Stop id number) database stands.kept tt none (none_written (object_of events (Event.Stop id number))) in (
+      none,
+      tt,
+      stands_after events (Event.Stop id number) id None database old new refl refl kept (stopped events id number) now stands.live
+          (rows_now (Event.Stop id number ∷ events) id None old new now tt (rows_quiet events (Event.Stop id number) old kept.accepted (none_written (object_of events (Event.Stop id number))) stands.rows)),
+    )
 
 -- ---- refusals of an attempt that is not live
 
@@ -114,7 +119,9 @@ stands_handed events database old new id number most bytes stands live opened re
           none,
           handed_bytes events id most (attempt_of old id) number here (stands.live id) read,
           stands_after events (Event.Feed id number count) id (option_map (after_hand_out most) (attempt_of old id)) database old new refl refl kept
-              (handed_out events id number most (attempt_of old id) kept.accepted (stands.live id)) changed stands.live,
+              (handed_out events id number most (attempt_of old id) kept.accepted (stands.live id)) changed stands.live
+              (rows_changed (Event.Feed id number count ∷ events) id (after_hand_out most) old new (λ one. refl) changed
+              (rows_quiet events (Event.Feed id number count) old kept.accepted (none_written (object_of events (Event.Feed id number count))) stands.rows)),
         )
 
 -- ---- the input that is closed
@@ -160,5 +167,7 @@ stands_closed events database old new id number stands live read rest opened cha
       none,
       tt,
       stands_after events (Event.Close id number) id (option_map after_close (attempt_of old id)) database old new refl refl kept
-          (closed_kept events id number (attempt_of old id) kept.accepted (stands.live id)) changed stands.live,
+          (closed_kept events id number (attempt_of old id) kept.accepted (stands.live id)) changed stands.live
+          (rows_changed (Event.Close id number ∷ events) id after_close old new (λ one. refl) changed
+          (rows_quiet events (Event.Close id number) old kept.accepted (none_written (object_of events (Event.Close id number))) stands.rows)),
     )

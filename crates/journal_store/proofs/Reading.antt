@@ -31,6 +31,7 @@ use Rattle.journal_store.specs.StoreView.{stored}
 use Rattle.journal_store.specs.StoreStanding.{KeepsOutputs, Stands}
 use Rattle.journal_store.specs.Attempts.{FitsNext, HasRead, HasRoomFor, IsWanted, IsWantedBy, ReadsNext, after_wanted, has_closed, rest_kept}
 use Rattle.journal_store.proofs.Fitting.{entries_fit}
+use Rattle.journal_store.proofs.Rows.{rows_changed}
 use Rattle.journal_store.proofs.Standing.{stands_asked, true_or_false}
 
 -- a frame has its header at least
@@ -148,7 +149,12 @@ stands_on events database old new id found stands has changes = record {
     | inl same ↦ subst (λ (o : Text). Agrees events o (attempt_of new o)) ((bytes_eq-Decides id other).0 same) (subst (Agrees events id) (sym changes.own) has.agrees)
     | inr apart ↦ subst (Agrees events other) (sym (changes.others other apart)) (stands.live other)
   ];
+  rows = rows_changed events id (after_wanted found) old new (same_row found) changes stands.rows;
 }
+  where
+    same_row : (found : Option FrameRead) (one : LiveAttempt) → (after_wanted found one).row ≡ one.row
+    same_row None one = refl
+    same_row (Some frame) one = refl
 
 module _ {S : Type 0} (g : Ghosts S) (a b : Held S) (before : Attempts) (id : Text) (looks : OnlyAsks g a b) where
   pub reads_on : (after : Attempts) (found : Option FrameRead)

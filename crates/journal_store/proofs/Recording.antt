@@ -40,8 +40,8 @@ invokes g a mid b live new writes (Ok done) looks ready wrote clean s is =
     let made = ready early s.events is.stands.kept in
     let store = store_kept s.events (state g a) (state g mid) looks.crash looks.kept is.stands.kept in
     let after = all_stored s.events (Event.Invoke new) (state g mid) (state g b) (Lands writes (state g mid)) writes wrote.crash clean store tt made.0 made.1 (wrote.done clean) in
-    adds g s (stored a live) (stored b live) is (Event.Invoke new) (stands_invoked s.events new (state g b) live.attempts made.0 is.stands.kept.accepted after is.stands.live) (λ id. refl)
+    adds g s (stored a live) (stored b live) is (Event.Invoke new) (stands_invoked s.events new (state g b) live.attempts made.0 is.stands.kept.accepted after is.stands.live is.stands.rows) (λ id. refl)
 invokes g a mid b live new writes (Err why) looks ready wrote clean s is =
     let store = store_kept s.events (state g a) (state g mid) looks.crash looks.kept is.stands.kept in
     refuses g s (stored a live) (stored b live) is (Event.Invoke new) why (inr wrote.why.circumstance)
-    (record { kept = store_still s.events (state g mid) (state g b) (Lands writes (state g mid)) wrote.crash wrote.undone store; live = is.stands.live }) (λ id. refl)
+    (record { kept = store_still s.events (state g mid) (state g b) (Lands writes (state g mid)) wrote.crash wrote.undone store; live = is.stands.live; rows = is.stands.rows }) (λ id. refl)

@@ -9,16 +9,17 @@ use Rattle.sql_tables.specs.QueryAnswers.{AreTablesKept}
 use Rattle.journal_model.specs.Notification.{Text}
 use Rattle.journal_model.specs.declared.invocation.NewInvocation.{NewInvocation}
 use Rattle.journal_model.specs.Event.{Event}
-use Rattle.journal_model.specs.Journal.{invocation_of, is_tick, is_text, version_of}
+use Rattle.journal_model.specs.Journal.{invocation_of, is_tick, is_text, object_of, version_of}
 use Rattle.journal_model.specs.Attempt.{live_attempt, acknowledged}
 use Rattle.journal_model.specs.Cause.{causes_of, IsAccepted}
 use Rattle.store_frames.specs.ReadFrames.{AreRead, IsReadIn}
 use Rattle.store_tables.specs.Records.{Holds, Records, applied_all}
 use Rattle.store_tables.specs.declared.row.Write.{Write}
+use Rattle.store_tables.specs.declared.row.InvocationRow.{InvocationRow}
 use Rattle.store_tables.specs.Steps.{TurnsRecords, Lands}
 use Rattle.store_tables.specs.Looks.{HasWritten}
 use Rattle.store_model.specs.KeptRecords.{IsKept}
-use Rattle.store_model.specs.Writes.{writes_of}
+use Rattle.store_model.specs.Writes.{state_writes, writes_of}
 use Rattle.store_model.proofs.Keeping.{kept_after}
 use Rattle.store_refusals.specs.Preparations.{Keeps}
 use Rattle.store_invocations.specs.Rows.{IsStoreOf}
@@ -29,8 +30,11 @@ use Rattle.store_live_laws.specs.LiveAttempts.{Agrees, does_record}
 use Rattle.store_live_laws.proofs.Steps.{as_before, elsewhere, recorded}
 use Rattle.store_live_laws.proofs.Begun.{invoked}
 use Rattle.store_live.specs.ChangedRoom.{IsAsBefore, AreAsBefore}
+use Rattle.store_live.specs.Rows.{AreNoted, row_after}
 use Rattle.store_calls.specs.AbstractStore.{Standing}
-use Rattle.journal_store.specs.StoreStanding.{Stands, KeepsAll, KeepsOf}
+use Rattle.journal_store.specs.StoreStanding.{Stands, HasRow, KeepsAll, KeepsOf}
+use Rattle.journal_store.specs.Attempts.{IsNowNoted}
+use Rattle.journal_store.proofs.Rows.{KeepsBy, agrees_noted, keeps_event, rows_before, rows_noted, rows_now, rows_still}
 
 pub true_or_false : (b : Bool) → (b ≡ true) ⊎ (b ≡ false)
 true_or_false true = inl refl
@@ -87,25 +91,42 @@ unwritten events event s store read accepted none =
 -- ---- attempts
 
 -- of one invocation the attempt is as the event leaves it, and of the others it is as before
+live_after : (events : List Event) (event : Event) (id : Text) (after : Option LiveAttempt) (old new : ByInvocation)
+    → invocation_of event ≡ Some id → is_tick event ≡ false → IsAccepted (event ∷ events) → Agrees (event ∷ events) id after → IsNow id after old new
+    → ((other : Text) → Agrees events other (attempt_of old other)) → (other : Text) → Agrees (event ∷ events) other (attempt_of new other)
+live_after events event id after old new of_it no_tick accepted agrees now live other = elim (true_or_false (bytes_eq id other)) [
+  | inl same ↦ subst (λ (o : Text). Agrees (event ∷ events) o (attempt_of new o)) ((bytes_eq-Decides id other).0 same)
+      (subst (Agrees (event ∷ events) id) (sym now.own) agrees)
+  | inr apart ↦ subst (Agrees (event ∷ events) other) (sym (now.others other apart))
+      (elsewhere events event other (attempt_of old other) accepted (ap (is_text other) of_it ∙ apart) no_tick (live other))
+]
+
 pub stands_after : (events : List Event) (event : Event) (id : Text) (after : Option LiveAttempt) (database : State) (old new : ByInvocation)
     → invocation_of event ≡ Some id → is_tick event ≡ false → IsStoreOf (event ∷ events) database → Agrees (event ∷ events) id after → IsNow id after old new
-    → ((other : Text) → Agrees events other (attempt_of old other)) → Stands (event ∷ events) database new
-stands_after events event id after database old new of_it no_tick kept agrees now live = record {
+    → ((other : Text) → Agrees events other (attempt_of old other)) → ((other : Text) → HasRow (event ∷ events) other (attempt_of new other)) → Stands (event ∷ events) database new
+stands_after events event id after database old new of_it no_tick kept agrees now live rows =
+    record { kept = kept; live = live_after events event id after old new of_it no_tick kept.accepted agrees now live; rows = rows }
+
+-- and then what was written was taken in
+pub stands_noted : (events : List Event) (event : Event) (id : Text) (after : Option LiveAttempt) (database : State) (old new : ByInvocation) (writes : List Write)
+    → invocation_of event ≡ Some id → is_tick event ≡ false → IsStoreOf (event ∷ events) database → KeepsBy events event writes → Agrees (event ∷ events) id after → HasRow events id after
+    → IsNowNoted writes id after old new → ((other : Text) → Agrees events other (attempt_of old other)) → ((other : Text) → HasRow events other (attempt_of old other))
+    → Stands (event ∷ events) database new
+stands_noted events event id after database old new writes of_it no_tick kept keeps agrees has (between, now, noted) live rows = record {
   kept = kept;
-  live = λ other. elim (true_or_false (bytes_eq id other)) [
-    | inl same ↦ subst (λ (o : Text). Agrees (event ∷ events) o (attempt_of new o)) ((bytes_eq-Decides id other).0 same)
-        (subst (Agrees (event ∷ events) id) (sym now.own) agrees)
-    | inr apart ↦ subst (Agrees (event ∷ events) other) (sym (now.others other apart))
-        (elsewhere events event other (attempt_of old other) kept.accepted (ap (is_text other) of_it ∙ apart) no_tick (live other))
-  ];
+  live = agrees_noted (event ∷ events) writes between new noted (live_after events event id after old between of_it no_tick kept.accepted agrees now live);
+  rows = rows_noted events event writes between new kept.accepted keeps noted (rows_now events id after old between now has rows);
 }
 
 -- what is recorded, of whichever invocation, leaves what is kept of each attempt, but of one that is to acknowledge it
-pub stands_recorded : (events : List Event) (event : Event) (database : State) (attempts : ByInvocation) → does_record event ≡ true
-    → ((id : Text) → acknowledged (version_of events id) id event ≡ None) → IsStoreOf (event ∷ events) database
-    → ((other : Text) → Agrees events other (attempt_of attempts other)) → Stands (event ∷ events) database attempts
-stands_recorded events event database attempts does plain kept live =
-    record { kept = kept; live = λ id. recorded events event id (attempt_of attempts id) kept.accepted does (plain id) (live id) }
+pub stands_recorded : (events : List Event) (event : Event) (database : State) (old new : ByInvocation) (writes : List Write) → does_record event ≡ true
+    → ((id : Text) → acknowledged (version_of events id) id event ≡ None) → IsStoreOf (event ∷ events) database → KeepsBy events event writes → AreNoted writes old new
+    → ((other : Text) → Agrees events other (attempt_of old other)) → ((other : Text) → HasRow events other (attempt_of old other)) → Stands (event ∷ events) database new
+stands_recorded events event database old new writes does plain kept keeps noted live rows = record {
+  kept = kept;
+  live = agrees_noted (event ∷ events) writes old new noted (λ id. recorded events event id (attempt_of old id) kept.accepted does (plain id) (live id));
+  rows = rows_noted events event writes old new kept.accepted keeps noted rows;
+}
 
 -- ---- room
 
@@ -154,11 +175,12 @@ pub stands_still : (events : List Event) (old new : State) (P : Trees → Type 0
 stands_still events old new P attempts left lives asked same stands = record {
   kept = store_still events old new P lives asked stands.kept;
   live = λ id. agrees_still events id (attempt_of attempts id) (attempt_of left id) (same id) (stands.live id);
+  rows = rows_before events attempts left same stands.rows;
 }
 
 -- the database was asked alone
 pub stands_asked : (events : List Event) (old new : State) (attempts : ByInvocation) → Survives old new (λ _. ⊥) → AreTablesKept old new → Stands events old attempts → Stands events new attempts
-stands_asked events old new attempts lives asked stands = record { kept = store_still events old new (λ _. ⊥) lives asked stands.kept; live = stands.live }
+stands_asked events old new attempts lives asked stands = record { kept = store_still events old new (λ _. ⊥) lives asked stands.kept; live = stands.live; rows = stands.rows }
 
 -- of a new invocation no attempt is live, before and after
 none_live : (events : List Event) (id : Text) (o : Option LiveAttempt) → live_attempt events id ≡ None → Agrees events id o → o ≡ None
@@ -166,11 +188,18 @@ none_live events id None none agrees = refl
 none_live events id (Some attempt) none agrees = cc
 
 pub stands_invoked : (events : List Event) (new : NewInvocation) (database : State) (attempts : ByInvocation) → causes_of events (Event.Invoke new) ≡ []
-    → IsAccepted events → IsStoreOf (Event.Invoke new ∷ events) database → ((id : Text) → Agrees events id (attempt_of attempts id)) → Stands (Event.Invoke new ∷ events) database attempts
-stands_invoked events new database attempts accepted before kept live =
+    → IsAccepted events → IsStoreOf (Event.Invoke new ∷ events) database → ((id : Text) → Agrees events id (attempt_of attempts id)) → ((id : Text) → HasRow events id (attempt_of attempts id))
+    → Stands (Event.Invoke new ∷ events) database attempts
+stands_invoked events new database attempts accepted before kept live rows =
     let both = invoked events new before accepted in
     stands_after events (Event.Invoke new) new.id None database attempts attempts refl refl kept both.1
     (record { own = none_live events new.id (attempt_of attempts new.id) both.0 (live new.id); others = λ other apart. refl }) live
+    (rows_still events (Event.Invoke new) (writes_of events (Event.Invoke new)) attempts kept.accepted (keeps_event events (Event.Invoke new) (writes_of events (Event.Invoke new)) accepted refl)
+    (λ id row. no_progress id row (object_of events (Event.Invoke new))) rows)
+  where
+    no_progress : (id : Text) (row : InvocationRow) (object : Option Text) → row_after id (state_writes object []) row ≡ row
+    no_progress id row None = refl
+    no_progress id row (Some object) = refl
 
 -- ---- crashes
 

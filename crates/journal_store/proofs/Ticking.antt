@@ -1,5 +1,5 @@
 -- A tick is recorded.
-use Rattle.std.proofs.Common.{◌≡◌, ℕ, refl, sym, subst, ◌∙◌, inl, inr, List, [], ◌∷◌, Result, Ok, Err, IfOk, OnOk, IsTrue, arith}
+use Rattle.std.proofs.Common.{◌≡◌, ℕ, refl, sym, subst, ◌∙◌, inl, inr, List, [], ◌∷◌, Result, Ok, Err, IfOk, OnOk, OnErr, IsTrue, arith}
 use Rattle.sqlite_trees.specs.Tree.{Trees}
 use Rattle.sqlite_trees.specs.declared.store.Store.{Ghosts}
 use Rattle.sqlite.specs.Held.{Held, state}
@@ -18,6 +18,7 @@ use Rattle.store_refusals.specs.Preparations.{Keeps}
 use Rattle.store_invocations.specs.Rows.{IsStoreOf}
 use Rattle.store_invocations.proofs.Standing.{store_kept}
 use Rattle.store_live.specs.Attempts.{Attempts}
+use Rattle.store_live.specs.Rows.{AreNoted}
 use Rattle.store_arrivals.specs.PreparedTicks.{IsTickReady}
 use Rattle.store_arrivals.specs.declared.tick.PreparedTick.{PreparedTick}
 use Rattle.store_arrivals.proofs.Keeping.{ready_keeps}
@@ -29,14 +30,11 @@ use Rattle.journal_store.specs.StoreTransaction.{WritesRows}
 use Rattle.journal_store.proofs.Enduring.{tick_landed}
 use Rattle.journal_store.proofs.Lasting.{outlasts_now}
 use Rattle.journal_store.proofs.Leading.{adds, refuses}
+use Rattle.journal_store.proofs.Rows.{KeepsBy, noted_waits}
 use Rattle.journal_store.proofs.Standing.{stands_recorded, store_still, stored_still}
 use Rattle.journal_store.proofs.Waiting.{still_waits}
 
 -- ---- records
-
--- these writes keep the event
-abbrev pub KeepsBy : List Event → Event → List Write → Type 0
-KeepsBy events event writes = (r : Records) → IsAccepted events → IsKept events r → IsKept (event ∷ events) (applied_all writes r)
 
 pub tick_keeps : (events : List Event) (now : ℕ) (made : PreparedTick) → causes_of events (Event.Tick now) ≡ [] → IsTickReady events now made
     → KeepsBy events (Event.Tick now) made.writes.items
@@ -80,22 +78,22 @@ IsReadyTick old mid now made = HasCleanDisk mid → (events : List Event) → Is
 module _ {S : Type 0} (g : Ghosts S) (a mid b : Held S) (before after : Attempts) (now : ℕ) (made : PreparedTick) (looks : OnlyAsks g a mid)
     (ready : IsReadyTick (state g a) (state g mid) now made) where
   -- what was made ready was written, or nothing was
-  pub ticks : (result : Result ℕ Refusal) → WritesRows g made.writes.items mid b result → IfOk result (λ count. count ≡ made.count) → after ≡ before
+  pub ticks : (result : Result ℕ Refusal) → WritesRows g made.writes.items mid b result → IfOk result (λ count. count ≡ made.count) → OnOk result (AreNoted made.writes.items before.attempts after.attempts) → OnErr result (after ≡ before)
       → Leads g (Ticks now result) (stored a before) (stored b after)
-  ticks (Ok count) wrote counted same clean s is =
+  ticks (Ok count) wrote counted noted same clean s is =
       let early : HasCleanDisk (state g mid) = omega (arith, wrote.crash.clean, clean) in
       let it = ready early s.events is.stands.kept in
       let store = store_kept s.events (state g a) (state g mid) looks.crash looks.kept is.stands.kept in
-      let kept = tick_stored s.events now made.writes.items (tick_keeps s.events now made it.0 it.1) it.0 (state g mid) (state g b) (Lands made.writes.items (state g mid)) wrote.crash store early (wrote.done clean) in
-      let stands = stands_recorded s.events (Event.Tick now) (state g b) before.attempts refl (λ id. refl) kept is.stands.live in
-      let to = adds g s (stored a before) (stored b after) is (Event.Tick now)
-      (subst (λ (all : Attempts). Stands (Event.Tick now ∷ s.events) (state g b) all.attempts) (sym same) stands) (still_waits before after same) in
+      let keeps = tick_keeps s.events now made it.0 it.1 in
+      let kept = tick_stored s.events now made.writes.items keeps it.0 (state g mid) (state g b) (Lands made.writes.items (state g mid)) wrote.crash store early (wrote.done clean) in
+      let stands = stands_recorded s.events (Event.Tick now) (state g b) before.attempts after.attempts made.writes.items refl (λ id. refl) kept keeps noted is.stands.live is.stands.rows in
+      let to = adds g s (stored a before) (stored b after) is (Event.Tick now) stands (noted_waits made.writes.items before.attempts after.attempts noted) in
       (to.0, to.1, (counted ∙ it.1.count, to.2))
-  ticks (Err why) wrote counted same clean s is =
+  ticks (Err why) wrote counted noted same clean s is =
       let store = store_kept s.events (state g a) (state g mid) looks.crash looks.kept is.stands.kept in
       refuses g s (stored a before) (stored b after) is (Event.Tick now) why (inr wrote.why.circumstance)
       (subst (λ (all : Attempts). Stands s.events (state g b) all.attempts) (sym same)
-      (record { kept = store_still s.events (state g mid) (state g b) (Lands made.writes.items (state g mid)) wrote.crash wrote.undone store; live = is.stands.live })) (still_waits before after same)
+      (record { kept = store_still s.events (state g mid) (state g b) (Lands made.writes.items (state g mid)) wrote.crash wrote.undone store; live = is.stands.live; rows = is.stands.rows })) (still_waits before after same)
 
   -- where a crash comes
   pub tick_lands : Survives (state g mid) (state g b) (Lands made.writes.items (state g mid)) → EnduresAlways g (Adds (Event.Tick now)) (stored a before) (stored b after)

@@ -16,7 +16,10 @@ use Rattle.store_invocations.specs.declared.attempt.PreparedAttempt.{PreparedAtt
 use Rattle.store_live.specs.declared.attempt.LiveAttempt.{LiveAttempt}
 use Rattle.store_live.specs.declared.input.FrameRead.{FrameRead}
 use Rattle.store_live.specs.Input.{at_begin, next_ordinal, next_row}
-use Rattle.store_live.specs.Attempts.{CountsFrame, live_after_frame, attempt_of}
+use Rattle.store_live.specs.Attempts.{ByInvocation, CountsFrame, IsNow, live_after_frame, attempt_of}
+use Rattle.store_live.specs.Rows.{AreNoted}
+use Rattle.store_tables.specs.declared.row.InvocationRow.{InvocationRow}
+use Rattle.store_tables.specs.declared.row.Write.{Write}
 use Rattle.store_live_laws.specs.Memory.{frame_read, row_asked}
 use Rattle.store_live_laws.specs.LiveAttempts.{cause_of_stale, has_number}
 use Rattle.store_calls.specs.declared.begun.BegunAttempt.{BegunAttempt}
@@ -114,14 +117,19 @@ abbrev pub BeginsSome : Text → ℕ → Standing → Standing → Type 0
 BeginsSome id now old new = (begun : BegunAttempt) × BeginsStoredAttempt id now begun old new
 
 -- the attempt as it is kept then: nothing of its input was read, and it wrote nothing
-abbrev pub fresh : (number : ℕ) → Version → (known arrivals : ℕ) → LiveAttempt
-fresh number version known arrivals = record {
+abbrev pub fresh : (number : ℕ) → Version → (known arrivals : ℕ) → InvocationRow → LiveAttempt
+fresh number version known arrivals row = record {
   number = number;
   version = version;
   input = at_begin known arrivals;
   is_input_closed = false;
   output = [];
+  row = row;
 }
+
+-- of this invocation the attempt is this, and of the others they are as before; and then what was written was taken in
+abbrev pub IsNowNoted : List Write → Text → Option LiveAttempt → ByInvocation → ByInvocation → Type 0
+IsNowNoted writes id attempt old new = (between : ByInvocation) × IsNow id attempt old between × AreNoted writes between new
 
 -- it is told by what was made ready
 abbrev pub IsToldAs : PreparedAttempt → BegunAttempt → Type 0

@@ -31,6 +31,7 @@ pub record IsSeen (attempt : LiveAttempt) (it : SeenFrame) : Type 0 where
   pub handed : it.facts.handed ≡ attempt.input.handed
   pub heard : it.facts.heard ≡ attempt.input.heard
   pub closed : it.facts.is_input_closed ≡ attempt.is_input_closed
+  pub row : it.row ≡ attempt.row
 
 abbrev pub IsFirstSeen : LiveAttempt → FirstSeen → Type 0
 IsFirstSeen attempt seen.Partial = item_at attempt.output ≡ None

@@ -1,5 +1,5 @@
 -- When a store stands for a list of accepted events, and what a call makes of that.
-use Rattle.std.specs.Prelude.{◌≡◌, false, bytes_eq, List, Option, option_map, Result, Ok, Err}
+use Rattle.std.specs.Prelude.{◌≡◌, false, bytes_eq, List, Option, Some, None, option_map, Result, Ok, Err}
 use Rattle.sqlite_trees.specs.declared.store.Store.{Ghosts}
 use Rattle.sqlite_trees.specs.Tree.{Trees}
 use Rattle.sqlite.specs.Held.{state}
@@ -11,18 +11,24 @@ use Rattle.store_tables.specs.Records.{Records, Holds}
 use Rattle.store_model.specs.KeptRecords.{IsKept}
 use Rattle.store_refusals.specs.declared.refusal.Refusal.{Refusal}
 use Rattle.store_refusals.specs.Preparations.{TellsOrRefuses}
-use Rattle.store_invocations.specs.Rows.{Decides, IsStoreOf, known_tests}
+use Rattle.store_invocations.specs.Rows.{Decides, IsRowOf, IsStoreOf, known_tests}
 use Rattle.store_live.specs.declared.attempt.LiveAttempt.{LiveAttempt}
 use Rattle.store_live.specs.Attempts.{ByInvocation, attempt_of}
 use Rattle.store_live_laws.specs.LiveAttempts.{Agrees}
 use Rattle.store_calls.specs.AbstractStore.{Standing}
 use Rattle.journal_store.specs.StoreView.{Stored}
 
+-- an attempt has the row of its invocation
+abbrev pub HasRow : List Event → Text → Option LiveAttempt → Type 0
+HasRow events id None = Unit {0}
+HasRow events id (Some attempt) = IsRowOf events id attempt.row
+
 -- The events were accepted; the tables hold what is kept of them, as long as the connection is open; the attempts in memory are
--- the live ones.
+-- the live ones, each with the row of its invocation.
 pub record Stands (events : List Event) (database : State) (attempts : ByInvocation) : Type 0 where
   pub kept : IsStoreOf events database
   pub live : (id : Text) → Agrees events id (attempt_of attempts id)
+  pub rows : (id : Text) → HasRow events id (attempt_of attempts id)
 
 -- the bytes that came from the live attempt of an invocation and were not taken
 abbrev pub output_of : ByInvocation → Text → Option Bytes

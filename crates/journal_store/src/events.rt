@@ -1,11 +1,11 @@
 // Events that are recorded: each is made ready, and then written in one transaction.
 ghost use Rattle.std.specs.Prelude.{◌≡◌, Some, [], ◌<◌, IfOk, OnErr, OnOk, IfErr};
 ghost use Rattle.journal_model.specs.Event.{Event};
-ghost use Rattle.store_live.specs.Attempts.{IsNow};
+ghost use Rattle.store_live.specs.Rows.{AreNoted};
 ghost use Rattle.store_calls.specs.AbstractStore.{Adds};
 ghost use Rattle.store_calls.specs.Calls.{BeginsAttempt, CompletesCall, Invokes};
-ghost use Rattle.journal_store.specs.Attempts.{BeginsSome, IsToldAs, fresh};
-ghost use Rattle.journal_store.specs.StoreStanding.{EnduresAlways, KeepsOutputs, Leads, Settles, WaitsAfter};
+ghost use Rattle.journal_store.specs.Attempts.{BeginsSome, IsNowNoted, IsToldAs, fresh};
+ghost use Rattle.journal_store.specs.StoreStanding.{EnduresAlways, KeepsOutputs, Leads, Settles, WaitsAfter, WaitsNow};
 ghost use Rattle.journal_store.specs.Words.{state, AreTablesKept};
 ghost use Rattle.journal_store.specs.StoreTransaction.{WritesRows};
 ghost use Rattle.journal_store.specs.Causes.{TellsWhyUnwritten, TriesEvent};
@@ -21,7 +21,7 @@ use store_calls::BegunAttempt;
 use store_invocations::{PreparedAttempt, prepare_begin, prepare_invoke};
 use store_live::{AttemptInput, FrameBuffer, LiveAttempt, LiveAttempts};
 use store_refusals::Refusal;
-use store_tables::{StoreTables, Write, commit_all};
+use store_tables::{InvocationRow, StoreTables, Write, commit_all};
 
 /// Writes in one transaction what is to be written, if there is anything.
 pub(crate) fn commit<S: Alter>(tables: &mut StoreTables<S>, writes: &[Write]) -> Result<(), Refusal>
@@ -44,6 +44,28 @@ fn commit_ready<S: Alter>(tables: &mut StoreTables<S>, writes: Vec<Write>) -> Re
     done
 }
 
+/// Writes what was made ready of an event, and then takes it in for the attempts that are live.
+pub(crate) fn commit_noted<S: Alter>(
+    tables: &mut StoreTables<S>,
+    live: &mut LiveAttempts,
+    writes: Vec<Write>,
+) -> Result<(), Refusal>
+    ensures made { WritesRows S.Store writes.items tables.old tables.new result }
+    ensures noted { OnOk result (AreNoted writes.items live.old.attempts live.new.attempts) }
+    ensures stays { OnErr result (live.new ≡ live.old) }
+{
+    match commit(tables, writes.as_slice()) {
+        Ok(()) => {
+            live.note_written(writes);
+            Ok(())
+        }
+        Err(why) => {
+            drop(writes);
+            Err(why)
+        }
+    }
+}
+
 /// The attempt that is begun: nothing of its input was read, and it wrote nothing.
 fn fresh_attempt(
     alloc: Global,
@@ -51,8 +73,9 @@ fn fresh_attempt(
     version: Version,
     known: u32,
     arrivals: u32,
+    row: InvocationRow,
 ) -> LiveAttempt
-    ensures { result ≡ fresh number version known arrivals }
+    ensures { result ≡ fresh number version known arrivals row }
 {
     LiveAttempt {
         number,
@@ -60,7 +83,18 @@ fn fresh_attempt(
         input: AttemptInput::new(alloc, known, arrivals),
         is_input_closed: false,
         output: FrameBuffer::new(alloc),
+        row,
     }
+}
+
+/// Takes in an attempt that was begun, and what was written of that. Room was made for it.
+fn take_in(live: &mut LiveAttempts, id: ByteStr, attempt: LiveAttempt, writes: Vec<Write>)
+    requires { 0 < live.old.room }
+    ensures put { IsNowNoted writes.items id (Some attempt) live.old.attempts live.new.attempts }
+    ensures waits { WaitsNow id (Some attempt.output) live.old.attempts live.new.attempts }
+{
+    live.put_begun(id, attempt);
+    live.note_written(writes);
 }
 
 /// Makes room for one more attempt, and the id by which it is taken in.
@@ -79,10 +113,11 @@ impl<S: Alter + Drop> Store<S> {
     pub(crate) fn record_arrival(&mut self, made: PreparedArrival) -> Result<u32, Refusal>
         ensures place { IfOk result (λ place. place ≡ made.place) }
         ensures made { WritesRows S.Store made.writes.items self.old.connection self.new.connection result }
-        ensures live { self.new.live ≡ self.old.live }
+        ensures noted { OnOk result (AreNoted made.writes.items self.old.live.attempts self.new.live.attempts) }
+        ensures stays { OnErr result (self.new.live ≡ self.old.live) }
     {
         let PreparedArrival { writes, place } = made;
-        match commit_ready(&mut self.tables, writes) {
+        match commit_noted(&mut self.tables, &mut self.live, writes) {
             Ok(()) => Ok(place),
             Err(why) => Err(why),
         }
@@ -92,7 +127,7 @@ impl<S: Alter + Drop> Store<S> {
     fn record_begin(&mut self, id: &ByteStr, made: PreparedAttempt) -> Result<BegunAttempt, Refusal>
         ensures told { IfOk result (IsToldAs made) }
         ensures made { WritesRows S.Store made.writes.items self.old.connection self.new.connection result }
-        ensures put { OnOk result (IsNow id.now (Some (fresh made.number made.version made.known made.arrivals)) self.old.live.attempts self.new.live.attempts) }
+        ensures put { OnOk result (IsNowNoted made.writes.items id.now (Some (fresh made.number made.version made.known made.arrivals made.row)) self.old.live.attempts self.new.live.attempts) }
         ensures waits { WaitsAfter id.now (Some []) result self.old.live.attempts self.new.live.attempts }
         ensures stays { OnErr result (self.new.live.attempts ≡ self.old.live.attempts) }
     {
@@ -103,18 +138,19 @@ impl<S: Alter + Drop> Store<S> {
             start,
             known,
             arrivals,
+            row,
         } = made;
         let Ok(own) = room_for(&mut self.live, id) else {
             drop(writes);
             drop(start);
+            drop(row);
             return Err(Refusal::OutOfMemory);
         };
-        let done = commit(&mut self.tables, writes.as_slice());
-        drop(writes);
-        match done {
+        match commit(&mut self.tables, writes.as_slice()) {
             Ok(()) => {
-                let attempt = fresh_attempt(self.tables.alloc(), number, version, known, arrivals);
-                self.live.put_begun(own, attempt);
+                let alloc = self.tables.alloc();
+                let attempt = fresh_attempt(alloc, number, version, known, arrivals, row);
+                take_in(&mut self.live, own, attempt, writes);
                 Ok(BegunAttempt {
                     number,
                     version,
@@ -122,8 +158,10 @@ impl<S: Alter + Drop> Store<S> {
                 })
             }
             Err(why) => {
+                drop(writes);
                 drop(own);
                 drop(start);
+                drop(row);
                 Err(why)
             }
         }

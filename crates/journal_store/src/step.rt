@@ -6,6 +6,7 @@ ghost use Rattle.store_live.specs.Attempts.{ChangesLive, IsNow};
 ghost use Rattle.store_calls.specs.Frames.{StepsAttempt, TakesOne};
 ghost use Rattle.journal_store.specs.StoreStanding.{Endures, Leads};
 ghost use Rattle.journal_store.specs.FrameAcceptance.{HasMessage, HasMessageOf, HasRoomToNote, IsEndedBy, IsFirstOf, IsFirstSeen, IsSeenOf, SettlesStep, after_noted, after_room, passed};
+ghost use Rattle.journal_store.specs.Attempts.{IsNowNoted};
 ghost use Rattle.journal_store.specs.Words.{state, AreTablesKept, AreAsBefore, attempt_of, has_number};
 ghost use Rattle.journal_store.specs.StoreTransaction.{WritesRows};
 ghost use Rattle.journal_store.specs.Causes.{TellsWhyUnwritten, TriesFrame};
@@ -17,9 +18,10 @@ use bytes::ByteStr;
 use sqlite::Alter;
 use std::alloc::{AllocError, Global};
 use store_frames::{AttemptFrame, read_frame_at};
-use store_live::{FirstItem, HEADER_LEN, LiveAttempt, LiveAttempts};
+use store_live::{FirstItem, HEADER_LEN, LiveAttempt, LiveAttempts, copied_row};
 use store_refusals::{Cause, Refusal};
 use store_steps::{FrameReply, LiveFacts, PreparedFrame, prepare_frame, refusal_ends_attempt};
+use store_tables::{InvocationRow, Write};
 
 /// A whole frame that stands first.
 #[derive(Debug, Drop)]
@@ -29,6 +31,8 @@ struct SeenFrame {
     len: usize,
     /// What is known of its attempt.
     facts: LiveFacts,
+    /// The row of its invocation.
+    row: InvocationRow,
 }
 
 /// What stands first of the bytes that an attempt wrote.
@@ -50,16 +54,23 @@ fn first_seen(alloc: Global, attempt: &LiveAttempt) -> Result<FirstSeen, AllocEr
         FirstItem::Partial => Ok(FirstSeen::Partial),
         FirstItem::Unknown => Ok(FirstSeen::Unknown),
         FirstItem::Frame { header, payload } => {
-            let frame = read_frame_at(alloc, attempt.version, header, payload)?;
-            Ok(FirstSeen::Frame(SeenFrame {
-                frame,
-                len: HEADER_LEN + payload.len(),
-                facts: LiveFacts {
-                    handed: attempt.input.handed(),
-                    heard: attempt.input.heard(),
-                    is_input_closed: attempt.is_input_closed,
-                },
-            }))
+            let row = copied_row(&attempt.row)?;
+            match read_frame_at(alloc, attempt.version, header, payload) {
+                Ok(frame) => Ok(FirstSeen::Frame(SeenFrame {
+                    frame,
+                    len: HEADER_LEN + payload.len(),
+                    facts: LiveFacts {
+                        handed: attempt.input.handed(),
+                        heard: attempt.input.heard(),
+                        is_input_closed: attempt.is_input_closed,
+                    },
+                    row,
+                })),
+                Err(refused) => {
+                    drop(row);
+                    Err(refused)
+                }
+            }
         }
     }
 }
@@ -128,6 +139,23 @@ fn pass_noted(
     note_acknowledged(live, id, acknowledged);
 }
 
+/// Passes a frame that was taken, and takes in what was written of it.
+fn pass_written(
+    live: &mut LiveAttempts,
+    id: &ByteStr,
+    len: usize,
+    reply: FrameReply,
+    acknowledged: Option<u32>,
+    writes: Vec<Write>,
+)
+    requires len { ForSome (attempt_of live.old.attempts id.now) (λ attempt. len ≤ length attempt.output) }
+    requires room { ForSome (attempt_of live.old.attempts id.now) (HasRoomToNote acknowledged) }
+    ensures { IsNowNoted writes.items id.now (option_map (after_noted acknowledged) (passed (does_end reply) len (attempt_of live.old.attempts id.now))) live.old.attempts live.new.attempts }
+{
+    pass_noted(live, id, len, reply, acknowledged);
+    live.note_written(writes);
+}
+
 /// Ends the attempt whose frame was refused, where the cause lies in the frame.
 fn end_refused(live: &mut LiveAttempts, id: &ByteStr, why: Refusal)
     ensures { IsEndedBy (lies_in_frame why) id.now live.old.attempts live.new.attempts }
@@ -149,7 +177,7 @@ impl<S: Alter + Drop> Store<S> {
         requires len { ForSome (attempt_of self.old.live.attempts id.now) (λ attempt. len ≤ length attempt.output) }
         ensures reply { IfOk result (λ reply. reply ≡ Some made.reply) }
         ensures made { WritesRows S.Store made.writes.items self.old.connection self.new.connection result }
-        ensures left { OnOk result (IsNow id.now (option_map (after_noted made.acknowledged) (passed (does_end made.reply) len (attempt_of self.old.live.attempts id.now))) self.old.live.attempts self.new.live.attempts) }
+        ensures left { OnOk result (IsNowNoted made.writes.items id.now (option_map (after_noted made.acknowledged) (passed (does_end made.reply) len (attempt_of self.old.live.attempts id.now))) self.old.live.attempts self.new.live.attempts) }
         ensures stays { OnErr result (AreAsBefore self.old.live.attempts self.new.live.attempts) }
     {
         let PreparedFrame {
@@ -162,13 +190,15 @@ impl<S: Alter + Drop> Store<S> {
             return Err(Refusal::OutOfMemory);
         };
         let done = commit(&mut self.tables, writes.as_slice());
-        drop(writes);
         match done {
             Ok(()) => {
-                pass_noted(&mut self.live, id, len, reply, acknowledged);
+                pass_written(&mut self.live, id, len, reply, acknowledged, writes);
                 Ok(Some(reply))
             }
-            Err(why) => Err(why),
+            Err(why) => {
+                drop(writes);
+                Err(why)
+            }
         }
     }
 
@@ -188,10 +218,15 @@ impl<S: Alter + Drop> Store<S> {
         ensures cause { IfErr result (TellsWhyUnwritten S.Store self.old self.new (TriesFrame id.now attempt)) }
         ensures crash { Endures S.Store (TakesOne id.now attempt) self.old self.new }
     {
-        let SeenFrame { frame, len, facts } = seen;
+        let SeenFrame {
+            frame,
+            len,
+            facts,
+            row,
+        } = seen;
         // It does nothing: its contract says that a frame of which nothing is written lasts too.
         let _settled = self.tables.is_settled();
-        match prepare_frame(&mut self.tables, id, facts, frame) {
+        match prepare_frame(&mut self.tables, id, row, facts, frame) {
             Ok(made) => self.take_prepared(id, len, made),
             Err(why) => {
                 end_refused(&mut self.live, id, why);

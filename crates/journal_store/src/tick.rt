@@ -1,6 +1,7 @@
 // A tick is recorded: the ends of all sleeps that are due, of all open invocations, in one transaction.
 ghost use Rattle.std.specs.Prelude.{◌≡◌, IfOk, OnErr, OnOk, IfErr};
 ghost use Rattle.journal_model.specs.Event.{Event};
+ghost use Rattle.store_live.specs.Rows.{AreNoted};
 ghost use Rattle.store_calls.specs.AbstractStore.{Adds};
 ghost use Rattle.store_calls.specs.Calls.{Ticks};
 ghost use Rattle.journal_store.specs.StoreStanding.{EnduresAlways, KeepsOutputs, Leads, Settles};
@@ -8,7 +9,7 @@ ghost use Rattle.journal_store.specs.Words.{state, AreTablesKept};
 ghost use Rattle.journal_store.specs.StoreTransaction.{WritesRows};
 ghost use Rattle.journal_store.specs.Causes.{TellsWhyUnwritten, TriesEvent};
 
-use crate::events::commit;
+use crate::events::commit_noted;
 use crate::store::Store;
 use sqlite::Alter;
 use store_arrivals::{PreparedTick, prepare_tick};
@@ -19,12 +20,11 @@ impl<S: Alter + Drop> Store<S> {
     fn record_tick(&mut self, made: PreparedTick) -> Result<u64, Refusal>
         ensures count { IfOk result (λ count. count ≡ made.count) }
         ensures made { WritesRows S.Store made.writes.items self.old.connection self.new.connection result }
-        ensures live { self.new.live ≡ self.old.live }
+        ensures noted { OnOk result (AreNoted made.writes.items self.old.live.attempts self.new.live.attempts) }
+        ensures stays { OnErr result (self.new.live ≡ self.old.live) }
     {
         let PreparedTick { writes, count } = made;
-        let done = commit(&mut self.tables, writes.as_slice());
-        drop(writes);
-        match done {
+        match commit_noted(&mut self.tables, &mut self.live, writes) {
             Ok(()) => Ok(count),
             Err(why) => Err(why),
         }

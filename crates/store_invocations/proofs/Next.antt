@@ -58,8 +58,8 @@ module _ (events : List Event) (id : Text) (now : ℕ) (row : InvocationRow) (it
       ]
 
   pub next_made : IsAccepted events → is_open events id ≡ true → (made : PreparedAttempt) → made.writes.items ≡ SetProgress row.id (begun_at now row.progress) ∷ [] → made.number ≡ row.progress.attempts + 1 → made.version ≡ row.version
-      → made.start ≡ frame_bytes MessageType.Start (start_frame_payload row (shown_states events row) now) → made.known ≡ row.progress.entries → made.arrivals ≡ row.progress.arrivals → IsBegun events id now made
-  next_made accepted opened made writes number version start known arrivals =
+      → made.start ≡ frame_bytes MessageType.Start (start_frame_payload row (shown_states events row) now) → made.known ≡ row.progress.entries → made.arrivals ≡ row.progress.arrivals → made.row ≡ row → IsBegun events id now made
+  next_made accepted opened made writes number version start known arrivals kept =
       let same = attempts_is events id now row it in record {
         writes = writes ∙ begin_writes_are events id now row it opened;
         number = omega arith;
@@ -67,4 +67,5 @@ module _ (events : List Event) (id : Text) (now : ℕ) (row : InvocationRow) (it
         start = start ∙ ap (frame_bytes MessageType.Start) (start_payload_is events id now row it);
         known = known ∙ ap (λ (p : Progress). p.entries) (progress_is events id now row it);
         arrivals = arrivals ∙ ap (λ (p : Progress). p.arrivals) (progress_is events id now row it);
+        row = subst (IsRowOf events id) (sym kept) it;
       }

@@ -15,6 +15,7 @@ use Rattle.store_model.specs.KeptRecords.{state_row}
 use Rattle.store_model.specs.Steps.{after_begin}
 use Rattle.store_model.specs.Writes.{writes_of}
 use Rattle.store_invocations.specs.declared.attempt.PreparedAttempt.{PreparedAttempt}
+use Rattle.store_invocations.specs.Rows.{IsRowOf}
 
 -- an attempt of an invocation, begun at a moment after these events
 pub record IsBegun (events : List Event) (id : Text) (now : ℕ) (made : PreparedAttempt) : Type 0 where
@@ -24,6 +25,8 @@ pub record IsBegun (events : List Event) (id : Text) (now : ℕ) (made : Prepare
   pub start : made.start ≡ frame_bytes MessageType.Start (start_payload events id now)
   pub known : made.known ≡ 1 + length (entries_of events id)
   pub arrivals : made.arrivals ≡ length (recorded_arrivals events id)
+  -- the row before these writes
+  pub row : IsRowOf events id made.row
 
 -- how far an open invocation is then: nothing of its input was handed to the new attempt, and it may go on
 abbrev pub begun_at : ℕ → Progress → Progress

@@ -2,7 +2,7 @@
 
 use bytes::Bytes;
 use protocol_stream::Version;
-use store_tables::Write;
+use store_tables::{InvocationRow, Write};
 
 /// An attempt that can be begun: it is, once this is written.
 #[derive(Debug, Drop)]
@@ -17,4 +17,6 @@ pub struct PreparedAttempt {
     /// How many frames follow it that are recorded already, the input's first, and how many arrivals are among them.
     pub known: u32,
     pub arrivals: u32,
+    /// The row of the invocation, as it is before the writes.
+    pub row: InvocationRow,
 }

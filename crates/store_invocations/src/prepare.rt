@@ -15,7 +15,7 @@ ghost use Rattle.store_invocations.specs.Start.{start_frame_payload};
 ghost use Rattle.store_refusals.specs.Causes.{TellsCause};
 
 use crate::attempt::PreparedAttempt;
-use crate::begun::begun_writes;
+use crate::begun::begun_row;
 use crate::start::start_frame;
 use crate::states::object_states;
 use bytes::{ByteStr, Bytes};
@@ -73,9 +73,10 @@ pub(crate) fn prepare_next<S: Alter>(
     let known = row.progress.entries;
     let arrivals = row.progress.arrivals;
     let read = begun_start(tables, &row, now);
-    let made = begun_writes(tables.alloc(), row, now);
+    let made = begun_row(tables.alloc(), row, now);
     let start = read?;
-    let writes = made?;
+    let begun = made?;
+    let (writes, row) = begun;
     Ok(PreparedAttempt {
         writes,
         number,
@@ -83,5 +84,6 @@ pub(crate) fn prepare_next<S: Alter>(
         start,
         known,
         arrivals,
+        row,
     })
 }

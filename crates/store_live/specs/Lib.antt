@@ -1,3 +1,4 @@
 pub mod Input
 pub mod Attempts
 pub mod ChangedRoom
+pub mod Rows

@@ -1,6 +1,7 @@
 // An attempt that is live.
 use crate::input::AttemptInput;
 use protocol_stream::{FrameBuffer, Version};
+use store_tables::InvocationRow;
 
 /// The attempt that an invocation's frames are taken from: the last one that was begun, until it is over.
 #[derive(Debug, Drop)]
@@ -13,4 +14,6 @@ pub struct LiveAttempt {
     pub is_input_closed: bool,
     /// What the attempt wrote and was not taken.
     pub output: FrameBuffer,
+    /// The row of its invocation, as it is recorded now.
+    pub row: InvocationRow,
 }

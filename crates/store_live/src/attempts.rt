@@ -1,7 +1,8 @@
 // The live attempts by their invocations.
-ghost use Rattle.std.specs.Prelude.{◌≡◌, ◌<◌, ◌≤◌, [], length, Some, None, IfOk, OnOk, OnErr};
+ghost use Rattle.std.specs.Prelude.{◌≡◌, ◌∷◌, ◌<◌, ◌≤◌, [], length, Some, None, IfOk, OnOk, OnErr};
 ghost use Rattle.std.specs.Option.{ForSome, option_copied};
 ghost use Rattle.store_live.specs.Attempts.{attempt_of, ChangesInput, CountsFrame, IsNow, ChangesLive, bytes_out, after_hand_out, live_after_frame, after_outcome, after_reserve, after_close, after_output, live_after_take};
+ghost use Rattle.store_live.specs.Rows.{AreNoted, live_with_progress};
 
 use crate::attempt::LiveAttempt;
 use crate::input::FrameRead;
@@ -9,6 +10,8 @@ use bytes::{ByteStr, Bytes};
 use indexmap::IndexMap;
 use std::alloc::{AllocError, Global};
 use std::marker::Model;
+use std::mem::replace;
+use store_tables::{Progress, Write};
 
 /// The attempts that are live, one at most of each invocation, by the invocations' ids.
 ///
@@ -155,6 +158,37 @@ impl LiveAttempts {
     {
         if let Some(attempt) = self.attempts.get_mut(id) {
             attempt.output.advance(count);
+        }
+    }
+
+    /// This is how far an invocation is now.
+    fn set_progress(&mut self, id: &ByteStr, progress: Progress)
+        ensures { ChangesLive id.now (live_with_progress progress) self.old.attempts self.new.attempts }
+    {
+        match self.attempts.get_mut(id) {
+            Some(attempt) => drop(replace(&mut attempt.row.progress, progress)),
+            None => drop(progress),
+        }
+    }
+
+    fn note_one(&mut self, write: Write)
+        ensures { AreNoted (write ∷ []) self.old.attempts self.new.attempts }
+    {
+        match write {
+            Write::SetProgress { id, progress } => {
+                self.set_progress(&id, progress);
+                drop(id);
+            }
+            write => drop(write),
+        }
+    }
+
+    /// Takes in what was written: the rows of live attempts are as they are recorded then. No memory is asked for.
+    pub fn note_written(&mut self, writes: Vec<Write>)
+        ensures { AreNoted writes.items self.old.attempts self.new.attempts }
+    {
+        for write in writes {
+            self.note_one(write);
         }
     }
 }

@@ -69,6 +69,15 @@ IsOtherFrame (told.Command command) = ⊥
 IsOtherFrame (told.RunOutcome completion result asks) = ⊥
 IsOtherFrame _ = Unit {0}
 
+-- something is written of it, where it is accepted
+abbrev pub is_written : AttemptFrame → Bool
+is_written (told.Command command) = true
+is_written (told.RunOutcome completion result asks) = true
+is_written (told.Suspension payload) = true
+is_written (told.Error code message behavior delay) = true
+is_written told.End = true
+is_written _ = false
+
 -- ---- by what is kept of the invocation
 
 pub record IsFrameMade (id object : Text) (version : ℕ) (p : Progress) (attempt : LiveFacts) (is_awake : Bool) (read : AttemptFrame) (made : PreparedFrame) : Type 0 where

@@ -1,6 +1,6 @@
 //! What is made ready of a frame that an attempt has written: why it is refused, or what is written of it and how it is answered.
 //!
-//! `prepare_frame` reads the invocation's row and decides; nothing is written yet. What it makes ready is stated by the accepted
+//! `prepare_frame` decides by the invocation's row; nothing is written yet. What it makes ready is stated by the accepted
 //! events of which the database keeps the records.
 #![tactic(auto)]
 

@@ -1,5 +1,5 @@
 // Taking a frame of a live attempt: what is asked of the database, and what is decided by it.
-ghost use Rattle.std.specs.Prelude.{true, ◌≡◌, ◌+◌, ◌-◌, ◌<◌, ◌^◌, List, IfErr, IfOk, IfSome, IsTrue, OnOk};
+ghost use Rattle.std.specs.Prelude.{true, false, ◌≡◌, ◌+◌, ◌-◌, ◌<◌, ◌^◌, List, IfErr, IfOk, IfSome, IsTrue, OnOk};
 ghost use Rattle.sqlite.specs.Held.{state};
 ghost use Rattle.sqlite.specs.State.{HasCleanDisk};
 ghost use Rattle.protocol_types.specs.Version.{version_number};
@@ -9,7 +9,7 @@ ghost use Rattle.journal_model.specs.Journal.{object_state};
 ghost use Rattle.store_invocations.specs.Rows.{Decides, IsRowOf, IsStoreOf};
 ghost use Rattle.store_steps.specs.Reads.{answer_told};
 ghost use Rattle.store_steps.specs.FrameAnswers.{tests_of_told};
-ghost use Rattle.store_steps.specs.PreparedFrames.{IsFrameMade, IsOtherFrame, IsWhy, TakesAttemptFrame, WakesAtOnce};
+ghost use Rattle.store_steps.specs.PreparedFrames.{IsFrameMade, IsOtherFrame, IsWhy, TakesAttemptFrame, WakesAtOnce, is_written};
 ghost use Rattle.store_refusals.specs.Causes.{TellsCause};
 
 use crate::frame::{LiveFacts, PreparedFrame};
@@ -177,30 +177,21 @@ fn other_by_row<S: Alter>(
     }
 }
 
-/// Decides on a frame that the live attempt of the invocation has written, and makes ready what is written of it. The row of the
-/// invocation is read; of a read that the store answers what the object has, of a suspension what its attempt was not handed, and of the
-/// outcome of a run whether the run waits for it. Whether the attempt is live is the caller's to know.
-pub fn prepare_frame<S: Alter>(
+/// Decides on a frame of which nothing is written, by the row of its invocation, which is read: so the database is asked that is to keep
+/// what the frame says.
+fn decide_unwritten<S: Alter>(
     tables: &mut StoreTables<S>,
     id: &ByteStr,
     attempt: LiveFacts,
     frame: AttemptFrame,
 ) -> Result<PreparedFrame, Refusal>
-    ensures prepared { HasCleanDisk (state S.Store tables.new) → (events : List Event) → IsStoreOf events (state S.Store tables.old) → TakesAttemptFrame events id.now attempt frame result }
+    ensures prepared { HasCleanDisk (state S.Store tables.new) → (events : List Event) → IsStoreOf events (state S.Store tables.old) → IsOtherFrame frame → TakesAttemptFrame events id.now attempt frame result }
     ensures asked { HasCleanDisk (state S.Store tables.new) → OnOk result (IsTrue (state S.Store tables.old).is_open) }
     ensures looks { OnlyAsks S.Store tables.old tables.new }
     ensures cause { IfErr result (TellsCause (state S.Store tables.old) (state S.Store tables.new)) }
 {
     match invocation_by_id(tables, id) {
-        Ok(Some(row)) => match frame {
-            AttemptFrame::Command(command) => command_by_row(tables, id, row, attempt, command),
-            AttemptFrame::RunOutcome {
-                completion,
-                result,
-                is_acknowledged,
-            } => outcome_by_row(tables, id, row, completion, result, is_acknowledged),
-            frame => other_by_row(tables, id, row, attempt, frame),
-        },
+        Ok(Some(row)) => other_by_row(tables, id, row, attempt, frame),
         Ok(None) => {
             drop(frame);
             Err(Refusal::Cause(Cause::UnknownInvocation))
@@ -209,5 +200,71 @@ pub fn prepare_frame<S: Alter>(
             drop(frame);
             Err(Refusal::from(error))
         }
+    }
+}
+
+/// Whether something is written of a frame that is accepted.
+fn is_written(frame: &AttemptFrame) -> bool
+    ensures { result ≡ is_written frame.now }
+{
+    match frame {
+        AttemptFrame::Command(_)
+        | AttemptFrame::RunOutcome { .. }
+        | AttemptFrame::Suspension { .. }
+        | AttemptFrame::Error { .. }
+        | AttemptFrame::End => true,
+        AttemptFrame::AwaitingOn
+        | AttemptFrame::Broken
+        | AttemptFrame::TooDeep
+        | AttemptFrame::NotAccepted => false,
+    }
+}
+
+/// Decides on a frame that is no command and no outcome of a run, by the row of its invocation, or where nothing is written of it by
+/// that which is read.
+fn decide_other<S: Alter>(
+    tables: &mut StoreTables<S>,
+    id: &ByteStr,
+    row: InvocationRow,
+    attempt: LiveFacts,
+    frame: AttemptFrame,
+) -> Result<PreparedFrame, Refusal>
+    ensures prepared { HasCleanDisk (state S.Store tables.new) → (events : List Event) → IsStoreOf events (state S.Store tables.old) → IsRowOf events id.now row → IsOtherFrame frame → TakesAttemptFrame events id.now attempt frame result }
+    ensures asked { HasCleanDisk (state S.Store tables.new) → is_written frame ≡ false → OnOk result (IsTrue (state S.Store tables.old).is_open) }
+    ensures looks { OnlyAsks S.Store tables.old tables.new }
+    ensures cause { IfErr result (TellsCause (state S.Store tables.old) (state S.Store tables.new)) }
+{
+    if is_written(&frame) {
+        other_by_row(tables, id, row, attempt, frame)
+    } else {
+        drop(row);
+        decide_unwritten(tables, id, attempt, frame)
+    }
+}
+
+/// Decides on a frame that the live attempt of the invocation has written, and makes ready what is written of it, by the row of the
+/// invocation, which is the one that is recorded now. Of a read that the store answers what the object has is read, of a suspension what its
+/// attempt was not handed, of the outcome of a run whether the run waits for it, and of a frame of which nothing is written the row. Whether
+/// the attempt is live is the caller's to know.
+pub fn prepare_frame<S: Alter>(
+    tables: &mut StoreTables<S>,
+    id: &ByteStr,
+    row: InvocationRow,
+    attempt: LiveFacts,
+    frame: AttemptFrame,
+) -> Result<PreparedFrame, Refusal>
+    ensures prepared { HasCleanDisk (state S.Store tables.new) → (events : List Event) → IsStoreOf events (state S.Store tables.old) → IsRowOf events id.now row → TakesAttemptFrame events id.now attempt frame result }
+    ensures asked { HasCleanDisk (state S.Store tables.new) → is_written frame ≡ false → OnOk result (IsTrue (state S.Store tables.old).is_open) }
+    ensures looks { OnlyAsks S.Store tables.old tables.new }
+    ensures cause { IfErr result (TellsCause (state S.Store tables.old) (state S.Store tables.new)) }
+{
+    match frame {
+        AttemptFrame::Command(command) => command_by_row(tables, id, row, attempt, command),
+        AttemptFrame::RunOutcome {
+            completion,
+            result,
+            is_acknowledged,
+        } => outcome_by_row(tables, id, row, completion, result, is_acknowledged),
+        frame => decide_other(tables, id, row, attempt, frame),
     }
 }

@@ -5,12 +5,44 @@ use protocol_types::Version;
 use std::alloc::{AllocError, Global};
 use std::test::Fail;
 use store_live::{AttemptInput, FrameBuffer, FrameRead, LiveAttempt, LiveAttempts, NextRow};
+use store_tables::{InvocationRow, Progress};
 
 /// The frame of an input that is empty.
 const INPUT: [u8; 8] = [0x04, 0, 0, 0, 0, 0, 0, 0];
 
 /// The cancellation's frame.
 const CANCEL: [u8; 12] = [0xfb, 0xff, 0, 0, 0, 0, 0, 4, 0x10, 1, 0x22, 0];
+
+/// The row of an invocation that has its input alone.
+fn first_row() -> InvocationRow {
+    InvocationRow {
+        id: ByteStr::from_static("i1"),
+        object: ByteStr::from_static("o1"),
+        version: Version::V7,
+        seed: 1,
+        is_whole: true,
+        progress: first_progress(),
+    }
+}
+
+fn first_progress() -> Progress {
+    Progress {
+        open_object: Some(ByteStr::from_static("o1")),
+        suspension: None,
+        handed: None,
+        closing: None,
+        answer: None,
+        last_error: None,
+        attempts: 1,
+        attempts_since_entry: 1,
+        first_moment: 0,
+        last_completion: 0,
+        entries: 1,
+        heard: None,
+        arrivals: 0,
+        is_awake: true,
+    }
+}
 
 /// The first attempt of an invocation that has its input alone.
 fn begun(alloc: Global) -> LiveAttempt {
@@ -20,6 +52,7 @@ fn begun(alloc: Global) -> LiveAttempt {
         input: AttemptInput::new(alloc, 1, 0),
         is_input_closed: false,
         output: FrameBuffer::new(alloc),
+        row: first_row(),
     }
 }
 

@@ -12,7 +12,7 @@ use Rattle.journal_store.proofs.Leading.{arrives}
 use Rattle.journal_store.proofs.Recording.{looked}
 use Rattle.journal_store.proofs.Arriving.{arrival_recorded}
 use Rattle.journal_store.proofs.Standing.{commits_after}
-use Rattle.journal_store.proofs.Waiting.{still_waits}
+use Rattle.journal_store.proofs.Waiting.{written_waits}
 use Rattle.journal_store.proofs.Causing.{asked_unwritten, event_tried}
 use Rattle.journal_store.proofs.store.Store.cancel.Goals as goal
 
@@ -28,8 +28,8 @@ returns-in-Ok-clause-does g c =
     arrival_recorded events (Event.Cancel id) id old mid new _ _
     c.self.inside.live c.record_arrival.new.self.live c.in-Ok.made c.record_arrival.result refl (λ one. refl) tt
     c.prepare_cancel.ensures.looks.crash c.prepare_cancel.ensures.looks.kept c.record_arrival.ensures.made.crash clean (c.in-Ok.ensures.prepared early events stands.kept)
-    c.record_arrival.ensures.place (c.record_arrival.ensures.made.done clean) c.record_arrival.ensures.made.why c.record_arrival.ensures.made.undone c.record_arrival.ensures.live stands)
-    (still_waits c.self.inside.live c.record_arrival.new.self.live c.record_arrival.ensures.live))
+    c.record_arrival.ensures.place (c.record_arrival.ensures.made.done clean) c.record_arrival.ensures.made.why c.record_arrival.ensures.made.undone c.record_arrival.ensures.noted c.record_arrival.ensures.stays stands)
+    (written_waits c.in-Ok.made.writes.items c.record_arrival.result c.self.inside.live c.record_arrival.new.self.live c.record_arrival.ensures.noted c.record_arrival.ensures.stays))
 
 pub returns-in-Err-clause-does : goal.returns-in-Err-clause-does
 returns-in-Err-clause-does g c =
@@ -45,7 +45,7 @@ returns-in-Ok-clause-crash g c =
 
 pub returns-in-Ok-clause-waits : goal.returns-in-Ok-clause-waits
 returns-in-Ok-clause-waits g c =
-    rw (← c.self.view_is) (still_waits c.self.inside.live c.record_arrival.new.self.live c.record_arrival.ensures.live)
+    rw (← c.self.view_is) (written_waits c.in-Ok.made.writes.items c.record_arrival.result c.self.inside.live c.record_arrival.new.self.live c.record_arrival.ensures.noted c.record_arrival.ensures.stays)
 
 pub returns-in-Ok-clause-settled : goal.returns-in-Ok-clause-settled
 returns-in-Ok-clause-settled g c =

@@ -7,14 +7,14 @@ use Rattle.journal_store.specs.Causes.{TriesEvent}
 use Rattle.journal_store.proofs.Lasting.{undone_kept}
 use Rattle.journal_store.proofs.Recording.{looked}
 use Rattle.journal_store.proofs.Ticking.{tick_lands, tick_settled, ticks}
-use Rattle.journal_store.proofs.Waiting.{still_waits}
+use Rattle.journal_store.proofs.Waiting.{written_waits}
 use Rattle.journal_store.proofs.Causing.{asked_unwritten, event_tried}
 use Rattle.journal_store.proofs.store.Store.tick.Goals as goal
 
 pub returns-in-Ok-clause-does : goal.returns-in-Ok-clause-does
 returns-in-Ok-clause-does g c =
     rw (← c.self.view_is) (ticks g.S.Store c.self.inside.tables c.prepare_tick.new.tables c.record_tick.new.self.connection c.self.inside.live c.record_tick.new.self.live c.args.now c.in-Ok.made
-    c.prepare_tick.ensures.looks c.in-Ok.ensures.prepared c.record_tick.result c.record_tick.ensures.made c.record_tick.ensures.count c.record_tick.ensures.live)
+    c.prepare_tick.ensures.looks c.in-Ok.ensures.prepared c.record_tick.result c.record_tick.ensures.made c.record_tick.ensures.count c.record_tick.ensures.noted c.record_tick.ensures.stays)
 
 pub returns-in-Err-clause-does : goal.returns-in-Err-clause-does
 returns-in-Err-clause-does g c =
@@ -22,7 +22,7 @@ returns-in-Err-clause-does g c =
 
 pub returns-in-Ok-clause-waits : goal.returns-in-Ok-clause-waits
 returns-in-Ok-clause-waits g c =
-    rw (← c.self.view_is) (still_waits c.self.inside.live c.record_tick.new.self.live c.record_tick.ensures.live)
+    rw (← c.self.view_is) (written_waits c.in-Ok.made.writes.items c.record_tick.result c.self.inside.live c.record_tick.new.self.live c.record_tick.ensures.noted c.record_tick.ensures.stays)
 
 pub returns-in-Ok-clause-crash : goal.returns-in-Ok-clause-crash
 returns-in-Ok-clause-crash g c =
@@ -34,7 +34,7 @@ returns-in-Ok-clause-settled g c =
     rw (← c.self.view_is) (tick_settled g.S.Store c.self.inside.tables c.prepare_tick.new.tables c.record_tick.new.self.connection c.self.inside.live c.record_tick.new.self.live c.args.now c.in-Ok.made
     c.prepare_tick.ensures.looks c.in-Ok.ensures.prepared c.record_tick.result c.record_tick.ensures.made c.is_settled-settled.ensures.settled c.in-Ok.ensures.asked
     (ticks g.S.Store c.self.inside.tables c.prepare_tick.new.tables c.record_tick.new.self.connection c.self.inside.live c.record_tick.new.self.live c.args.now c.in-Ok.made
-    c.prepare_tick.ensures.looks c.in-Ok.ensures.prepared c.record_tick.result c.record_tick.ensures.made c.record_tick.ensures.count c.record_tick.ensures.live))
+    c.prepare_tick.ensures.looks c.in-Ok.ensures.prepared c.record_tick.result c.record_tick.ensures.made c.record_tick.ensures.count c.record_tick.ensures.noted c.record_tick.ensures.stays))
 
 pub returns-in-Ok-clause-kept : goal.returns-in-Ok-clause-kept
 returns-in-Ok-clause-kept g c =
