@@ -2,6 +2,7 @@ pub mod Causes
 pub mod Front
 pub mod HandedBytes
 pub mod MovedBytes
+pub mod Options
 pub mod Runs
 pub mod Schedules
 pub mod Attempts

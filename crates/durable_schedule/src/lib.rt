@@ -16,6 +16,7 @@ ghost use Rattle.durable_schedule.specs.Runs.{EnduresUnwritten, LastsBehind, Lea
 mod files;
 mod front;
 mod laws;
+pub mod options;
 
 pub use bytes::{ByteStr, Bytes};
 pub use files::{

@@ -6,6 +6,7 @@
 mod attempt;
 mod calls;
 mod every_call;
+mod options;
 mod orders;
 mod payment;
 mod reminder;
@@ -18,8 +19,9 @@ use attempt::go_on;
 use calls::make_calls;
 use durable_schedule::{
     Alter, ByteStr, Bytes, Event, NewInvocation, NoRoom, Reply, RunOutcome, Scheduler, Sequence,
-    StateMode, Store, Straight, VMOptions, open_in_memory, run_new_schedule,
+    StateMode, Store, Straight, open_in_memory, run_new_schedule,
 };
+use options::chosen_options;
 use orders::take_orders;
 use payment::pay;
 use reminder::Reminder;
@@ -153,12 +155,7 @@ fn run<R: Print>(rt: &R, alloc: Global) -> Result<()> {
         close(store);
         bail!("memory was refused");
     };
-    let (mut scheduler, replies) = match run_new_schedule(
-        alloc,
-        store,
-        VMOptions::default(),
-        events,
-    ) {
+    let (mut scheduler, replies) = match run_new_schedule(alloc, store, chosen_options(), events) {
         Ok(done) => done,
         Err(NoRoom { store }) => {
             close(store);

@@ -3,14 +3,14 @@ use crate::disks::{Fused, FusedStore, leave, open_new};
 use crate::fault::Fault;
 use crate::row::{run as run_lines, text};
 use built_in_handlers::BuiltIn;
+use durable_schedule::options::{JournalMismatchRetryBehavior, VMOptions};
 use durable_schedule::{
     ByteStr, Bytes, Event, NewInvocation, NoRoom, NotificationResult, Reply, RunOutcome, Scheduler,
-    Sequence, StateMode, Turn, VMOptions, run_schedule,
+    Sequence, StateMode, Turn, run_schedule,
 };
 use sqlite::FileStore;
 use std::alloc::Global;
 use std::io;
-use vm_types::JournalMismatchRetryBehavior;
 
 /// What shows all that is recorded, and what is due.
 const SHOWS: &[u8] = b"show i1\ndue\n";
