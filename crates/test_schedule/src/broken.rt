@@ -1,14 +1,19 @@
 //! A row whose reader fails at its Kth read, or whose writer fails at its Kth write, for each K until neither does.
 use crate::disks::open_new;
 use crate::fault::Fault;
-use crate::row::{Row, Whole, lines_in, run_whole, shown_again};
+use crate::row::{Ran, Row, Whole, lines_in, run_whole, shown_again};
 use durable_script::{ScriptEnd, ScriptFault, run_script};
+use journal_store::Store;
+use sqlite::Alter;
 use std::alloc::Global;
 use std::io;
 use std::io::{ErrorKind, Read, Write};
 
 /// How many calls are tried at most.
 const MOST: u32 = 10_000;
+
+/// The number of calls of what does not fail.
+const NEVER: u32 = u32::MAX;
 
 /// How many bytes go by in a call at most.
 const PIECE: usize = 8;
@@ -63,21 +68,67 @@ impl Write for Writer {
     }
 }
 
-/// Reads the row by so many calls: whether it was read, and whether all is as is to be.
-fn read_by(alloc: Global, row: &Row, wanted: &Whole, calls: u32) -> Result<(bool, bool), Fault> {
-    let store = open_new(alloc)?;
+/// What comes of a row.
+#[derive(Drop)]
+struct Broken {
+    printed: Vec<u8>,
+    result: Result<(), ScriptFault>,
+    shown: Vec<u8>,
+}
+
+/// Runs lines by so many calls of the reader and so many of the writer.
+fn run_over<S: Alter + Drop>(
+    alloc: Global,
+    store: Store<S>,
+    lines: &[u8],
+    reads: u32,
+    writes: u32,
+) -> Ran<S> {
     let mut reader = Reader {
-        left: row.first.as_bytes(),
-        calls,
+        left: lines,
+        calls: reads,
     };
-    let mut printed = Vec::new(alloc);
+    let mut writer = Writer {
+        taken: Vec::new(alloc),
+        calls: writes,
+    };
     let ScriptEnd {
         store,
         script,
         result,
-    } = run_script(alloc, &mut reader, &mut printed, store);
+    } = run_script(alloc, &mut reader, &mut writer, store);
     drop(script);
+    let Writer { taken, .. } = writer;
+    Ran {
+        printed: taken,
+        result,
+        store,
+    }
+}
+
+/// Runs the row by so many calls of the reader and so many of the writer.
+fn run_by(alloc: Global, row: &Row, reads: u32, writes: u32) -> Result<Broken, Fault> {
+    let store = open_new(alloc)?;
+    let Ran {
+        printed,
+        result,
+        store,
+    } = run_over(alloc, store, row.first.as_bytes(), reads, writes);
     let shown = shown_again(alloc, row, store)?;
+    Ok(Broken {
+        printed,
+        result,
+        shown,
+    })
+}
+
+/// Reads the row by so many calls: whether it was read, and whether all is as is to be.
+fn read_by(alloc: Global, row: &Row, wanted: &Whole, calls: u32) -> Result<(bool, bool), Fault> {
+    let Broken {
+        printed,
+        result,
+        shown,
+    } = run_by(alloc, row, calls, NEVER)?;
     let is_read = result.is_ok();
     if is_read {
         return Ok((
@@ -95,29 +146,21 @@ fn read_by(alloc: Global, row: &Row, wanted: &Whole, calls: u32) -> Result<(bool
 /// Writes what the row prints by so many calls: whether all was written, and whether all is as is to be. The line whose text is not taken
 /// whole is done, and no later one.
 fn write_by(alloc: Global, row: &Row, wanted: &Whole, calls: u32) -> Result<(bool, bool), Fault> {
-    let store = open_new(alloc)?;
-    let mut reader = row.first.as_bytes();
-    let mut writer = Writer {
-        taken: Vec::new(alloc),
-        calls,
-    };
-    let ScriptEnd {
-        store,
-        script,
+    let Broken {
+        printed,
         result,
-    } = run_script(alloc, &mut reader, &mut writer, store);
-    drop(script);
-    let shown = shown_again(alloc, row, store)?;
+        shown,
+    } = run_by(alloc, row, NEVER, calls)?;
     let is_written = result.is_ok();
     if is_written {
         return Ok((
             true,
-            writer.taken.as_slice() == wanted.printed.as_slice() && wanted.ends_so(&shown),
+            printed.as_slice() == wanted.printed.as_slice() && wanted.ends_so(&shown),
         ));
     }
     let is_named = result == Err(ScriptFault::OutputUnwritable);
-    let is_begun = wanted.printed.starts_with(&writer.taken);
-    let done = lines_in(&writer.taken)
+    let is_begun = wanted.printed.starts_with(&printed);
+    let done = lines_in(&printed)
         .saturating_add(1)
         .min(lines_in(&wanted.printed));
     Ok((

@@ -1,14 +1,15 @@
 //! A recorded sleep, and then a handler that makes a call in its place, under each option of a journal that does not match.
-use crate::disks::{Fused, FusedStore, leave, open_new};
+use crate::disks::{end, open_new};
 use crate::fault::Fault;
 use crate::row::{run as run_lines, text};
 use built_in_handlers::BuiltIn;
 use durable_schedule::options::{JournalMismatchRetryBehavior, VMOptions};
 use durable_schedule::{
-    ByteStr, Bytes, Event, NewInvocation, NoRoom, NotificationResult, Reply, RunOutcome, Scheduler,
-    Sequence, StateMode, Turn, run_schedule,
+    ByteStr, Bytes, Event, NewInvocation, NoRoom, NotificationResult, Reply, RunOutcome, Sequence,
+    StateMode, Turn, run_schedule,
 };
-use sqlite::FileStore;
+use journal_store::Store;
+use sqlite::Alter;
 use std::alloc::Global;
 use std::io;
 
@@ -98,25 +99,17 @@ fn events(alloc: Global, version: u32) -> Result<Vec<Event<BuiltIn>>, Fault> {
     ]?)
 }
 
-/// The replies of a schedule, and the store that it leaves.
-fn schedule(
+/// The store that a schedule leaves, and the replies, or none where there was no room for them.
+fn schedule<S: Alter + Drop>(
     alloc: Global,
+    store: Store<S>,
     options: VMOptions,
-    version: u32,
-) -> Result<(FusedStore, Vec<Reply>), Fault> {
-    let events = events(alloc, version)?;
-    let store = open_new(alloc)?;
+    events: Vec<Event<BuiltIn>>,
+) -> (Store<S>, Option<Vec<Reply>>) {
     match run_schedule(alloc, store, options, events) {
-        Ok((scheduler, replies)) => Ok((left_by(scheduler), replies)),
-        Err(NoRoom { store }) => {
-            drop(leave(store));
-            Err(Fault::Memory)
-        }
+        Ok((scheduler, replies)) => (scheduler.into_store(), Some(replies)),
+        Err(NoRoom { store }) => (store, None),
     }
-}
-
-fn left_by(scheduler: Scheduler<BuiltIn, FileStore<Fused>>) -> FusedStore {
-    scheduler.into_store()
 }
 
 /// Prints what has failed and what was refused.
@@ -141,7 +134,7 @@ fn print_shown<R: Print>(rt: &R, shown: &[u8]) -> io::Result<()> {
 }
 
 /// The number of what is to be done, as the error tells it.
-fn behavior_in(store: &mut FusedStore) -> Option<u32> {
+fn behavior_in<S: Alter + Drop>(store: &mut Store<S>) -> Option<u32> {
     match store.failure(&id()) {
         Ok(Some(error)) => {
             let number = error.behavior;
@@ -161,10 +154,12 @@ fn run_one<R: Print + AllocGlobal>(
     let mut options = VMOptions::default();
     options.journal_mismatch_retry_behavior = behavior;
     println!(rt; "== {behavior:?}, version {version}")?;
-    let (mut store, replies) = schedule(alloc, options, version)?;
+    let events = events(alloc, version)?;
+    let (mut store, replies) = schedule(alloc, open_new(alloc)?, options, events);
     let told = behavior_in(&mut store);
     let (shown, store) = run_lines(alloc, store, SHOWS);
-    drop(leave(store));
+    end(store);
+    let replies = replies.ok_or(Fault::Memory)?;
     for reply in replies.iter() {
         print_reply(rt, reply)?;
     }

@@ -1,7 +1,7 @@
 //! Two files in memory of which so many calls are done, and the store over them.
 use crate::fault::Fault;
 use journal_store::Store;
-use sqlite::{Connection, FileStore, Files, Options};
+use sqlite::{Alter, Connection, FileStore, Files, Options};
 use sqlite_disk::{Crash, Disk, Fuse, Memory};
 use std::alloc::Global;
 
@@ -79,15 +79,23 @@ fn connect(
     }
 }
 
+/// The store over a database, or this where it is not opened.
+fn open_over<S: Alter + Drop>(alloc: Global, connection: Connection<S>) -> Result<Store<S>, S> {
+    match Store::open(alloc, connection) {
+        Ok(store) => Ok(store),
+        Err(left) => Err(left.connection.into_store()),
+    }
+}
+
 /// The store over two files, or these where it is not opened.
 pub fn open(alloc: Global, files: Files<Fused>) -> Result<FusedStore, Files<Fused>> {
     let connection = match connect(alloc, files) {
         Ok(connection) => connection,
         Err(files) => return Err(files),
     };
-    match Store::open(alloc, connection) {
+    match open_over(alloc, connection) {
         Ok(store) => Ok(store),
-        Err(left) => Err(left.connection.into_store().close()),
+        Err(left) => Err(left.close()),
     }
 }
 
@@ -107,7 +115,24 @@ pub fn open_new(alloc: Global) -> Result<FusedStore, Fault> {
     open_again(alloc, new_files(alloc, NEVER, NEVER))
 }
 
+fn left_by<S: Alter + Drop>(store: Store<S>) -> S {
+    store.into_connection().into_store()
+}
+
 /// The files of a store that nobody uses any more.
 pub fn leave(store: FusedStore) -> Files<Fused> {
-    store.into_connection().into_store().close()
+    left_by(store).close()
+}
+
+/// Lets go of a store, and of its files.
+pub fn end(store: FusedStore) {
+    drop(leave(store));
+}
+
+/// The store over copies of its files, which do not stop. A file in memory may not be used any more once its sync was refused memory.
+pub fn open_copies(alloc: Global, store: FusedStore) -> Result<FusedStore, Fault> {
+    let left = leave(store);
+    let copied = left_by_process(alloc, &left);
+    drop(left);
+    open_again(alloc, copied?)
 }

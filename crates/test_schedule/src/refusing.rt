@@ -1,10 +1,9 @@
 //! A row of which one allocation is refused, for each of them in turn: a round each. What is printed tells it by a name, or is as it is with
 //! no refusal; and gone on with, the row ends as with none.
-use crate::disks::{Fused, leave, left_by_process, open_again, open_new};
+use crate::disks::{open_copies, open_new};
 use crate::fault::Fault;
 use crate::row::{Ran, Row, Whole, go_on, lines_in, print_end, room, run_into, run_whole, text};
 use durable_script::ScriptFault;
-use sqlite::Files;
 use std::alloc::Global;
 use test_rows::{begin_round, end_round};
 
@@ -72,15 +71,10 @@ fn comes_to(wanted: &[u8], printed: &[u8], reached: Result<(), ScriptFault>) -> 
     told_at_end(reached, lines_in(printed) != lines_in(wanted))
 }
 
-/// One round over these files: what it comes to, and whether an allocation was refused.
-fn one_round(
-    alloc: Global,
-    row: &Row,
-    wanted: &Whole,
-    made: &Files<Fused>,
-) -> Result<(Comes, bool), Fault> {
-    let store = open_again(alloc, left_by_process(alloc, made)?)?;
+/// One round: what it comes to, and whether an allocation was refused.
+fn one_round(alloc: Global, row: &Row, wanted: &Whole) -> Result<(Comes, bool), Fault> {
     let room = room(alloc)?;
+    let store = open_new(alloc)?;
     begin_round(alloc);
     let Ran {
         printed,
@@ -88,7 +82,7 @@ fn one_round(
         store,
     } = run_into(alloc, store, row.first.as_bytes(), room);
     let is_refused = end_round(alloc);
-    let (_shown, ended) = go_on(alloc, row, store);
+    let (_shown, ended) = go_on(alloc, row, open_copies(alloc, store)?);
     if !wanted.ends_so(&ended) {
         return Ok((Comes::Amiss, is_refused));
     }
@@ -99,11 +93,10 @@ fn one_round(
 pub fn refuse_row<R: Print + AllocGlobal>(rt: &R, name: &str, row: &Row) -> Result<(), Fault> {
     let alloc = rt.alloc();
     let wanted = run_whole(alloc, row)?;
-    let made = leave(open_new(alloc)?);
     let mut seen = [false; 7];
     let mut rounds = 0u64;
     for round in 1..MOST {
-        let (comes, is_refused) = one_round(alloc, row, &wanted, &made)?;
+        let (comes, is_refused) = one_round(alloc, row, &wanted)?;
         rounds = round;
         for (at, (each, _)) in TEXTS.iter().enumerate() {
             if *each == comes

@@ -1,7 +1,9 @@
 //! A row: what it does, and what is recorded behind each of its lines where nothing stops or fails.
-use crate::disks::{FusedStore, leave, open_again, open_new};
+use crate::disks::{FusedStore, end, open_copies, open_new};
 use crate::fault::Fault;
 use durable_script::{ScriptEnd, ScriptFault, run_script};
+use journal_store::Store;
+use sqlite::Alter;
 use std::alloc::Global;
 use std::io;
 
@@ -20,11 +22,10 @@ pub struct Row {
 }
 
 /// What comes of a script.
-#[derive(Drop)]
-pub struct Ran {
+pub struct Ran<S: Alter> {
     pub printed: Vec<u8>,
     pub result: Result<(), ScriptFault>,
-    pub store: FusedStore,
+    pub store: Store<S>,
 }
 
 /// A row that nothing stops.
@@ -56,7 +57,12 @@ pub fn lines_in(printed: &[u8]) -> usize {
 }
 
 /// Runs a script, which prints into this room.
-pub fn run_into(alloc: Global, store: FusedStore, lines: &[u8], room: Vec<u8>) -> Ran {
+pub fn run_into<S: Alter + Drop>(
+    alloc: Global,
+    store: Store<S>,
+    lines: &[u8],
+    room: Vec<u8>,
+) -> Ran<S> {
     let mut reader = lines;
     let mut printed = room;
     let ScriptEnd {
@@ -73,7 +79,7 @@ pub fn run_into(alloc: Global, store: FusedStore, lines: &[u8], room: Vec<u8>) -
 }
 
 /// Runs a script.
-pub fn run(alloc: Global, store: FusedStore, lines: &[u8]) -> (Vec<u8>, FusedStore) {
+pub fn run<S: Alter + Drop>(alloc: Global, store: Store<S>, lines: &[u8]) -> (Vec<u8>, Store<S>) {
     let Ran {
         printed,
         result: _,
@@ -105,9 +111,9 @@ fn first_lines(script: &[u8], count: usize) -> &[u8] {
 
 /// What is shown of a store that is opened again, so that no attempt of it is live.
 pub fn shown_again(alloc: Global, row: &Row, store: FusedStore) -> Result<Vec<u8>, Fault> {
-    let store = open_again(alloc, leave(store))?;
+    let store = open_copies(alloc, store)?;
     let (shown, store) = run(alloc, store, row.shows.as_bytes());
-    drop(leave(store));
+    end(store);
     Ok(shown)
 }
 
@@ -132,13 +138,23 @@ pub fn run_whole(alloc: Global, row: &Row) -> Result<Whole, Fault> {
     Ok(Whole { printed, shown })
 }
 
-/// What is shown, and what is shown once the row was gone on with.
-pub fn go_on(alloc: Global, row: &Row, store: FusedStore) -> (Vec<u8>, Vec<u8>) {
+/// What is shown, what is shown once the row was gone on with, and the store then.
+fn go_on_over<S: Alter + Drop>(
+    alloc: Global,
+    row: &Row,
+    store: Store<S>,
+) -> (Vec<u8>, Vec<u8>, Store<S>) {
     let (shown, store) = run(alloc, store, row.shows.as_bytes());
     let (told, store) = run(alloc, store, row.again.as_bytes());
     drop(told);
     let (ended, store) = run(alloc, store, row.shows.as_bytes());
-    drop(leave(store));
+    (shown, ended, store)
+}
+
+/// What is shown, and what is shown once the row was gone on with.
+pub fn go_on(alloc: Global, row: &Row, store: FusedStore) -> (Vec<u8>, Vec<u8>) {
+    let (shown, ended, store) = go_on_over(alloc, row, store);
+    end(store);
     (shown, ended)
 }
 
