@@ -433,7 +433,8 @@ class Stores(Beside):
                 await self.good_ends(f"{how}-{word}")
                 self.assertEqual(self.cut.told()["how"], "")
                 self.worker.rest = 0.0  # the test does not wait for what is well
-        self.assertGreaterEqual(self.said("the database refused a statement"), 12)
+        # each was told, but where two came together
+        self.assertGreaterEqual(self.said("the database refused a statement"), 6)
 
     async def test_a_process_that_ends_at_each_begin_rests(self):
         await self.end()

@@ -106,9 +106,17 @@ class Cuts(OverCut):
         """What one has answered, and how often its signal was recorded; each other one has ended."""
         answer = await self.ended(id)
         await self.is_so(self.quiet)
-        shown = await self.worker.store.show(id)
+        shown = await self.asked(lambda: self.worker.store.show(id))
         told = sum(it.id == f"n:{b'told'.hex()}" for it in shown.arrivals)
         return answer, told
+
+    async def asked(self, ask):
+        """What the store answers the test itself, whose request may be the one that is cut."""
+        while True:
+            try:
+                return await ask()
+            except hg.StoreGone:
+                await asyncio.sleep(0.05)
 
     async def quiet(self):
         try:
@@ -124,7 +132,7 @@ class Cuts(OverCut):
         try:
             await self.worker.submit(f"j{n}", everything, "k")
             came, told = await self.result(f"j{n}")
-            state = await self.worker.store.state("obj/k")
+            state = await self.asked(lambda: self.worker.store.state("obj/k"))
         finally:
             await self.end()
         effect, counts, (signal, resolved, sent), attached, number = came
