@@ -3,7 +3,7 @@ ghost use Rattle.vm_proposals.specs.RunCallEffects.{CallsRun};
 ghost use Rattle.vm_proposals.specs.ProposalEffects.{ProposesRun};
 ghost use Rattle.vm_refusals.specs.declared.retries.RetryPolicy.{RetryPolicy};
 ghost use Rattle.vm_refusals.specs.declared.runs.RunExitResult.{RunExitResult};
-ghost use Rattle.vm_c_machine.specs.Calls.{DoesCall};
+ghost use Rattle.vm_c_machine.specs.Calls.{DoesCall, ProposesRetry};
 ghost use Rattle.vm_c_values.specs.Options.{is_set};
 ghost use Rattle.vm_c_values.specs.Records.{failure_in};
 ghost use Rattle.vm_c.specs.Calls.{Over};
@@ -81,7 +81,9 @@ pub extern "C" fn hengomaru_vm_propose_run_retryable(
     code: u16,
     message: &[u8],
     policy: &Policy,
-) -> u32 {
+) -> u32
+    ensures { Over (ProposesRetry notification attempt_millis code message.now policy.now) handle.old.value result handle.new.value }
+{
     match handle.take(alloc) {
         Some(mut held) => {
             let done = held

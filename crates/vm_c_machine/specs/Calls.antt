@@ -1,23 +1,32 @@
 -- What a call of C has come to, by what its machine was and is: done with a reply, or not done, and why.
-use Rattle.std.specs.Prelude.{◌≡◌, ◌==◌, ℕ, Bool, Some, None, Option, IfSome, Result, Ok, Err}
+use Rattle.std.specs.Prelude.{◌≡◌, ◌==◌, ◌*◌, ℕ, Bool, Some, None, Option, Result, Ok, Err}
+use Rattle.std.specs.Duration.{as_nanos}
+use Rattle.std.specs.Option.{ForSome}
 use Rattle.std.specs.declared.convert.Infallible.{Infallible}
+use Rattle.std.specs.declared.time.Duration.{Duration}
 use Rattle.journal_model.specs.Notification.{Bytes, Text}
 use Rattle.journal_model.specs.declared.value.Value.{Value}
 use Rattle.protocol_errors.specs.Code.{suspended}
+use Rattle.protocol_errors.specs.Error.{plain_error}
 use Rattle.protocol_errors.specs.declared.error.Error.{Error}
 use Rattle.vm_machine.specs.declared.machine_state.MachineState.{MachineState}
 use Rattle.vm_feeding.specs.MachineQueries.{TakesOutput}
 use Rattle.vm_feeding.specs.NewMachine.{BeginsMachine}
 use Rattle.vm_feeding.specs.InputAnswer.{IsInputRead}
 use Rattle.vm_types.specs.declared.options.VMOptions.{VMOptions}
+use Rattle.vm_refusals.specs.declared.retries.RetryPolicy.{RetryPolicy}
+use Rattle.vm_refusals.specs.declared.runs.RunExitResult.TheVariants.{RetryableFailure}
+use Rattle.vm_proposals.specs.ProposalEffects.{ProposesRun}
+use Rattle.vm_c_values.specs.Policies.{IsPolicy}
 use Rattle.vm_c_values.specs.Replies.{kind_of, reply_of}
 use Rattle.vm_c_values.specs.declared.not_done.NotDone.{NotDone}
+use Rattle.vm_c_values.specs.declared.policy.Policy.{Policy}
 use Rattle.vm_c_values.specs.declared.not_done.NotDone.TheVariants.{Unread, Failed, Untold}
 use Rattle.vm_c_machine.specs.declared.machine.Machine.{Machine}
 
--- the error that is kept is what the machine has answered
+-- an error is kept, which is what the machine has answered
 abbrev pub Fails : (Error → Type 0) → (is_suspended : Bool) → Machine → Type 0
-Fails Answers is_suspended new = IfSome new.failure (λ error. Answers error × (is_suspended ≡ (error.code.0 == suspended)))
+Fails Answers is_suspended new = ForSome new.failure (λ error. Answers error × (is_suspended ≡ (error.code.0 == suspended)))
 
 -- A call of the machine, whose answer is told as `told` says; nothing is done where the arguments cannot be read.
 abbrev pub DoesCall : {A : Type 0} → (Call : MachineState → Result A Error → MachineState → Type 0) → (told : Bytes → A) → (old : Machine) → Result Bytes NotDone → (new : Machine) → Type 0
@@ -38,6 +47,21 @@ Asks Answers old (Ok reply) new = (new ≡ old) × Answers old.vm.state reply
 Asks Answers old (Err (Unread why)) new = new ≡ old
 Asks Answers old (Err why) new = ⊥
 
+-- ---- a body that has failed, and may be executed again
+
+-- what is proposed: the failure, after so long, by the policy that the host's numbers say
+pub record RetryProposal (notification attempt_millis code : ℕ) (message : Text) (policy : Policy) (old : Machine) (done : Result Bytes NotDone) (new : Machine) : Type 0 where
+  pub retry : RetryPolicy
+  pub attempt : Duration
+  pub policy_is : IsPolicy policy retry
+  pub took : as_nanos attempt ≡ attempt_millis * 1_000_000
+  pub proposes : DoesCall (ProposesRun notification (RetryableFailure attempt (plain_error code message)) retry) (λ _. tt) old done new
+
+-- nothing is done where the numbers are no policy's, or the message is none
+abbrev pub ProposesRetry : (notification attempt_millis code : ℕ) → (message : Text) → Policy → (old : Machine) → Result Bytes NotDone → (new : Machine) → Type 0
+ProposesRetry notification attempt_millis code message policy old (Err (Unread why)) new = new ≡ old
+ProposesRetry notification attempt_millis code message policy old done new = RetryProposal notification attempt_millis code message policy old done new
+
 -- ---- calls of their own
 
 -- a machine is made of the version that the content type names, or none is
@@ -53,10 +77,10 @@ GivesOutput old (Err why) new = ⊥
 
 -- the input is kept, so that its parts can be told; its bytes are the reply
 abbrev pub KeepsReadInput : (seed : ℕ) → (old : Machine) → Result Bytes NotDone → (new : Machine) → Type 0
-KeepsReadInput seed old (Ok reply) new = IfSome new.input (λ input. IsInputRead old.vm.state (Ok input) new.vm.state × (reply ≡ input.input) × (seed ≡ input.random_seed))
+KeepsReadInput seed old (Ok reply) new = ForSome new.input (λ input. IsInputRead old.vm.state (Ok input) new.vm.state × (reply ≡ input.input) × (seed ≡ input.random_seed))
 KeepsReadInput seed old (Err (Unread why)) new = ⊥
 KeepsReadInput seed old (Err (Failed is_suspended)) new = Fails (λ error. IsInputRead old.vm.state (Err error) new.vm.state) is_suspended new
-KeepsReadInput seed old (Err Untold) new = IfSome new.input (λ input. IsInputRead old.vm.state (Ok input) new.vm.state)
+KeepsReadInput seed old (Err Untold) new = ForSome new.input (λ input. IsInputRead old.vm.state (Ok input) new.vm.state)
 
 -- what was taken, if anything was, is told by its kind and its bytes, or is lost where there is no memory to tell it
 abbrev pub Tells : Option Value → (kind : ℕ) → Result Bytes NotDone → Type 0

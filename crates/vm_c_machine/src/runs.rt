@@ -4,7 +4,7 @@ ghost use Rattle.vm_proposals.specs.RunCallEffects.{CallsRun};
 ghost use Rattle.vm_proposals.specs.ProposalEffects.{ProposesRun};
 ghost use Rattle.vm_refusals.specs.declared.retries.RetryPolicy.{RetryPolicy};
 ghost use Rattle.vm_refusals.specs.declared.runs.RunExitResult.{RunExitResult};
-ghost use Rattle.vm_c_machine.specs.Calls.{DoesCall};
+ghost use Rattle.vm_c_machine.specs.Calls.{DoesCall, ProposesRetry};
 ghost use Rattle.vm_c_values.specs.Options.{is_set};
 ghost use Rattle.vm_c_values.specs.Records.{failure_in};
 
@@ -69,7 +69,9 @@ impl Machine {
         code: u16,
         message: &[u8],
         policy: &Policy,
-    ) -> Result<Bytes, NotDone> {
+    ) -> Result<Bytes, NotDone>
+        ensures { ProposesRetry notification attempt_millis code message.now policy.now self.old result self.new }
+    {
         let Some(policy) = retry_policy(policy) else {
             return Err(NotDone::Unread(Unread::Malformed));
         };
