@@ -1,5 +1,5 @@
 -- What the calls of a handle do to what it has.
-use Rattle.std.specs.Prelude.{◌≡◌, ◌==◌, ℕ, true, false, if◌then◌else◌, [], length, Result, Ok, Err}
+use Rattle.std.specs.Prelude.{◌≡◌, ◌==◌, ℕ, true, false, if◌then◌else◌, [], length, take, drop, ◌++◌, Result, Ok, Err}
 use Rattle.std.specs.declared.option.Option.{Option}
 use Rattle.std.specs.declared.option.Option.TheVariants.{None, Some}
 use Rattle.journal_model.specs.Notification.{Bytes, Text}
@@ -38,6 +38,14 @@ abbrev pub Begun : (content_type : Text) → VMOptions → (status : ℕ) → (n
 Begun content_type options status None = status ≡ 0 → ⊥
 Begun content_type options status (Some new) = (status ≡ 0) × MakesMachine content_type options (Ok new.machine) × (new.reply ≡ [])
 
+-- the reply that a handle has; none where there is no machine
+abbrev pub reply_held : Option Held → Bytes
+reply_held None = []
+reply_held (Some held) = held.reply
+
 abbrev pub reply_length : Option Held → ℕ
-reply_length None = 0
-reply_length (Some held) = length held.reply
+reply_length held = length (reply_held held)
+
+-- the first bytes of a room are those of the reply, as many as there is room for, and what is behind them stays
+abbrev pub copied : (reply room : Bytes) → Bytes
+copied reply room = take (length room) reply ++ drop (length reply) room

@@ -1,7 +1,7 @@
 // A machine is made and let go, and the reply is copied.
 ghost use Rattle.std.specs.Prelude.{◌≡◌};
 ghost use Rattle.std.specs.declared.option.Option.TheVariants.{None};
-ghost use Rattle.vm_c.specs.Calls.{Begun, reply_length};
+ghost use Rattle.vm_c.specs.Calls.{Begun, reply_length, reply_held, copied};
 ghost use Rattle.vm_c_machine.specs.Calls.{MakesMachine};
 ghost use Rattle.vm_c_values.specs.Options.{vm_options};
 
@@ -44,18 +44,30 @@ pub extern "C" fn hengomaru_vm_free(alloc: Global, handle: &mut Handle)
     drop(handle.take(alloc));
 }
 
+// Copies as much as there is room for.
+fn copy_front(out: &mut [u8], reply: &[u8])
+    ensures { out.new ≡ copied reply.now out.old }
+{
+    let len = reply.len();
+    let room = out.len();
+    if len <= room {
+        out[..len].copy_from_slice(reply);
+    } else {
+        out.copy_from_slice(&reply[..room]);
+    }
+}
+
 /// Copies the reply of the last call, as much as there is room for, and says how long it is.
 #[unsafe(no_mangle)]
 pub extern "C" fn hengomaru_vm_reply(alloc: Global, handle: &mut Handle, out: &mut [u8]) -> usize
     ensures kept { handle.new.value ≡ handle.old.value }
     ensures length { result ≡ reply_length handle.old.value }
+    ensures copied { out.new ≡ copied (reply_held handle.old.value) out.old }
 {
     match handle.take(alloc) {
         Some(held) => {
             let len = held.reply.len();
-            for (to, from) in out.iter_mut().zip(held.reply.as_slice().iter()) {
-                *to = *from;
-            }
+            copy_front(out, held.reply.as_slice());
             handle.put(held);
             len
         }
