@@ -116,7 +116,7 @@ class Cuts(OverCut):
             try:
                 return await ask()
             except hg.StoreGone:
-                await asyncio.sleep(0.05)
+                await self.worker.reopen()
 
     async def quiet(self):
         try:
