@@ -3,6 +3,7 @@
 #![tactic(auto)]
 
 ghost use Rattle.journal_model.specs.Cause.{AskingAccepts};
+ghost use Rattle.journal_model.specs.Forgetting.{AllForget, HeadlineStays, WakingStays};
 ghost use Rattle.journal_model.specs.Headline.{AllIsolated, StateFollows};
 ghost use Rattle.journal_model.specs.Run.{ArrivalsExtend, CallsExtend};
 ghost use Rattle.journal_model.specs.State.{AppliesOnce};
@@ -35,4 +36,11 @@ pub fn invocations_isolated()
 /// Whatever events are asked for, those that are kept were accepted.
 pub fn events_accepted()
     ensures { AskingAccepts }
+{}
+
+/// Once an invocation is forgotten, all others stay as they were, and what is left of the events was accepted.
+pub fn invocations_forgotten()
+    ensures others { AllForget }
+    ensures headline { HeadlineStays }
+    ensures waking { WakingStays }
 {}
