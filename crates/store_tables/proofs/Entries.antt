@@ -1,5 +1,5 @@
 -- What the statements over entries do to the records.
-use Rattle.std.proofs.Common.{◌≡◌, ℕ, pos, Bool, not, filter, List, [], ◌∷◌, ◌++◌, Option, refl, sym, subst, codes}
+use Rattle.std.proofs.Common.{◌≡◌, ℕ, pos, not, filter, List, [], ◌∷◌, ◌++◌, Option, refl, sym, subst, codes}
 use Rattle.std.specs.Int.{w64, cast_signed}
 use Rattle.std.proofs.lemmas.List.{map-append}
 use Rattle.sqlite_keyed.proofs.ListLemmas.{all-append, all-filter}
