@@ -150,7 +150,7 @@ no_first : (causes : List Cause) → first_cause causes ≡ None → causes ≡ 
 no_first [] e = refl
 no_first (cause ∷ causes) e = cc
 
-or_false : (a b : Bool) → (a || b) ≡ false → (a ≡ false) × (b ≡ false)
+pub or_false : (a b : Bool) → (a || b) ≡ false → (a ≡ false) × (b ≡ false)
 or_false true b e = cc
 or_false false b e = (refl, e)
 

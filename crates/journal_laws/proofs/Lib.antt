@@ -15,3 +15,4 @@ pub mod Asking
 pub mod Forgetting
 pub mod Staying
 pub mod Waking
+pub mod Several
