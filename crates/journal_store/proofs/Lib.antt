@@ -1,3 +1,4 @@
+pub mod Dropping
 pub mod Rows
 pub mod Standing
 pub mod Asking
