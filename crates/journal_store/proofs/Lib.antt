@@ -22,3 +22,4 @@ pub mod Reading
 pub mod Framed
 pub mod Causing
 pub mod Fitting
+pub mod Forgetting
