@@ -19,6 +19,8 @@ use Rattle.vm_attempt.specs.declared.attempt.Attempt.{Attempt}
 use Rattle.vm_attempt.specs.declared.run_outcome.RunOutcome.{RunOutcome}
 use Rattle.vm_attempt.specs.declared.turn.Finish.{Finish}
 use Rattle.vm_attempt.specs.declared.turn.Finish.TheVariants as finishes
+use Rattle.vm_attempt.specs.declared.turn.Step.{Step}
+use Rattle.vm_attempt.specs.declared.turn.Step.TheVariants as steps
 use Rattle.vm_attempt.specs.declared.turn.Turn.{Turn}
 
 -- what each turn comes to of an attempt that is over
@@ -109,3 +111,15 @@ module _ {H : Type 0} where
     -- an attempt that is over answers the same again, and nothing changes; another makes a turn of its machine
     abbrev pub Turns : (before : Attempt H) → Turn → (after : Attempt H) → Type 0
     Turns before turn after = TurnsUnless before.over before turn after
+
+  -- ---- a turn in two halves
+
+  -- What the first half of a turn has come to: a turn, whatever the end of a body would be, or one that the end of this body ends.
+  abbrev pub StepIs : (Does : RunOutcome → Turn → Attempt H → Type 0) → Step → (after : Attempt H) → Type 0
+  StepIs Does (steps.Turned turn) after = (ran : RunOutcome) → Does ran turn after
+  StepIs Does (steps.Asks handle) between = (ran : RunOutcome) (turn : Turn) (after : Attempt H) → RunsBody ran handle between turn after → Does ran turn after
+
+  -- a step of an attempt's own machine, or none: its handler, its input and its answers stay where a body is asked for
+  abbrev pub StaysAsked : Step → (before after : Attempt H) → Type 0
+  StaysAsked (steps.Turned turn) before after = Unit {0}
+  StaysAsked (steps.Asks handle) before after = after ≡ record before { vm = after.vm }

@@ -3,6 +3,9 @@ ghost use Rattle.std.specs.Prelude.{◌≡◌};
 ghost use Rattle.vm_attempt.specs.Bodies.{exit_by_policy, by_policy};
 
 use bytes::Bytes;
+use journal_model::TerminalFailure;
+use protocol_errors::Error;
+use std::time::Duration;
 use vm_refusals::{RetryPolicy, RunExitResult};
 
 /// How an attempt at the body of a run has ended, and how the run is tried again where that is no outcome of it.
@@ -12,18 +15,37 @@ pub struct RunOutcome {
     pub policy: RetryPolicy,
 }
 
-/// An empty value, of a run that is tried again without end.
-impl Default for RunOutcome {
-    ghost use Rattle.std.specs.Prelude.{◌≡◌, []};
-    ghost use Rattle.vm_refusals.specs.declared.retries.RetryPolicy.TheVariants.{Infinite};
-    ghost use Rattle.vm_refusals.specs.declared.runs.RunExitResult.TheVariants.{Success};
-
-    ghost is_default = { λ outcome. outcome ≡ record { result = Success []; policy = Infinite } };
-
-    fn default() -> RunOutcome {
+impl RunOutcome {
+    /// It has brought this.
+    pub fn done(value: Bytes) -> RunOutcome
+        ensures { result ≡ record { result = RunExitResult.Success value; policy = RetryPolicy.Infinite } }
+    {
         RunOutcome {
-            result: RunExitResult::Success(Bytes::new()),
+            result: RunExitResult::Success(value),
             policy: RetryPolicy::Infinite,
+        }
+    }
+
+    /// It has failed for good: its handler is told this.
+    pub fn failed(failure: TerminalFailure) -> RunOutcome
+        ensures { result ≡ record { result = RunExitResult.TerminalFailure failure; policy = RetryPolicy.Infinite } }
+    {
+        RunOutcome {
+            result: RunExitResult::TerminalFailure(failure),
+            policy: RetryPolicy::Infinite,
+        }
+    }
+
+    /// It has failed with this after so long, and is executed again, as the policy says.
+    pub fn again(error: Error, attempt_duration: Duration, policy: RetryPolicy) -> RunOutcome
+        ensures { result ≡ record { result = RunExitResult.RetryableFailure attempt_duration error; policy = policy } }
+    {
+        RunOutcome {
+            result: RunExitResult::RetryableFailure {
+                attempt_duration,
+                error,
+            },
+            policy,
         }
     }
 }
