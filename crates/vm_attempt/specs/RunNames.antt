@@ -1,6 +1,6 @@
 -- The name by which a handler has asked for a run: nothing is kept of it, since the handler says it again.
-use Rattle.std.specs.Prelude.{ℕ, nat_eq, Bool, true, false, if◌then◌else◌, List, [], ◌∷◌, take, Option, Some, None, suc}
-use Rattle.std.specs.Option.{option_map}
+use Rattle.std.specs.Prelude.{ℕ, nat_eq, Bool, false, List, [], take, Option, Some}
+use Rattle.std.specs.List.{position}
 use Rattle.journal_model.specs.Notification.{Text}
 use Rattle.journal_model.specs.Run.{Handler}
 use Rattle.journal_model.specs.declared.call.Answer.{Answer}
@@ -17,15 +17,15 @@ is_handle handle _ = false
 
 -- the place of the first such answer
 abbrev pub place_of : ℕ → List Answer → Option ℕ
-place_of handle [] = None
-place_of handle (answer ∷ more) = if is_handle handle answer then Some 0 else option_map (λ place. suc place) (place_of handle more)
+place_of handle given = position (is_handle handle) given
 
+-- the name of a run's call; that of any other is empty
 abbrev pub name_in : Call → Text
 name_in (calls.Run name) = name
 name_in _ = []
 
 module _ {H : Type 0} (function : H → Handler) (handle : ℕ) (a : Attempt H) where
-  -- what the handler has called behind so many answers
+  -- the name of what the handler has called behind so many answers
   abbrev pub name_at : Option Input → Option ℕ → Text
   name_at (Some input) (Some place) = name_in (function a.handler input (take place a.answers))
   name_at _ _ = []

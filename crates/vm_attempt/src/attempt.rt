@@ -1,11 +1,12 @@
 // An attempt.
-ghost use Rattle.std.specs.Prelude.{◌≡◌, [], Some, None, IfOk, IfSome, OnOk};
+ghost use Rattle.std.specs.Prelude.{◌≡◌, ◌<◌, [], length, Some, None, IfOk, IfSome, OnOk};
 ghost use Rattle.std.specs.Option.{option_copied};
+ghost use Rattle.journal_model.specs.Run.{Handler as Function};
 ghost use Rattle.vm_attempt.specs.RunNames.{is_handle, place_of, run_name};
 ghost use Rattle.vm_start.specs.declared.phase.Phase.TheVariants.{Failed};
 ghost use Rattle.vm_attempt.specs.Attempt.{IsBegun, has_stopped, Feeds, ClosesInput};
 ghost use Rattle.vm_attempt.specs.Output.{output_of, Gathers, HasFront, Shows, LetsGo, TakesOutput};
-ghost use Rattle.vm_attempt.specs.TurnOutcomes.{FinishesBy, TakesAnswer, RunsBody, TakesOutcome, CarriesCall, ReadsInput, ReadsOrAsks, TurnsOn, Turns, StepIs, StaysAsked};
+ghost use Rattle.vm_attempt.specs.TurnOutcomes.{FinishesBy, TakesAnswer, RunsBody, TakesOutcome, CarriesCall, ReadsInput, ReadsOrAsks, Turns, StepIs, StaysAsked, IsAtOnce, AsksAs, AsksBy, AsksWhere, IsNextCall};
 
 use crate::header::ContentType;
 use crate::output::{advance, first, join};
@@ -51,7 +52,8 @@ fn is_handle(answer: &Answer, handle: NotificationHandle) -> bool
 
 // The place of the first answer that is this handle.
 fn place_of(handle: NotificationHandle, answers: &[Answer]) -> Option<usize>
-    ensures { result ≡ place_of handle answers.now }
+    ensures place { result ≡ place_of handle answers.now }
+    ensures within { IfSome result (λ place. place < length answers.now) }
 {
     answers.iter().position(|answer| is_handle(answer, handle))
 }
@@ -153,10 +155,11 @@ impl<H: Handler> Attempt<H> {
         ran_or_failed(proposed)
     }
 
-    // A call has come to this. A body for which it asks is not executed yet.
+    // A call has come to this. The body that it asks for is not executed yet.
     fn come_to(&mut self, outcome: CallOutcome) -> Step
         ensures step { StepIs (λ ran turn after. TakesOutcome ran outcome self.old turn after) result self.new }
         ensures stays { StaysAsked result self.old self.new }
+        ensures asks { AsksAs outcome result self.old self.new }
     {
         match outcome {
             CallOutcome::Answered(answer) => Step::Turned(self.take_answer(answer)),
@@ -168,10 +171,11 @@ impl<H: Handler> Attempt<H> {
         }
     }
 
-    // The handler's call is carried out.
+    // A call is carried out.
     fn carry(&mut self, call: Call) -> Step
         ensures step { StepIs (λ ran turn after. CarriesCall ran call self.old turn after) result self.new }
         ensures stays { StaysAsked result self.old self.new }
+        ensures asks { AsksBy call result self.old self.new }
     {
         call_is_typed(&call);
         let outcome = carry_out(&mut self.vm, call);
@@ -191,10 +195,25 @@ impl<H: Handler> Attempt<H> {
         }
     }
 
+    // What a turn comes to in which nothing is asked of the machine: the attempt is over, or has failed, or more has to come.
+    fn turn_at_once(&self) -> Option<Turn>
+        ensures { IsAtOnce result self.now }
+    {
+        if let Some(finish) = self.over {
+            return Some(turn_again(finish));
+        }
+        match self.vm.is_ready_to_execute() {
+            Ok(true) => None,
+            Ok(false) => Some(Turn::Waiting),
+            Err(error) => Some(Turn::Failed(error)),
+        }
+    }
+
     // The handler is asked for its next call, once the input was read.
     fn go_on(&mut self) -> Step
         ensures step { StepIs (λ ran turn after. ReadsOrAsks H.next_call ran self.old.input self.old turn after) result self.new }
         ensures stays { StaysAsked result self.old self.new }
+        ensures asks { AsksWhere H.next_call result self.old self.new }
     {
         let next = match &self.input {
             None => return Step::Turned(self.read_input()),
@@ -203,18 +222,6 @@ impl<H: Handler> Attempt<H> {
         match next {
             Ok(call) => self.carry(call),
             Err(_) => Step::Turned(self.finish(Finish::OutOfMemory)),
-        }
-    }
-
-    // A turn of an attempt that is not over, unless its machine has failed, as far as it goes without a body.
-    fn step_on(&mut self) -> Step
-        ensures step { StepIs (λ ran turn after. TurnsOn H.next_call ran self.old turn after) result self.new }
-        ensures stays { StaysAsked result self.old self.new }
-    {
-        match self.vm.is_ready_to_execute() {
-            Ok(true) => self.go_on(),
-            Ok(false) => Step::Turned(Turn::Waiting),
-            Err(error) => Step::Turned(Turn::Failed(error)),
         }
     }
 
@@ -227,10 +234,31 @@ impl<H: Handler> Attempt<H> {
     pub fn turn_or_ask(&mut self) -> Step
         ensures step { StepIs (λ ran turn after. Turns H.next_call ran self.old turn after) result self.new }
         ensures stays { StaysAsked result self.old self.new }
+        ensures asks { AsksWhere H.next_call result self.old self.new }
     {
-        match self.over {
-            Some(finish) => Step::Turned(turn_again(finish)),
-            None => self.step_on(),
+        match self.turn_at_once() {
+            Some(turn) => Step::Turned(turn),
+            None => self.go_on(),
+        }
+    }
+
+    /// The same with this call, which comes from outside: the handler is not asked. So it is what `turn_or_ask` does with every handler that
+    /// makes this call next. Where no call is made, as while the input was not read, it is let go of.
+    pub fn relay(&mut self, call: Call) -> Step
+        ensures step { (function : H → Function) → IsNextCall function call self.old → StepIs (λ ran turn after. Turns function ran self.old turn after) result self.new }
+        ensures stays { StaysAsked result self.old self.new }
+        ensures asks { (function : H → Function) → IsNextCall function call self.old → AsksWhere function result self.old self.new }
+    {
+        if let Some(turn) = self.turn_at_once() {
+            drop(call);
+            return Step::Turned(turn);
+        }
+        match self.input {
+            None => {
+                drop(call);
+                Step::Turned(self.read_input())
+            }
+            Some(_) => self.carry(call),
         }
     }
 
@@ -263,6 +291,13 @@ impl<H: Handler> Attempt<H> {
         ensures { option_copied result ≡ self.now.input }
     {
         self.input.as_ref()
+    }
+
+    /// What the handler was answered so far, the first answer first.
+    pub fn answers(&self) -> &[Answer]
+        ensures { result.now ≡ self.now.answers }
+    {
+        self.answers.as_slice()
     }
 
     /// The name by which the handler has asked for the run of this handle: that of its call which this handle has answered. The handler is

@@ -1,10 +1,12 @@
 //! The end of a run's body, as a turn is given it.
-ghost use Rattle.std.specs.Prelude.{◌≡◌};
+ghost use Rattle.std.specs.Prelude.{◌≡◌, []};
 ghost use Rattle.vm_attempt.specs.Bodies.{exit_by_policy, by_policy};
 
-use bytes::Bytes;
+use bytes::{ByteStr, Bytes};
 use journal_model::TerminalFailure;
 use protocol_errors::Error;
+use sequence::Sequence;
+use std::alloc::Global;
 use std::time::Duration;
 use vm_refusals::{RetryPolicy, RunExitResult};
 
@@ -26,12 +28,16 @@ impl RunOutcome {
         }
     }
 
-    /// It has failed for good: its handler is told this.
-    pub fn failed(failure: TerminalFailure) -> RunOutcome
-        ensures { result ≡ record { result = RunExitResult.TerminalFailure failure; policy = RetryPolicy.Infinite } }
+    /// It has failed for good, by this code and text: its handler is told so. It needs no memory.
+    pub fn failed(alloc: Global, code: u16, message: ByteStr) -> RunOutcome
+        ensures { result ≡ record { result = RunExitResult.TerminalFailure (record { code = code; message = message; metadata = [] }); policy = RetryPolicy.Infinite } }
     {
         RunOutcome {
-            result: RunExitResult::TerminalFailure(failure),
+            result: RunExitResult::TerminalFailure(TerminalFailure {
+                code,
+                message,
+                metadata: Sequence::new(alloc),
+            }),
             policy: RetryPolicy::Infinite,
         }
     }
