@@ -25,6 +25,7 @@ pub mod Failing
 pub mod Going
 pub mod Alone
 pub mod BodyExecution
+pub mod AskedBodies
 pub mod TurnsInRun
 pub mod Turns
 pub mod Matching
