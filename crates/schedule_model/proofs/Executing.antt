@@ -8,7 +8,7 @@ use Rattle.protocol_errors.specs.declared.error.Error.{Error}
 use Rattle.vm_refusals.specs.declared.retries.RetryPolicy.{RetryPolicy}
 use Rattle.vm_refusals.specs.declared.runs.RunExitResult.{RunExitResult}
 use Rattle.vm_attempt.specs.RunNames.{run_name}
-use Rattle.vm_attempt.specs.TurnOutcomes.{again, RanNone, RunsBody, StepIs, Turns}
+use Rattle.vm_attempt.specs.TurnOutcomes.{again, AsksForBody, RanNone, RunsBody, StepIs, Turns}
 use Rattle.vm_attempt.specs.declared.attempt.Attempt.{Attempt}
 use Rattle.vm_attempt.specs.declared.run_outcome.RunOutcome.{RunOutcome}
 use Rattle.vm_attempt.specs.declared.turn.Finish.{Finish}
@@ -74,10 +74,11 @@ module _ {H E : Type 0} (Executes : Execution E) (function : H → Handler) (id 
   -- or one was
   pub asked : (handle : ℕ) (between : Attempt H) (ran : RunOutcome) (turn : Turn) (after : Attempt H) (f : E)
       → StepIs (λ ran turn after. Turns function ran before turn after) (steps.Asks handle) between → between ≡ record before { vm = between.vm }
+      → AsksForBody function handle before between
       → Answers Executes function id handle between e ran f → RunsBody ran handle between turn after → TurnsWith Executes function id before e turn after f
-  asked handle between ran turn after f asks stays answers ends = record {
+  asked handle between ran turn after f step stays asks answers ends = record {
     ran = ran;
     taken = taken handle ran f (same_answers handle between ran f stays answers);
-    turns = asks ran turn after ends;
+    turns = step ran turn after ends;
     asks = inr (record { handle = handle; between = between; asks = asks; stays = stays; answers = same_answers handle between ran f stays answers; ends = ends });
   }

@@ -12,10 +12,9 @@ use Rattle.vm_refusals.specs.declared.retries.RetryPolicy.{RetryPolicy}
 use Rattle.vm_refusals.specs.declared.runs.RunExitResult.{RunExitResult}
 use Rattle.vm_start.specs.FailureReport.{out_of_memory}
 use Rattle.vm_attempt.specs.RunNames.{run_name}
-use Rattle.vm_attempt.specs.TurnOutcomes.{RanNone, RunsBody, StepIs, Turns}
+use Rattle.vm_attempt.specs.TurnOutcomes.{AsksForBody, RanNone, RunsBody, Turns}
 use Rattle.vm_attempt.specs.declared.attempt.Attempt.{Attempt}
 use Rattle.vm_attempt.specs.declared.run_outcome.RunOutcome.{RunOutcome}
-use Rattle.vm_attempt.specs.declared.turn.Step.TheVariants as steps
 use Rattle.vm_attempt.specs.declared.turn.Turn.{Turn}
 use Rattle.schedule_model.specs.Outcomes.{tells_mismatch}
 
@@ -64,11 +63,11 @@ module _ {H E : Type 0} (Executes : Execution E) (function : H → Handler) (id 
   abbrev pub AsksNone : Turn → (e f : E) → Type 0
   AsksNone turn e f = RanNone turn × (f ≡ e)
 
-  -- a turn comes to the body of this run, which ends as was answered
+  -- the handler's next call comes to the body of this run, which ends as was answered
   pub record EndsBody (before : Attempt H) (e : E) (ran : RunOutcome) (turn : Turn) (after : Attempt H) (f : E) : Type 0 where
     pub handle : ℕ
     pub between : Attempt H
-    pub asks : StepIs (λ ran turn after. Turns function ran before turn after) (steps.Asks handle) between
+    pub asks : AsksForBody function handle before between
     pub stays : between ≡ record before { vm = between.vm }
     pub answers : Answers handle before e ran f
     pub ends : RunsBody ran handle between turn after

@@ -1,16 +1,19 @@
 -- A call that the machine has carried out, and how the attempt goes on then.
-use Rattle.std.proofs.Common.{◌≡◌, Bool, true, false, Option, Some, None, Ok, inl, inr, ap, sym, subst}
+use Rattle.std.proofs.Common.{◌≡◌, Bool, true, false, Option, Some, None, Result, Ok, Err, inl, inr, ap, sym, subst}
 use Rattle.journal_model.specs.Run.{Handler}
+use Rattle.journal_model.specs.declared.call.Answer.{Answer}
 use Rattle.journal_model.specs.declared.call.Call.{Call}
 use Rattle.journal_model.specs.declared.handler.Input.{Input}
+use Rattle.protocol_errors.specs.declared.error.Error.{Error}
 use Rattle.vm_request_laws.specs.Calls.{IsTypedCall}
 use Rattle.vm_core.specs.declared.core_vm.CoreVM.{CoreVM}
 use Rattle.vm_core.specs.Outcomes.outcomes
 use Rattle.vm_core.specs.Outcomes.{CarriesOut, CallOutcome}
-use Rattle.vm_attempt.specs.TurnOutcomes.{TakesOutcome, CarriesCall, ReadsInput, ReadsOrAsks, TurnsUnless, Turns, StepIs, MakesCalls, ComesToBody, AsksAs, AsksBy, AsksWhere, IsNextCall}
+use Rattle.vm_attempt.specs.TurnOutcomes.{again, FinishesBy, GivesInput, RanNone, TakesAnswer, TakesOutcome, CarriesCall, ReadsInput, ReadsOrAsks, TurnsUnless, Turns, StepIs, MakesCalls, ComesToBody, AsksAs, AsksBy, AsksWhere, IsNextCall}
 use Rattle.vm_attempt.specs.declared.attempt.Attempt.{Attempt}
 use Rattle.vm_attempt.specs.declared.run_outcome.RunOutcome.{RunOutcome}
 use Rattle.vm_attempt.specs.declared.turn.Finish.{Finish}
+use Rattle.vm_attempt.specs.declared.turn.Finish.TheVariants as finishes
 use Rattle.vm_attempt.specs.declared.turn.Step.{Step}
 use Rattle.vm_attempt.specs.declared.turn.Step.TheVariants as steps
 use Rattle.vm_attempt.specs.declared.turn.Turn.{Turn}
@@ -20,7 +23,33 @@ abbrev pub executes : CallOutcome → Bool
 executes (outcomes.Executes handle) = true
 executes _ = false
 
+over_none : (finish : Finish) (turn : Turn) → turn ≡ again finish → RanNone turn
+over_none finish turn is = subst RanNone (sym is) (none finish)
+  where
+    none : (finish : Finish) → RanNone (again finish)
+    none finishes.Suspended = tt
+    none finishes.Ended = tt
+    none finishes.OutOfMemory = tt
+
 module _ {H : Type 0} where
+  -- ---- a turn that has ended no body
+
+  pub finish_none : (finish : Finish) (between : Attempt H) (turn : Turn) (after : Attempt H) → FinishesBy finish between turn after → RanNone turn
+  finish_none finish between turn after finishes = over_none finish turn finishes.0
+
+  pub answer_none : (answer : Answer) (between : Attempt H) (turn : Turn) (after : Attempt H) → TakesAnswer answer between turn after → RanNone turn
+  answer_none answer between turn after (inl takes) = subst RanNone (sym takes.0) tt
+  answer_none answer between turn after (inr over) = over_none finishes.OutOfMemory turn over.0
+
+  pub read_none : (before : Attempt H) (turn : Turn) (after : Attempt H) → ReadsInput before turn after → RanNone turn
+  read_none before turn after reads = by_read reads.read reads.gives
+    where
+      by_read : (read : Result Input Error) → GivesInput read (record before { vm = after.vm }) turn after → RanNone turn
+      by_read (Ok input) gives = subst RanNone (sym gives.0) tt
+      by_read (Err error) gives = subst RanNone (sym gives.0) tt
+
+  -- ---- what the machine has carried out
+
   -- where none is, the machine stays as the call has left it
   pub machine_stays : (ran : RunOutcome) (outcome : CallOutcome) (between : Attempt H) (turn : Turn) (after : Attempt H) → executes outcome ≡ false → TakesOutcome ran outcome between turn after → between.vm ≡ after.vm
   machine_stays ran (outcomes.Answered answer) between turn after none h =
