@@ -1,5 +1,5 @@
 -- A call that the machine has carried out, and how the attempt goes on then.
-use Rattle.std.proofs.Common.{◌≡◌, Bool, true, false, Option, Some, None, Result, Ok, Err, inl, inr, ap, sym, subst}
+use Rattle.std.proofs.Common.{◌≡◌, Bool, true, false, Option, Some, Result, Ok, Err, inl, inr, ap, sym, subst}
 use Rattle.journal_model.specs.Run.{Handler}
 use Rattle.journal_model.specs.declared.call.Answer.{Answer}
 use Rattle.journal_model.specs.declared.call.Call.{Call}
@@ -9,7 +9,7 @@ use Rattle.vm_request_laws.specs.Calls.{IsTypedCall}
 use Rattle.vm_core.specs.declared.core_vm.CoreVM.{CoreVM}
 use Rattle.vm_core.specs.Outcomes.outcomes
 use Rattle.vm_core.specs.Outcomes.{CarriesOut, CallOutcome}
-use Rattle.vm_attempt.specs.TurnOutcomes.{again, FinishesBy, GivesInput, RanNone, TakesAnswer, TakesOutcome, CarriesCall, ReadsInput, ReadsOrAsks, TurnsUnless, Turns, StepIs, MakesCalls, ComesToBody, AsksAs, AsksBy, AsksWhere, IsNextCall}
+use Rattle.vm_attempt.specs.TurnOutcomes.{again, FinishesBy, GivesInput, RanNone, TakesAnswer, TakesOutcome, CarriesCall, ReadsInput, ReadsOrAsks, TurnsUnless, Turns, StepIs, MakesCalls, ComesToBody, AsksAs, AsksBy, AsksWhere}
 use Rattle.vm_attempt.specs.declared.attempt.Attempt.{Attempt}
 use Rattle.vm_attempt.specs.declared.run_outcome.RunOutcome.{RunOutcome}
 use Rattle.vm_attempt.specs.declared.turn.Finish.{Finish}
@@ -109,17 +109,3 @@ module _ {H : Type 0} where
       → StepIs (λ ran turn after. ReadsOrAsks function ran before.input before turn after) step after → StepIs (λ ran turn after. Turns function ran before turn after) step after
   makes_step function before (steps.Turned turn) after calls does = λ ran. makes function ran before turn after calls (does ran)
   makes_step function before (steps.Asks handle) between calls does = λ ran turn after runs. makes function ran before turn after calls (does ran turn after runs)
-
-  -- ---- a call that comes from outside
-
-  -- it is carried out, as that of each handler which makes it
-  pub relayed : (function : H → Handler) (input : Input) (call : Call) (before : Attempt H) (step : Step) (after : Attempt H) → MakesCalls before → before.input ≡ Some input
-      → StepIs (λ ran turn after. CarriesCall ran call before turn after) step after → IsNextCall function call before → StepIs (λ ran turn after. Turns function ran before turn after) step after
-  relayed function input call before step after calls has_read does next =
-      makes_step function before step after calls (asked function input call before step after has_read (sym (next input has_read)) does)
-
-  -- where the input was not read, this is done first, whatever the call
-  pub reads_first : (function : H → Handler) (ran : RunOutcome) (before : Attempt H) (turn : Turn) (after : Attempt H) → MakesCalls before → before.input ≡ None
-      → ReadsInput before turn after → Turns function ran before turn after
-  reads_first function ran before turn after calls unread reads =
-      makes function ran before turn after calls (subst (λ (read : Option Input). ReadsOrAsks function ran read before turn after) (sym unread) reads)

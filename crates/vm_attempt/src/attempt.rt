@@ -247,6 +247,22 @@ impl<H: Handler> Attempt<H> {
         }
     }
 
+    // A call that comes from outside is carried out, once the input was read.
+    fn relay_on(&mut self, call: Call) -> Step
+        ensures step { (function : H → Function) → IsNextCall function call self.old → StepIs (λ ran turn after. ReadsOrAsks function ran self.old.input self.old turn after) result self.new }
+        ensures stays { StaysAsked result self.old self.new }
+        ensures asks { (function : H → Function) → IsNextCall function call self.old → AsksWhere function result self.old self.new }
+        ensures none { EndsNone result }
+    {
+        match self.input {
+            None => {
+                drop(call);
+                Step::Turned(self.read_input())
+            }
+            Some(_) => self.carry(call),
+        }
+    }
+
     /// The same with this call, which comes from outside: the handler is not asked. So it is what `turn_or_ask` does with every handler that
     /// makes this call next. Where no call is made, as while the input was not read, it is let go of.
     pub fn relay(&mut self, call: Call) -> Step
@@ -255,16 +271,12 @@ impl<H: Handler> Attempt<H> {
         ensures asks { (function : H → Function) → IsNextCall function call self.old → AsksWhere function result self.old self.new }
         ensures none { EndsNone result }
     {
-        if let Some(turn) = self.turn_at_once() {
-            drop(call);
-            return Step::Turned(turn);
-        }
-        match self.input {
-            None => {
+        match self.turn_at_once() {
+            Some(turn) => {
                 drop(call);
-                Step::Turned(self.read_input())
+                Step::Turned(turn)
             }
-            Some(_) => self.carry(call),
+            None => self.relay_on(call),
         }
     }
 

@@ -1,14 +1,18 @@
 -- A body that is asked for is the one that the run waits for first; its run was asked for, and nothing has come for it.
 use Rattle.std.proofs.Common.{◌≡◌, ◌⊎◌, inl, inr, ◌∙◌, sym, ap, refl, subst, ℕ, ◌≤◌, arith, Bool, true, false, List, [], ◌++◌, append-nil, Option, Some, None}
 use Rattle.input_laws.proofs.AskedOnce.{kind_first}
+use Rattle.input_laws.proofs.News.{requests_carried-append}
 use Rattle.body_laws.proofs.BodySimulation.{arrived-once}
-use Rattle.journal_model.specs.Run.{run}
+use Rattle.body_laws.proofs.Lists.{among-left}
+use Rattle.journal_model.specs.Run.{run, run_requests}
+use Rattle.live_laws.specs.MachineTurn.{HasPosition}
 use Rattle.live_laws.specs.RequestsInFlight.{requests_sent}
 use Rattle.replay_laws.specs.Outcomes.{asks_run, runs}
 use Rattle.replay_laws.proofs.Asked.{body_asked, journal_come, journal_read}
 use Rattle.replay_laws.proofs.Outcomes.{runs-asked}
 use Rattle.replay_laws.proofs.Standing.{asked_once, at, none_unread}
 use Rattle.journal_model.specs.Journal.{recorded_requests}
+use Rattle.vm_attempt.specs.RunNames.{run_name}
 use Rattle.vm_attempt_laws.specs.AskedBodies.{AsksForFirst, AsksForOpen, IsOpenBody, OpenIsRecorded}
 use Rattle.vm_attempt_laws.specs.AttemptSimulation.{HasBodies, HasNotRead, HasRead, Serves}
 use Rattle.vm_attempt_laws.specs.Attempts.{AsksForBody, Attempt}
@@ -16,9 +20,10 @@ use Rattle.vm_attempt_laws.specs.Bodies.{Among, bodies_of, Body, count_proposed,
 use Rattle.vm_attempt_laws.specs.BodyExecution.{IsToExecute}
 use Rattle.vm_attempt_laws.specs.Machine.outcomes
 use Rattle.vm_attempt_laws.specs.Machine.{Comes, Executes}
-use Rattle.vm_attempt_laws.specs.Words.{Arrival, arrivals_carried, AttemptInRun, Call, Handler, Input, Invocation, IsTypedCall, Queued, Request, Version, VMOptions}
+use Rattle.vm_attempt_laws.specs.Words.{Arrival, arrivals_carried, AttemptInRun, Call, Frame, Handler, Input, Invocation, IsTypedCall, Queued, Request, Version, VMOptions}
 use Rattle.vm_attempt_laws.proofs.Executing.{ExecutesSo, executes_so, WithBodies, with_bodies}
 use Rattle.vm_attempt_laws.proofs.Now.{call_of, called, Now, now}
+use Rattle.vm_attempt_laws.proofs.RunNames.{IsNamed, run_named, says_name}
 
 -- ---- a body of the run whose outcome the attempt has neither read nor proposed
 
@@ -32,8 +37,28 @@ module _ (next : Handler) (live : AttemptInRun) (proposed : List (ℕ × NonEmpt
       kind_first n (asks_run n) (runs-asked n) x.comes.first x.comes.more (asked_once next live proposed e x n)
       (x.comes.come.asked n (arrived-once (arrivals_carried (live.read ++ live.unread)) n come)) (ap (runs n) x.comes.parts ∙ asked)
 
-  pub is_open : (body : Body) → IsToExecute next live.start.given (arrivals_carried live.read) live.calls proposed body → IsOpenBody live body
-  is_open body to = record { asked = requested body to.called; none_come = by_test (has_arrived (arrivals_carried (live.read ++ live.unread)) body.completion) refl }
+  -- what its run has asked for was asked for by it
+  named : (body : Body) (n : IsNamed next live.start.given (run next live.start.given (arrivals_carried live.read) live.calls).steps body)
+      → Among body (bodies_of (run next live.start.given (arrivals_carried live.read) live.calls).steps) → Among (Request.Run body.completion n.name) (requests_asked_by live)
+  named body n called =
+      subst (Among (Request.Run body.completion n.name)) (sym asked_all)
+      (among-left (Request.Run body.completion n.name) (run_requests next live.start.given (arrivals_carried live.read) live.calls) here.left n.asked)
+    where
+      here : HasPosition next live.start.given live.start.shown live.read live.unread live.calls live.machine
+      here = at next live proposed e x
+
+      none : requests_carried live.unread ≡ []
+      none = none_unread next live proposed e x (journal_read next live x.asked body called)
+
+      asked_all : requests_asked_by live ≡ run_requests next live.start.given (arrivals_carried live.read) live.calls ++ here.left
+      asked_all =
+          ap (λ (some : List Request). some ++ live.machine.written)
+          (requests_carried-append live.read live.unread ∙ ap (λ (some : List Request). requests_carried live.read ++ some) none ∙ append-nil (requests_carried live.read))
+          ∙ sym here.position.requests
+
+  pub is_open : (body : Body) (n : IsNamed next live.start.given (run next live.start.given (arrivals_carried live.read) live.calls).steps body)
+      → IsToExecute next live.start.given (arrivals_carried live.read) live.calls proposed body → IsOpenBody live body n.name
+  is_open body n to = record { asked = named body n to.called; none_come = by_test (has_arrived (arrivals_carried (live.read ++ live.unread)) body.completion) refl }
     where
       by_own : (has_arrived (arrivals_carried live.start.journal) body.completion ≡ true) ⊎ (1 ≤ count_proposed body.completion proposed) → ⊥
       by_own (inl journal) =
@@ -46,10 +71,10 @@ module _ (next : Handler) (live : AttemptInRun) (proposed : List (ℕ × NonEmpt
       by_test false none = refl
 
 pub open_is_recorded : OpenIsRecorded
-open_is_recorded next options fallback_seed id events live proposed e body x none opened = (
-  ap (runs body.completion)
-      (sym (append-nil (recorded_requests events id)) ∙ ap (λ (coming : List Request). recorded_requests events id ++ coming) (sym (ap requests_sent none)) ∙ x.is_live.asked)
-      ∙ opened.asked,
+open_is_recorded next options fallback_seed id events live proposed e body name x none opened = (
+  subst (Among (Request.Run body.completion name))
+      (sym x.is_live.asked ∙ ap (λ (coming : List Frame). recorded_requests events id ++ requests_sent coming) none ∙ append-nil (recorded_requests events id))
+      opened.asked,
   ap (λ (arrivals : List Arrival). has_arrived arrivals body.completion) (sym x.is_live.reads.all.arrivals) ∙ opened.none_come,
 )
 
@@ -84,19 +109,23 @@ module _ {H : Type 0} (function : H → Handler) (next : Handler) (version : Ver
         (ap call_from same_input ∙ called function next version options stand is_closed live before queued proposed b.executor b.lives s r here.at)
         (asks.comes.carries live.start.given live.machine r.driven)
 
-    by_machine : (x : Executes live.start.given live.machine (call_of next live here.at) before.vm.state handle between.vm.state) → AsksForFirst next live proposed handle
+    by_machine : (x : Executes live.start.given live.machine (call_of next live here.at) before.vm.state handle between.vm.state) → AsksForFirst next live proposed handle (run_name function handle before)
     by_machine x = first_of (executes_so next version options is_closed live before.vm.state here proposed b.executor with_them x.waits x.machine x.replies x.written handle between.vm.state.runs x.looks)
       where
-        first_of : ExecutesSo next version options is_closed live before.vm.state proposed handle x.machine between.vm.state.runs → AsksForFirst next live proposed handle
+        first_of : ExecutesSo next version options is_closed live before.vm.state proposed handle x.machine between.vm.state.runs → AsksForFirst next live proposed handle (run_name function handle before)
         first_of one = record {
           body = one.body;
           handle_is = one.handle_is;
           journal = r.journal;
           first = one.first;
-          is_open = is_open next live proposed b.executor b.lives one.body one.first.to_execute;
+          is_open = subst (IsOpenBody live one.body) (sym (says_name next live.start.given function before _ one.body handle s.handler r.input r.answers one.handle_is its_name))
+              (is_open next live proposed b.executor b.lives one.body its_name one.first.to_execute);
         }
+          where
+            its_name : IsNamed next live.start.given (run next live.start.given (arrivals_carried live.read) live.calls).steps one.body
+            its_name = (run_named next live.start.given (arrivals_carried live.read) live.calls).named one.body one.first.to_execute.called
 
-  by_stand : HasNotRead function next version options live is_closed before ⊎ HasRead function next version options live before → AsksForFirst next live proposed handle
+  by_stand : HasNotRead function next version options live is_closed before ⊎ HasRead function next version options live before → AsksForFirst next live proposed handle (run_name function handle before)
   by_stand (inl n) = absurd (none_read (sym n.input ∙ asks.has_read))
     where
       none_read : None ≡ Some asks.input → ⊥
