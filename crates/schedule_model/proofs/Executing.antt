@@ -35,7 +35,7 @@ unnamed_taken : (ran : RunOutcome) → IsUnnamed ran → tells_mismatch ran ≡ 
 unnamed_taken ran (none, zero, is) = ap (λ (o : RunOutcome). tells_mismatch o) is
 
 -- an outcome with which any turn may be made that asks for no body
-pub nothing : RunOutcome
+abbrev pub nothing : RunOutcome
 nothing = record { result = RunExitResult.Success []; policy = RetryPolicy.Infinite }
 
 -- an attempt that is over executes none
