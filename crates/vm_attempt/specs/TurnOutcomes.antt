@@ -22,6 +22,7 @@ use Rattle.vm_attempt.specs.declared.turn.Finish.TheVariants as finishes
 use Rattle.vm_attempt.specs.declared.turn.Step.{Step}
 use Rattle.vm_attempt.specs.declared.turn.Step.TheVariants as steps
 use Rattle.vm_attempt.specs.declared.turn.Turn.{Turn}
+use Rattle.vm_attempt.specs.declared.turn.Turn.TheVariants as turns
 
 -- what each turn comes to of an attempt that is over
 abbrev pub again : Finish → Turn
@@ -33,6 +34,16 @@ again finishes.OutOfMemory = Turn.Failed out_of_memory
 abbrev pub ran_or_failed : Result (Unit {0}) Error → Turn
 ran_or_failed (Ok done) = Turn.RanBody
 ran_or_failed (Err error) = Turn.Failed error
+
+-- a turn that has ended no body
+abbrev pub RanNone : Turn → Type 0
+RanNone turns.RanBody = ⊥
+RanNone _ = Unit {0}
+
+-- a turn that is over without a body has ended none
+abbrev pub EndsNone : Step → Type 0
+EndsNone (steps.Turned turn) = RanNone turn
+EndsNone (steps.Asks handle) = Unit {0}
 
 module _ {H : Type 0} where
   -- the attempt is over, and answers that in each turn

@@ -6,7 +6,7 @@ ghost use Rattle.vm_attempt.specs.RunNames.{is_handle, place_of, run_name};
 ghost use Rattle.vm_start.specs.declared.phase.Phase.TheVariants.{Failed};
 ghost use Rattle.vm_attempt.specs.Attempt.{IsBegun, has_stopped, Feeds, ClosesInput};
 ghost use Rattle.vm_attempt.specs.Output.{output_of, Gathers, HasFront, Shows, LetsGo, TakesOutput};
-ghost use Rattle.vm_attempt.specs.TurnOutcomes.{FinishesBy, TakesAnswer, RunsBody, TakesOutcome, CarriesCall, ReadsInput, ReadsOrAsks, Turns, StepIs, StaysAsked, IsAtOnce, AsksAs, AsksBy, AsksWhere, IsNextCall};
+ghost use Rattle.vm_attempt.specs.TurnOutcomes.{FinishesBy, TakesAnswer, RunsBody, TakesOutcome, CarriesCall, ReadsInput, ReadsOrAsks, Turns, StepIs, StaysAsked, IsAtOnce, AsksAs, AsksBy, AsksWhere, IsNextCall, EndsNone, RanNone};
 
 use crate::header::ContentType;
 use crate::output::{advance, first, join};
@@ -160,6 +160,7 @@ impl<H: Handler> Attempt<H> {
         ensures step { StepIs (λ ran turn after. TakesOutcome ran outcome self.old turn after) result self.new }
         ensures stays { StaysAsked result self.old self.new }
         ensures asks { AsksAs outcome result self.old self.new }
+        ensures none { EndsNone result }
     {
         match outcome {
             CallOutcome::Answered(answer) => Step::Turned(self.take_answer(answer)),
@@ -176,6 +177,7 @@ impl<H: Handler> Attempt<H> {
         ensures step { StepIs (λ ran turn after. CarriesCall ran call self.old turn after) result self.new }
         ensures stays { StaysAsked result self.old self.new }
         ensures asks { AsksBy call result self.old self.new }
+        ensures none { EndsNone result }
     {
         call_is_typed(&call);
         let outcome = carry_out(&mut self.vm, call);
@@ -197,7 +199,8 @@ impl<H: Handler> Attempt<H> {
 
     // What a turn comes to in which nothing is asked of the machine: the attempt is over, or has failed, or more has to come.
     fn turn_at_once(&self) -> Option<Turn>
-        ensures { IsAtOnce result self.now }
+        ensures at_once { IsAtOnce result self.now }
+        ensures none { IfSome result RanNone }
     {
         if let Some(finish) = self.over {
             return Some(turn_again(finish));
@@ -214,6 +217,7 @@ impl<H: Handler> Attempt<H> {
         ensures step { StepIs (λ ran turn after. ReadsOrAsks H.next_call ran self.old.input self.old turn after) result self.new }
         ensures stays { StaysAsked result self.old self.new }
         ensures asks { AsksWhere H.next_call result self.old self.new }
+        ensures none { EndsNone result }
     {
         let next = match &self.input {
             None => return Step::Turned(self.read_input()),
@@ -235,6 +239,7 @@ impl<H: Handler> Attempt<H> {
         ensures step { StepIs (λ ran turn after. Turns H.next_call ran self.old turn after) result self.new }
         ensures stays { StaysAsked result self.old self.new }
         ensures asks { AsksWhere H.next_call result self.old self.new }
+        ensures none { EndsNone result }
     {
         match self.turn_at_once() {
             Some(turn) => Step::Turned(turn),
@@ -247,6 +252,7 @@ impl<H: Handler> Attempt<H> {
         ensures step { (function : H → Function) → IsNextCall function call self.old → StepIs (λ ran turn after. ReadsOrAsks function ran self.old.input self.old turn after) result self.new }
         ensures stays { StaysAsked result self.old self.new }
         ensures asks { (function : H → Function) → IsNextCall function call self.old → AsksWhere function result self.old self.new }
+        ensures none { EndsNone result }
     {
         match self.input {
             None => {
@@ -263,6 +269,7 @@ impl<H: Handler> Attempt<H> {
         ensures step { (function : H → Function) → IsNextCall function call self.old → StepIs (λ ran turn after. Turns function ran self.old turn after) result self.new }
         ensures stays { StaysAsked result self.old self.new }
         ensures asks { (function : H → Function) → IsNextCall function call self.old → AsksWhere function result self.old self.new }
+        ensures none { EndsNone result }
     {
         match self.turn_at_once() {
             Some(turn) => {
