@@ -1,5 +1,5 @@
 -- A body that is asked for is the one that the run waits for first; its run was asked for, and nothing has come for it.
-use Rattle.std.proofs.Common.{◌≡◌, ◌⊎◌, inl, inr, ◌∙◌, sym, ap, refl, subst, ℕ, ◌≤◌, arith, Bool, true, false, List, [], ◌++◌, append-nil, Option, Some, None}
+use Rattle.std.proofs.Common.{◌≡◌, ◌⊎◌, inl, inr, ◌∙◌, sym, ap, refl, subst, ℕ, ◌≤◌, arith, Bool, true, false, List, [], ◌++◌, append-nil, Some, None}
 use Rattle.input_laws.proofs.AskedOnce.{kind_first}
 use Rattle.input_laws.proofs.News.{requests_carried-append}
 use Rattle.body_laws.proofs.BodySimulation.{arrived-once}
