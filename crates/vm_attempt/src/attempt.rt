@@ -143,18 +143,6 @@ impl<H: Handler> Attempt<H> {
         }
     }
 
-    // The body of a run has ended so.
-    fn run_body(&mut self, handle: NotificationHandle, ran: RunOutcome) -> Turn
-        ensures { RunsBody ran handle self.old result self.new }
-    {
-        let ran = by_policy(ran);
-        outcome_is_typed(&ran);
-        let proposed = self
-            .vm
-            .propose_run_completion(handle, ran.result, ran.policy);
-        ran_or_failed(proposed)
-    }
-
     // A call has come to this. The body that it asks for is not executed yet.
     fn come_to(&mut self, outcome: CallOutcome) -> Step
         ensures step { StepIs (λ ran turn after. TakesOutcome ran outcome self.old turn after) result self.new }
@@ -285,7 +273,12 @@ impl<H: Handler> Attempt<H> {
     pub fn end_body(&mut self, handle: NotificationHandle, ran: RunOutcome) -> Turn
         ensures { RunsBody ran handle self.old result self.new }
     {
-        self.run_body(handle, ran)
+        let ran = by_policy(ran);
+        outcome_is_typed(&ran);
+        let proposed = self
+            .vm
+            .propose_run_completion(handle, ran.result, ran.policy);
+        ran_or_failed(proposed)
     }
 
     /// One turn: reads the input once it has come with the journal, or asks the handler and carries its call out.

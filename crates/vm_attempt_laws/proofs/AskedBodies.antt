@@ -1,5 +1,5 @@
 -- A body that is asked for is the one that the run waits for first; its run was asked for, and nothing has come for it.
-use Rattle.std.proofs.Common.{◌≡◌, ◌⊎◌, inl, inr, ◌∙◌, sym, ap, refl, subst, ℕ, ◌≤◌, arith, Bool, true, false, List, [], ◌++◌, append-nil, Option, Some, None}
+use Rattle.std.proofs.Common.{◌≡◌, ◌⊎◌, inl, inr, ◌∙◌, sym, ap, refl, subst, ℕ, ◌≤◌, arith, Bool, true, false, List, [], ◌++◌, append-nil, Some, None}
 use Rattle.input_laws.proofs.AskedOnce.{kind_first}
 use Rattle.input_laws.proofs.News.{requests_carried-append}
 use Rattle.body_laws.proofs.BodySimulation.{arrived-once}
@@ -20,7 +20,7 @@ use Rattle.vm_attempt_laws.specs.Bodies.{Among, bodies_of, Body, count_proposed,
 use Rattle.vm_attempt_laws.specs.BodyExecution.{IsToExecute}
 use Rattle.vm_attempt_laws.specs.Machine.outcomes
 use Rattle.vm_attempt_laws.specs.Machine.{Comes, Executes}
-use Rattle.vm_attempt_laws.specs.Words.{Arrival, arrivals_carried, AttemptInRun, Call, Frame, Handler, Input, Invocation, IsTypedCall, Queued, Request, Version, VMOptions}
+use Rattle.vm_attempt_laws.specs.Words.{Arrival, arrivals_carried, AttemptInRun, Call, Frame, Handler, Input, Invocation, IsTypedCall, Queued, Request, requests_carried, Version, VMOptions}
 use Rattle.vm_attempt_laws.proofs.Executing.{ExecutesSo, executes_so, WithBodies, with_bodies}
 use Rattle.vm_attempt_laws.proofs.Now.{call_of, called, Now, now}
 use Rattle.vm_attempt_laws.proofs.RunNames.{IsNamed, run_named, says_name}
@@ -84,7 +84,7 @@ module _ {H : Type 0} (function : H → Handler) (next : Handler) (version : Ver
     (proposed : List (ℕ × NonEmptyValue)) (handle : ℕ) (between : Attempt H) (queued : options.signal_delivery ≡ Queued) (b : HasBodies next live proposed before)
     (s : Serves function next version options live is_closed before) (asks : AsksForBody function handle before between) where
   module _ (r : HasRead function next version options live before) where
-    call_from : (input : Input) → Call
+    abbrev call_from : (input : Input) → Call
     call_from input = function before.handler input before.answers
 
     same_input : asks.input ≡ live.start.given.input

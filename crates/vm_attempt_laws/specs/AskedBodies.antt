@@ -1,5 +1,5 @@
 -- When an attempt asks for the body of a run: only where the run waits for it, was asked for, and nothing has come of it.
-use Rattle.std.specs.Prelude.{◌≡◌, ℕ, false, List, [], ◌++◌}
+use Rattle.std.specs.Prelude.{◌≡◌, ℕ, Bool, false, List, [], ◌++◌}
 use Rattle.journal_model.specs.Event.{Event}
 use Rattle.journal_model.specs.Journal.{recorded_arrivals, recorded_requests}
 use Rattle.replay_laws.specs.AttemptWithBodies.{IsLiveExecutor}

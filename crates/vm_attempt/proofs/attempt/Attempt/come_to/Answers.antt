@@ -9,4 +9,4 @@ pub returns-in-Suspended-clause-none : goal.returns-in-Suspended-clause-none
 returns-in-Suspended-clause-none g c = finish_none finishes.Suspended c.args.self.now c.finish.result c.finish.new.self c.finish.ensures
 
 pub returns-in-Ended-clause-none : goal.returns-in-Ended-clause-none
-returns-in-Ended-clause-none g c = finish_none finishes.Ended c.args.self.now c.finish-2.result c.finish-2.new.self c.finish-2.ensures
+returns-in-Ended-clause-none g c = finish_none finishes.Ended c.args.self.now c.finish-in-Ended.result c.finish-in-Ended.new.self c.finish-in-Ended.ensures
