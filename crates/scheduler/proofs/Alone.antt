@@ -51,7 +51,7 @@ module _ {H S E : Type 0} (g : Ghosts S) (Executes : Execution E) (function : H 
     abbrev Refused : Outcome
     Refused = Outcome.Refused (refusal.Store why)
 
-    only : PerformsSome g Executes function Attempting Refused a e b e
+    abbrev only : PerformsSome g Executes function Attempting Refused a e b e
     only = record {
       events = Begin ∷ [];
       replies = reply.Refused (refusal.Store why) ∷ [];

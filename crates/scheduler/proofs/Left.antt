@@ -1,5 +1,5 @@
 -- Behind its stop an attempt is not live, whatever it did before.
-use Rattle.std.proofs.Common.{◌≡◌, ◌+◌, true≢false, refl, sym, ap, subst, ◌∙◌, ℕ, zero, suc, arith, length, ◌⊎◌, inl, inr, Bool, true, false, ◌&&◌, if◌then◌else◌, bytes_eq, List, [], ◌∷◌, ◌++◌, Option, Some, None, Result, Ok, Err}
+use Rattle.std.proofs.Common.{◌≡◌, ◌+◌, true≢false, refl, sym, ap, subst, ◌∙◌, ℕ, zero, suc, arith, length, take, ◌⊎◌, inl, inr, Bool, true, false, ◌&&◌, if◌then◌else◌, bytes_eq, List, [], ◌∷◌, ◌++◌, Option, Some, None, Result, Ok, Err}
 use Rattle.std.proofs.lemmas.Bool.Decides.{Decides-eqb}
 use Rattle.std.proofs.lemmas.Slice.Eq.{bytes_eq-Decides}
 use Rattle.journal_model.specs.Notification.{Bytes, Text}
@@ -16,7 +16,7 @@ use Rattle.store_calls.specs.Calls.{BeginsStoredAttempt, HandsOut, RefusesBytes,
 use Rattle.store_calls.specs.Frames.{Accepts, LeavesRefused, Rests, TakesEach}
 use Rattle.store_calls.proofs.Live.{live_so}
 use Rattle.store_steps.specs.PreparedFrames.{lies_in_frame}
-use Rattle.schedule_model.specs.Attempts.{Attempt, Turn}
+use Rattle.schedule_model.specs.Attempts.{Attempt, Turn, output_of}
 use Rattle.schedule_model.specs.Attempts.turn
 use Rattle.schedule_model.specs.First.{with_first}
 use Rattle.schedule_model.specs.HeldAttempts.{held_of, is_held, with_attempt}
@@ -29,8 +29,8 @@ use Rattle.schedule_model.specs.declared.event.EventRefusal.TheVariants as refus
 use Rattle.schedule_model.specs.declared.event.Reply.{Reply}
 use Rattle.schedule_model.specs.declared.event.Reply.TheVariants as reply
 use Rattle.schedule_model.specs.declared.held.HeldAttempt.{HeldAttempt}
-use Rattle.schedule_model.specs.Schedule.{Applies, AppliesAll, BeginDoes, ClosesOne, FeedsOne, IfHeld, MovesOne, Scheduled, StopsOne, TurnsOne, UnlessMismatch}
-use Rattle.schedule_model.proofs.Holding.{found_is, held_is, held_with}
+use Rattle.schedule_model.specs.Schedule.{Applies, AppliesAll, BeginDoes, ClosesOne, FeedsOne, IfHeld, MovesOne, RepliesDone, Scheduled, StopsOne, TurnsOne, UnlessMismatch}
+use Rattle.schedule_model.proofs.Holding.{found_is, held_is, held_with, some_is}
 use Rattle.scheduler.specs.declared.outcome.Outcome.{Outcome}
 use Rattle.scheduler.specs.Loop.{all_bytes, Rest, Ends, UnlessRefused, Then, IsFedMore, IsWaiting, IsFedBehindBody, GoesOnBy, IsMoved, MakesTurns, IsFed, Stopping}
 use Rattle.scheduler.specs.Outcomes.{brings_none, refusal_in}
@@ -52,7 +52,9 @@ module _ (id : Text) where
       by_begin true c before = inr refl
       by_begin false true before = inl refl
       by_begin false false (inl none) = inl none
-      by_begin false false (inr some) = inr some
+      by_begin false false (inr some) =
+          let same : attempts_begun earlier id ≡ 0 + attempts_begun earlier id = omega arith in
+          inr (some ∙ ap (λ (k : ℕ). Some k) same)
 
   -- where the last one is not live, none is
   pub none_live : (events : List Accepted) (n : ℕ) → attempts_begun events id ≡ n → is_live events id n ≡ false → live_attempt events id ≡ None
@@ -154,12 +156,14 @@ module _ {H : Type 0} (function : H → Handler) (options : VMOptions) (id : Tex
   turns_kept ran one s t (reply.Turned turn) changed is_id is_n (turns, stays) = stays_still id s t stays
   turns_kept ran one s t _ changed is_id is_n none = absurd none
 
+  accepts_own : (i : Text) (k : ℕ) (bytes : Bytes) (result : Result (List FrameReply × Option Refusal) Refusal) (s t : Standing) → i ≡ id → k ≡ n → Accepts i k bytes result s t → Still id s t
+  accepts_own i k bytes result s t is_id is_n it =
+      accepts_still id n bytes result s t (subst (λ (m : ℕ). Accepts id m bytes result s t) is_n (subst (λ (j : Text). Accepts j k bytes result s t) is_id it))
+
   moves_kept : (count : ℕ) → IsKeptBy (MovesOne count)
   moves_kept count one s t (reply.Moved bytes frames why) changed is_id is_n (replies, are, so_many, accepts, advances) =
-      accepts_still id n _ (Ok (replies, why)) s t
-      (subst (λ (k : ℕ). Accepts id k _ (Ok (replies, why)) s t) is_n (subst (λ (i : Text). Accepts i one.number _ (Ok (replies, why)) s t) is_id accepts))
-  moves_kept count one s t (reply.Refused (refusal.Store why)) changed is_id is_n (accepts, gathers) =
-      accepts_still id n _ (Err why) s t (subst (λ (k : ℕ). Accepts id k _ (Err why) s t) is_n (subst (λ (i : Text). Accepts i one.number _ (Err why) s t) is_id accepts))
+      accepts_own one.invocation one.number (take bytes (output_of one.attempt)) (Ok (replies, why)) s t is_id is_n accepts
+  moves_kept count one s t (reply.Refused (refusal.Store why)) changed is_id is_n (accepts, gathers) = accepts_own one.invocation one.number [] (Err why) s t is_id is_n accepts
   moves_kept count one s t _ changed is_id is_n none = absurd none
 
   -- it is held still
@@ -293,7 +297,7 @@ module _ {H : Type 0} (function : H → Handler) (options : VMOptions) (id : Tex
   stop_left one (Some other) s t answer is is_id is_n last (changed, (replies, same), more) = by_reply answer replies
     where
       other_is : other ≡ one
-      other_is = cc
+      other_is = some_is other one is
 
       own : (result : Result (Unit {0}) Refusal) → Stops other.invocation other.number result s.standing t.standing → live_attempt t.standing.events id ≡ None
       own result stops =
@@ -301,7 +305,7 @@ module _ {H : Type 0} (function : H → Handler) (options : VMOptions) (id : Tex
           (subst (λ (k : ℕ). Stops id k result s.standing t.standing) (ap (λ (h : HeldAttempt H). h.number) other_is ∙ is_n)
           (subst (λ (i : Text). Stops i other.number result s.standing t.standing) (ap (λ (h : HeldAttempt H). h.invocation) other_is ∙ is_id) stops))
 
-      by_reply : (answer : Reply) → _ → live_attempt t.standing.events id ≡ None
+      by_reply : (answer : Reply) → RepliesDone (λ (result : Result (Unit {0}) Refusal). Stops other.invocation other.number result s.standing t.standing) answer → live_attempt t.standing.events id ≡ None
       by_reply reply.Done stops = own (Ok tt) stops
       by_reply (reply.Refused (refusal.Store why)) stops = own (Err why) stops
       by_reply _ none = absurd none

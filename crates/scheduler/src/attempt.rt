@@ -1,5 +1,5 @@
 //! How an invocation is gone on with: one attempt, from its begin until it is over, with each effect executed when it is asked for.
-ghost use Rattle.std.specs.Prelude.{◌≡◌, [], false, suc};
+ghost use Rattle.std.specs.Prelude.{◌≡◌, [], false, suc, true};
 ghost use Rattle.schedule_model.specs.declared.event.Event.TheVariants as event;
 ghost use Rattle.scheduler.specs.Loop.{all_bytes, Continues, GoesAlone, GoesOn, GoesOnBy, IsAttempt, IsFed, IsFedBehindBody, IsFedMore, IsWaiting, MakesTurns, PerformsOr, PerformsSome, Stopping, Then};
 ghost use Rattle.scheduler.specs.Outcomes.{brings_none};
