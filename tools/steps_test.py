@@ -62,6 +62,14 @@ UNREAD = {
 
 # What is read, and the lines of its steps.
 READ = {
+    "which handler is meant": (
+        """if input.is_for("pay") {
+            calls.run(ByteStr::from_static("pay"))
+        } else {
+            Ok(Bytes::new())
+        }""",
+        ['if is_for input (codes "pay")', 'then run_effect (codes "pay")', "else done []"],
+    ),
     "a call": ('calls.run(ByteStr::from_static("pay"))', ['run_effect (codes "pay")']),
     "a value of the library": ("calls.sleep_until(later(&input.input, 5))?;\n        Ok(Bytes::new())", ["sleep_until (later input.input 5)", "done []"]),
     "a function of values for a constant": ("calls.sleep_until(later(&input.input, limit()))?;\n        Ok(Bytes::new())", ["sleep_until (later input.input limit)", "done []"]),

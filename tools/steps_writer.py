@@ -79,7 +79,7 @@ class Writer:
             return self.file.results.get(it[2]) if it[1] is None else self.file.signatures.get(self.file.methods.get(it[2]), (None, None))[1]
         if it[0] == "call" and it[1] is None:
             return self.file.results.get(it[2]) or ("Bytes" if it[2].startswith("Bytes::") else "Text" if it[2].startswith("ByteStr::") else None)
-        return "ℕ" if it[0] == "call" and it[2] == "saturating_add" else None
+        return {"saturating_add": "ℕ", "is_for": "Bool"}.get(it[2]) if it[0] == "call" else None
 
     def is_alloc(self, it):
         return it in (("name", "alloc"), ("name", "calls")) or (it[0] == "call" and it[1] == ("name", "calls") and it[2] == "alloc")
@@ -135,6 +135,8 @@ class Writer:
             for word in ("min", "◌+◌", "◌-◌", "◌^◌"):
                 self.use(word)
             return wrap(f"min ({self.value(of)} + {self.value(args[0])}) (2 ^ 64 - 1)")
+        if of is not None and name == "is_for":
+            return wrap(f"{self.use('is_for')} {self.value(of)} {self.value(args[0])}")
         if of is not None and name == "handle":
             return f"{self.value(of)}.handle"
         if of is not None and name in ("clone", "as_slice"):
