@@ -10,7 +10,7 @@ use Rattle.journal_model.specs.Cause.{IsAccepted}
 use Rattle.sqlite_keyed.proofs.ListLemmas.{all-append}
 use Rattle.store_tables.specs.Records.{Records, applied}
 use Rattle.store_tables.specs.declared.row.Write.{Write}
-use Rattle.store_tables.specs.declared.row.Write.TheVariants.{AddInvocation, AddEntry, CloseSleeps, CloseSleepsUntil, DropState, DropStates, OpenSleep, PutState, SetProgress}
+use Rattle.store_tables.specs.declared.row.Write.TheVariants.{AddInvocation, AddEntry, CloseSleeps, CloseSleepsUntil, DropEntries, DropInvocation, DropState, DropStates, OpenSleep, PutState, SetProgress}
 use Rattle.store_tables.specs.declared.row.EntryRow.{EntryRow}
 use Rattle.store_tables.specs.declared.row.SleepRow.{SleepRow}
 use Rattle.store_model.specs.KeptRecords.{IsKept, invocation_row, state_row}
@@ -33,6 +33,8 @@ one_new (DropStates object) r none = tt
 one_new (OpenSleep sleep) r none = tt
 one_new (CloseSleeps invocation) r none = tt
 one_new (CloseSleepsUntil moment) r none = tt
+one_new (DropInvocation id) r none = tt
+one_new (DropEntries invocation) r none = tt
 
 all_new : (writes : List Write) (r : Records) → AllByRecursion AddsNone writes → AreNew writes r
 all_new [] r none = tt
