@@ -48,7 +48,7 @@ pub use straight_line::{
     Awakeable, Called, Calls, Combinator, DurableFuture, IdAsked, KeysRead, Peeked, StateRead,
     Stop, Straight, StraightLine, Timer, Told, future_over,
 };
-pub use vm_attempt_laws::attempts_follow_runs;
+pub use vm_attempt_laws::{attempts_follow_runs, bodies_are_asked};
 
 /// Puts a reply behind the others, for which there is room.
 fn put(replies: &mut Vec<Reply>, reply: Reply)
