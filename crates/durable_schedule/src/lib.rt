@@ -32,11 +32,12 @@ pub use schedule_laws::{
     records_of_runs, replies_alike, schedules_keep, schedules_leave, settled_once_record_the_same,
 };
 pub use scheduler::{
-    Answer, AttachInvocationTarget, AwaitedFuture, Call, Cause, EntryKind, Event, EventRefusal,
-    Failure, Handler, Header, HeldAttempt, Input, LastError, Moment, NewInvocation, NonEmptyValue,
-    NotificationHandle, NotificationResult, Outcome, PayloadOptions, RecordedEntry, Refusal, Reply,
-    RetryPolicy, RunExitResult, RunOutcome, Scheduler, Sequence, SignalKey, StateMode, StateRow,
-    Target, TerminalFailure, Turn, UnresolvedFuture, VMOptions, Value,
+    Answer, AttachInvocationTarget, AwaitedFuture, Call, Cause, Effects, EntryKind, Error, Event,
+    EventRefusal, Failure, Handler, Header, HeldAttempt, Host, Input, LastError, Moment,
+    NewInvocation, NonEmptyValue, NotificationHandle, NotificationResult, Outcome, PayloadOptions,
+    RecordedEntry, Refusal, Reply, RetryPolicy, RunExitResult, RunOutcome, Scheduler, Sequence,
+    SignalKey, StateMode, StateRow, Target, TerminalFailure, Turn, UnresolvedFuture, VMOptions,
+    Value, Waits,
 };
 pub use sqlite::Alter;
 use std::alloc::Global;
