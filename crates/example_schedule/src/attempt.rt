@@ -15,42 +15,42 @@ pub fn go_on<S: Alter + Drop>(
     scheduler.run_due(now, &mut desk, &mut waits)
 }
 
-pub fn begin(invocation: ByteStr, handler: Straight<Work>) -> Event<Straight<Work>> {
+pub fn begin(id: &'static str, handler: Straight<Work>) -> Event<Straight<Work>> {
     Event::Begin {
-        invocation,
+        invocation: ByteStr::from_static(id),
         handler,
         now: 0,
     }
 }
 
-pub fn feed(invocation: ByteStr, attempt: u32) -> Event<Straight<Work>> {
+pub fn feed(id: &'static str, attempt: u32) -> Event<Straight<Work>> {
     Event::Feed {
-        invocation,
+        invocation: ByteStr::from_static(id),
         attempt,
         count: usize::MAX,
     }
 }
 
 /// A turn. Where it executes an effect, that has brought a receipt.
-pub fn turn(invocation: ByteStr, attempt: u32) -> Event<Straight<Work>> {
+pub fn turn(id: &'static str, attempt: u32) -> Event<Straight<Work>> {
     Event::Turn {
-        invocation,
+        invocation: ByteStr::from_static(id),
         attempt,
         outcome: RunOutcome::done(Bytes::from_static(b"the first receipt")),
     }
 }
 
-pub fn move_output(invocation: ByteStr, attempt: u32) -> Event<Straight<Work>> {
+pub fn move_output(id: &'static str, attempt: u32) -> Event<Straight<Work>> {
     Event::Move {
-        invocation,
+        invocation: ByteStr::from_static(id),
         attempt,
         count: usize::MAX,
     }
 }
 
-pub fn stop(invocation: ByteStr, attempt: u32) -> Event<Straight<Work>> {
+pub fn stop(id: &'static str, attempt: u32) -> Event<Straight<Work>> {
     Event::Stop {
-        invocation,
+        invocation: ByteStr::from_static(id),
         attempt,
     }
 }
@@ -58,16 +58,15 @@ pub fn stop(invocation: ByteStr, attempt: u32) -> Event<Straight<Work>> {
 /// The first attempt of an invocation is stopped behind so many turns, as by a kill. What it has asked for by then is recorded.
 pub fn cut_off<S: Alter + Drop>(
     scheduler: &mut Scheduler<Straight<Work>, S>,
-    invocation: &'static str,
+    id: &'static str,
     handler: Straight<Work>,
     turns: u32,
 ) {
-    let id = || ByteStr::from_static(invocation);
-    scheduler.apply(begin(id(), handler));
-    scheduler.apply(feed(id(), 1));
+    scheduler.apply(begin(id, handler));
+    scheduler.apply(feed(id, 1));
     for _ in 0..turns {
-        scheduler.apply(turn(id(), 1));
-        scheduler.apply(move_output(id(), 1));
+        scheduler.apply(turn(id, 1));
+        scheduler.apply(move_output(id, 1));
     }
-    scheduler.apply(stop(id(), 1));
+    scheduler.apply(stop(id, 1));
 }

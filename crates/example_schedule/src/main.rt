@@ -30,8 +30,10 @@ use std::alloc::{AllocError, Global};
 use std::io;
 use work::{Work, straight};
 
+const ID: &str = "order-7";
+
 fn id() -> ByteStr {
-    ByteStr::from_static("order-7")
+    ByteStr::from_static(ID)
 }
 
 fn customer() -> ByteStr {
@@ -46,14 +48,14 @@ fn invocation(alloc: Global, id: ByteStr) -> NewInvocation {
 fn events(alloc: Global) -> Result<Vec<Event<Straight<Work>>>, AllocError> {
     Ok(vec![in alloc;
         Event::Invoke(invocation(alloc, id())),
-        begin(id(), straight(alloc, Work::Reminder(Reminder))),
-        feed(id(), 1),
-        turn(id(), 1),
-        turn(id(), 1),
-        turn(id(), 1),
-        move_output(id(), 1),
-        stop(id(), 1),
-        turn(id(), 2),
+        begin(ID, straight(alloc, Work::Reminder(Reminder))),
+        feed(ID, 1),
+        turn(ID, 1),
+        turn(ID, 1),
+        turn(ID, 1),
+        move_output(ID, 1),
+        stop(ID, 1),
+        turn(ID, 2),
     ]?)
 }
 

@@ -42,6 +42,7 @@ pub fn pay<R: Print, S: Alter + Drop>(
     let mut desk = Desk::new(alloc);
     let payment = straight(alloc, Work::Payment(Payment));
     let outcome = scheduler.go_on(&order(), payment, 10, &mut desk);
-    println!(rt; "{outcome:?} {}", desk.paid)?;
+    let paid = desk.paid;
+    println!(rt; "{outcome:?} {paid}")?;
     println!(rt; "{:?}", scheduler.answer(&order()))
 }
