@@ -17,6 +17,7 @@ mod files;
 mod front;
 mod laws;
 pub mod options;
+pub mod values;
 
 pub use bytes::{ByteStr, Bytes};
 pub use files::{

@@ -7,7 +7,8 @@ use Rattle.straight_line.specs.Calls.{begin_run, begin_signal}
 use Rattle.straight_line.specs.Combinators.{or_timeout}
 use Rattle.straight_line.specs.Everyday.{result_of, run_effect, sleep_until}
 use Rattle.straight_line.specs.Rounds.{Flow, Leave, Next, for_until}
-use Rattle.example_straight.specs.Values.{later, not_paid}
+use Rattle.straight_values.specs.Values.{later}
+use Rattle.example_straight.specs.Values.{not_paid}
 
 abbrev pub pay-attempt : Input → ℕ → (Unit {0}) → Steps (Flow (Unit {0}) Bytes)
 pay-attempt input attempt state = do

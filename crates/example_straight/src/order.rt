@@ -3,10 +3,11 @@ ghost use Rattle.std.specs.Prelude.{◌≡◌};
 ghost use Rattle.straight_line.specs.Steps as steps;
 ghost use Rattle.example_straight.specs.Order as ordering;
 
-use crate::values::{later, not_paid};
+use crate::values::not_paid;
 use bytes::{ByteStr, Bytes};
 use journal_model::Input;
 use straight_line::{Calls, Stop, StraightLine, Told};
+use straight_values::later;
 
 /// Reserves what was ordered, has it paid, and waits for a confirmation until an hour is over. Where something fails, and where the
 /// order is cancelled, what was done is undone, the last first.
