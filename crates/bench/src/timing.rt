@@ -42,7 +42,7 @@ pub struct Micros(u128);
 impl Micros {
     /// What one of the events took, of what all of them took.
     pub fn each(took: Duration, events: u32) -> Micros {
-        Micros(took.as_nanos() / u128::from(events.max(1)) / 10)
+        Micros(took.as_nanos() / (events.max(1) as u128) / 10)
     }
 }
 
