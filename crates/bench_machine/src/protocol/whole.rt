@@ -61,7 +61,7 @@ fn time_piece(
     whole: &mut Whole,
     written: &mut Vec<u8>,
 ) -> Result<(), Fault> {
-    let mut watch = Stopwatch::start(rt, false)?;
+    let mut watch = Stopwatch::start(rt)?;
     let mut messages = Vec::with_capacity(rt.alloc(), MESSAGES)?;
     let put = put_messages(decoder, piece, None, &mut messages);
     let timed = time_messages(rt, &mut watch, messages.as_slice(), whole, written);

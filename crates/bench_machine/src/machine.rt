@@ -25,7 +25,7 @@ fn time_calls<V: VM>(
     journal: &[u8],
     count: u32,
 ) -> Result<Took, Fault> {
-    let mut watch = Stopwatch::start(rt, false)?;
+    let mut watch = Stopwatch::start(rt)?;
     decode(rt.alloc(), journal)?;
     let decoding = watch.lap(rt)?;
     replay(rt.alloc(), vm, journal, count)?;

@@ -1,8 +1,8 @@
 -- Written by tools/steps of src/loops.rt: what is left, on the answers that are left, comes to what all rounds do.
 use Rattle.std.proofs.Common.{◌≡◌}
 use Rattle.straight_line.specs.Rounds.{for_rounds}
-use Rattle.bench_turns.specs.Loops.{sleeps-sleep}
-use Rattle.bench_turns.proofs.loops.SleepsStraightLine.run.Given as goal
+use Rattle.bench_machine.specs.Loops.{sleeps-sleep}
+use Rattle.bench_machine.proofs.loops.SleepsStraightLine.run.Given as goal
 
 abbrev pub invariant-loop-sleep : goal.invariant-loop-sleep
 invariant-loop-sleep l =

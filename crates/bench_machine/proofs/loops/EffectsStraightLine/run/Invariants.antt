@@ -1,8 +1,8 @@
 -- Written by tools/steps of src/loops.rt: what is left, on the answers that are left, comes to what all rounds do.
 use Rattle.std.proofs.Common.{◌≡◌}
 use Rattle.straight_line.specs.Rounds.{for_rounds}
-use Rattle.bench_turns.specs.Loops.{effects-effect}
-use Rattle.bench_turns.proofs.loops.EffectsStraightLine.run.Given as goal
+use Rattle.bench_machine.specs.Loops.{effects-effect}
+use Rattle.bench_machine.proofs.loops.EffectsStraightLine.run.Given as goal
 
 abbrev pub invariant-loop-effect : goal.invariant-loop-effect
 invariant-loop-effect l =

@@ -33,7 +33,7 @@ fn time_writing<M: PlainMessage>(
     for message in block {
         records.push(read(rt.alloc(), message)?)?;
     }
-    let mut watch = Stopwatch::start(rt, false)?;
+    let mut watch = Stopwatch::start(rt)?;
     write_records(rt.alloc(), records.as_slice())?;
     watch.lap(rt)
 }
@@ -51,7 +51,7 @@ pub fn time_records<M: PlainMessage>(
     rt: &HostRuntime,
     messages: &[RawMessage],
 ) -> Result<Took, Fault> {
-    let mut watch = Stopwatch::start(rt, false)?;
+    let mut watch = Stopwatch::start(rt)?;
     for message in messages {
         read_as::<M>(rt.alloc(), message)?;
     }

@@ -14,7 +14,7 @@ pub struct Sleeps;
 pub struct Effects;
 
 impl StraightLine for Sleeps {
-    ghost use Rattle.bench_turns.specs.Loops.{sleeps};
+    ghost use Rattle.bench_machine.specs.Loops.{sleeps};
 
     ghost makes = { λ handler. sleeps };
 
@@ -28,7 +28,7 @@ impl StraightLine for Sleeps {
 }
 
 impl StraightLine for Effects {
-    ghost use Rattle.bench_turns.specs.Loops.{effects};
+    ghost use Rattle.bench_machine.specs.Loops.{effects};
 
     ghost makes = { λ handler. effects };
 

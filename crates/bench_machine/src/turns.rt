@@ -1,19 +1,12 @@
-//! What a turn of a straight-line handler takes, whose code is executed from its top: `bench_turns COUNT` gives it so many answers.
-//!
-//! With no word it is given ten, and what comes next is printed without times.
-#![tactic(auto)]
-
-mod loops;
-
-use anyhow::Result;
+//! What a turn of a straight-line handler takes, whose code is executed from its top.
+use crate::fault::Fault;
+use crate::loops::{Effects, Sleeps};
+use crate::timing::{Stopwatch, nanoseconds_each};
 use bytes::{ByteStr, Bytes};
 use journal_model::{Answer, Call, Handler, Input, NotificationHandle, Value};
-use loops::{Effects, Sleeps};
 use sequence::Sequence;
 use std::alloc::{AllocError, Global};
-use std::env;
 use std::rt::HostRuntime;
-use std::time::CpuClock;
 use straight_line::Straight;
 
 /// How often a turn is made.
@@ -79,14 +72,18 @@ fn make_turns<H: Handler>(
 }
 
 /// What a turn takes, in nanoseconds.
-fn time_turns<H: Handler>(rt: &HostRuntime, handler: &H, answers: &[Answer]) -> Result<u128> {
-    let before = rt.thread_cpu_time()?;
+fn time_turns<H: Handler>(
+    rt: &HostRuntime,
+    handler: &H,
+    answers: &[Answer],
+) -> Result<u128, Fault> {
+    let mut watch = Stopwatch::start(rt)?;
     make_turns(rt.alloc(), handler, answers, TURNS)?;
-    let took = rt.thread_cpu_time()?.saturating_sub(before);
-    Ok(took.as_nanos() / (TURNS as u128))
+    Ok(nanoseconds_each(watch.lap(rt)?, TURNS as usize))
 }
 
-fn run(rt: &HostRuntime, count: Option<u32>) -> Result<()> {
+/// Gives a handler so many answers, and prints what a turn takes behind them; or, where none are asked for, ten, and prints what comes next.
+pub fn run_turns(rt: &HostRuntime, count: Option<u32>) -> Result<(), Fault> {
     let alloc = rt.alloc();
     let answers = count.unwrap_or(10);
     let sleeps = Straight {
@@ -110,13 +107,4 @@ fn run(rt: &HostRuntime, count: Option<u32>) -> Result<()> {
     let of_effects = time_turns(rt, &effects, executed.as_slice())?;
     println!(rt; "answers {answers} sleeps {of_sleeps} effects {of_effects}")?;
     Ok(())
-}
-
-fn main(rt: HostRuntime) -> Result<()> {
-    let mut words = env::args(&rt)?.skip(1);
-    let count = match words.next() {
-        Some(word) => Some(word.as_str().parse::<u32>()?),
-        None => None,
-    };
-    run(&rt, count)
 }
