@@ -94,17 +94,33 @@ READ = {
 }
 
 
+LOOP = """for round in 0..3u64 {
+            calls.sleep_until(later(&input.input, round))?;
+        }
+        Ok(Bytes::new())"""
+
+
 class Steps(unittest.TestCase):
-    def written(self, body):
-        with tempfile.TemporaryDirectory() as top:
-            source = f"{top}/crates/own/src"
-            os.makedirs(source)
-            for name, text in (("../../../crates.txt", "own: straight_line straight_values\n"), ("values.rt", VALUES)):
-                with open(f"{source}/{name}", "w", encoding="utf-8") as out:
-                    out.write(text)
-            with open(f"{source}/handler.rt", "w", encoding="utf-8") as out:
-                out.write(HEAD.replace("use straight_values", "use crate::values::{limit};\nuse straight_values") + f"        {body}\n    }}\n}}\n")
-            return steps.File(f"{source}/handler.rt").written()
+    def setUp(self):
+        room = tempfile.TemporaryDirectory()
+        self.addCleanup(room.cleanup)
+        self.top = room.name
+        self.write("crates.txt", "own: straight_line straight_values\n")
+        self.write("crates/own/src/values.rt", VALUES)
+
+    def write(self, name, text):
+        os.makedirs(os.path.dirname(f"{self.top}/{name}"), exist_ok=True)
+        with open(f"{self.top}/{name}", "w", encoding="utf-8") as out:
+            out.write(text)
+
+    def source(self, body, name="handler"):
+        """The file of a handler with this body."""
+        head = HEAD.replace("use straight_values", "use crate::values::{limit};\nuse straight_values")
+        self.write(f"crates/own/src/{name}.rt", f"{head}        {body}\n    }}\n}}\n")
+        return f"{self.top}/crates/own/src/{name}.rt"
+
+    def written(self, body, name="handler"):
+        return steps.File(self.source(body, name)).written()
 
     def test_what_is_not_read_is_told_with_its_line(self):
         for what, (body, told) in UNREAD.items():
@@ -127,10 +143,22 @@ class Steps(unittest.TestCase):
                 self.assertEqual([it.strip() for it in text.split("own input = do\n")[1].strip().split("\n")], lines)
 
     def test_a_loop_has_an_invariant(self):
-        (_, text), (name, invariants) = self.written("for round in 0..3u64 {\n            calls.sleep_until(later(&input.input, round))?;\n        }\n        Ok(Bytes::new())")
+        (_, text), (name, invariants) = self.written(LOOP)
         self.assertIn("for_rounds 0 3 tt (own-round input)", text)
         self.assertEqual(name, "proofs/handler/OwnStraightLine/run/Invariants.antt")
         self.assertIn("invariant-loop-round", invariants)
+
+    def test_what_a_root_file_has_stands_in_no_module(self):
+        (specs, _), (name, invariants) = self.written(LOOP, "main")
+        self.assertEqual((specs, name), ("specs/Main.antt", "proofs/OwnStraightLine/run/Invariants.antt"))
+        self.assertIn("use Rattle.own.proofs.OwnStraightLine.run.Given as goal", invariants)
+
+    def test_the_specs_name_each_file_once(self):
+        self.write("crates/own/specs/Lib.antt", "pub mod Values\n")
+        for _ in range(2):
+            self.assertEqual(steps.main("--write", self.source(READ["a call"][0])), 0)
+        with open(f"{self.top}/crates/own/specs/Lib.antt", encoding="utf-8") as listed:
+            self.assertEqual(listed.read(), "pub mod Values\npub mod Handler\n")
 
     def test_steps_import_what_they_name(self):
         (_, text), *_ = self.written("calls.sleep_until(later(&input.input, limit()))?;\n        Ok(Bytes::new())")

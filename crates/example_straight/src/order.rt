@@ -3,7 +3,7 @@ ghost use Rattle.std.specs.Prelude.{◌≡◌};
 ghost use Rattle.straight_line.specs.Steps as steps;
 ghost use Rattle.example_straight.specs.Order as ordering;
 
-use crate::values::not_paid;
+use crate::values::{an_hour, not_paid};
 use bytes::{ByteStr, Bytes};
 use journal_model::Input;
 use straight_line::{Calls, Stop, StraightLine, Told};
@@ -36,7 +36,7 @@ fn confirm(input: &Input, calls: &mut Calls) -> Told<Bytes>
     ensures { steps.Makes (ordering.confirm input.now) calls.old result calls.new }
 {
     let confirmed = calls.begin_signal(ByteStr::from_static("confirmed"))?;
-    match calls.or_timeout(confirmed, later(&input.input, 3_600_000)) {
+    match calls.or_timeout(confirmed, later(&input.input, an_hour())) {
         Err(Stop::Failed(failure)) => {
             calls.run(ByteStr::from_static("refund"))?;
             Err(Stop::Failed(failure))

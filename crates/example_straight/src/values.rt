@@ -1,4 +1,4 @@
-//! What an order fails with.
+//! The values of an order.
 ghost use Rattle.std.specs.Prelude.{◌≡◌};
 ghost use Rattle.example_straight.specs.Values as values;
 
@@ -6,6 +6,13 @@ use bytes::ByteStr;
 use journal_model::TerminalFailure;
 use sequence::Sequence;
 use std::alloc::Global;
+
+/// How long an order waits for its confirmation, in milliseconds.
+pub fn an_hour() -> u64
+    ensures { result ≡ values.an_hour }
+{
+    3_600_000
+}
 
 /// What an order fails with whose payment was refused as often as it was tried.
 #[tactic(auto, unfolding(crate::specs::Values::not_paid))]

@@ -109,7 +109,7 @@ impl Place {
             Step::Turn(_) => Event::Turn {
                 invocation,
                 attempt,
-                outcome: RunOutcome::default(),
+                outcome: RunOutcome::done(Bytes::new()),
             },
             Step::Move(_) => Event::Move {
                 invocation,
