@@ -17,6 +17,7 @@ mod files;
 mod front;
 mod laws;
 pub mod options;
+pub mod values;
 
 pub use bytes::{ByteStr, Bytes};
 pub use files::{
@@ -25,7 +26,7 @@ pub use files::{
 };
 pub use front::{run_new_schedule, run_reopened_schedule};
 pub use journal_store::{Closing, InvocationRow, OpenRequest, Progress, Store};
-pub use laws::reopened_stores_hold;
+pub use laws::{forgotten_stores_hold, reopened_stores_hold};
 pub use schedule_laws::{
     entries_keep_places, frames_are_taken, inputs_are_handed_out, invocations_stand_alone,
     records_of_runs, replies_alike, schedules_keep, schedules_leave, settled_once_record_the_same,
