@@ -1,5 +1,5 @@
 -- An invocation is gone on with by an attempt of its own: whether it was begun, held, or neither.
-use Rattle.std.proofs.Common.{◌≡◌, refl, sym, ap, subst, ◌∙◌, ℕ, arith, List, [], ◌∷◌, Result, Ok, Err, inl, inr}
+use Rattle.std.proofs.Common.{◌≡◌, refl, sym, ap, subst, ◌∙◌, ℕ, arith, List, [], ◌∷◌, Result, Err, inl, inr}
 use Rattle.sqlite_trees.specs.declared.store.Store.{Ghosts}
 use Rattle.sqlite.specs.Held.{state}
 use Rattle.sqlite.specs.State.{HasCleanDisk}
@@ -17,17 +17,16 @@ use Rattle.schedule_model.specs.declared.event.Event.{Event}
 use Rattle.schedule_model.specs.declared.event.Event.TheVariants as event
 use Rattle.schedule_model.specs.declared.event.EventRefusal.{EventRefusal}
 use Rattle.schedule_model.specs.declared.event.EventRefusal.TheVariants as refusal
-use Rattle.schedule_model.specs.declared.event.Reply.{Reply}
 use Rattle.schedule_model.specs.declared.event.Reply.TheVariants as reply
 use Rattle.schedule_model.specs.declared.held.HeldAttempt.{HeldAttempt}
-use Rattle.schedule_model.specs.Schedule.{Does, Scheduled}
+use Rattle.schedule_model.specs.Schedule.{Does}
 use Rattle.scheduler.specs.declared.outcome.Outcome.{Outcome}
 use Rattle.scheduler.specs.declared.scheduler.Scheduler.{Scheduler}
 use Rattle.scheduler.specs.Begins.{BeginsNumber}
-use Rattle.scheduler.specs.Loop.{all_turns, AppliesBeginning, GoesAlone, GoesOn, IfCopied, IsAttempt, IsFed, IsNumbered, PerformsSome, Rest, Stopping, Then}
+use Rattle.scheduler.specs.Loop.{all_turns, AppliesBeginning, GoesAlone, GoesOn, IsAttempt, IsFed, PerformsSome, Rest, Stopping}
 use Rattle.scheduler.specs.SchedulerCalls.{Performs}
 use Rattle.scheduler.proofs.Left.{begun_held, last_begun, none_stopped, run_left}
-use Rattle.scheduler.proofs.Looping.{all_applied, all_endure, all_options, one_first}
+use Rattle.scheduler.proofs.Looping.{all_applied, all_endure, all_options}
 
 module _ {H S E : Type 0} (g : Ghosts S) (Executes : Execution E) (function : H → Handler) (id : Text) (handler : H) (now : ℕ) where
   abbrev Attempting : Rest H

@@ -29,7 +29,7 @@ use Rattle.schedule_model.specs.declared.event.EventRefusal.TheVariants as refus
 use Rattle.schedule_model.specs.declared.event.Reply.{Reply}
 use Rattle.schedule_model.specs.declared.event.Reply.TheVariants as reply
 use Rattle.schedule_model.specs.declared.held.HeldAttempt.{HeldAttempt}
-use Rattle.schedule_model.specs.Schedule.{Applies, AppliesAll, BeginDoes, ClosesOne, FeedsOne, IfHeld, MovesOne, RepliesDone, Scheduled, StopsOne, TurnsOne, UnlessMismatch}
+use Rattle.schedule_model.specs.Schedule.{Applies, AppliesAll, ClosesOne, FeedsOne, IfHeld, MovesOne, RepliesDone, Scheduled, StopsOne, TurnsOne, UnlessMismatch}
 use Rattle.schedule_model.proofs.Holding.{found_is, held_is, held_with, some_is}
 use Rattle.scheduler.specs.declared.outcome.Outcome.{Outcome}
 use Rattle.scheduler.specs.Loop.{all_bytes, Rest, Ends, UnlessRefused, Then, IsFedMore, IsWaiting, IsFedBehindBody, GoesOnBy, IsMoved, MakesTurns, IsFed, Stopping}

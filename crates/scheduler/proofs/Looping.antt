@@ -10,7 +10,7 @@ use Rattle.store_refusals.specs.declared.refusal.Refusal.TheVariants.{OutOfMemor
 use Rattle.store_calls.specs.AbstractStore.{Standing}
 use Rattle.journal_store.specs.StoreStanding.{Endures}
 use Rattle.journal_store.proofs.Enduring.{endures_on, same_endures}
-use Rattle.schedule_model.specs.Attempts.{RunOutcome, Turn}
+use Rattle.schedule_model.specs.Attempts.{Turn}
 use Rattle.schedule_model.specs.Executing.{Execution}
 use Rattle.schedule_model.specs.declared.event.Event.{Event}
 use Rattle.schedule_model.specs.declared.event.Event.TheVariants as event
@@ -21,7 +21,7 @@ use Rattle.schedule_model.specs.declared.event.EventRefusal.TheVariants as refus
 use Rattle.schedule_model.specs.Schedule.{AppliesAll, Does, Scheduled}
 use Rattle.scheduler.specs.declared.outcome.Outcome.{Outcome}
 use Rattle.scheduler.specs.declared.scheduler.Scheduler.{Scheduler}
-use Rattle.scheduler.specs.Loop.{all_bytes, Rest, Ends, UnlessRefused, Then, IfCopied, IsFedMore, IsWaiting, IsFedBehindBody, GoesOnBy, IsMoved, MakesTurns, IsFed, Stopping, AppliesBeginning, AsksFor, Continues, PerformsAll, PerformsOr, PerformsSome, TurnsAsking}
+use Rattle.scheduler.specs.Loop.{all_bytes, Rest, Ends, UnlessRefused, Then, IfCopied, IsFedMore, IsWaiting, IsFedBehindBody, GoesOnBy, MakesTurns, IsFed, Stopping, AppliesBeginning, AsksFor, Continues, PerformsAll, PerformsOr, PerformsSome, TurnsAsking}
 use Rattle.scheduler.specs.Outcomes.{brings_none, refusal_in}
 use Rattle.scheduler.specs.SchedulerCalls.{AppliesWith, IsScheduled, Performs}
 use Rattle.scheduler.proofs.Scheduling.{applied}

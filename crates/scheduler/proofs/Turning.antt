@@ -1,11 +1,11 @@
 -- A turn whose body is executed when it is asked for.
-use Rattle.std.proofs.Common.{◌≡◌, refl, sym, subst, ◌∙◌, ℕ, List, Option, Some, None, Ok, Err}
+use Rattle.std.proofs.Common.{◌≡◌, refl, sym, subst, ◌∙◌, ℕ, Option, Some, None, Ok, Err}
 use Rattle.std.specs.Borrow.{MutBor}
 use Rattle.std.specs.Option.{option_copied_mut, option_map}
 use Rattle.sqlite_trees.specs.declared.store.Store.{Ghosts}
 use Rattle.journal_model.specs.Notification.{Text}
 use Rattle.journal_model.specs.Run.{Handler}
-use Rattle.schedule_model.specs.Attempts.{Attempt, RunOutcome, Turn}
+use Rattle.schedule_model.specs.Attempts.{Attempt, Turn}
 use Rattle.schedule_model.specs.Executing.{Execution, TurnsWith}
 use Rattle.schedule_model.specs.HeldAttempts.{held_of, with_attempt}
 use Rattle.schedule_model.specs.Lends.{held_as}
@@ -14,7 +14,6 @@ use Rattle.schedule_model.specs.Schedule.{TurnsOne}
 use Rattle.schedule_model.specs.declared.event.Event.TheVariants as event
 use Rattle.schedule_model.specs.declared.event.EventRefusal.TheVariants as refusal
 use Rattle.schedule_model.specs.declared.event.Reply.TheVariants as reply
-use Rattle.schedule_model.specs.declared.held.HeldAttempt.{HeldAttempt}
 use Rattle.schedule_model.proofs.Executing.{nothing}
 use Rattle.store_calls.proofs.Taking.{same_stays}
 use Rattle.scheduler.specs.declared.scheduler.Scheduler.{Scheduler}

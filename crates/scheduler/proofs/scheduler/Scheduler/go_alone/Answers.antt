@@ -1,9 +1,5 @@
-use Rattle.std.proofs.Common.{◌≡◌, refl, subst}
-use Rattle.journal_model.specs.Notification.{Text}
+use Rattle.std.proofs.Common.{refl}
 use Rattle.store_refusals.specs.declared.refusal.Refusal.TheVariants.{OutOfMemory}
-use Rattle.schedule_model.specs.declared.event.Event.TheVariants as event
-use Rattle.scheduler.specs.Begins.{LeadsUnheld, begun_reply}
-use Rattle.scheduler.specs.SchedulerCalls.{Performs}
 use Rattle.scheduler.proofs.Alone.{not_begun, not_copied, numbered, unheld}
 use Rattle.scheduler.proofs.Begun.{begins}
 use Rattle.scheduler.proofs.scheduler.Scheduler.go_alone.Goals as goal

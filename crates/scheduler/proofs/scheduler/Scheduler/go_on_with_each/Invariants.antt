@@ -1,5 +1,5 @@
 -- Those that were gone on with so far, for which there is room.
-use Rattle.std.proofs.Common.{◌≡◌, ◌≤◌, length, vec_len, vec_capacity}
+use Rattle.std.proofs.Common.{◌≤◌, length, vec_len, vec_capacity}
 use Rattle.scheduler.specs.DueAttempts.{GoesOnEach}
 use Rattle.scheduler.proofs.scheduler.Scheduler.go_on_with_each.Given as goal
 
