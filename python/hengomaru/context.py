@@ -1,28 +1,28 @@
 """What a handler is given: a context whose calls are recorded."""
-import inspect
-import json
+import functools
 import random
-import time
 import uuid
 from datetime import timedelta
 from fractions import Fraction
+from typing import Any, Awaitable, Callable, Dict, List, NamedTuple, Optional, Tuple, TypeVar, Union, overload
 
 from . import pb
-from .futures import CallFuture, DurableFuture, TerminalError
-from .machine import VALUE, VOID, Policy
-from .services import OWN_HEADERS, Workflow, target_of
+from .futures import CallFuture, DurableFuture
+from .machine import VALUE, VOID, AttemptMachine, Policy
+from .serdes import JSON, Serde, from_json, serde_for, to_json
+from .services import OWN_HEADERS, Handler, Target, Workflow, target_of
 
-
-def to_json(value):
-    return json.dumps(value, separators=(",", ":"), ensure_ascii=False).encode()
-
-
-def from_json(content):
-    return json.loads(content) if content else None
+I = TypeVar("I")
+O = TypeVar("O")
+T = TypeVar("T")
 
 
 def read_value(kind, content):
     return from_json(content) if kind == VALUE else None
+
+
+def reader(serde: Serde) -> Callable[[int, Any], Any]:
+    return lambda kind, content: serde.read(content) if kind == VALUE else None
 
 
 def read_told(_, content):
@@ -31,11 +31,6 @@ def read_told(_, content):
 
 def millis(delta):
     return max(0, int(delta / timedelta(milliseconds=1)))
-
-
-def moment_in(delta):
-    """The moment, in milliseconds since 1970, so far from now."""
-    return int(time.time() * 1000) + millis(delta)
 
 
 class RunOptions:
@@ -94,12 +89,26 @@ class Promise:
         return self.context._future(self.machine.sys_complete_promise(self.name, pb.failure(code, message), True))
 
 
-class Context:
-    """Values are such as JSON has. What brings something is awaited, at once or later."""
+class Run(NamedTuple):
+    """An effect whose body is to be executed."""
 
-    def __init__(self, machine, handler, target, request, seed):
-        self._machine, self._handler, self._target, self._request = machine, handler, target, request
-        self._random, self._bodies = random.Random(seed), {}
+    name: str
+    body: Callable[[], Any]
+    policy: Policy
+    serde: Serde
+
+
+class Context:
+    """Values are such as JSON has, or as annotations tell. What brings something is awaited, at once or later."""
+
+    def __init__(self, machine: AttemptMachine, handler: Handler, target: Target, request: Request, seed: int, clock: Callable[[], int]) -> None:
+        self._machine, self._handler, self._target, self._request, self._clock = machine, handler, target, request, clock
+        self._random = random.Random(seed)
+        self._runs: Dict[int, Run] = {}
+
+    def _moment_in(self, delta: timedelta) -> int:
+        """The moment, in milliseconds since 1970, so far from now."""
+        return self._clock() + millis(delta)
 
     def _future(self, handle, read=read_value):
         return DurableFuture(self._machine, handle, read)
@@ -119,9 +128,13 @@ class Context:
         """A UUID that is alike in each attempt."""
         return uuid.UUID(int=self._random.getrandbits(128), version=4)
 
-    def time(self):
+    def time(self) -> "DurableFuture[float]":
         """Awaited: seconds since 1970, as they were when it was first asked for."""
-        return self.run("time", time.time)
+
+        async def now() -> float:
+            return self._clock() / 1000
+
+        return self.run("time", now)
 
     # ---- the state of the key
     def _keyed(self):
@@ -129,9 +142,9 @@ class Context:
             raise TypeError("the state of a workflow is that of its main handler")
         return self._machine
 
-    def get(self, name):
-        """Awaited: the value, or None."""
-        return self._future(self._keyed().sys_state_get(name))
+    def get(self, name: str, type: Any = None) -> "DurableFuture[Any]":
+        """Awaited: the value, or None. What a dataclass or a model was set as is read as such by its type."""
+        return self._future(self._keyed().sys_state_get(name), reader(serde_for(type)))
 
     def state_keys(self):
         """Awaited: the names that have a value."""
@@ -139,8 +152,8 @@ class Context:
 
     keys = state_keys
 
-    def set(self, name, value):
-        self._keyed().sys_state_set(name, to_json(value))
+    def set(self, name: str, value: Any) -> None:
+        self._keyed().sys_state_set(name, serde_for(type(value)).write(value))
 
     def clear(self, name):
         self._keyed().sys_state_clear(name)
@@ -149,35 +162,55 @@ class Context:
         self._keyed().sys_state_clear_all()
 
     # ---- time and effects
-    def sleep(self, delta, name=""):
+    def sleep(self, delta: timedelta, name: str = "") -> "DurableFuture[None]":
         """For a timedelta from when it was first asked for."""
-        return self._future(self._machine.sys_sleep(moment_in(delta), name))
+        return self._future(self._machine.sys_sleep(self._moment_in(delta), name))
 
-    def run(self, name, action, *arguments, max_attempts=None, max_retry_duration=None, options=None, **named_arguments):
+    @overload
+    def run(self, name: str, action: Callable[..., Awaitable[T]], *arguments: Any, max_attempts: Optional[int] = None, max_retry_duration: Optional[timedelta] = None, options: Optional[RunOptions] = None, type: Any = None, **named_arguments: Any) -> "DurableFuture[T]": ...
+
+    @overload
+    def run(self, name: str, action: Callable[..., T], *arguments: Any, max_attempts: Optional[int] = None, max_retry_duration: Optional[timedelta] = None, options: Optional[RunOptions] = None, type: Any = None, **named_arguments: Any) -> "DurableFuture[T]": ...
+
+    def run(self, name, action, *arguments, max_attempts=None, max_retry_duration=None, options=None, type=None, **named_arguments):
         """Awaited: what the function answers, which is not executed again once that is recorded. What it raises is tried again, but a
-        TerminalError."""
+        TerminalError. A coroutine function goes beside all else, and any other one in a thread. What it answers is such as JSON has,
+        or of a type that is given."""
         if options is None and (max_attempts or max_retry_duration):
             options = RunOptions(max_attempts, max_retry_duration)
         replayed, handle = self._machine.sys_run(name)
+        serde = serde_for(type)
         if not replayed:
-            self._bodies[handle] = lambda: action(*arguments, **named_arguments), options.policy if options else Policy()
-        return self._future(handle)
+            body = functools.partial(action, *arguments, **named_arguments)
+            self._runs[handle] = Run(name, body, options.policy if options else Policy(), serde)
+        return self._future(handle, reader(serde))
 
     run_typed = run
 
     # ---- other invocations
+    @overload
+    def call(self, handler: Callable[[Any, I], Awaitable[O]], arg: I, key: Optional[str] = None, idempotency_key: Optional[str] = None, headers: Any = ()) -> "CallFuture[O]": ...
+
+    @overload
+    def call(self, handler: Callable[[Any], Awaitable[O]], arg: None = None, key: Optional[str] = None, idempotency_key: Optional[str] = None, headers: Any = ()) -> "CallFuture[O]": ...
+
+    @overload
+    def call(self, handler: Union[str, Tuple[str, str]], arg: Any = None, key: Optional[str] = None, idempotency_key: Optional[str] = None, headers: Any = ()) -> "CallFuture[Any]": ...
+
     def call(self, handler, arg=None, key=None, idempotency_key=None, headers=()):
-        """Awaited: what the handler answers. `handler` is a function that is one, or (service, handler)."""
+        """Awaited: what the handler answers. `handler` is a function that is one, (service, handler), or a text SERVICE/HANDLER."""
         target = target_of(handler, key)
         told = pb.call_target(*target, idempotency_key, headers)
-        id, answer = self._machine.sys_call(told, to_json(arg))
-        return CallFuture(self._machine, answer, read_value, self._future(id, read_told))
+        takes, answers = serdes_of(handler)
+        id, answer = self._machine.sys_call(told, takes.write(arg))
+        return CallFuture(self._machine, answer, reader(answers), self._future(id, read_told))
 
     def send(self, handler, arg=None, key=None, delay=None, idempotency_key=None, headers=()):
         """Calls without waiting for the answer, now or after a timedelta. Awaited: the id of what is called."""
         target = target_of(handler, key)
-        at = moment_in(delay) if delay else 0
-        return self._future(self._machine.sys_send(pb.call_target(*target, idempotency_key, headers), to_json(arg), at), read_told)
+        at = self._moment_in(delay) if delay else 0
+        told = pb.call_target(*target, idempotency_key, headers)
+        return self._future(self._machine.sys_send(told, serdes_of(handler)[0].write(arg), at), read_told)
 
     service_call = call
 
@@ -241,30 +274,8 @@ class Context:
     def promise(self, name):
         return Promise(self, name)
 
-    # ---- for whoever drives the handler
-    def _execute(self, handle):
-        """Executes the body of a run, and proposes what it has ended with."""
-        body, policy = self._bodies.pop(handle)
-        began = time.monotonic()
-        try:
-            value = to_json(in_full(body()))
-        except TerminalError as error:
-            self._machine.propose_run_failure(handle, pb.failure(error.status_code, error.message, error.metadata))
-        except Exception as error:
-            took = int((time.monotonic() - began) * 1000)
-            self._machine.propose_run_retryable(handle, took, 500, told_of(error), policy)
-        else:
-            self._machine.propose_run_success(handle, value)
 
-
-def told_of(error):
-    return f"{type(error).__name__}: {error}"
-
-
-def in_full(value):
-    """What a coroutine comes to, or the value itself."""
-    if not inspect.iscoroutine(value):
-        return value
-    import asyncio
-
-    return asyncio.run(value)
+def serdes_of(handler: Any) -> Tuple[Serde, Serde]:
+    """Of a handler's argument and answer: what is told by name alone is JSON."""
+    it = getattr(handler, "handler_of_hengomaru", None)
+    return (it.input, it.output) if it else (JSON, JSON)

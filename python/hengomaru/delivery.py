@@ -1,15 +1,23 @@
 """How what handlers ask of others reaches them, and what comes of it comes back. Each step is recorded before the next one, may be cut off
 anywhere, and is found again by what is recorded."""
+import asyncio
 import base64
 import json
+import logging
 from collections import defaultdict
+from typing import Any, Callable, DefaultDict, Dict, Optional, Set, Tuple
 
 from . import pb
-from .services import CALLER, OWN_HEADERS, Handler, Service, Target, id_of, named, object_of, space_of
-from .store import OPEN, Refused
+from .services import CALLER, OWN_HEADERS, App, Handler, Service, Target, id_of, named, object_of, space_of
+from .store import OPEN, Refused, Store, Value
+
+log = logging.getLogger("hengomaru")
 
 CALL, SEND, SIGNAL, ATTACH, GET_OUTPUT, AWAKEABLE = 0x040D, 0x040E, 0x040F, 0x0411, 0x0412, 0x0413
-GET_PROMISE, COMPLETE_PROMISE = 0x0409, 0x040B
+GET_PROMISE, PEEK_PROMISE, COMPLETE_PROMISE = 0x0409, 0x040A, 0x040B
+# The requests that are answered by nothing, and those that others answer.
+POSTS = {SIGNAL, AWAKEABLE}
+ASKS = {CALL, SEND, ATTACH, GET_OUTPUT, GET_PROMISE, PEEK_PROMISE, COMPLETE_PROMISE}
 CANCEL = 1
 # The signal by which a sender is told that it has sent: it marks the place of what is delivered.
 DELIVERED = "hengomaru.delivered"
@@ -42,17 +50,21 @@ def awakeable_of(id):
 class Promises:
     """The promises of workflows that are completed. They are read off the journals once one is asked for."""
 
-    def __init__(self, store):
-        self.store, self.completed, self.read = store, {}, set()
+    def __init__(self, store: Store) -> None:
+        self.store = store
+        self.completed: Dict[Tuple[str, str, str], Value] = {}
+        self.read: Set[Tuple[str, str]] = set()
+        # One at a time looks at a promise, or completes it.
+        self.turn = asyncio.Lock()
 
-    def find(self, service, key, name):
+    async def find(self, service, key, name):
         """What a promise was completed with, as a store's value; None where it was not."""
         if (service, key) not in self.read:
-            self.read.add((service, key))
             space = named(service, key)
-            for it in self.store.list():
+            for it in await self.store.list():
                 if it.object == space or it.object.startswith(space + "/"):
-                    self.read_journal(service, key, self.store.show(it.id))
+                    self.read_journal(service, key, await self.store.show(it.id))
+            self.read.add((service, key))
         return self.completed.get((service, key, name))
 
     def read_journal(self, service, key, shown):
@@ -67,7 +79,8 @@ async def later(ctx, told):
     """Waits for a moment, or for an object that is busy, and calls then: what is sent so is not lost when its sender ends."""
     if told["at"]:
         await ctx._future(ctx._machine.sys_sleep(told["at"]))
-    target = pb.call_target(*told["target"], headers={**told["headers"], AS_ID: told["id"]})
+    service, handler, key = told["target"]
+    target = pb.call_target(service, handler, key, None, {**told["headers"], AS_ID: told["id"]})
     id, _ = ctx._machine.sys_call(target, bytes.fromhex(told["body"]))
     await ctx._future(id)
 
@@ -77,59 +90,83 @@ OWN.handlers["later"] = Handler(OWN, "later", later, False)
 
 
 class Delivery:
-    """The side of a worker that delivers. It needs `store`, `app`, `clock` and `log`."""
+    """The side of a worker that delivers. For each invocation one at a time does so; who waits for something says so before it asks for it,
+    so that what comes in between is not missed."""
 
-    def forget(self):
+    store: Store
+    app: App
+    clock: Callable[[], int]
+    wake: Callable[[str], None]
+    version: int
+
+    def forget(self) -> None:
         """All that is known without the store, which is asked anew."""
-        self.waiting, self.busy, self.objects, self.promises = defaultdict(set), defaultdict(set), {}, Promises(self.store)
+        self.waiting: DefaultDict[Any, Set[str]] = defaultdict(set)
+        self.busy: DefaultDict[str, Set[str]] = defaultdict(set)
+        self.objects: Dict[str, str] = {}
+        self.promises = Promises(self.store)
+        self.turns: DefaultDict[str, asyncio.Lock] = defaultdict(asyncio.Lock)
 
     # ---- invocations
-    def invoke(self, id, target, body, headers=()):
+    async def invoke(self, id: str, target: Target, body: bytes, headers=()) -> int:
         """Makes the invocation of an id, where it is not there: MADE, KNOWN, or BUSY where its object has another one that is open."""
-        handler = self.app.find(target)
-        object = object_of(handler, target, id)
+        object = self.object_for(target, id)
         try:
-            self.store.invoke(id, object, body, {**dict(headers), **target.headers()}, seed=seed_of(id))
+            await self.store.invoke(id, object, body, {**dict(headers), **target.headers()}, self.version, seed_of(id))
             self.objects[id] = object
+            self.wake(id)
             return MADE
         except Refused as refused:
-            if refused.name == "S3" or (refused.name == "S1" and self.is_known(id)):
+            if refused.name == "S3" or (refused.name == "S1" and await self.is_known(id)):
                 return KNOWN
             if refused.name != "S1":
                 raise
         return BUSY
 
-    def object(self, id):
+    def object_for(self, target: Target, id: str) -> str:
+        handler = self.app.find(target)
+        if handler is None:
+            raise LookupError(f"there is no handler {target.service}/{target.handler}")
+        return object_of(handler, target, id)
+
+    async def object(self, id: str) -> str:
         """The object of an open invocation."""
         if id not in self.objects:
-            self.objects.update((it.id, it.object) for it in self.store.list() if it.status in OPEN)
+            for it in await self.store.list():
+                if it.status in OPEN:
+                    self.objects[it.id] = it.object
         return self.objects[id]
 
-    def is_known(self, id):
-        return self.show(id) is not None
+    async def is_known(self, id: str) -> bool:
+        return await self.show(id) is not None
 
-    def show(self, id):
+    async def show(self, id: str):
         """What is recorded of an invocation, or None where there is none."""
         try:
-            return self.store.show(id)
+            return await self.store.show(id)
         except Refused as refused:
             if refused.name in ("S2", "S4"):
                 return None
             raise
 
     # ---- requests that are answered
-    def deliver(self, id):
-        """Takes a step for each request of an open invocation that is not answered; whether anything was brought to it."""
-        return any([self.step_of(id, it, False) for it in self.store.requests(id)])
+    async def deliver(self, id: str, is_last: bool = False) -> None:
+        """Takes a step for each request of an open invocation that is not answered. Where the invocation is about to end (`is_last`), what
+        its requests ask of others is recorded with these, or waits by itself."""
+        async with self.turns[id]:
+            # The objects that were busy: who calls one of them later waits too, so that its calls come in their order.
+            blocked: Set[str] = set()
+            for it in await self.store.requests(id):
+                kind = {CALL: self.call, SEND: self.send, ATTACH: self.attach, GET_OUTPUT: self.tell_output}.get(it.type, self.promise)
+                await kind(id, it, pb.fields(it.payload), is_last, blocked)
 
-    def deliver_all(self, id):
-        """So that the invocation may end: what its requests ask of others is recorded with these, or waits by itself."""
-        for it in self.store.requests(id):
-            self.step_of(id, it, True)
+    async def bring(self, id: str, completion: int, value: Value) -> None:
+        await self.store.result(id, completion, value)
+        self.wake(id)
 
-    def step_of(self, id, request, is_last):
-        kind = {CALL: self.call, SEND: self.send, ATTACH: self.attach, GET_OUTPUT: self.tell_output}.get(request.type, self.promise)
-        return kind(id, request, pb.fields(request.payload), is_last)
+    async def bring_id(self, id: str, completion: int, child: str) -> None:
+        await self.store.result_id(id, completion, child)
+        self.wake(id)
 
     def child(self, id, request, fields):
         """Of a call or a send: the target, the id of what is called, and its headers."""
@@ -143,51 +180,51 @@ class Delivery:
         headers[CALLER] = id
         return target, told or id_of(handler, target, key) or f"{id}.{request.place}", headers
 
-    def call(self, id, request, fields, is_last):
+    async def call(self, id, request, fields, is_last, blocked):
         target, child, headers = self.child(id, request, fields)
         if child is None:
             return self.miss(id, target)
         if request.first is not None:
-            body = dict(fields).get(3, b"")
-            came = self.invoke(child, target, body, headers)
-            if came == BUSY:
+            body, object = dict(fields).get(3, b""), self.object_for(target, child)
+            self.busy[object].add(id)
+            if object in blocked or await self.invoke(child, target, body, headers) == BUSY:
+                blocked.add(object)
                 if not is_last:
-                    self.busy[object_of(self.app.find(target), target, child)].add(id)
-                    return False
-                self.invoke_later(child, target, body, headers, 0)
-            self.store.result_id(id, request.first, child)
-        return self.bring_answer(id, request.second, child) or request.first is not None
+                    return
+                await self.invoke_later(child, target, body, headers, 0)
+            self.busy[object].discard(id)
+            await self.bring_id(id, request.first, child)
+        await self.bring_answer(id, request.second, child)
 
-    def bring_answer(self, id, completion, child):
+    async def bring_answer(self, id, completion, child):
         """Brings the answer of an invocation that has ended; else it is waited for."""
         if completion is None:
-            return False
-        shown = self.show(child)
-        if shown is None or shown.is_open:
-            self.waiting[child].add(id)
-            return False
-        self.store.result(id, completion, b"" if shown.answer is None else shown.answer)
-        return True
+            return
+        self.waiting[child].add(id)
+        shown = await self.show(child)
+        if shown is not None and not shown.is_open:
+            self.waiting[child].discard(id)
+            await self.bring(id, completion, b"" if shown.answer is None else shown.answer)
 
-    def invoke_later(self, child, target, body, headers, at):
+    async def invoke_later(self, child, target, body, headers, at):
         told = {"at": at, "id": child, "target": target, "body": body.hex(), "headers": headers}
-        self.invoke(child + LATER, Target(OWN.name, "later"), json.dumps(told).encode(), {CALLER: headers[CALLER]})
+        await self.invoke(child + LATER, Target(OWN.name, "later"), json.dumps(told).encode(), {CALLER: headers.get(CALLER, "")})
 
-    def send(self, id, request, fields, is_last):
+    async def send(self, id, request, fields, is_last, blocked):
         target, child, headers = self.child(id, request, fields)
         if child is None:
             return self.miss(id, target)
         found = dict(fields)
-        body, at = found.get(3, b""), found.get(9, 0)
-        if at > self.clock() or self.invoke(child, target, body, headers) == BUSY:
-            self.invoke_later(child, target, body, headers, at)
-        self.store.result_id(id, request.first, child)
-        return True
+        body, at, object = found.get(3, b""), found.get(9, 0), self.object_for(target, child)
+        is_late = at > self.clock()
+        if is_late or object in blocked or await self.invoke(child, target, body, headers) == BUSY:
+            blocked |= set() if is_late else {object}
+            await self.invoke_later(child, target, body, headers, at)
+        await self.bring_id(id, request.first, child)
 
     def miss(self, id, target):
         """A handler that the app has not: the call is kept for one that has."""
-        self.log.warning("%s: there is no handler %s/%s", id, target.service, target.handler)
-        return False
+        log.warning("%s: there is no handler %s/%s", id, target.service, target.handler)
 
     def attached(self, fields):
         """The id of the invocation that is attached to."""
@@ -200,94 +237,101 @@ class Delivery:
             return named(*(told.get(number, b"").decode() for number in (1, 3, 2, 4)))
         return found.get(1, b"").decode()
 
-    def attach(self, id, request, fields, is_last):
+    async def attach(self, id, request, fields, is_last, blocked):
         other = self.attached(fields)
-        if self.show(other) is None and not self.is_known(other + LATER):
-            self.store.result(id, request.first, (404, f"there is no invocation {other}"))
-            return True
-        return self.bring_answer(id, request.first, other)
+        if not await self.is_known(other) and not await self.is_known(other + LATER):
+            await self.bring(id, request.first, (404, f"there is no invocation {other}"))
+        else:
+            await self.bring_answer(id, request.first, other)
 
-    def tell_output(self, id, request, fields, is_last):
-        shown = self.show(self.attached(fields))
+    async def tell_output(self, id, request, fields, is_last, blocked):
+        shown = await self.show(self.attached(fields))
         is_ready = shown is not None and not shown.is_open
-        self.store.result(id, request.first, (b"" if shown.answer is None else shown.answer) if is_ready else None)
-        return True
+        await self.bring(id, request.first, (b"" if shown.answer is None else shown.answer) if is_ready else None)
 
-    def promise(self, id, request, fields, is_last):
+    async def promise(self, id, request, fields, is_last, blocked):
         found = dict(fields)
         name = found.get(1, b"").decode()
-        promise = (*space_of(self.object(id)), name)
-        came = self.promises.find(*promise)
-        if request.type == COMPLETE_PROMISE:
-            self.store.result(id, request.first, None if came is None else (409, f"the promise {name} is completed"))
-            if came is None:
-                self.promises.completed[promise] = brought(found, None, 2, 3)
-                self.dirty |= self.waiting.pop(promise, set())
-        elif came is None and request.type == GET_PROMISE:
-            self.waiting[promise].add(id)
-            return False
-        else:
-            self.store.result(id, request.first, came)
-        return True
+        promise = (*space_of(await self.object(id)), name)
+        async with self.promises.turn:
+            came = await self.promises.find(*promise)
+            if request.type == COMPLETE_PROMISE:
+                await self.bring(id, request.first, None if came is None else (409, f"the promise {name} is completed"))
+                if came is None:
+                    self.promises.completed[promise] = brought(found, None, 2, 3)
+                    self.awaken(self.waiting.pop(promise, set()))
+            elif came is None and request.type == GET_PROMISE:
+                self.waiting[promise].add(id)
+            else:
+                await self.bring(id, request.first, came)
+
+    def awaken(self, ids):
+        """What these wait for may have come: their requests are looked at again."""
+        raise NotImplementedError
 
     # ---- requests that are answered by nothing
-    def post(self, id, place, type, payload):
+    async def post(self, id: str, place: int, type: int, payload: bytes) -> None:
         """Delivers a signal, a cancellation or an awakeable's value, and marks that it is delivered."""
         found = dict(pb.fields(payload))
         if type == AWAKEABLE:
-            self.complete_awakeable(found[1].decode(), brought(found, None, 2, 3))
+            await self.complete_awakeable(found[1].decode(), brought(found, None, 2, 3))
             return
-        self.signal_to(found)
-        self.store.signal(id, DELIVERED, str(place))
+        await self.signal_to(found)
+        await self.store.signal(id, DELIVERED, str(place))
 
-    def signal_to(self, found):
+    async def signal_to(self, found: Dict[int, Any]) -> None:
         target = found.get(1, b"").decode()
         try:
             if found.get(2) == CANCEL:
-                self.cancel(target)
+                await self.cancel(target)
             else:
                 name = found[3].decode() if 3 in found else found[2]
-                self.store.signal(target, name, brought(found, 4, 5, 6))
+                await self.store.signal(target, name, brought(found, 4, 5, 6))
+                self.wake(target)
         except Refused as refused:
-            self.log.warning("a signal does not reach %s: %s", target, refused.name)
+            log.warning("a signal does not reach %s: %s", target, refused.name)
 
-    def cancel(self, id):
+    async def cancel(self, id: str) -> None:
         """Cancels an invocation, also one that waits for its moment, or for its object."""
         late = id + LATER
-        self.store.cancel(late if not self.is_known(id) and self.is_known(late) else id)
+        id = late if not await self.is_known(id) and await self.is_known(late) else id
+        await self.store.cancel(id)
+        self.wake(id)
 
-    def complete_awakeable(self, awakeable, value):
+    async def complete_awakeable(self, awakeable: str, value: Value) -> bool:
         """Brings the value that an awakeable waits for, as a store's value, once; whether it was brought."""
         try:
             id, number = awakeable_of(awakeable)
         except (ValueError, UnicodeDecodeError):
-            self.log.warning("%s is no awakeable", awakeable)
+            log.warning("%s is no awakeable", awakeable)
             return False
-        shown = self.show(id)
-        if shown is None or not shown.is_open or any(it.id == f"s{number}" for it in shown.arrivals):
-            return False
-        self.store.signal(id, number, value)
+        async with self.turns[awakeable]:
+            shown = await self.show(id)
+            if shown is None or not shown.is_open or any(it.id == f"s{number}" for it in shown.arrivals):
+                return False
+            await self.store.signal(id, number, value)
+        self.wake(id)
         return True
 
-    def post_again(self, id):
+    async def post_again(self, id: str) -> None:
         """Posts what of an invocation was recorded, and may not have reached others: its worker was killed in between."""
-        shown = self.store.show(id)
+        shown = await self.store.show(id)
         marked = {it.content for it in shown.arrivals if it.id == f"n:{DELIVERED.encode().hex()}"}
-        posts = [it for it in shown.requests if it.type in (SIGNAL, AWAKEABLE)]
+        posts = [it for it in shown.requests if it.type in POSTS]
         sent = [it for it in posts if it.type == SIGNAL and str(it.place).encode() in marked]
         for it in posts:
             if it.type == AWAKEABLE:
-                self.post(id, *it)
+                await self.post(id, *it)
             elif it not in sent:
-                if not self.has_come(it, sent):
-                    self.signal_to(dict(pb.fields(it.payload)))
-                self.store.signal(id, DELIVERED, str(it.place))
+                if not await self.has_come(it, sent):
+                    await self.signal_to(dict(pb.fields(it.payload)))
+                await self.store.signal(id, DELIVERED, str(it.place))
                 sent.append(it)
 
-    def has_come(self, post, sent):
+    async def has_come(self, post, sent) -> bool:
         """Whether the target of a signal has one more of these than its sender has marked."""
         found = dict(pb.fields(post.payload))
-        shown = self.show(found.get(1, b"").decode())
+        shown = await self.show(found.get(1, b"").decode())
         if shown is None:
             return False
         number = f"s{found[2]}" if 2 in found else f"n:{found.get(3, b'').hex()}"
@@ -296,7 +340,7 @@ class Delivery:
         return len(came) > sum(it.payload == post.payload for it in sent)
 
 
-def seed_of(id):
+def seed_of(id: str) -> int:
     """A number of the id (FNV-1a), by which random numbers begin."""
     number = 14695981039346656037
     for byte in id.encode():

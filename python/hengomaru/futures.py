@@ -1,11 +1,16 @@
 """What a handler awaits: what a call is to bring, and several of these together."""
+from typing import Any, Generator, Generic, List, Tuple, TypeVar
+
 from .machine import ALL_COMPLETED, ALL_SUCCEEDED, AT_LEAST, FAILURE, FIRST_COMPLETED, FIRST_SUCCEEDED
+
+
+T = TypeVar("T")
 
 
 class TerminalError(Exception):
     """A failure that is not tried again: what a handler raises so is its answer. The code is such as HTTP has."""
 
-    def __init__(self, message, status_code=500, metadata=()):
+    def __init__(self, message: str, status_code: int = 500, metadata: Any = ()) -> None:
         super().__init__(message)
         self.message, self.status_code, self.metadata = message, status_code, dict(metadata)
 
@@ -17,11 +22,12 @@ class Cancelled(TerminalError):
         super().__init__("cancelled", 409)
 
 
-class DurableFuture:
+class DurableFuture(Generic[T]):
     """What a call is to bring. It may be awaited more than once. A failure is raised as TerminalError."""
 
-    def __init__(self, machine, handle, read):
-        self.machine, self.handle, self.read, self.came = machine, handle, read, None
+    def __init__(self, machine: Any, handle: int, read: Any) -> None:
+        self.machine, self.handle, self.read = machine, handle, read
+        self.came: Any = None
 
     def tree(self):
         return self.handle
@@ -37,26 +43,26 @@ class DurableFuture:
     def has_failed(self):
         return self.is_completed() and self.came[0] == FAILURE
 
-    def result(self):
+    def result(self) -> T:
         kind, content = self.came
         if kind == FAILURE:
             code, message, metadata = content
             raise TerminalError(message, code, metadata)
         return self.read(kind, content)
 
-    def __await__(self):
+    def __await__(self) -> Generator[Any, None, T]:
         yield from until_completed(self)
         return self.result()
 
 
-class CallFuture(DurableFuture):
+class CallFuture(DurableFuture[T]):
     """What a called handler answers."""
 
     def __init__(self, machine, handle, read, id):
         super().__init__(machine, handle, read)
         self.id = id
 
-    async def invocation_id(self):
+    async def invocation_id(self) -> str:
         """The id of what is called."""
         return await self.id
 
@@ -130,36 +136,45 @@ def first_failure(together):
         it.result()
 
 
-async def gather(*futures):
+async def gather(*futures: DurableFuture[Any]) -> List[DurableFuture[Any]]:
     """Waits for all of them, and returns them, each to be awaited at once."""
     await Waits(Together(ALL_COMPLETED, futures))
     return list(futures)
 
 
-async def select(**futures):
+async def select(**futures: DurableFuture[Any]) -> Tuple[str, Any]:
     """Waits for the first of them: its name, and its result."""
     await Waits(Together(FIRST_COMPLETED, futures.values()))
     name = next(name for name, it in futures.items() if it.is_completed())
     return name, futures[name].result()
 
 
-async def wait_completed(*futures):
+async def wait_completed(*futures: DurableFuture[Any]) -> Tuple[List[DurableFuture[Any]], List[DurableFuture[Any]]]:
     """Waits for the first of them: a list of those that have come, and a list of the others."""
     together = Together(FIRST_COMPLETED, futures)
     await Waits(together)
     return [it for it in futures if it.is_completed()], together.left()
 
 
-async def as_completed(*futures):
+class as_completed:
     """Those that have come, one after the other: `async for future in as_completed(a, b)`."""
-    left = list(futures)
-    while left:
-        done, left = await wait_completed(*left)
-        for it in done:
-            yield it
+
+    def __init__(self, *futures: DurableFuture[Any]) -> None:
+        self.came: List[DurableFuture[Any]] = []
+        self.left = list(futures)
+
+    def __aiter__(self) -> "as_completed":
+        return self
+
+    async def __anext__(self) -> DurableFuture[Any]:
+        if not self.came:
+            if not self.left:
+                raise StopAsyncIteration
+            self.came, self.left = await wait_completed(*self.left)
+        return self.came.pop(0)
 
 
-async def all_succeeded(*futures):
+async def all_succeeded(*futures: DurableFuture[T]) -> List[T]:
     """The results of all, or the first failure, for which it waits no longer."""
     together = Together(ALL_SUCCEEDED, futures)
     await Waits(together)
@@ -167,16 +182,17 @@ async def all_succeeded(*futures):
     return [it.result() for it in futures]
 
 
-async def first_succeeded(*futures):
+async def first_succeeded(*futures: DurableFuture[T]) -> T:
     """The result of the first that succeeds, or a failure where all have failed."""
     together = Together(FIRST_SUCCEEDED, futures)
     await Waits(together)
     for it in together.succeeded():
         return it.result()
     first_failure(together)
+    raise AssertionError("an await of which neither one has succeeded nor all have failed")
 
 
-async def at_least(required, *futures):
+async def at_least(required: int, *futures: DurableFuture[T]) -> List[T]:
     """The results of those that have succeeded, once there are so many; a failure where there cannot be."""
     together = Together(AT_LEAST, futures, required)
     await Waits(together)

@@ -1,4 +1,5 @@
 """Payloads of the protocol's records, in the wire format of Protocol Buffers (docs/FORMATS.md, "Records")."""
+from typing import Any, Dict, List, NamedTuple, Tuple
 
 
 def varint(number):
@@ -81,11 +82,25 @@ def call_target(service, handler, key=None, idempotency_key=None, headers=()):
     return record((1, service), (2, handler), pairs(4, headers), (5, key or None), (6, idempotency_key))
 
 
-def frames(stream):
-    """The frames of a stream that is whole: each its type and its payload."""
+class Frame(NamedTuple):
+    """A frame: its type, its payload, and all its bytes."""
+
+    type: int
+    payload: bytes
+    whole: bytes
+
+
+def frame(type: int, payload: bytes) -> bytes:
+    return type.to_bytes(2, "big") + bytes(2) + len(payload).to_bytes(4, "big") + payload
+
+
+def frames(stream: bytes) -> List[Frame]:
+    """The whole frames that a stream begins with."""
     at, found = 0, []
-    while at < len(stream):
-        length = int.from_bytes(stream[at + 4 : at + 8], "big")
-        found.append((int.from_bytes(stream[at : at + 2], "big"), stream[at + 8 : at + 8 + length]))
-        at += 8 + length
+    while len(stream) - at >= 8:
+        ends = at + 8 + int.from_bytes(stream[at + 4 : at + 8], "big")
+        if ends > len(stream):
+            break
+        found.append(Frame(int.from_bytes(stream[at : at + 2], "big"), stream[at + 8 : ends], stream[at:ends]))
+        at = ends
     return found

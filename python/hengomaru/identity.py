@@ -1,0 +1,67 @@
+"""Who asks an endpoint: a request of Restate's is signed by a JWT (EdDSA over ed25519), whose audience is the path that is asked for."""
+import base64
+import json
+from typing import Any, Dict, List, Mapping, Optional, Sequence
+
+SCHEME, TOKEN, PREFIX = "x-restate-signature-scheme", "x-restate-jwt-v1", "publickeyv1_"
+BASE58 = "123456789ABCDEFGHJKLMNPQRSTUVWXYZabcdefghijkmnopqrstuvwxyz"
+
+
+def read_base58(text: str) -> bytes:
+    number = 0
+    for letter in text:
+        number = number * 58 + BASE58.index(letter)
+    zeros = len(text) - len(text.lstrip("1"))
+    return bytes(zeros) + number.to_bytes((number.bit_length() + 7) // 8, "big")
+
+
+def read_key(told: str) -> Any:
+    """A public key as Restate tells it; ValueError where it is none."""
+    from cryptography.hazmat.primitives.asymmetric.ed25519 import Ed25519PublicKey
+
+    if not told.startswith(PREFIX):
+        raise ValueError(f"a key begins with {PREFIX}")
+    content = read_base58(told[len(PREFIX) :])
+    if len(content) != 32:
+        raise ValueError("a key has 32 bytes")
+    return Ed25519PublicKey.from_public_bytes(content)
+
+
+def read_part(text: str) -> bytes:
+    return base64.urlsafe_b64decode(text + "=" * (-len(text) % 4))
+
+
+def claims_in(token: str, keys: Sequence[Any]) -> Optional[Dict[str, Any]]:
+    """The claims of a token that one of the keys has signed, or None."""
+    from cryptography.exceptions import InvalidSignature
+
+    try:
+        signed, _, signature = token.rpartition(".")
+        head, _, claims = signed.partition(".")
+        if json.loads(read_part(head)).get("alg") != "EdDSA":
+            return None
+        found = json.loads(read_part(claims))
+        read_part(signature)
+    except (ValueError, AttributeError):
+        return None
+    for key in keys:
+        try:
+            key.verify(read_part(signature), signed.encode())
+            return found if isinstance(found, dict) else None
+        except InvalidSignature:
+            pass
+    return None
+
+
+def is_signed(headers: Mapping[str, str], path: str, keys: Sequence[Any], now: float) -> bool:
+    """Whether a request is signed by one of the keys, for this path, at this time."""
+    if headers.get(SCHEME) != "v1":
+        return False
+    claims = claims_in(headers.get(TOKEN, ""), keys)
+    if claims is None:
+        return False
+    audience, begins, ends = claims.get("aud"), claims.get("nbf"), claims.get("exp")
+    audiences: List[Any] = audience if isinstance(audience, list) else [audience]
+    if not isinstance(begins, (int, float)) or not isinstance(ends, (int, float)):
+        return False
+    return path in audiences and begins <= now < ends

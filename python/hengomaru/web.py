@@ -1,0 +1,278 @@
+"""A worker behind HTTP, as an ASGI application: calls come in by Restate's ingress paths, and people see what is recorded at /ui.
+
+    POST /SERVICE/HANDLER, /SERVICE/KEY/HANDLER          calls, and answers what the handler answers; header idempotency-key
+    POST /SERVICE/HANDLER/send?delay=10s, ../KEY/..      calls without waiting: {"invocationId": .., "status": "Accepted"}
+    GET  /restate/invocation/ID/attach, /output          waits for the answer; the answer, or 470 where there is none yet
+    GET  /restate/workflow/NAME/KEY/attach, /output
+    POST /restate/awakeables/ID/resolve, /reject         with a JSON value; with a text
+    POST /restate/invocation/ID/signal/NAME              with a JSON value
+    POST /restate/invocation/ID/cancel, /pause, /resume
+
+It takes no request that a page of another site makes, and answers to its own names alone: whoever opens a page somewhere should not start
+jobs here. It asks nobody who they are: beyond this machine it belongs behind what does.
+"""
+import json
+import pkgutil
+import re
+from typing import Any, Awaitable, Callable, Dict, List, Optional, Sequence, Tuple
+from urllib.parse import parse_qs, unquote
+
+from .endpoint import Receive, Scope, Send
+from .journal import steps_of
+from .services import OWN_HEADERS, named
+from .store import OPEN, Listed, Refused, Shown
+from .worker import NEVER, Busy, Worker
+
+MOST = 2**24
+DELAY = re.compile(r"(\d+(?:\.\d+)?)(ms|s|m|h|d)")
+UNITS = {"ms": 1, "s": 1000, "m": 60_000, "h": 3_600_000, "d": 86_400_000}
+FILES = {"": ("page.html", "text/html"), "page.js": ("page.js", "text/javascript"), "page.css": ("page.css", "text/css")}
+SAFE = [
+    (b"content-security-policy", b"default-src 'none'; script-src 'self'; style-src 'self'; connect-src 'self'; base-uri 'none'; form-action 'none'; frame-ancestors 'none'"),
+    (b"x-content-type-options", b"nosniff"), (b"referrer-policy", b"no-referrer"), (b"cache-control", b"no-store"), (b"cross-origin-resource-policy", b"same-origin"),
+]
+# Headers of a request that a handler is shown: those that tell of the connection are none.
+UNSHOWN = {"host", "connection", "content-length", "transfer-encoding", "idempotency-key", "cookie", "authorization", "origin", "referer"}
+NOT_READY = 470
+
+
+class Told(Exception):
+    """What a request comes to, where that is not what it has asked for."""
+
+    def __init__(self, status: int, message: str) -> None:
+        super().__init__(message)
+        self.status, self.message = status, message
+
+
+class Request:
+    def __init__(self, scope: Scope, receive: Receive) -> None:
+        self.method, self.receive = scope["method"], receive
+        path = scope.get("raw_path") or scope["path"].encode()
+        self.words = [unquote(it) for it in path.split(b"?")[0].decode("latin-1").split("/")[1:]]
+        self.query = {name: it[-1] for name, it in parse_qs(scope.get("query_string", b"").decode("latin-1")).items()}
+        self.headers = {name.decode("latin-1").lower(): value.decode("latin-1") for name, value in scope["headers"]}
+
+    async def body(self) -> bytes:
+        came, more = [], True
+        while more:
+            message = await self.receive()
+            if message["type"] == "http.disconnect":
+                raise Told(400, "the request was cut off")
+            came.append(message.get("body", b""))
+            more = message.get("more_body", False)
+            if sum(map(len, came)) > MOST:
+                raise Told(413, f"a body has at most {MOST} bytes")
+        return b"".join(came)
+
+    async def json(self) -> Any:
+        try:
+            return json.loads(await self.body() or b"null")
+        except ValueError:
+            raise Told(400, "the body is no JSON") from None
+
+
+class Answer:
+    def __init__(self, status: int, body: bytes = b"", content_type: str = "application/json", headers: Sequence[Tuple[str, str]] = ()) -> None:
+        self.status, self.body = status, body
+        self.headers = [(b"content-type", content_type.encode()), (b"content-length", str(len(body)).encode()), *SAFE, *((a.encode(), b.encode()) for a, b in headers)]
+
+
+def of_json(value: Any, status: int = 200, headers: Sequence[Tuple[str, str]] = ()) -> Answer:
+    return Answer(status, json.dumps(value, ensure_ascii=False).encode(), headers=headers)
+
+
+def delay_in(told: Optional[str]) -> int:
+    """Milliseconds of a text such as 10s, or 1h30m."""
+    if not told:
+        return 0
+    parts = DELAY.findall(told)
+    if not parts or "".join(a + b for a, b in parts) != told:
+        raise Told(400, f"{told} is no delay, such as 10s or 1h30m")
+    return int(sum(float(number) * UNITS[unit] for number, unit in parts))
+
+
+class Web:
+    """The ASGI application of a worker, which answers to these names, as `host:port`."""
+
+    def __init__(self, worker: Worker, names: Sequence[str]) -> None:
+        self.worker, self.names = worker, set(names)
+
+    async def __call__(self, scope: Scope, receive: Receive, send: Send) -> None:
+        if scope["type"] == "lifespan":
+            for told in ("startup", "shutdown"):
+                await receive()
+                await send({"type": f"lifespan.{told}.complete"})
+            return
+        if scope["type"] != "http":
+            raise NotImplementedError(scope["type"])
+        try:
+            request = Request(scope, receive)
+            self.check(request)
+            answer = await self.answer(request)
+        except Told as told:
+            answer = of_json({"message": told.message}, told.status)
+        except Busy as busy:
+            answer = of_json({"message": str(busy)}, 409)
+        except LookupError as error:
+            answer = of_json({"message": str(error.args[0])}, 404)
+        except ValueError as error:
+            answer = of_json({"message": str(error)}, 400)
+        except Refused as refused:
+            answer = of_json({"message": f"refused {refused}"}, {"S4": 404, "S5": 410}.get(refused.name, 409))
+        await send({"type": "http.response.start", "status": answer.status, "headers": answer.headers})
+        await send({"type": "http.response.body", "body": answer.body})
+
+    def check(self, request: Request) -> None:
+        """Refuses what a page of another site has asked for, by whatever name of this host."""
+        host = request.headers.get("host", "")
+        if host not in self.names:
+            raise Told(421, f"{host} is no name of this worker: `--name` tells it one")
+        site = request.headers.get("sec-fetch-site")
+        if site not in (None, "same-origin", "none") or request.headers.get("origin", f"http://{host}") not in (f"http://{host}", f"https://{host}"):
+            if not (request.method == "GET" and request.words[0] == "ui" and request.headers.get("sec-fetch-mode") == "navigate"):
+                raise Told(403, "a page of another site may not ask here")
+
+    async def answer(self, request: Request) -> Answer:
+        words, method = request.words, request.method
+        if words in ([""], []):
+            return Answer(303, headers=[("location", "/ui")])
+        if words[0] == "ui":
+            return await self.page(request, words[1:])
+        if words[0] == "restate":
+            return await self.restate(request, words[1:])
+        if method != "POST":
+            raise Told(405, "a call is a POST")
+        return await self.call(request, words)
+
+    # ---- calls
+    async def call(self, request: Request, words: List[str]) -> Answer:
+        is_send = words[-1] == "send" and len(words) > 2
+        words = words[:-1] if is_send else words
+        if len(words) not in (2, 3):
+            raise Told(404, "a call is of /SERVICE/HANDLER or /SERVICE/KEY/HANDLER")
+        service, key, handler = words[0], words[1] if len(words) == 3 else None, words[-1]
+        found = self.worker.app.get(service)
+        if found is None or handler not in found.handlers or service.startswith("hengomaru"):
+            raise Told(404, f"there is no handler {service}/{handler}")
+        it, body = found.handlers[handler], await request.body()
+        try:
+            it.input.read(body)
+        except Exception as error:
+            raise Told(400, f"not what {service}/{handler} takes: {error}") from None
+        headers = {name: value for name, value in request.headers.items() if name not in UNSHOWN and not name.startswith((OWN_HEADERS, "sec-"))}
+        delay = delay_in(request.query.get("delay")) if is_send else 0
+        id, is_new = await self.worker.request((service, handler), body, key, request.headers.get("idempotency-key"), headers, delay)
+        if is_send:
+            return of_json({"invocationId": id, "status": "Accepted" if is_new else "PreviouslyAccepted"}, 202, [("x-restate-id", word_of(id))])
+        return told_answer(await self.worker.outcome(id), id, it.output.content_type)
+
+    # ---- what is called, and what it waits for
+    async def restate(self, request: Request, words: List[str]) -> Answer:
+        what, *rest = words or [""]
+        if what == "awakeables" and len(rest) == 2 and request.method == "POST" and rest[1] in ("resolve", "reject"):
+            return await self.awakeable(request, *rest)
+        if what == "workflow" and len(rest) == 3:
+            what, rest = "invocation", [named(rest[0], rest[1]), rest[2]]
+        if what != "invocation" or len(rest) < 2:
+            raise Told(404, "nothing is there")
+        id, act, *names = rest
+        if request.method == "GET" and act in ("attach", "output"):
+            if act == "output" and (await self.worker.status(id)).is_open:
+                raise Told(NOT_READY, f"{id} has not ended")
+            return told_answer(await self.worker.outcome(id), id)
+        if request.method != "POST":
+            raise Told(405, "that is a POST")
+        if act == "signal" and len(names) == 1:
+            await self.worker.signal(id, names[0], await request.json())
+        elif act in ("cancel", "pause", "resume") and not names:
+            await self.act(act, id)
+        else:
+            raise Told(404, "nothing is there")
+        return of_json({"invocationId": id}, 202)
+
+    async def awakeable(self, request: Request, id: str, how: str) -> Answer:
+        if how == "resolve":
+            is_taken = await self.worker.resolve_awakeable(id, await request.json())
+        else:
+            is_taken = await self.worker.reject_awakeable(id, (await request.body()).decode(errors="replace"))
+        if not is_taken:
+            raise Told(404, "nothing waits for it")
+        return of_json({}, 202)
+
+    async def act(self, act: str, id: str) -> None:
+        await {"cancel": self.worker.cancel_invocation, "pause": self.worker.pause, "resume": self.worker.resume}[act](id)
+
+    # ---- the page
+    async def page(self, request: Request, words: List[str]) -> Answer:
+        name = "/".join(words)
+        if request.method == "GET" and name in FILES:
+            file, kind = FILES[name]
+            return Answer(200, pkgutil.get_data(__package__, f"page/{file}") or b"", f"{kind}; charset=utf-8")
+        if request.method == "GET" and name == "api/list":
+            return of_json(await self.listed(request.query.get("after", ""), request.query.get("only", ""), 100))
+        if request.method == "GET" and name == "api/one":
+            return of_json(await self.one(request.query.get("id", "")))
+        if request.method == "POST" and name == "api/act":
+            if request.headers.get("content-type") != "application/json":
+                raise Told(415, "what the page asks is JSON")
+            asked = await request.json()
+            if not isinstance(asked, dict) or asked.get("act") not in ("cancel", "pause", "resume") or not isinstance(asked.get("id"), str):
+                raise Told(400, "not understood")
+            await self.act(asked["act"], asked["id"])
+            return of_json({})
+        raise Told(404, "nothing is there")
+
+    def row(self, it: Listed) -> Dict[str, Any]:
+        until = self.worker.not_before.get(it.id)
+        status = it.status if until is None or it.status != "due" else "paused" if until == NEVER else "again"
+        return {"id": it.id, "object": it.object, "status": status, "attempts": it.attempts, "entries": it.entries, "until": None if until in (None, NEVER) else until}
+
+    async def listed(self, after: str, only: str, most: int) -> Dict[str, Any]:
+        """The first invocations behind an id: all, those that are open, or those that have not gone well."""
+        wanted = {"open": lambda it: it["status"] not in ("ended", "failed"), "amiss": lambda it: it["status"] in ("again", "paused", "failed")}.get(only, lambda it: True)
+        found: List[Dict[str, Any]] = []
+        scanned, last = 0, after
+        while len(found) < most and scanned < 20_000:
+            page = await self.worker.store.page(last, 1000)
+            if not page:
+                return {"rows": found, "next": None, **self.counts()}
+            for it in page:
+                last, scanned = it.id, scanned + 1
+                row = self.row(it)
+                if wanted(row):
+                    found.append(row)
+                    if len(found) == most:
+                        break
+        return {"rows": found, "next": last, **self.counts()}
+
+    def counts(self) -> Dict[str, Any]:
+        return {"live": len(self.worker.live), "done": self.worker.done, "now": self.worker.clock()}
+
+    async def one(self, id: str) -> Dict[str, Any]:
+        shown, error = await self.worker.store.show(id), await self.worker.store.error(id)
+        until = self.worker.not_before.get(id)
+        status = "ended" if not shown.is_open else "paused" if until == NEVER else "again" if until else "live" if id in self.worker.live else "waits"
+        return {
+            "id": id, "status": status, "is_open": shown.is_open, "until": None if until == NEVER else until, "now": self.worker.clock(),
+            "object": self.worker.objects.get(id), "answer": told_of(shown) if not shown.is_open else None, "is_failure": isinstance(shown.answer, tuple),
+            "error": error and {"code": error[0], "message": error[3]}, "steps": [it._asdict() for it in steps_of(shown)],
+        }
+
+
+def word_of(id: str) -> str:
+    return id if id.isascii() and id.isprintable() else ascii(id)
+
+
+def told_of(shown: Shown) -> str:
+    if isinstance(shown.answer, tuple):
+        return f"({shown.answer[0]}) {shown.answer[1]}"
+    return shown.answer.decode(errors="replace") if isinstance(shown.answer, bytes) else ""
+
+
+def told_answer(shown: Shown, id: str, content_type: str = "application/json") -> Answer:
+    """The answer of an invocation that has ended. A failure is told by its code, where that is one of HTTP's."""
+    headers = [("x-restate-id", word_of(id))]
+    if isinstance(shown.answer, tuple):
+        code, message = shown.answer
+        return of_json({"code": code, "message": message}, code if 400 <= code < 600 else 500, headers)
+    return Answer(200, shown.answer if isinstance(shown.answer, bytes) else b"", content_type, headers)
