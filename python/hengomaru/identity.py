@@ -51,7 +51,7 @@ def claims_in(token: str, keys: Sequence[Any]) -> Optional[Dict[str, Any]]:
             return None
         found = json.loads(read_part(claims))
         read_part(signature)
-    except (ValueError, AttributeError):
+    except (ValueError, AttributeError, RecursionError):
         return None
     for key in keys:
         try:

@@ -8,7 +8,7 @@
     GET  /restate/health
     POST /restate/awakeables/ID/resolve, /reject         with a JSON value; with a text
     POST /restate/invocation/ID/signal/NAME              with a JSON value
-    POST /restate/invocation/ID/cancel, /pause, /resume
+    POST /restate/invocation/ID/cancel, /pause, /resume  a cancellation behind another counts with ?again=true alone
 
 The header x-hengomaru-id of a call is its id. It takes no request that a page of another site makes, and answers to its own names alone:
 whoever opens a page somewhere should not start jobs here. Where it has a token, it does what is asked with `authorization: Bearer TOKEN`
@@ -231,7 +231,7 @@ class Web:
         if act == "signal" and len(names) == 1:
             await self.worker.signal(id, names[0], await request.json())
         elif act in ("cancel", "pause", "resume") and not names:
-            await self.act(act, id)
+            await self.act(act, id, request.query.get("again") == "true")
         else:
             raise Told(404, "nothing is there")
         return of_json({"invocationId": id}, 202)
@@ -245,8 +245,11 @@ class Web:
             raise Told(404, "nothing waits for it")
         return of_json({}, 202)
 
-    async def act(self, act: str, id: str) -> None:
-        await {"cancel": self.worker.cancel_invocation, "pause": self.worker.pause, "resume": self.worker.resume}[act](id)
+    async def act(self, act: str, id: str, again: bool = False) -> None:
+        if act == "cancel":
+            await self.worker.cancel_invocation(id, again=again)
+        else:
+            await {"pause": self.worker.pause, "resume": self.worker.resume}[act](id)
 
     # ---- the page
     async def page(self, request: Request, words: List[str]) -> Answer:

@@ -1,12 +1,10 @@
 """A headless Chromium, by its own protocol over two pipes, so that nothing has to be installed but Debian's `chromium`."""
 import json
 import os
-import shutil
 import subprocess
 import time
 from typing import Any, List, Optional
 
-CHROMIUM: Optional[str] = shutil.which("chromium") or shutil.which("chromium-browser") or shutil.which("google-chrome")
 OPTIONS = ("--headless=new", "--remote-debugging-pipe", "--no-sandbox", "--disable-gpu", "--disable-dev-shm-usage", "--no-first-run", "--disable-extensions", "--mute-audio")
 
 
@@ -16,7 +14,7 @@ class Browser:
     def __init__(self, folder: str) -> None:
         asked, self.asks = os.pipe()
         self.answers, answered = os.pipe()
-        words = [CHROMIUM or "", *OPTIONS, f"--user-data-dir={folder}"]
+        words = ["chromium", *OPTIONS, f"--user-data-dir={folder}"]
         shell = ["bash", "-c", f'exec "$@" 3<&{asked} 4>&{answered}', "bash", *words]
         self.process = subprocess.Popen(shell, pass_fds=(asked, answered), stdout=subprocess.DEVNULL, stderr=subprocess.DEVNULL)
         os.close(asked)

@@ -15,15 +15,10 @@ from urllib.parse import quote
 
 import hengomaru as hg
 
-from tests.browser import CHROMIUM, Browser
+from tests.browser import Browser
+from tests.needs import lacks
 
-try:
-    import hypercorn  # noqa: F401
-except ImportError:
-    LACKS = "python3-hypercorn is not there"
-else:
-    LACKS = "" if CHROMIUM else "chromium is not there"
-
+LACKS = lacks("hypercorn", "chromium")
 TOP = str(Path(__file__).resolve().parents[1])
 HOSTILE = "<img src=x onerror=\"window.hit=1\"><script>window.hit=2</script>'\u202e&lt;"
 TOKEN = "a-token-for-tests-0123456789"

@@ -12,25 +12,16 @@ from datetime import timedelta
 from pathlib import Path
 
 import hengomaru as hg
+from hengomaru.identity import Signer
 from hengomaru.services import Target
 
+from tests.needs import lacks
+
 logging.getLogger("hengomaru").setLevel(logging.CRITICAL)
-try:
-    import h2  # noqa: F401
-    import hypercorn  # noqa: F401
-except ImportError:
-    HAS_HTTP2 = False
-else:
-    HAS_HTTP2 = True
+if not lacks("h2", "hypercorn"):
     from hengomaru import http2
-    from hengomaru.identity import Signer
     from hengomaru.remote import Remote
     from hengomaru.worker import HostGone
-try:
-    from cryptography.hazmat.primitives.asymmetric.ed25519 import Ed25519PrivateKey
-    from cryptography.hazmat.primitives.serialization import Encoding, NoEncryption, PrivateFormat
-except ImportError:
-    Ed25519PrivateKey = None
 
 svc, obj = hg.Service("svc"), hg.VirtualObject("obj")
 app = hg.app([svc, obj])
@@ -79,6 +70,13 @@ async def count(ctx, by):
     return [ctx.key(), total]
 
 
+def new_signer():
+    from cryptography.hazmat.primitives.asymmetric.ed25519 import Ed25519PrivateKey
+    from cryptography.hazmat.primitives.serialization import Encoding, NoEncryption, PrivateFormat
+
+    return Signer(Ed25519PrivateKey.generate().private_bytes(Encoding.PEM, PrivateFormat.PKCS8, NoEncryption()))
+
+
 def free_port():
     import socket
 
@@ -87,7 +85,7 @@ def free_port():
         return it.getsockname()[1]
 
 
-@unittest.skipUnless(HAS_HTTP2, "hypercorn or h2 is not there")
+@unittest.skipIf(lacks("h2", "hypercorn"), lacks("h2", "hypercorn"))
 class RemoteTests(unittest.IsolatedAsyncioTestCase):
     async def asyncSetUp(self):
         folder = tempfile.TemporaryDirectory()
@@ -234,13 +232,12 @@ class RemoteTests(unittest.IsolatedAsyncioTestCase):
             await Remote([f"http://127.0.0.1:{free_port()}"]).discover(0)
         self.assertIn("can be reached", str(gone.exception))
 
-    @unittest.skipUnless(Ed25519PrivateKey, "cryptography is not there")
+    @unittest.skipIf(lacks("cryptography"), lacks("cryptography"))
     async def test_requests_are_signed(self):
-        pem = Ed25519PrivateKey.generate().private_bytes(Encoding.PEM, PrivateFormat.PKCS8, NoEncryption())
-        signer = Signer(pem)
+        signer = new_signer()
         await self.begin(1, ("--key", signer.key), signer)
         self.assertEqual(len(await self.run_one("rounds", 2)), 1)
-        for other in (None, Signer(Ed25519PrivateKey.generate().private_bytes(Encoding.PEM, PrivateFormat.PKCS8, NoEncryption()))):
+        for other in (None, new_signer()):
             with self.assertRaises(HostGone) as gone:
                 await Remote([f"http://127.0.0.1:{self.ports[0]}"], other).discover(0)
             self.assertIn("401", str(gone.exception))
