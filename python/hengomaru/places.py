@@ -11,8 +11,8 @@ NAMES = {"library": "libhengomaru.so", "program": "durable"}
 VARIABLES = {"library": "HENGOMARU_LIBRARY", "program": "HENGOMARU_DURABLE"}
 # How each is made in a clone of the repository.
 MAKES = {"library": "c/build", "program": "rt ci"}
-HOW = """In a clone of the repository `rt ci && c/build` proves and builds both: an hour or two, and some minutes more for the library.
-Behind that, `pip install ./python` takes both along."""
+HOW = """In a clone of the repository `rt ci` proves and builds the program, in an hour and a half on four cores, and behind it `c/build` the library,
+in some minutes. `pip install ./python` then takes both along."""
 
 
 def clone() -> Optional[Path]:
