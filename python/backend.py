@@ -58,7 +58,7 @@ def wheel(folder, files):
         for path, content in {**files, f"{info}/RECORD": record.encode()}.items():
             it = zipfile.ZipInfo(path)
             it.compress_type = zipfile.ZIP_DEFLATED
-            it.external_attr = (0o755 if path.startswith("hengomaru/native/") else 0o644) << 16
+            it.external_attr = (0o100755 if path.startswith("hengomaru/native/") else 0o100644) << 16
             made.writestr(it, content)
     return f"{name}-{tag}.whl"
 
