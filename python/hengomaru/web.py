@@ -14,6 +14,7 @@ The header x-hengomaru-id of a call is its id. It takes no request that a page o
 whoever opens a page somewhere should not start jobs here. Where it has a token, it does what is asked with `authorization: Bearer TOKEN`
 alone, by whatever name; the page asks its reader for it. Without one it asks nobody who they are, and is for this machine alone.
 """
+import asyncio
 import hmac
 import json
 import logging
@@ -44,6 +45,10 @@ UNSHOWN = {"host", "connection", "content-length", "transfer-encoding", "idempot
 NOT_READY = 470
 
 
+class Gone(Exception):
+    """Whoever asked has gone away."""
+
+
 class Told(Exception):
     """What a request comes to, where that is not what it has asked for."""
 
@@ -71,6 +76,11 @@ class Request:
             if sum(map(len, came)) > MOST:
                 raise Told(413, f"a body has at most {MOST} bytes")
         return b"".join(came)
+
+    async def gone(self) -> None:
+        """Comes when whoever asked has gone away."""
+        while (await self.receive())["type"] != "http.disconnect":
+            pass
 
     async def json(self) -> Any:
         try:
@@ -133,6 +143,8 @@ class Web:
             request = Request(scope, receive)
             self.check(request)
             answer = await self.answer(request)
+        except Gone:
+            return
         except Told as told:
             answer = of_json({"message": told.message}, told.status)
         except TooLong as error:
@@ -205,7 +217,20 @@ class Web:
         id, is_new = await self.worker.request((service, handler), body, key, again, headers, delay, own)
         if is_send:
             return of_json({"invocationId": id, "status": "Accepted" if is_new else "PreviouslyAccepted"}, 202, [("x-restate-id", word_of(id))])
-        return told_answer(await self.worker.outcome(id), id, it.output.content_type)
+        return told_answer(await self.outcome(request, id), id, it.output.content_type)
+
+    async def outcome(self, request: Request, id: str) -> Shown:
+        """What an invocation has come to, once it has ended, as long as somebody waits for it. It goes on also where nobody does."""
+        waits, gone = asyncio.ensure_future(self.worker.outcome(id)), asyncio.ensure_future(request.gone())
+        try:
+            await asyncio.wait({waits, gone}, return_when=asyncio.FIRST_COMPLETED)
+            if not waits.done():
+                raise Gone
+            return waits.result()
+        finally:
+            for it in (waits, gone):
+                it.cancel()
+            await asyncio.gather(waits, gone, return_exceptions=True)
 
     # ---- what is called, and what it waits for
     async def restate(self, request: Request, words: List[str]) -> Answer:
@@ -225,7 +250,8 @@ class Web:
         if request.method == "GET" and act in ("attach", "output"):
             if act == "output" and (await self.worker.status(id)).is_open:
                 raise Told(NOT_READY, f"{id} has not ended")
-            return told_answer(await self.worker.outcome(id), id)
+            await request.body()
+            return told_answer(await self.outcome(request, id), id)
         if request.method != "POST":
             raise Told(405, "that is a POST")
         if act == "signal" and len(names) == 1:
