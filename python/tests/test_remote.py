@@ -1,12 +1,16 @@
 """A worker whose handlers are in other processes, behind HTTP/2: what these processes' ends leave, too. It needs hypercorn and h2, and to sign
 cryptography."""
 import asyncio
+import collections
+import json
 import logging
 import os
+import random
 import signal
 import subprocess
 import sys
 import tempfile
+import time
 import unittest
 from datetime import timedelta
 from pathlib import Path
@@ -241,6 +245,87 @@ class RemoteTests(unittest.IsolatedAsyncioTestCase):
             with self.assertRaises(HostGone) as gone:
                 await Remote([f"http://127.0.0.1:{self.ports[0]}"], other).discover(0)
             self.assertIn("401", str(gone.exception))
+
+
+ORDERS = {"o1": ["tea", 2], "o2": ["tea", 3], "o3": ["cup", 11], "o4": ["cup", 1]}
+KILLS = int(os.environ.get("REMOTE_KILLS", "8"))
+
+
+@unittest.skipIf(lacks("h2", "hypercorn"), lacks("h2", "hypercorn"))
+class KillTests(unittest.TestCase):
+    """Orders of examples/shop.py, whose hosts and whose worker are killed at random moments."""
+
+    def begin(self, name, *words):
+        top = Path(__file__).resolve().parents[1]
+        env = {**os.environ, "PYTHONPATH": f"{top}:{top.parent / 'examples'}", "SHOP_LOG": self.log, "SHOP_PACKING": "150"}
+        self.running[name] = subprocess.Popen([sys.executable, "-m", "hengomaru", *words], env=env, cwd=top, stdout=subprocess.DEVNULL, stderr=subprocess.DEVNULL)
+
+    def begin_host(self, port):
+        self.begin(port, "endpoint", "shop:app", "--bind", f"127.0.0.1:{port}")
+
+    def begin_worker(self):
+        self.begin("worker", "worker", self.database, *(it for port in self.ports for it in ("--endpoint", f"http://127.0.0.1:{port}")), "--linger", random.choice(["0", "0.2"]))
+
+    def end(self, name):
+        it = self.running.pop(name)
+        it.kill()
+        it.wait()
+
+    def orders(self, folder, kills):
+        """What the orders come to, the stock, and what reached the world, with so many kills before."""
+        self.database, self.log, self.running = f"{folder}/jobs.db", f"{folder}/log", {}
+        Path(self.log).touch()
+        self.ports = [free_port(), free_port()]
+        for id, (item, amount) in ORDERS.items():
+            self.begin("submit", "submit", self.database, "shop:app", id, "order/place", json.dumps({"item": item, "amount": amount}))
+            self.assertEqual(self.running.pop("submit").wait(), 0)
+        for it in self.ports:
+            self.begin_host(it)
+        self.begin_worker()
+        try:
+            for _ in range(kills):
+                time.sleep(random.uniform(0.2, 2))
+                name = random.choice([*self.ports, "worker"])
+                self.end(name)
+                self.begin_worker() if name == "worker" else self.begin_host(name)
+            return self.ended(), collections.Counter(Path(self.log).read_text().split("\n")[:-1])
+        finally:
+            for it in list(self.running):
+                self.end(it)
+
+    def ended(self):
+        """A worker that goes on over other machines goes on for good: it is ended for each look at the file."""
+        for _ in range(30):
+            time.sleep(2)
+            self.end("worker")
+            found = asyncio.run(look(self.database))
+            if found:
+                return found
+            self.begin_worker()
+        raise AssertionError("the orders do not end")
+
+    def test_orders_end_as_undisturbed_ones(self):
+        with tempfile.TemporaryDirectory() as quiet, tempfile.TemporaryDirectory() as disturbed:
+            wanted, done = self.orders(quiet, 0)
+            self.assertEqual(set(done.values()), {1})
+            came, told = self.orders(disturbed, KILLS)
+        self.assertEqual(came, wanted)
+        self.assertEqual(set(told), set(done))
+        # A kill may have one effect executed again, whose outcome was not recorded.
+        self.assertLessEqual(sum(told.values()) - len(told), KILLS)
+
+
+async def look(database):
+    """The answers of the orders, and the stock; nothing while one is open."""
+    store = hg.Store(database)
+    await store.open()
+    try:
+        shown = {id: await store.show(id) for id in ORDERS}
+        if any(it.is_open for it in shown.values()):
+            return None
+        return {id: it.answer for id, it in shown.items()}, {it: await store.state(f"stock/{it}") for it in ("tea", "cup")}
+    finally:
+        await store.close()
 
 
 if __name__ == "__main__":
