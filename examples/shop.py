@@ -1,7 +1,7 @@
 """A shop: an order is reserved at the stock, paid and shipped; one that is cancelled, or not packed in time, undoes what it did.
 
-    python3 -m hengomaru /tmp/shop.db shop:app submit o1 order/place '{"item": "tea", "amount": 2}'
-    python3 -m hengomaru /tmp/shop.db shop:app
+    hengomaru submit /tmp/shop.db shop:app o1 order/place '{"item": "tea", "amount": 2}'
+    hengomaru worker /tmp/shop.db shop:app
 
 What reaches the world stands in the file that SHOP_LOG names, or shop.log, a line for each. What a kill leaves, where it comes:
 

@@ -1,6 +1,7 @@
-"""Calls over HTTP/2 whose two directions go side by side, by the library h2: one connection, many streams."""
+"""Calls over HTTP/2 whose two directions go side by side, by the library h2: one connection, many streams. A connection from which nothing
+comes is asked whether it is there, and lost where it does not answer: a host may vanish without a word."""
 import asyncio
-from typing import Dict, List, Optional, Sequence, Tuple
+from typing import Any, Dict, List, Optional, Sequence, Tuple
 from urllib.parse import urlsplit
 
 import h2.config
@@ -11,6 +12,8 @@ import h2.exceptions
 import h2.settings
 
 WINDOW = 2**24
+# Seconds: to connect, until a silent connection is asked, and until it has to have answered.
+CONNECTS, SILENT, ANSWERS = 5.0, 10.0, 10.0
 
 
 class Lost(ConnectionError):
@@ -21,23 +24,24 @@ class Stream:
     """One call: what is sent, and what comes."""
 
     def __init__(self, connection: "Connection", id: int) -> None:
-        self.connection, self.id = connection, id
+        self.connection, self.id, self.address = connection, id, ""
         self.status, self.headers = 0, {}  # type: int, Dict[str, str]
         self.begun: "asyncio.Future[None]" = asyncio.get_running_loop().create_future()
         self.came: "asyncio.Queue[Optional[bytes]]" = asyncio.Queue()
         self.room, self.has_ended, self.error = asyncio.Event(), False, ""
 
     async def send(self, content: bytes) -> None:
-        while content:
+        left = memoryview(content)
+        while left:
             self.check()
             most = min(self.connection.h2.local_flow_control_window(self.id), self.connection.h2.max_outbound_frame_size)
             if most <= 0:
                 self.room.clear()
                 await self.room.wait()
                 continue
-            self.connection.h2.send_data(self.id, content[:most])
+            self.connection.h2.send_data(self.id, bytes(left[:most]))
             self.connection.flush()
-            content = content[most:]
+            left = left[most:]
 
     def end(self) -> None:
         if not self.error and not self.has_ended:
@@ -73,7 +77,8 @@ class Connection(asyncio.Protocol):
     def __init__(self) -> None:
         self.h2 = h2.connection.H2Connection(h2.config.H2Configuration(client_side=True, header_encoding="utf-8"))
         self.streams: Dict[int, Stream] = {}
-        self.is_lost = False
+        self.is_lost = self.has_come = False
+        self.timer: Optional[asyncio.TimerHandle] = None
         self.free = asyncio.Event()
         self.free.set()
 
@@ -83,6 +88,24 @@ class Connection(asyncio.Protocol):
         self.h2.update_settings({h2.settings.SettingCodes.INITIAL_WINDOW_SIZE: WINDOW, h2.settings.SettingCodes.ENABLE_PUSH: 0})
         self.h2.increment_flow_control_window(WINDOW)
         self.flush()
+        self.watch()
+
+    def watch(self) -> None:
+        self.has_come = False
+        self.timer = asyncio.get_running_loop().call_later(SILENT, self.look)
+
+    def look(self) -> None:
+        """Asks a silent connection whether it is there, where somebody waits for it."""
+        if self.has_come or not self.streams:
+            return self.watch()
+        self.h2.ping(b"are you?")
+        self.flush()
+        self.timer = asyncio.get_running_loop().call_later(ANSWERS, self.answered)
+
+    def answered(self) -> None:
+        if self.has_come:
+            return self.watch()
+        self.lose("the host is silent")
 
     def flush(self) -> None:
         told = self.h2.data_to_send()
@@ -90,13 +113,12 @@ class Connection(asyncio.Protocol):
             self.transport.write(told)
 
     def data_received(self, came: bytes) -> None:
+        self.has_come = True
         try:
             for event in self.h2.receive_data(came):
                 self.take(event)
         except h2.exceptions.ProtocolError as error:
-            self.connection_lost(error)
-            self.transport.close()
-            return
+            return self.lose(f"the host does not speak HTTP/2 as it should: {error}")
         self.flush()
 
     def take(self, event) -> None:
@@ -117,14 +139,21 @@ class Connection(asyncio.Protocol):
             for it in self.streams.values():
                 it.room.set()
         elif isinstance(event, h2.events.ConnectionTerminated):
-            self.connection_lost(None)
-            self.transport.close()
+            self.lose("the host goes away")
 
-    def connection_lost(self, error) -> None:
+    def connection_lost(self, error: Optional[Exception]) -> None:
+        self.lose("the connection is lost")
+
+    def lose(self, why: str) -> None:
+        if self.is_lost:
+            return
         self.is_lost = True
+        if self.timer:
+            self.timer.cancel()
         for it in list(self.streams.values()):
-            it.lose("the connection is lost")
+            it.lose(why)
         self.free.set()
+        self.transport.abort() if why == "the host is silent" else self.transport.close()
 
     def let_go(self, stream: Stream) -> None:
         if self.streams.pop(stream.id, None) and not self.is_lost:
@@ -140,6 +169,7 @@ class Client:
     """Calls to one address, over one connection that is made anew where it is lost."""
 
     def __init__(self, address: str) -> None:
+        self.address = address
         told = urlsplit(address if "://" in address else f"http://{address}")
         self.scheme, self.host, self.port, self.prefix = told.scheme, told.hostname or "", told.port or (443 if told.scheme == "https" else 80), told.path.rstrip("/")
         self.connection: Optional[Connection] = None
@@ -154,18 +184,29 @@ class Client:
 
                     context = ssl.create_default_context()
                     context.set_alpn_protocols(["h2"])
-                _, self.connection = await asyncio.get_running_loop().create_connection(Connection, self.host, self.port, ssl=context)
+                self.connection = await self.connect(context)
             return self.connection
+
+    async def connect(self, context: Any) -> Connection:
+        connecting = asyncio.ensure_future(asyncio.get_running_loop().create_connection(Connection, self.host, self.port, ssl=context))
+        done, _ = await asyncio.wait({connecting}, timeout=CONNECTS)
+        if not done:
+            connecting.cancel()
+            raise ConnectionError(f"no connection in {CONNECTS:.0f} seconds")
+        return connecting.result()[1]
 
     async def ask(self, method: str, path: str, headers: Sequence[Tuple[str, str]] = ()) -> Stream:
         """Begins a call, whose body is sent then."""
         while True:
             connection = await self.connected()
+            if connection.is_lost:
+                continue
             if connection.h2.open_outbound_streams < connection.h2.remote_settings.max_concurrent_streams:
                 break
             connection.free.clear()
             await connection.free.wait()
         stream = Stream(connection, connection.h2.get_next_available_stream_id())
+        stream.address = self.address
         connection.streams[stream.id] = stream
         told = [(":method", method), (":scheme", self.scheme), (":authority", f"{self.host}:{self.port}"), (":path", self.prefix + path), *headers]
         connection.h2.send_headers(stream.id, told)

@@ -1,11 +1,9 @@
 """The machine of an attempt: each method is one call of c/hengomaru.h, by ctypes."""
 import ctypes as c
-import ctypes.util
-import os
-from pathlib import Path
 from typing import Any, Callable, Dict, List, Optional, Protocol, Tuple
 
 from . import pb
+from .places import find_library
 
 NO_DELAY = 2**64 - 1
 OK, NO_MACHINE, MEMORY, NOT_READ, FAILED, SUSPENDED, UNTOLD = range(7)
@@ -95,25 +93,6 @@ class AttemptMachine(Protocol):
     def propose_run_retryable(self, handle: int, millis: int, code: int, message: str, policy: Policy) -> None: ...
     def sys_write_output(self, value: bytes, failed: bool = False) -> None: ...
     def sys_end(self) -> None: ...
-
-
-def clone():
-    """The clone of the repository that this package stands in, or None where it was installed."""
-    top = Path(__file__).resolve().parents[2]
-    return top if (top / "c/hengomaru.h").is_file() else None
-
-
-def find_library():
-    """The path of the machine as a shared library; FileNotFoundError where there is none."""
-    told, top = os.environ.get("HENGOMARU_LIBRARY"), clone()
-    if told:
-        return told
-    if top and (top / "out/libhengomaru.so").is_file():
-        return str(top / "out/libhengomaru.so")
-    found = ctypes.util.find_library("hengomaru")
-    if not found:
-        raise FileNotFoundError("there is no libhengomaru.so: c/build of the repository makes it in out/; HENGOMARU_LIBRARY tells where another one is")
-    return found
 
 
 def parameters():

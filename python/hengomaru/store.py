@@ -2,13 +2,12 @@
 as they are asked, many before the first is answered; the answers come in their order."""
 import asyncio
 import os
-import shutil
 import time
 from collections import deque
 from typing import Any, Awaitable, Callable, Dict, List, NamedTuple, Optional, Sequence, Tuple, Union
 from urllib.parse import quote_from_bytes, unquote_to_bytes
 
-from .machine import clone
+from .places import find_program
 
 # Bytes that stand for themselves in a word.
 PLAIN = "".join(chr(it) for it in range(0x21, 0x7F) if chr(it) not in "%#")
@@ -160,20 +159,6 @@ def read_answer(kind: str, *content: str) -> Value:
     if kind == "failure":
         return int(content[0]), digits(content[1]).decode()
     return digits(content[0]) if kind == "value" else None
-
-
-def find_program() -> str:
-    """The path of `durable`; FileNotFoundError where there is none."""
-    told, top = os.environ.get("HENGOMARU_DURABLE"), clone()
-    if told:
-        return told
-    for path in (top / "out/durable", top / "crates/durable/out/durable") if top else ():
-        if os.access(path, os.X_OK):
-            return str(path)
-    found = shutil.which("durable")
-    if not found:
-        raise FileNotFoundError("there is no program durable: ./durable --prove of the repository makes it; HENGOMARU_DURABLE tells where another one is")
-    return found
 
 
 class Pipe(asyncio.SubprocessProtocol):

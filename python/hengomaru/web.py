@@ -3,15 +3,21 @@
     POST /SERVICE/HANDLER, /SERVICE/KEY/HANDLER          calls, and answers what the handler answers; header idempotency-key
     POST /SERVICE/HANDLER/send?delay=10s, ../KEY/..      calls without waiting: {"invocationId": .., "status": "Accepted"}
     GET  /restate/invocation/ID/attach, /output          waits for the answer; the answer, or 470 where there is none yet
+    GET  /restate/invocation/SERVICE[/KEY]/HANDLER/IDEMPOTENCY-KEY/attach, /output
     GET  /restate/workflow/NAME/KEY/attach, /output
+    GET  /restate/health
     POST /restate/awakeables/ID/resolve, /reject         with a JSON value; with a text
     POST /restate/invocation/ID/signal/NAME              with a JSON value
-    POST /restate/invocation/ID/cancel, /pause, /resume
+    POST /restate/invocation/ID/cancel, /pause, /resume  a cancellation behind another counts with ?again=true alone
 
-It takes no request that a page of another site makes, and answers to its own names alone: whoever opens a page somewhere should not start
-jobs here. It asks nobody who they are: beyond this machine it belongs behind what does.
+The header x-hengomaru-id of a call is its id. It takes no request that a page of another site makes, and answers to its own names alone:
+whoever opens a page somewhere should not start jobs here. Where it has a token, it does what is asked with `authorization: Bearer TOKEN`
+alone, by whatever name; the page asks its reader for it. Without one it asks nobody who they are, and is for this machine alone.
 """
+import asyncio
+import hmac
 import json
+import logging
 import pkgutil
 import re
 from typing import Any, Awaitable, Callable, Dict, List, Optional, Sequence, Tuple
@@ -19,11 +25,13 @@ from urllib.parse import parse_qs, unquote
 
 from .endpoint import Receive, Scope, Send
 from .journal import steps_of
-from .services import OWN_HEADERS, named
-from .store import OPEN, Listed, Refused, Shown
+from .services import OWN_HEADERS, Target, named
+from .store import Listed, Refused, Shown, StoreGone, TooLong
 from .worker import NEVER, Busy, Worker
 
+log = logging.getLogger("hengomaru")
 MOST = 2**24
+SHORTEST_TOKEN = 16
 DELAY = re.compile(r"(\d+(?:\.\d+)?)(ms|s|m|h|d)")
 UNITS = {"ms": 1, "s": 1000, "m": 60_000, "h": 3_600_000, "d": 86_400_000}
 FILES = {"": ("page.html", "text/html"), "page.js": ("page.js", "text/javascript"), "page.css": ("page.css", "text/css")}
@@ -32,8 +40,13 @@ SAFE = [
     (b"x-content-type-options", b"nosniff"), (b"referrer-policy", b"no-referrer"), (b"cache-control", b"no-store"), (b"cross-origin-resource-policy", b"same-origin"),
 ]
 # Headers of a request that a handler is shown: those that tell of the connection are none.
-UNSHOWN = {"host", "connection", "content-length", "transfer-encoding", "idempotency-key", "cookie", "authorization", "origin", "referer"}
+OWN_ID = "x-hengomaru-id"
+UNSHOWN = {"host", "connection", "content-length", "transfer-encoding", "idempotency-key", "cookie", "authorization", "origin", "referer", OWN_ID}
 NOT_READY = 470
+
+
+class Gone(Exception):
+    """Whoever asked has gone away."""
 
 
 class Told(Exception):
@@ -64,6 +77,11 @@ class Request:
                 raise Told(413, f"a body has at most {MOST} bytes")
         return b"".join(came)
 
+    async def gone(self) -> None:
+        """Comes when whoever asked has gone away."""
+        while (await self.receive())["type"] != "http.disconnect":
+            pass
+
     async def json(self) -> Any:
         try:
             return json.loads(await self.body() or b"null")
@@ -91,11 +109,27 @@ def delay_in(told: Optional[str]) -> int:
     return int(sum(float(number) * UNITS[unit] for number, unit in parts))
 
 
-class Web:
-    """The ASGI application of a worker, which answers to these names, as `host:port`."""
+def read_token(file: Optional[str]) -> Optional[str]:
+    """The token that a file holds; None where no file is told, and ValueError where it has none that is long enough."""
+    if file is None:
+        return None
+    with open(file, encoding="utf-8") as it:
+        token = it.read().strip()
+    if len(token) < SHORTEST_TOKEN or not token.isascii() or not token.isprintable() or " " in token:
+        raise ValueError(f"{file} holds no token: {SHORTEST_TOKEN} letters, digits and signs or more, as of `openssl rand -hex 32`")
+    return token
 
-    def __init__(self, worker: Worker, names: Sequence[str]) -> None:
-        self.worker, self.names = worker, set(names)
+
+def is_here_alone(bind: str) -> bool:
+    """Whether what is bound there is asked from this machine alone."""
+    return bind.rpartition(":")[0].strip("[]") in ("127.0.0.1", "localhost", "::1")
+
+
+class Web:
+    """The ASGI application of a worker, which answers to these names, as `host:port`, or to whoever has the token."""
+
+    def __init__(self, worker: Worker, names: Sequence[str], token: Optional[str] = None) -> None:
+        self.worker, self.names, self.token = worker, set(names), token
 
     async def __call__(self, scope: Scope, receive: Receive, send: Send) -> None:
         if scope["type"] == "lifespan":
@@ -109,8 +143,14 @@ class Web:
             request = Request(scope, receive)
             self.check(request)
             answer = await self.answer(request)
+        except Gone:
+            return
         except Told as told:
             answer = of_json({"message": told.message}, told.status)
+        except TooLong as error:
+            answer = of_json({"message": str(error)}, 413)
+        except StoreGone:
+            answer = of_json({"message": "the worker is closed, or its store does not answer"}, 503)
         except Busy as busy:
             answer = of_json({"message": str(busy)}, 409)
         except LookupError as error:
@@ -119,11 +159,16 @@ class Web:
             answer = of_json({"message": str(error)}, 400)
         except Refused as refused:
             answer = of_json({"message": f"refused {refused}"}, {"S4": 404, "S5": 410}.get(refused.name, 409))
+        except Exception:
+            log.exception("%s %s", scope["method"], ascii(scope["path"]))
+            answer = of_json({"message": "an error of the worker, which its log tells"}, 500)
         await send({"type": "http.response.start", "status": answer.status, "headers": answer.headers})
         await send({"type": "http.response.body", "body": answer.body})
 
     def check(self, request: Request) -> None:
-        """Refuses what a page of another site has asked for, by whatever name of this host."""
+        """Refuses what a page of another site has asked for, by whatever name of this host, and what is asked without the token."""
+        if self.token is not None:
+            return self.check_token(request, self.token)
         host = request.headers.get("host", "")
         if host not in self.names:
             raise Told(421, f"{host} is no name of this worker: `--name` tells it one")
@@ -131,6 +176,13 @@ class Web:
         if site not in (None, "same-origin", "none") or request.headers.get("origin", f"http://{host}") not in (f"http://{host}", f"https://{host}"):
             if not (request.method == "GET" and request.words[0] == "ui" and request.headers.get("sec-fetch-mode") == "navigate"):
                 raise Told(403, "a page of another site may not ask here")
+
+    def check_token(self, request: Request, token: str) -> None:
+        """What shows nothing of the worker is for all: the page itself, and whether it is there. No other site's page has the token."""
+        is_open = request.words in ([""], [], ["restate", "health"]) or (request.words[0] == "ui" and "/".join(request.words[1:]) in FILES)
+        told = request.headers.get("authorization", "")
+        if not is_open and not hmac.compare_digest(told.encode(), f"Bearer {token}".encode()):
+            raise Told(401, "authorization: Bearer TOKEN is wanted, as of the file that `--token` names")
 
     async def answer(self, request: Request) -> Answer:
         words, method = request.words, request.method
@@ -151,41 +203,61 @@ class Web:
         if len(words) not in (2, 3):
             raise Told(404, "a call is of /SERVICE/HANDLER or /SERVICE/KEY/HANDLER")
         service, key, handler = words[0], words[1] if len(words) == 3 else None, words[-1]
-        found = self.worker.app.get(service)
-        if found is None or handler not in found.handlers or service.startswith("hengomaru"):
+        it = None if service.startswith("hengomaru") else await self.worker.find(Target(service, handler, key or ""))
+        if it is None:
             raise Told(404, f"there is no handler {service}/{handler}")
-        it, body = found.handlers[handler], await request.body()
+        body = await request.body()
         try:
             it.input.read(body)
         except Exception as error:
             raise Told(400, f"not what {service}/{handler} takes: {error}") from None
         headers = {name: value for name, value in request.headers.items() if name not in UNSHOWN and not name.startswith((OWN_HEADERS, "sec-"))}
         delay = delay_in(request.query.get("delay")) if is_send else 0
-        id, is_new = await self.worker.request((service, handler), body, key, request.headers.get("idempotency-key"), headers, delay)
+        own, again = request.headers.get(OWN_ID), request.headers.get("idempotency-key")
+        id, is_new = await self.worker.request((service, handler), body, key, again, headers, delay, own)
         if is_send:
             return of_json({"invocationId": id, "status": "Accepted" if is_new else "PreviouslyAccepted"}, 202, [("x-restate-id", word_of(id))])
-        return told_answer(await self.worker.outcome(id), id, it.output.content_type)
+        return told_answer(await self.outcome(request, id), id, it.output.content_type)
+
+    async def outcome(self, request: Request, id: str) -> Shown:
+        """What an invocation has come to, once it has ended, as long as somebody waits for it. It goes on also where nobody does."""
+        waits, gone = asyncio.ensure_future(self.worker.outcome(id)), asyncio.ensure_future(request.gone())
+        try:
+            await asyncio.wait({waits, gone}, return_when=asyncio.FIRST_COMPLETED)
+            if not waits.done():
+                raise Gone
+            return waits.result()
+        finally:
+            for it in (waits, gone):
+                it.cancel()
+            await asyncio.gather(waits, gone, return_exceptions=True)
 
     # ---- what is called, and what it waits for
     async def restate(self, request: Request, words: List[str]) -> Answer:
         what, *rest = words or [""]
+        if (what, rest) == ("health", []):
+            return of_json({})
         if what == "awakeables" and len(rest) == 2 and request.method == "POST" and rest[1] in ("resolve", "reject"):
             return await self.awakeable(request, *rest)
         if what == "workflow" and len(rest) == 3:
             what, rest = "invocation", [named(rest[0], rest[1]), rest[2]]
+        elif what == "invocation" and len(rest) in (4, 5) and rest[-1] in ("attach", "output"):
+            service, *key, handler, again = rest[:-1]
+            rest = [named(service, handler, *(key or [""]), again), rest[-1]]
         if what != "invocation" or len(rest) < 2:
             raise Told(404, "nothing is there")
         id, act, *names = rest
         if request.method == "GET" and act in ("attach", "output"):
             if act == "output" and (await self.worker.status(id)).is_open:
                 raise Told(NOT_READY, f"{id} has not ended")
-            return told_answer(await self.worker.outcome(id), id)
+            await request.body()
+            return told_answer(await self.outcome(request, id), id)
         if request.method != "POST":
             raise Told(405, "that is a POST")
         if act == "signal" and len(names) == 1:
             await self.worker.signal(id, names[0], await request.json())
         elif act in ("cancel", "pause", "resume") and not names:
-            await self.act(act, id)
+            await self.act(act, id, request.query.get("again") == "true")
         else:
             raise Told(404, "nothing is there")
         return of_json({"invocationId": id}, 202)
@@ -199,8 +271,11 @@ class Web:
             raise Told(404, "nothing waits for it")
         return of_json({}, 202)
 
-    async def act(self, act: str, id: str) -> None:
-        await {"cancel": self.worker.cancel_invocation, "pause": self.worker.pause, "resume": self.worker.resume}[act](id)
+    async def act(self, act: str, id: str, again: bool = False) -> None:
+        if act == "cancel":
+            await self.worker.cancel_invocation(id, again=again)
+        else:
+            await {"pause": self.worker.pause, "resume": self.worker.resume}[act](id)
 
     # ---- the page
     async def page(self, request: Request, words: List[str]) -> Answer:

@@ -9,6 +9,8 @@ import unittest
 import hengomaru as hg
 from hengomaru import endpoint, identity, pb
 
+from tests.needs import lacks
+
 logging.getLogger("hengomaru").setLevel(logging.CRITICAL)
 svc, obj, flow = hg.Service("svc"), hg.VirtualObject("obj"), hg.Workflow("flow")
 app = hg.app([svc, obj, flow])
@@ -172,6 +174,13 @@ class Invocations(unittest.IsolatedAsyncioTestCase):
         self.assertEqual(value_of(frames[-2].payload), "cancelled")
         self.assertEqual((frames[0].type, dict(pb.fields(frames[0].payload))[1]), (SEND_SIGNAL, b"inv_2"))
 
+    async def test_each_version(self):
+        for version in range(endpoint.VERSIONS[0], endpoint.VERSIONS[1] + 1):
+            server = Server("/invoke/svc/other", V % version)
+            server.send(start(1), input_of(version), ends=True)
+            output, _ = (await server.frames(END))[-2:]
+            self.assertEqual((server.status, server.headers["content-type"], value_of(output.payload)), (200, V % version, version))
+
     async def test_an_object(self):
         server = Server("/invoke/obj/keyed", V % 5)
         server.send((START, start(1, "k")[1] + pb.record((4, pb.record((1, b"n"), (2, b"3"))))), input_of(None), ends=True)
@@ -206,25 +215,13 @@ class Invocations(unittest.IsolatedAsyncioTestCase):
         self.assertEqual((await Server("/health", method="GET").over())[0], 200)
 
 
-def base58(content):
-    number, text = int.from_bytes(content, "big"), ""
-    while number:
-        number, rest = divmod(number, 58)
-        text = identity.BASE58[rest] + text
-    return "1" * (len(content) - len(content.lstrip(b"\0"))) + text
-
-
-try:
-    from cryptography.hazmat.primitives.asymmetric.ed25519 import Ed25519PrivateKey
-except ImportError:
-    Ed25519PrivateKey = None
-
-
-@unittest.skipUnless(Ed25519PrivateKey, "cryptography is not there")
+@unittest.skipIf(lacks("cryptography"), lacks("cryptography"))
 class Signed(unittest.IsolatedAsyncioTestCase):
     def setUp(self):
+        from cryptography.hazmat.primitives.asymmetric.ed25519 import Ed25519PrivateKey
+
         self.key = Ed25519PrivateKey.generate()
-        self.told = identity.PREFIX + base58(self.key.public_key().public_bytes_raw() if hasattr(self.key.public_key(), "public_bytes_raw") else raw(self.key))
+        self.told = identity.PREFIX + identity.base58(self.key.public_key().public_bytes_raw() if hasattr(self.key.public_key(), "public_bytes_raw") else raw(self.key))
 
     def token(self, **claims):
         part = lambda it: base64.urlsafe_b64encode(it).rstrip(b"=")
@@ -249,6 +246,18 @@ class Signed(unittest.IsolatedAsyncioTestCase):
         self.assertEqual(await self.status([(identity.SCHEME, "unsigned")]), 401)
         self.assertEqual(await self.status([]), 401)
         self.assertEqual(await self.status([], "/health"), 200)
+        deep = base64.urlsafe_b64encode(b"[" * 100_000).decode()
+        self.assertEqual(await self.status([v1, (identity.TOKEN, f"{deep}.{deep}.AAAA")]), 401)
+
+    async def test_what_a_worker_signs(self):
+        from cryptography.hazmat.primitives.serialization import Encoding, NoEncryption, PrivateFormat
+
+        signer = identity.Signer(self.key.private_bytes(Encoding.PEM, PrivateFormat.PKCS8, NoEncryption()))
+        self.assertEqual(signer.key, self.told)
+        now = time.time()
+        for at, status in ((now, 200), (now - 50, 200), (now + 50, 200), (now - 200, 401), (now + 200, 401)):
+            self.assertEqual(await self.status(signer.headers("/discover", at)), status, at - now)
+        self.assertEqual(await self.status(signer.headers("/health", now)), 401)
 
     async def test_keys(self):
         for told in ("", "publickeyv1_", "publickeyv1_0", "publickeyv2_abc", self.told + "1"):

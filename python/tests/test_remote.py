@@ -1,4 +1,5 @@
-"""A worker whose handlers are in another process, behind HTTP/2: what that process's end leaves, too. It needs hypercorn and h2."""
+"""A worker whose handlers are in other processes, behind HTTP/2: what these processes' ends leave, too. It needs hypercorn and h2, and to sign
+cryptography."""
 import asyncio
 import logging
 import os
@@ -11,19 +12,20 @@ from datetime import timedelta
 from pathlib import Path
 
 import hengomaru as hg
+from hengomaru.identity import Signer
+from hengomaru.services import Target
+
+from tests.needs import lacks
 
 logging.getLogger("hengomaru").setLevel(logging.CRITICAL)
-try:
-    import h2  # noqa: F401
-    import hypercorn  # noqa: F401
-except ImportError:
-    HAS_HTTP2 = False
-else:
-    HAS_HTTP2 = True
+if not lacks("h2", "hypercorn"):
+    from hengomaru import http2
     from hengomaru.remote import Remote
+    from hengomaru.worker import HostGone
 
 svc, obj = hg.Service("svc"), hg.VirtualObject("obj")
 app = hg.app([svc, obj])
+less = hg.app([hg.Service("svc")])
 LOG = os.environ.get("REMOTE_LOG", "")
 
 
@@ -46,6 +48,17 @@ async def all_together(ctx, arg):
 
 
 @svc.handler()
+async def rounds(ctx, arg):
+    """Tells the host of each of its runs."""
+    return [await ctx.run(f"round {n}", lambda: (os.getpid(), tell(f"round {ctx.request().id} {n}"))[0]) for n in range(arg)]
+
+
+@svc.handler()
+async def turned(ctx, arg: bytes) -> bytes:
+    return arg[::-1]
+
+
+@svc.handler()
 async def big(ctx, arg):
     return await ctx.run("big", lambda: "x" * arg)
 
@@ -57,6 +70,13 @@ async def count(ctx, by):
     return [ctx.key(), total]
 
 
+def new_signer():
+    from cryptography.hazmat.primitives.asymmetric.ed25519 import Ed25519PrivateKey
+    from cryptography.hazmat.primitives.serialization import Encoding, NoEncryption, PrivateFormat
+
+    return Signer(Ed25519PrivateKey.generate().private_bytes(Encoding.PEM, PrivateFormat.PKCS8, NoEncryption()))
+
+
 def free_port():
     import socket
 
@@ -65,72 +85,162 @@ def free_port():
         return it.getsockname()[1]
 
 
-@unittest.skipUnless(HAS_HTTP2, "hypercorn or h2 is not there")
+@unittest.skipIf(lacks("h2", "hypercorn"), lacks("h2", "hypercorn"))
 class RemoteTests(unittest.IsolatedAsyncioTestCase):
     async def asyncSetUp(self):
         folder = tempfile.TemporaryDirectory()
         self.addCleanup(folder.cleanup)
-        self.port, self.log, self.hosts = free_port(), folder.name + "/log", []
-        self.begin_host()
-        self.remote = Remote([f"http://127.0.0.1:{self.port}"])
-        for _ in range(600):
-            try:
-                app = await self.remote.discover()
-                break
-            except OSError:
-                await asyncio.sleep(0.1)
-        self.worker = hg.Worker(folder.name + "/jobs.db", app, host=self.remote.attend, linger=0.2)
-        self.remote.worker, self.worker.version = self.worker, self.remote.version
+        self.folder, self.log, self.hosts, self.ports, self.worker = folder.name, folder.name + "/log", {}, [], None
+
+    async def begin(self, hosts=1, words=(), signer=None):
+        """A worker over so many hosts."""
+        self.ports = [free_port() for _ in range(hosts)]
+        for it in self.ports:
+            self.begin_host(it, *words)
+        self.remote = Remote([f"http://127.0.0.1:{it}" for it in self.ports], signer)
+        found = await self.remote.discover(60)
+        while len(self.remote.hosts[("svc", "big")]) < hosts:
+            await asyncio.sleep(0.2)
+            found = await self.remote.discover(60)
+        self.worker = hg.Worker(self.folder + "/jobs.db", found, host=self.remote.attend, linger=0.2)
+        self.remote.attach(self.worker)
         await self.worker.open()
 
-    def begin_host(self):
+    def begin_host(self, port, *words, app="app"):
         top = str(Path(__file__).resolve().parents[1])
         env = {**os.environ, "PYTHONPATH": top, "REMOTE_LOG": self.log}
-        told = [sys.executable, "-m", "hengomaru", "endpoint", "tests.test_remote:app", "--bind", f"127.0.0.1:{self.port}"]
-        self.hosts.append(subprocess.Popen(told, env=env, cwd=top, stderr=subprocess.DEVNULL))
+        told = [sys.executable, "-m", "hengomaru", "endpoint", f"tests.test_remote:{app}", "--bind", f"127.0.0.1:{port}", *words]
+        self.hosts[port] = subprocess.Popen(told, env=env, cwd=top, stderr=subprocess.DEVNULL)
+
+    def end_host(self, port, how=signal.SIGKILL):
+        host = self.hosts.pop(port)
+        host.send_signal(how)
+        host.wait()
 
     async def asyncTearDown(self):
-        await self.worker.close()
-        self.remote.close()
-        for it in self.hosts:
-            it.kill()
-            it.wait()
+        if self.worker:
+            await self.worker.close()
+            self.remote.close()
+        for it in list(self.hosts):
+            self.end_host(it)
 
     async def run_one(self, handler, argument=None, count=1):
         ids = [await self.worker.submit(f"i{n}", ("svc", handler), argument) for n in range(count)]
         await asyncio.wait_for(self.worker.run(), 100)
         return [(await self.worker.status(it)).value for it in ids]
 
+    async def begun(self, line):
+        """Goes on until a host has told this line."""
+        going = asyncio.ensure_future(self.worker.run())
+        while not going.done() and line not in (Path(self.log).read_text() if os.path.exists(self.log) else ""):
+            await asyncio.sleep(0.01)
+        return going
+
     async def test_all_together(self):
+        await self.begin()
         [came] = await self.run_one("all_together")
         self.assertEqual(came[:2], ["work i0", [["ü/<k>", 1], ["ü/<k>", 3]]])
         self.assertEqual(await self.worker.store.state("obj/%C3%BC%2F%3Ck%3E"), {b"n": b"3"})
 
     async def test_past_the_windows_of_the_connection(self):
+        await self.begin()
         came = await self.run_one("big", 1_000_000, 2)
         self.assertEqual([len(it) for it in came], [1_000_000] * 2)
 
-    async def test_the_host_is_killed(self):
+    async def test_bytes_go_through_as_they_are(self):
+        await self.begin()
+        handler = self.worker.app["svc"].handlers["turned"]
+        self.assertEqual((handler.input.content_type, handler.input.write(b"\xff\0")), ("application/octet-stream", b"\xff\0"))
+        id = await self.worker.submit_bytes("i0", ("svc", "turned"), b"\xff\0{")
+        await asyncio.wait_for(self.worker.run(), 100)
+        self.assertEqual((await self.worker.store.show(id)).answer, b"{\0\xff")
+
+    async def test_each_attempt_takes_the_next_host(self):
+        await self.begin(2)
+        came = await self.run_one("rounds", 1, 4)
+        self.assertEqual({it for [it] in came}, {it.pid for it in self.hosts.values()})
+
+    async def test_the_host_is_killed_and_another_goes_on(self):
+        await self.begin(2)
+        await self.worker.submit("i0", ("svc", "rounds"), 60)
+        going = await self.begun("round i0 5")
+        first = next(it for it in self.ports if len(self.remote.clients[self.ports.index(it)].connection.streams) > 0)
+        self.end_host(first)
+        await asyncio.wait_for(going, 100)
+        came = (await self.worker.status("i0")).value
+        lines = Path(self.log).read_text().split("\n")[:-1]
+        self.assertEqual(len(came), 60)
+        self.assertEqual(len(set(came)), 2)
+        # What was recorded is not executed again: at most the run that was under way.
+        self.assertLessEqual(len(lines), 61)
+
+    async def test_a_silent_host_is_left(self):
+        self.addCleanup(setattr, http2, "SILENT", http2.SILENT)
+        self.addCleanup(setattr, http2, "ANSWERS", http2.ANSWERS)
+        http2.SILENT = http2.ANSWERS = 1.0
+        await self.begin(2)
+        await self.worker.submit("i0", ("svc", "rounds"), 60)
+        going = await self.begun("round i0 5")
+        first = next(it for it in self.ports if len(self.remote.clients[self.ports.index(it)].connection.streams) > 0)
+        self.hosts[first].send_signal(signal.SIGSTOP)
+        await asyncio.wait_for(going, 100)
+        self.hosts[first].send_signal(signal.SIGCONT)
+        self.assertEqual(len(set((await self.worker.status("i0")).value)), 2)
+
+    async def test_the_only_host_is_killed(self):
+        await self.begin()
         await self.worker.submit("i0", ("svc", "all_together"))
         going = asyncio.ensure_future(self.worker.run())
         while not self.worker.began:
             await asyncio.sleep(0.01)
-        self.hosts[0].kill()
-        self.hosts[0].wait()
+        [port] = self.ports
+        self.end_host(port)
         await asyncio.sleep(0.3)
-        self.begin_host()
+        self.begin_host(port)
         await asyncio.wait_for(going, 100)
         self.assertEqual((await self.worker.status("i0")).value[0], "work i0")
 
     async def test_the_host_stops_in_order(self):
+        await self.begin()
         await self.worker.submit("i0", ("svc", "all_together"))
         going = asyncio.ensure_future(self.worker.run())
         while not self.worker.began:
             await asyncio.sleep(0.01)
-        self.hosts[0].send_signal(signal.SIGTERM)
-        self.begin_host() if self.hosts[0].wait() is not None else None
+        [port] = self.ports
+        self.end_host(port, signal.SIGTERM)
+        self.begin_host(port)
         await asyncio.wait_for(going, 100)
         self.assertEqual((await self.worker.status("i0")).value[0], "work i0")
+
+    async def test_a_host_that_comes_later_brings_its_handlers(self):
+        self.ports = [free_port(), free_port()]
+        self.begin_host(self.ports[0], app="less")
+        self.remote = Remote([f"http://127.0.0.1:{it}" for it in self.ports])
+        self.worker = hg.Worker(self.folder + "/jobs.db", await self.remote.discover(60), host=self.remote.attend, linger=0.2)
+        self.remote.attach(self.worker)
+        await self.worker.open()
+        self.assertIsNone(await self.worker.find(Target("svc", "rounds")))
+        self.begin_host(self.ports[1])
+        for _ in range(300):
+            if await self.worker.find(Target("svc", "rounds")):
+                break
+            await asyncio.sleep(0.2)
+        self.assertEqual(await self.run_one("rounds", 1), [[self.hosts[self.ports[1]].pid]])
+
+    async def test_nobody_is_there(self):
+        with self.assertRaises(HostGone) as gone:
+            await Remote([f"http://127.0.0.1:{free_port()}"]).discover(0)
+        self.assertIn("can be reached", str(gone.exception))
+
+    @unittest.skipIf(lacks("cryptography"), lacks("cryptography"))
+    async def test_requests_are_signed(self):
+        signer = new_signer()
+        await self.begin(1, ("--key", signer.key), signer)
+        self.assertEqual(len(await self.run_one("rounds", 2)), 1)
+        for other in (None, new_signer()):
+            with self.assertRaises(HostGone) as gone:
+                await Remote([f"http://127.0.0.1:{self.ports[0]}"], other).discover(0)
+            self.assertIn("401", str(gone.exception))
 
 
 if __name__ == "__main__":

@@ -5,10 +5,11 @@ import logging
 import tempfile
 import unittest
 from datetime import timedelta
+from pathlib import Path
 from urllib.parse import quote
 
 import hengomaru as hg
-from hengomaru.web import SAFE, Web, delay_in, Told
+from hengomaru.web import SAFE, Told, Web, delay_in, is_here_alone, read_token
 
 logging.getLogger("hengomaru").setLevel(logging.CRITICAL)
 svc, obj, flow = hg.Service("svc"), hg.VirtualObject("obj"), hg.Workflow("flow")
@@ -63,6 +64,7 @@ class WebTests(unittest.IsolatedAsyncioTestCase):
         self.addCleanup(folder.cleanup)
         self.database = folder.name + "/jobs.db"
         ids.clear()
+        self.leaves = asyncio.Event()
         await self.begin()
 
     async def begin(self):
@@ -78,7 +80,7 @@ class WebTests(unittest.IsolatedAsyncioTestCase):
     async def asyncTearDown(self):
         await self.end()
 
-    async def ask(self, method, path, body=b"", host=HOST, **headers):
+    async def ask(self, method, path, body=b"", host=HOST, leaves=False, **headers):
         path, _, query = path.partition("?")
         told = [(b"host", host.encode()), *((name.replace("_", "-").encode(), it.encode()) for name, it in headers.items())]
         body = body if isinstance(body, bytes) else json.dumps(body).encode()
@@ -86,12 +88,17 @@ class WebTests(unittest.IsolatedAsyncioTestCase):
         came, out = [{"type": "http.request", "body": body}], []
 
         async def receive():
+            if not came:
+                await (self.leaves.wait() if leaves else asyncio.Event().wait())
+                return {"type": "http.disconnect"}
             return came.pop(0)
 
         async def send(message):
             out.append(message)
 
         await asyncio.wait_for(self.web(scope, receive, send), 60)
+        if not out:
+            return None
         return Answered(out[0]["status"], {a.decode(): b.decode() for a, b in out[0]["headers"]}, out[1]["body"])
 
     async def status(self, *given, **headers):
@@ -104,6 +111,51 @@ class WebTests(unittest.IsolatedAsyncioTestCase):
         self.assertEqual((again.json, again.headers["x-restate-id"]), (told.json, told.headers["x-restate-id"]))
         self.assertEqual((await self.ask("POST", "/svc/fails", 418)).json, {"code": 418, "message": "<b>no</b>"})
         self.assertEqual([await self.status("POST", "/svc/fails", it) for it in (418, 7, 999)], [418, 500, 500])
+
+    async def test_an_id_of_ones_own(self):
+        told = await self.ask("POST", "/svc/echo/send", 1, x_hengomaru_id="mine")
+        self.assertEqual(told.json, {"invocationId": "mine", "status": "Accepted"})
+        self.assertEqual((await self.ask("GET", "/restate/invocation/mine/attach")).json, [1, {}])
+        self.assertEqual((await self.ask("POST", "/svc/echo/send", 1, x_hengomaru_id="mine")).json["status"], "PreviouslyAccepted")
+
+    async def test_by_its_idempotency_key(self):
+        await self.ask("POST", "/svc/echo", 1, idempotency_key="k/1")
+        self.assertEqual((await self.ask("GET", "/restate/invocation/svc/echo/k%2F1/attach")).json, [1, {}])
+        await self.ask("POST", "/obj/a/slow", 1, idempotency_key="k")
+        self.assertEqual((await self.ask("GET", "/restate/invocation/obj/a/slow/k/output")).json, "a")
+        self.assertEqual(await self.status("GET", "/restate/invocation/obj/b/slow/k/output"), 404)
+
+    async def test_whoever_waits_may_go_away(self):
+        id, word = await self.open_one("waits")
+        waits = asyncio.ensure_future(self.ask("GET", f"/restate/invocation/{word}/attach", leaves=True))
+        while id not in self.worker.asked:
+            await asyncio.sleep(0.01)
+        self.leaves.set()
+        self.assertIsNone(await waits)
+        self.assertEqual(self.worker.asked, {})
+        await self.ask("POST", f"/restate/awakeables/{ids[0]}/resolve", 5)
+        self.assertEqual((await self.ask("GET", f"/restate/invocation/{word}/attach")).json, 5)
+
+    async def test_a_token(self):
+        self.web = Web(self.worker, [HOST], "a-token-for-tests")
+        for status, given, headers in (
+            (200, ("GET", "/ui"), {}), (200, ("GET", "/ui/page.js"), {}), (200, ("GET", "/restate/health"), {}), (401, ("GET", "/ui/api/list"), {}),
+            (401, ("POST", "/svc/echo", 1), {}), (401, ("POST", "/svc/echo", 1), {"authorization": "Bearer a-token-for-test"}),
+            (401, ("POST", "/svc/echo", 1), {"authorization": "Basic a-token-for-tests"}), (401, ("POST", "/svc/echo", 1), {"authorization": "Bearer \u00e9"}),
+            (200, ("POST", "/svc/echo", 1), {"authorization": "Bearer a-token-for-tests"}),
+            (200, ("GET", "/ui/api/list"), {"authorization": "Bearer a-token-for-tests", "host": "any.example"}),
+        ):
+            self.assertEqual(await self.status(*given, **headers), status, (given[:2], headers))
+
+    async def test_the_file_of_a_token(self):
+        self.assertIsNone(read_token(None))
+        for content, told in (("0123456789abcdef\n", "0123456789abcdef"), ("short\n", None), ("", None), ("0123456789 abcdef", None), ("0123456789\u00e9abcdef", None)):
+            file = Path(self.database + ".token")
+            file.write_text(content)
+            if told is None:
+                self.assertRaises(ValueError, read_token, str(file))
+            else:
+                self.assertEqual(read_token(str(file)), told)
 
     async def test_objects_and_workflows(self):
         both = await asyncio.gather(*(self.ask("POST", f"/obj/{quote('a/<b>', safe='')}/slow", it) for it in (1, 2)))  # the second one waits
@@ -123,6 +175,7 @@ class WebTests(unittest.IsolatedAsyncioTestCase):
         self.assertEqual(twice, ["Accepted", "PreviouslyAccepted"])
         self.assertEqual([delay_in(it) for it in ("10s", "1h30m", "250ms", None)], [10_000, 5_400_000, 250, 0])
         self.assertRaises(Told, delay_in, "soon")
+        self.assertEqual([is_here_alone(it) for it in ("127.0.0.1:1", "localhost:1", "[::1]:1", "0.0.0.0:1", "[::]:1", "10.0.0.1:1", ":1")], [True] * 3 + [False] * 4)
 
     async def open_one(self, handler):
         id = (await self.ask("POST", f"/svc/{handler}/send")).json["invocationId"]

@@ -25,18 +25,30 @@ function moment(at, now) {
   return when + (at > now ? ", in " + span(at - now) : ", " + span(now - at) + " ago");
 }
 
+// The token of a worker that wants one is kept while this tab is open.
+const token = () => sessionStorage.getItem("token");
 async function ask(path, body) {
-  const how = body ? { method: "POST", headers: { "content-type": "application/json" }, body: JSON.stringify(body) } : {};
-  const answer = await fetch("/ui/api/" + path, how);
+  const headers = { ...(body ? { "content-type": "application/json" } : {}), ...(token() ? { authorization: "Bearer " + token() } : {}) };
+  const answer = await fetch("/ui/api/" + path, body ? { method: "POST", headers, body: JSON.stringify(body) } : { headers });
   const told = await answer.json();
+  if (answer.status === 401) { drawToken(); throw new Unasked(); }
   if (!answer.ok) throw new Error(told.message || answer.statusText);
   return told;
+}
+
+class Unasked extends Error {}
+function drawToken() {
+  if (document.getElementById("token")) return;
+  const it = make("input", { id: "token", type: "password", autocomplete: "off", "aria-label": "token", placeholder: "token" });
+  main.replaceChildren(make("form", { onsubmit: event => { event.preventDefault(); sessionStorage.setItem("token", it.value); main.replaceChildren(); draw(); } },
+    make("p", {}, "This worker wants the token of the file that --token names."), it, make("button", {}, "go on")));
+  it.focus();
 }
 
 async function act(what, id, button) {
   if (what === "cancel" && !confirm("Cancel " + visible(id) + "? Its handler is told, and may undo what it did.")) return;
   button.disabled = true;
-  try { await ask("act", { act: what, id }); await draw(); } catch (error) { problem(error); } finally { button.disabled = false; }
+  try { await ask("act", { act: what, id }); await draw(); } catch (error) { if (!(error instanceof Unasked)) problem(error); } finally { button.disabled = false; }
 }
 
 function problem(error) {
@@ -91,7 +103,7 @@ async function drawOne(id) {
 async function draw() {
   const id = decodeURIComponent(location.hash.slice(1));
   shown = id;
-  try { await (id ? drawOne(id) : drawList()); } catch (error) { if (shown === id) problem(error); }
+  try { await (id ? drawOne(id) : drawList()); } catch (error) { if (shown === id && !(error instanceof Unasked)) problem(error); }
 }
 addEventListener("hashchange", () => { main.replaceChildren(); draw(); });
 setInterval(() => { if (!document.hidden && !(document.activeElement instanceof HTMLInputElement)) draw(); }, 2000);
