@@ -11,9 +11,11 @@
     hengomaru cancel | pause | resume | show DATABASE ID
     hengomaru list DATABASE
 
-`hengomaru DATABASE MODULE:APP [WORD ..]` is the same, without `worker`, and with the database first. A worker with `--lines` goes on for
-good, and takes `submit`, `resolve`, `signal`, `cancel`, `pause`, `resume`, `show` and `list` as lines of its standard input, without a
-database. The module is looked for here first. It ends with 1 where what was asked for is refused, and with 2 where it cannot begin.
+DATABASE may be the address of a worker that runs, as http://127.0.0.1:8080, whose file nobody else can open; `submit` then has no
+MODULE:APP. ID may be `.` for one that no other job has. `hengomaru DATABASE MODULE:APP [WORD ..]` is the same, without `worker`, and with
+the database first. A worker with `--lines` goes on for good, and takes `submit`, `resolve`, `signal`, `cancel`, `pause`, `resume`, `show`
+and `list` as lines of its standard input, without a database. The module is looked for here first. It ends with 1 where what was asked for
+is refused, and with 2 where it cannot begin.
 """
 import argparse
 import asyncio
@@ -24,25 +26,48 @@ import os
 import signal
 import sys
 import time
-from typing import Any, List, Optional
+from typing import Any, Dict, Iterable, List, Optional
 
-from .journal import steps_of
+from .client import Client, NotDone
+from .journal import Step, steps_of
 from .services import App
-from .store import NotOpened, Refused
-from .worker import NEVER, Busy, Worker
+from .serving import serve_http
+from .store import HELD, NotOpened, Refused, StoreGone
+from .worker import NEVER, PAUSE, Busy, Worker
 
 REFUSED, CANNOT = 1, 2
 LINES = "submit", "resolve", "signal", "cancel", "pause", "resume", "show", "list"
+# How many words stand behind the database, at least and at most: JSON is the last one, where it may stand.
+WORDS = {"submit": (2, 3), "resolve": (1, 2), "signal": (2, 3), "cancel": (1, 1), "pause": (1, 1), "resume": (1, 1), "show": (1, 1), "list": (0, 0)}
+BEHIND = {"submit": "ID SERVICE/HANDLER[/KEY] [JSON]", "resolve": "AWAKEABLE [JSON]", "signal": "ID NAME [JSON]", "list": ""}
+CAUSES = {
+    "S4": "there is no such invocation", "S5": "the invocation has ended", "S1": "the object has an open invocation", "S3": "the id was used before",
+    "S20": "the store has no memory for it now",
+}
 
 
-def find_app(told: str) -> App:
-    module, _, name = told.partition(":")
-    sys.path.insert(0, os.getcwd())
-    return getattr(importlib.import_module(module), name or "app")
+class Misused(Exception):
+    """What is asked is not understood."""
+
+
+class CannotBegin(Exception):
+    """What a worker needs is not there."""
+
+
+# ---- what is printed
+def printed(text: str) -> str:
+    """On one line: what is no plain character is escaped, so that nothing looks like another line, or is hidden."""
+    return "".join(it if it.isprintable() else it.encode("unicode_escape", "surrogatepass").decode() for it in text)
+
+
+def json_line(value: Any) -> str:
+    if isinstance(value, bytes):
+        return f"{len(value)} bytes {value[:100]!r}"
+    return printed(json.dumps(value, ensure_ascii=False))
 
 
 def line_of(id: str, value: Any, failure: Any) -> str:
-    return f"{id}: failed ({failure[0]}) {failure[1]}" if failure else f"{id}: {json.dumps(value, ensure_ascii=False)}"
+    return printed(f"{id}: failed ({failure[0]}) {failure[1]}") if failure else f"{printed(id)}: {json_line(value)}"
 
 
 def print_ended(*told: Any) -> None:
@@ -70,38 +95,14 @@ class Line:
             print(f"\r\x1b[K{self.text()}", end="", file=sys.stderr, flush=True)
 
 
-async def serve_http(app: Any, bind: str, until: asyncio.Event, http2: bool = False) -> None:
-    """By hypercorn; where that is not there and HTTP/2 is not needed, by uvicorn."""
-    try:
-        from hypercorn.asyncio import serve
-        from hypercorn.config import Config
-    except ImportError:
-        if http2:
-            raise ImportError("an endpoint takes hypercorn: pip install 'hengomaru[endpoint]'") from None
-        return await serve_by_uvicorn(app, bind, until)
-    config = Config()
-    config.bind, config.accesslog, config.errorlog, config.graceful_timeout = [bind], None, "-", 2
-    config.h2_max_inbound_frame_size, config.h2_max_concurrent_streams = 2**20, 1000
-    config.loglevel = "WARNING"
-
-    async def stopped() -> None:
-        await until.wait()
-
-    await serve(app, config, shutdown_trigger=stopped)
-
-
-async def serve_by_uvicorn(app: Any, bind: str, until: asyncio.Event) -> None:
-    try:
-        import uvicorn
-    except ImportError:
-        raise ImportError("HTTP takes hypercorn or uvicorn: pip install 'hengomaru[http]'") from None
-    host, _, port = bind.rpartition(":")
-    server = uvicorn.Server(uvicorn.Config(app, host=host.strip("[]"), port=int(port), log_level="warning", lifespan="off"))
-    server.install_signal_handlers = lambda: None
-    serving = asyncio.ensure_future(server.serve())
-    await until.wait()
-    server.should_exit = True
-    await serving
+# ---- a worker
+def find_app(told: str) -> App:
+    module, _, name = told.partition(":")
+    sys.path.insert(0, os.getcwd())
+    found = getattr(importlib.import_module(module), name or "app", None)
+    if not isinstance(found, App):
+        raise CannotBegin(f"{told} names no app: in the module {module}, `{name or 'app'} = hengomaru.app([service, ..])` makes one")
+    return found
 
 
 def names_of(bind: str, further: List[str]) -> List[str]:
@@ -116,16 +117,20 @@ def stopped_by_signals(worker: Optional[Worker]) -> asyncio.Event:
     def told() -> None:
         stop.set()
         if worker:
-            worker.is_stopping = True
-            worker.pulse.set()
+            stop_worker(worker)
 
     for it in (signal.SIGTERM, signal.SIGINT):
         asyncio.get_running_loop().add_signal_handler(it, told)
     return stop
 
 
+def stop_worker(worker: Worker) -> None:
+    worker.is_stopping = True
+    worker.pulse.set()
+
+
 async def work(given: argparse.Namespace) -> int:
-    remote = None
+    remote: Any = None
     if given.endpoint:
         from .remote import Remote
 
@@ -134,66 +139,105 @@ async def work(given: argparse.Namespace) -> int:
     elif given.app:
         app = find_app(given.app)
     else:
-        raise LookupError("a worker has an app, or an endpoint")
-    worker = Worker(given.database, app, ended=print_ended, limit=given.limit, linger=given.linger, host=remote.attend if remote else None)
+        raise CannotBegin("a worker has an app, or an endpoint: hengomaru worker DATABASE MODULE:APP")
+    host = remote.attend if remote else None
+    worker = Worker(given.database, app, ended=print_ended, limit=given.limit, linger=given.linger, threads=given.threads, tries=given.tries, host=host)
     if remote:
-        remote.worker, worker.version = worker, remote.version
+        attach(remote, worker)
     async with worker:
-        stop = stopped_by_signals(worker)
-        beside = [asyncio.ensure_future(Line(worker, time.monotonic()).show())] if sys.stderr.isatty() else []
-        if given.http:
-            from .web import Web
-
-            beside.append(asyncio.ensure_future(serve_http(Web(worker, names_of(given.http, given.name)), given.http, stop)))
-            print(f"http://{given.http}/ui", file=sys.stderr)
-        going = asyncio.ensure_future(worker.run(is_watching=given.watch or given.lines or bool(given.http or given.endpoint)))
-        if given.lines:
-            await asyncio.wait({going, asyncio.ensure_future(take_lines(worker))}, return_when=asyncio.FIRST_COMPLETED)
-            if not going.done():  # the lines have ended: what is there is done to its end
-                worker.is_watching = False
-                worker.pulse.set()
-        await asyncio.wait({going, *beside}, return_when=asyncio.FIRST_COMPLETED)
-        failed = [it for it in beside if it.done() and it.exception()]
-        stop.set()
-        worker.is_stopping = True
-        worker.pulse.set()
-        await going
-        for it in beside[:1] if sys.stderr.isatty() else []:
-            it.cancel()
-        await asyncio.gather(*beside, return_exceptions=True)
-        if failed:
-            raise failed[0].exception() or OSError()
+        await go_on(worker, given)
     if remote:
         remote.close()
     return 0
 
 
+def attach(remote: Any, worker: Worker) -> None:
+    """The handlers of a worker are elsewhere."""
+    if hasattr(remote, "attach"):
+        remote.attach(worker)
+    else:
+        remote.worker, worker.version = worker, remote.version
+
+
+async def go_on(worker: Worker, given: argparse.Namespace) -> None:
+    """Until it has nothing to do, or a signal stops it."""
+    stop = stopped_by_signals(worker)
+    line = asyncio.ensure_future(Line(worker, time.monotonic()).show()) if sys.stderr.isatty() else None
+    serving = [asyncio.ensure_future(serve_http(web_of(worker, given), given.http, stop))] if given.http else []
+    going = asyncio.ensure_future(worker.run(is_watching=given.watch or given.lines or bool(given.http or given.endpoint)))
+    lines = asyncio.ensure_future(take_lines(worker)) if given.lines else None
+    try:
+        if lines:
+            await asyncio.wait({going, lines, *serving}, return_when=asyncio.FIRST_COMPLETED)
+            if not going.done():  # the lines have ended: what is there is done to its end
+                worker.is_watching = bool(given.http)
+                worker.pulse.set()
+        await asyncio.wait({going, *serving}, return_when=asyncio.FIRST_COMPLETED)
+        stop.set()
+        stop_worker(worker)
+        await asyncio.gather(going, *serving)
+    finally:
+        for it in (line, lines):
+            if it:
+                it.cancel()
+
+
+def web_of(worker: Worker, given: argparse.Namespace) -> Any:
+    from .web import Web
+
+    print(f"http://{given.http}/ui", file=sys.stderr)
+    further: Dict[str, Any] = {"token": read_token(given.token)} if given.token else {}
+    return Web(worker, names_of(given.http, given.name), **further)
+
+
+def read_token(file: str) -> str:
+    with open(file) as it:
+        return it.read().strip()
+
+
 async def take_lines(worker: Worker) -> None:
     """Does what the lines of the standard input ask, until they end."""
-    reader = asyncio.StreamReader()
+    reader = asyncio.StreamReader(limit=2**26)
     try:
         await asyncio.get_running_loop().connect_read_pipe(lambda: asyncio.StreamReaderProtocol(reader), sys.stdin)
     except ValueError:  # a file, which does not keep anybody waiting
         reader.feed_data(sys.stdin.buffer.read())
         reader.feed_eof()
     while line := (await reader.readline()).decode(errors="replace"):
-        word, *rest = line.split(None, 1) or ["", ""]
-        if not word:
-            continue
-        most = {"submit": 2, "signal": 2, "resolve": 1}.get(word, 0)
-        words = "".join(rest).strip().split(None, most)  # the last one, JSON, may hold spaces
+        if line.strip():
+            print(await answer_to_line(worker, line), flush=True)
+
+
+async def answer_to_line(worker: Worker, line: str) -> str:
+    word = line.split(None, 1)[0]
+    try:
+        if word not in WORDS:
+            raise Misused
+        words = line.strip().split(None, WORDS[word][1])[1:]  # the last one, JSON, may hold spaces
+        return await told(worker, word, checked(word, words))
+    except Misused:
+        return f"not understood: {printed(line.strip())}"
+    except (Busy, LookupError, ValueError, Refused) as error:
+        return refusal(error)
+
+
+def checked(word: str, words: List[str]) -> List[Any]:
+    """The words behind a word, of which JSON is read."""
+    least, most = WORDS[word]
+    if not least <= len(words) <= most:
+        raise Misused(f"hengomaru {word} DATABASE {'MODULE:APP ' if word == 'submit' else ''}{BEHIND.get(word, 'ID')}")
+    if len(words) == most and least < most:
         try:
-            if word not in LINES:
-                raise SystemExit
-            print(await told(worker, parser().parse_args([word, "-", *(["-"] if word == "submit" else []), *words])), flush=True)
-        except SystemExit:
-            print(f"not understood: {line.strip()}", flush=True)
-        except (Busy, LookupError, ValueError, Refused) as error:
-            print(refusal(error), flush=True)
+            return [*words[:-1], json.loads(words[-1])]
+        except ValueError as error:
+            raise ValueError(f"{words[-1]} is no JSON ({error}): a text stands in double quotes") from None
+    return list(words)
 
 
 def refusal(error: Exception) -> str:
-    return f"refused{' ' if isinstance(error, Refused) else ': '}{error.args[0] if error.args else error}"
+    if isinstance(error, Refused):
+        return f"refused {error.name}: {CAUSES.get(error.name, 'docs/FORMATS.md tells the cause')}"
+    return f"refused: {printed(str(error.args[0] if error.args else error))}"
 
 
 async def endpoint(given: argparse.Namespace) -> int:
@@ -203,77 +247,155 @@ async def endpoint(given: argparse.Namespace) -> int:
     return 0
 
 
+# ---- one thing that is asked
 async def asked(given: argparse.Namespace) -> int:
-    """Does one thing to a database, and prints what it comes to."""
-    app = find_app(given.app) if given.word == "submit" else App([])
-    worker = Worker(given.database, app, host=nowhere)
-    await worker.store.open()
+    """Does one thing to a database, or asks it of a worker that has it, and prints what it comes to."""
+    is_running = given.database.startswith(("http://", "https://"))
+    words = given.words if given.word != "submit" or is_running else given.words[1:]
     try:
-        worker.pulse, worker.opening, worker.failures, worker.not_before = asyncio.Event(), asyncio.Lock(), {}, {}
-        worker.forget()
-        print(await told(worker, given), flush=True)
+        if is_running:
+            client = Client(given.database, read_token(given.token) if given.token else None)
+            print(told_by(client, given.word, checked(given.word, words), given.steps, given.again), flush=True)
+            return 0
+        if given.word == "submit" and not given.words:
+            raise Misused("hengomaru submit DATABASE MODULE:APP ID SERVICE/HANDLER[/KEY] [JSON]")
+        worker = Worker(given.database, find_app(given.words[0]) if given.word == "submit" else App([]), host=nowhere)
+        worker.prepare()
+        ready = checked(given.word, words)
+        await worker.store.open()
+        try:
+            print(await told(worker, given.word, ready, given.steps, given.again), flush=True)
+        finally:
+            await worker.store.close()
         return 0
-    except (Busy, LookupError, ValueError, Refused) as error:
+    except Misused as error:
+        print(f"usage: {error}", file=sys.stderr)
+        return CANNOT
+    except (Busy, ValueError, Refused, NotDone, LookupError) as error:
         print(refusal(error), flush=True)
         return REFUSED
-    finally:
-        await worker.store.close()
 
 
 async def nowhere(session: Any) -> None:
-    raise AssertionError
+    raise AssertionError("this is no worker")
 
 
-async def told(worker: Worker, given: argparse.Namespace) -> str:
-    if given.word == "submit":
-        return f"{await worker.submit(given.id, given.handler, *map(json.loads, given.json))}: there"
-    if given.word == "resolve":
-        return "resolved" if await worker.resolve_awakeable(given.id, *map(json.loads, given.json)) else "nothing waits for it"
-    if given.word == "signal":
-        await worker.signal(given.id, given.name, *map(json.loads, given.json))
-    elif given.word == "cancel":
-        await worker.cancel_invocation(given.id)
-    elif given.word in ("pause", "resume"):
-        await getattr(worker, given.word)(given.id)
-    elif given.word == "show":
-        status, shown = await worker.status(given.id), await worker.store.show(given.id)
-        lines = [str(it) for it in steps_of(shown)] if given.steps else []
-        return "\n".join([*lines, f"{given.id}: open" if status.is_open else line_of(given.id, status.value, status.failure)])
+def id_in(told: str) -> Optional[str]:
+    return None if told == "." else told
+
+
+async def told(worker: Worker, word: str, words: List[Any], with_steps: bool = False, is_again: bool = False) -> str:
+    if word == "submit":
+        return printed(f"{await worker.submit(id_in(words[0]), *words[1:])}: there")
+    if word == "resolve":
+        return "resolved" if await worker.resolve_awakeable(*words) else "nothing waits for it"
+    if word == "signal":
+        await worker.signal(*words)
+    elif word == "cancel":
+        await worker.cancel_invocation(words[0], is_again)
+    elif word in ("pause", "resume"):
+        await getattr(worker, word)(words[0])
+    elif word == "show":
+        return await shown(worker, words[0], with_steps)
     else:
-        return "\n".join([" ".join(map(str, it)) for it in await worker.store.list()]) or "none"
+        return lines_of([[printed(it.id), printed(it.object), await status_of(worker, it.id, it.status), it.attempts, it.entries] for it in await worker.store.list()])
     return "done"
 
 
+async def status_of(worker: Worker, id: str, status: str) -> str:
+    """One that is paused is due, as the store has it."""
+    if status != "due":
+        return status
+    error = await worker.store.error(id)
+    return "paused" if error and error[1] == PAUSE else status
+
+
+async def shown(worker: Worker, id: str, with_steps: bool) -> str:
+    status = await worker.status(id)
+    steps = steps_of(await worker.shown(id)) if with_steps else []
+    error = await worker.store.error(id) if status.is_open and await worker.is_known(id) else None
+    return shown_lines(id, steps, status.is_open, status.value, status.failure, error and (error[0], error[3]))
+
+
+def shown_lines(id: str, steps: Iterable[Step], is_open: bool, value: Any, failure: Any, error: Any) -> str:
+    lines = [printed(str(it)) for it in steps]
+    if is_open and error and lines:
+        lines.append(printed(f"its last attempt that failed: ({error[0]}) {error[1]}"))
+    return "\n".join([*lines, f"{printed(id)}: open" if is_open else line_of(id, value, failure)])
+
+
+def lines_of(rows: List[List[Any]]) -> str:
+    return "\n".join(" ".join(map(str, it)) for it in rows) or "none"
+
+
+def told_by(client: Client, word: str, words: List[Any], with_steps: bool, is_again: bool) -> str:
+    """As `told`, of a worker that runs."""
+    if word == "submit":
+        return printed(f"{client.submit(id_in(words[0]), *words[1:])}: there")
+    if word == "resolve":
+        client.resolve(*words)
+        return "resolved"
+    if word == "signal":
+        client.signal(*words)
+    elif word in ("cancel", "pause", "resume"):
+        client.act(word, words[0], is_again)
+    elif word == "show":
+        return told_one(words[0], client.show(words[0]), with_steps)
+    else:
+        return lines_of([[printed(it["id"]), printed(it["object"]), it["status"], it["attempts"], it["entries"]] for it in client.list()])
+    return "done"
+
+
+def told_one(id: str, told: Dict[str, Any], with_steps: bool) -> str:
+    steps, error = told["steps"] if with_steps else [], told.get("error")
+    if told["is_open"]:
+        return shown_lines(id, steps, True, None, None, error and (error["code"], error["message"]))
+    if told["is_failure"]:
+        return "\n".join([*(printed(str(it)) for it in steps), printed(f"{id}: failed {told['answer']}")])
+    try:
+        value = json.loads(told["answer"] or "null")
+    except ValueError:
+        value = told["answer"]
+    return shown_lines(id, steps, False, value, None, None)
+
+
+# ---- the command
 def parser() -> argparse.ArgumentParser:
     top = argparse.ArgumentParser("hengomaru", description=__doc__, formatter_class=argparse.RawDescriptionHelpFormatter, usage="hengomaru WORD ..")
     words = top.add_subparsers(dest="word", required=True, metavar="WORD")
 
-    def word(name: str, what: Any, *given: str, **further: Any) -> argparse.ArgumentParser:
-        it = words.add_parser(name, **further)
-        it.set_defaults(what=what)
-        for told in given:
-            it.add_argument(told)
-        return it
-
-    it = word("worker", work, "database")
-    it.add_argument("app", nargs="?")
+    it = words.add_parser("worker")
+    it.set_defaults(what=work)
+    it.add_argument("database")
+    it.add_argument("app", nargs="?", metavar="MODULE:APP")
     it.add_argument("--http", metavar="HOST:PORT", help="calls come in here, and the page is at /ui")
     it.add_argument("--name", action="append", default=[], metavar="HOST:PORT", help="a further name by which this host is asked")
+    it.add_argument("--token", metavar="FILE", help="who asks over HTTP tells what stands in this file")
     it.add_argument("--endpoint", action="append", metavar="URL", help="handlers are there")
     it.add_argument("--watch", action="store_true", help="goes on for good")
     it.add_argument("--lines", action="store_true", help="and takes lines of its standard input")
     it.add_argument("--limit", type=int, default=256, help="attempts at a time (256)")
     it.add_argument("--linger", type=float, default=0.5, metavar="SECONDS", help="an attempt that waits is suspended after so long (0.5)")
-    it = word("endpoint", endpoint, "app")
+    it.add_argument("--threads", type=int, default=64, help="bodies of runs that are plain functions, at a time (64)")
+    it.add_argument("--tries", type=int, default=100, help="an invocation that fails so often in a row is paused (100; 0: never)")
+
+    it = words.add_parser("endpoint")
+    it.set_defaults(what=endpoint)
+    it.add_argument("app", metavar="MODULE:APP")
     it.add_argument("--bind", default="127.0.0.1:9080", metavar="HOST:PORT")
     it.add_argument("--key", action="append", default=[], metavar="publickeyv1_..", help="takes what is signed by this key alone")
-    word("submit", asked, "database", "app", "id", "handler").add_argument("json", nargs="*")
-    word("resolve", asked, "database", "id").add_argument("json", nargs="*")
-    word("signal", asked, "database", "id", "name").add_argument("json", nargs="*")
-    for name in ("cancel", "pause", "resume"):
-        word(name, asked, "database", "id")
-    word("show", asked, "database", "id").add_argument("--steps", action="store_true", help="and what is recorded")
-    word("list", asked, "database")
+
+    for name in LINES:
+        behind = ("[MODULE:APP] " if name == "submit" else "") + BEHIND.get(name, "ID")
+        it = words.add_parser(name, usage=f"hengomaru {name} DATABASE {behind}".strip())
+        it.set_defaults(what=asked, steps=False, again=False)
+        it.add_argument("database", help="a file, or the address of a worker that runs")
+        it.add_argument("words", nargs="*", metavar="WORD")
+        it.add_argument("--token", metavar="FILE", help="of a worker that runs")
+        if name == "show":
+            it.add_argument("--steps", action="store_true", help="and what is recorded")
+        if name == "cancel":
+            it.add_argument("--again", action="store_true", help="also one that is cancelled already: what it undoes is cut off")
     return top
 
 
@@ -294,7 +416,10 @@ def main() -> int:
     logging.basicConfig(format="%(name)s: %(message)s", level=logging.WARNING)
     try:
         return asyncio.run(given.what(given))
-    except (NotOpened, OSError, ImportError, AttributeError, LookupError) as error:
+    except NotOpened as error:
+        print(f"hengomaru: {error}" + ("; a worker that has it is asked by its address: `hengomaru WORD http://HOST:PORT ..`" if HELD in str(error) else ""), file=sys.stderr)
+        return CANNOT
+    except (CannotBegin, OSError, ImportError, Refused, StoreGone) as error:
         print(f"hengomaru: {error}", file=sys.stderr)
         return CANNOT
     except KeyboardInterrupt:

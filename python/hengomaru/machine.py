@@ -183,6 +183,8 @@ class Machine:
             raise Suspended
         if status == FAILED:
             raise MachineFailed(*self.last_error())
+        if status == NO_MACHINE:
+            raise RuntimeError("the attempt is over: its context is used after it has ended")
         if status:
             raise (ValueError if status == NOT_READ else MemoryError)(WHY[status])
 

@@ -2,9 +2,10 @@
 its handler is, in this process or elsewhere, is for whoever drives it."""
 import asyncio
 import time
-from typing import TYPE_CHECKING, Dict, Optional, Set, Tuple
+from typing import TYPE_CHECKING, Dict, List, Optional, Set
 
 from . import pb
+from . import store as stores
 from .delivery import ASKS, POSTS, brought
 from .services import CALLER, Target, target_in
 from .store import Refused, Value
@@ -18,6 +19,8 @@ KEY_IN_START = 6
 OWN_ANSWERS = {0x0005, 0x0007, 0x0402, 0x0406}
 # So many frames are asked for at once where it is not known how many there are.
 AHEAD = 2
+# What a line holds beside its frames, at most; frames are digits, two for each byte.
+BESIDE = 4096
 
 
 async def woken(event: asyncio.Event, seconds: Optional[float]) -> None:
@@ -50,6 +53,8 @@ class Session:
         # Since when it waits for what comes from outside, as its last frame tells.
         self.idle_since: Optional[float] = None
         self.changed = asyncio.Event()
+        # Whether what has failed has a bound of its own.
+        self.has_bound = False
 
     async def begin(self, now: int) -> None:
         """Begins the attempt, and reads all that was recorded before."""
@@ -157,13 +162,22 @@ class Session:
                 await self.worker.deliver(self.id, True)
         await self.record(frames)
 
-    async def record(self, frames) -> None:
-        if not frames:
-            return
+    async def record(self, frames: List[pb.Frame]) -> None:
+        """Records frames, as many in a line as the store reads in one."""
+        most = (stores.LONGEST - BESIDE - 3 * len(self.id.encode())) // 2
+        while frames:
+            taken, length = 1, len(frames[0].whole)
+            while taken < len(frames) and length + len(frames[taken].whole) <= most:
+                taken, length = taken + 1, length + len(frames[taken].whole)
+            await self.record_line(frames[:taken])
+            frames = frames[taken:]
+
+    async def record_line(self, frames: List[pb.Frame]) -> None:
         told, refused = await self.store.output(self.id, self.number, b"".join(it.whole for it in frames))
         asks = False
         for (type, payload, _), came_to in zip(frames, told):
-            self.idle_since = time.monotonic() if type == AWAITING_ON else None
+            # an await that is told while a body is executed is no wait for others
+            self.idle_since = time.monotonic() if type == AWAITING_ON and not dict(pb.fields(payload)).get(2) else None
             self.has_come |= type in OWN_ANSWERS
             if came_to in ("suspended", "failed", "ended"):
                 self.ended, self.is_closed = came_to, True
@@ -181,10 +195,7 @@ class Session:
     async def deliver(self) -> None:
         self.is_delivering = True
         try:
-            await self.worker.deliver(self.id)
-        except Refused as refused:
-            if refused.name not in ("S4", "S5"):  # it has ended meanwhile
-                raise
+            await self.worker.deliver_again(self.id)
         finally:
             self.is_delivering = False
             self.changed.set()

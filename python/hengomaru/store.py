@@ -4,14 +4,18 @@ import asyncio
 import os
 import time
 from collections import deque
-from typing import Any, Awaitable, Dict, List, NamedTuple, Optional, Sequence, Tuple, Union
+from typing import Any, Awaitable, Callable, Dict, List, NamedTuple, Optional, Sequence, Tuple, Union
 from urllib.parse import quote_from_bytes, unquote_to_bytes
 
 from .places import find_program
 
 # Bytes that stand for themselves in a word.
 PLAIN = "".join(chr(it) for it in range(0x21, 0x7F) if chr(it) not in "%#")
+PLAIN_BYTES = PLAIN.encode()
 HELD = "another process has it open"
+# What the store's process reads in one line, at most, and what of it a value may take.
+LONGEST = 2**26
+MOST = 32_000_000
 # How an invocation stands that has not ended.
 OPEN = "live", "due", "suspended"
 
@@ -28,6 +32,13 @@ class StoreGone(Exception):
     """The process has ended. What was answered is recorded; what was asked and not answered may be."""
 
 
+class TooLong(ValueError):
+    """A request that the store's process does not read, as it is too long. It was not asked."""
+
+    def __init__(self, length: int) -> None:
+        super().__init__(f"a request of {length:,} bytes is too long for the store, which reads {LONGEST:,}")
+
+
 class NotOpened(Exception):
     """The process does not take the database, as its text says."""
 
@@ -36,6 +47,9 @@ class NotOpened(Exception):
 Value = Union[None, bytes, str, Tuple[int, str]]
 Words = List[str]
 ONE = ()
+DATABASE_FAILED = "S19"
+# Seconds that a process has to end once its input has.
+CLOSES = 60
 
 
 class OpenRequest(NamedTuple):
@@ -84,20 +98,39 @@ class Listed(NamedTuple):
     entries: int
 
 
-def escaped(content):
-    return quote_from_bytes(content.encode() if isinstance(content, str) else bytes(content), safe=PLAIN)
+def escaped(content: Union[str, bytes]) -> str:
+    told = content.encode() if isinstance(content, str) else bytes(content)
+    if 3 * len(told) > LONGEST and word_length(told) > LONGEST:
+        raise TooLong(word_length(told))
+    return quote_from_bytes(told, safe=PLAIN)
 
 
-def word(content):
+def word(content: Union[str, bytes]) -> str:
     """Text or bytes as one word."""
-    return {"": "-", "-": "%2D"}.get(escaped(content), escaped(content))
+    told = escaped(content)
+    return {"": "-", "-": "%2D"}.get(told, told)
 
 
-def unescaped(told):
+def fits(content: bytes) -> bool:
+    """Whether the store takes a value of an attempt's own."""
+    return len(content) <= MOST
+
+
+def word_length(content: bytes) -> int:
+    """How long a word is of these: each byte that is no plain character takes three."""
+    return len(content) + 2 * len(content.translate(None, PLAIN_BYTES))
+
+
+def fits_word(content: bytes) -> bool:
+    """Whether the store takes a value that is handed from one invocation to another."""
+    return fits(content) and word_length(content) <= 2 * MOST
+
+
+def unescaped(told: str) -> bytes:
     return b"" if told == "-" else unquote_to_bytes(told)
 
 
-def value_word(value):
+def value_word(value: Value) -> str:
     """None is void, text and bytes are a value, code and message a failure."""
     if value is None:
         return "void"
@@ -106,15 +139,15 @@ def value_word(value):
     return f"v:{escaped(value)}"
 
 
-def digits(told):
+def digits(told: str) -> bytes:
     return b"" if told == "-" else bytes.fromhex(told)
 
 
-def number(told):
+def number(told: str) -> Optional[int]:
     return None if told == "none" else int(told)
 
 
-def read_arrival(place, id, kind, *content):
+def read_arrival(place: int, id: str, kind: str, *content: str) -> Arrival:
     if kind == "failure":
         return Arrival(place, id, kind, (int(content[0]), digits(content[1]).decode()))
     if kind in ("value", "id"):
@@ -122,7 +155,7 @@ def read_arrival(place, id, kind, *content):
     return Arrival(place, id, kind, content[0] if content else None)
 
 
-def read_answer(kind, *content):
+def read_answer(kind: str, *content: str) -> Value:
     if kind == "failure":
         return int(content[0]), digits(content[1]).decode()
     return digits(content[0]) if kind == "value" else None
@@ -131,8 +164,8 @@ def read_answer(kind, *content):
 class Pipe(asyncio.SubprocessProtocol):
     """The process's three streams. What is asked is written once for each turn of the loop, so that many lines go by one call."""
 
-    def __init__(self) -> None:
-        self.loop = asyncio.get_running_loop()
+    def __init__(self, tell_gone: Optional[Callable[[], None]] = None) -> None:
+        self.loop, self.tell_gone = asyncio.get_running_loop(), tell_gone
         self.waiting: deque = deque()
         self.lines: List[Words] = []
         self.asked: List[bytes] = []
@@ -145,6 +178,7 @@ class Pipe(asyncio.SubprocessProtocol):
         answer = self.loop.create_future()
         if self.is_gone:
             answer.set_exception(StoreGone())
+            answer.exception()  # it may be one of several, of which the first is awaited
             return answer
         if not self.asked:
             self.loop.call_soon(self.flush)
@@ -182,13 +216,17 @@ class Pipe(asyncio.SubprocessProtocol):
         if last and told not in last and told != "refused" and line != "not understood":
             return
         lines, self.lines = self.lines, []
+        if told == "refused" and lines[-1][1] == DATABASE_FAILED:
+            # whether it is recorded is not known: the file is opened again before anything else is asked of it
+            self.said += f"{DATABASE_FAILED}: the database refused a statement, as a disk does that is full or has failed\n".encode()
+            return self.lose()
         self.waiting.popleft()
         if answer.done():  # nobody waits for it any more
             return
         if told == "refused":
-            answer.set_exception(Refused(lines[-1][1], asked))
+            answer.set_exception(Refused(lines[-1][1], asked[:200]))
         elif line == "not understood":
-            answer.set_exception(ValueError(f"not understood: {asked}"))
+            answer.set_exception(ValueError(f"not understood: {asked[:200]}"))
         else:
             answer.set_result(lines)
 
@@ -198,7 +236,9 @@ class Pipe(asyncio.SubprocessProtocol):
 
     def lose(self) -> None:
         """What is asked and not answered may be done, or not."""
-        self.is_gone = True
+        is_new, self.is_gone = not self.is_gone, True
+        if is_new and self.tell_gone:
+            self.tell_gone()
         while self.waiting:
             answer = self.waiting.popleft()[0]
             if not answer.done():
@@ -221,6 +261,8 @@ class Store:
     def __init__(self, database, program: Optional[str] = None, patience: float = 10.0) -> None:
         self.database, self.program, self.patience = os.fspath(database), program or find_program(), patience
         self.pipe: Optional[Pipe] = None
+        # Hears that the process has ended.
+        self.tell_gone: Optional[Callable[[], None]] = None
 
     @property
     def is_gone(self) -> bool:
@@ -233,7 +275,7 @@ class Store:
             await self.close()
             # in a session of its own, so that it ends when its input does, and not where a terminal interrupts the worker
             run = asyncio.get_running_loop().subprocess_exec
-            _, self.pipe = await run(Pipe, self.program, "--serve", self.database, start_new_session=True)
+            _, self.pipe = await run(lambda: Pipe(self.tell_gone), self.program, "--serve", self.database, start_new_session=True)
             try:
                 await self.next_moment()
                 return
@@ -250,7 +292,10 @@ class Store:
             return ""
         pipe.flush()
         pipe.transport.get_pipe_transport(0).close()
-        await pipe.ended
+        await asyncio.wait({pipe.ended}, timeout=CLOSES)
+        if not pipe.ended.done():
+            pipe.transport.kill()
+            await pipe.ended
         pipe.transport.close()
         return pipe.said.decode(errors="replace").strip()
 
@@ -258,7 +303,10 @@ class Store:
         """Asks one line; awaited, the words of each line of its answer, up to one that begins with one of `last`."""
         if self.pipe is None:
             raise StoreGone
-        return self.pipe.ask(" ".join(map(str, words)), last)
+        line = " ".join(map(str, words))
+        if len(line) >= LONGEST:
+            raise TooLong(len(line))
+        return self.pipe.ask(line, last)
 
     # ---- what comes from outside: each is recorded when it returns
     async def invoke(self, id: str, object: str, input: bytes, headers=(), version: int = 9, seed: int = 1) -> None:
