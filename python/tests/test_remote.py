@@ -12,6 +12,8 @@ import sys
 import tempfile
 import time
 import unittest
+import urllib.error
+import urllib.request
 from datetime import timedelta
 from pathlib import Path
 
@@ -264,7 +266,8 @@ class KillTests(unittest.TestCase):
         self.begin(port, "endpoint", "shop:app", "--bind", f"127.0.0.1:{port}")
 
     def begin_worker(self):
-        self.begin("worker", "worker", self.database, *(it for port in self.ports for it in ("--endpoint", f"http://127.0.0.1:{port}")), "--linger", random.choice(["0", "0.2"]))
+        hosts = [it for port in self.ports for it in ("--endpoint", f"http://127.0.0.1:{port}")]
+        self.begin("worker", "worker", self.database, *hosts, "--http", f"127.0.0.1:{self.http}", "--linger", random.choice(["0", "0.2"]))
 
     def end(self, name):
         it = self.running.pop(name)
@@ -275,7 +278,7 @@ class KillTests(unittest.TestCase):
         """What the orders come to, the stock, and what reached the world, with so many kills before."""
         self.database, self.log, self.running = f"{folder}/jobs.db", f"{folder}/log", {}
         Path(self.log).touch()
-        self.ports = [free_port(), free_port()]
+        self.http, *self.ports = free_port(), free_port(), free_port()
         for id, (item, amount) in ORDERS.items():
             self.begin("submit", "submit", self.database, "shop:app", id, "order/place", json.dumps({"item": item, "amount": amount}))
             self.assertEqual(self.running.pop("submit").wait(), 0)
@@ -294,15 +297,23 @@ class KillTests(unittest.TestCase):
                 self.end(it)
 
     def ended(self):
-        """A worker that goes on over other machines goes on for good: it is ended for each look at the file."""
-        for _ in range(30):
-            time.sleep(2)
-            self.end("worker")
-            found = asyncio.run(look(self.database))
-            if found:
-                return found
-            self.begin_worker()
-        raise AssertionError("the orders do not end")
+        """Waits until all orders have ended."""
+        for id in ORDERS:
+            ends = time.monotonic() + 120
+            while not self.has_ended(id):
+                self.assertLess(time.monotonic(), ends, f"{id} does not end")
+                time.sleep(0.2)
+        self.end("worker")
+        return asyncio.run(look(self.database))
+
+    def has_ended(self, id):
+        try:
+            urllib.request.urlopen(f"http://127.0.0.1:{self.http}/restate/invocation/{id}/output", timeout=30).close()
+        except urllib.error.HTTPError as error:
+            return error.code not in (470, 503)
+        except OSError:
+            return False
+        return True
 
     def test_orders_end_as_undisturbed_ones(self):
         with tempfile.TemporaryDirectory() as quiet, tempfile.TemporaryDirectory() as disturbed:
@@ -316,13 +327,11 @@ class KillTests(unittest.TestCase):
 
 
 async def look(database):
-    """The answers of the orders, and the stock; nothing while one is open."""
+    """The answers of the orders, and the stock."""
     store = hg.Store(database)
     await store.open()
     try:
         shown = {id: await store.show(id) for id in ORDERS}
-        if any(it.is_open for it in shown.values()):
-            return None
         return {id: it.answer for id, it in shown.items()}, {it: await store.state(f"stock/{it}") for it in ("tea", "cup")}
     finally:
         await store.close()
