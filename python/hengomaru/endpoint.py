@@ -1,7 +1,7 @@
 """The handlers of an app behind HTTP, as an ASGI application that speaks the service protocol of Restate: a Restate cluster, or a worker
 with `--endpoint` (`remote.py`), keeps the journal and drives them.
 
-    hypercorn --bind 0.0.0.0:9080 MODULE:APP.endpoint       or: hengomaru endpoint MODULE:APP
+    hengomaru endpoint MODULE:APP --bind 0.0.0.0:9080       or `Endpoint(app)` under a server of ASGI, such as hypercorn
 
 It answers GET /discover, GET /health, and POST /invoke/SERVICE/HANDLER, each behind any prefix. Over HTTP/2 the two directions of a call go
 side by side (`is_bidirectional`); without, the journal comes whole, the answer goes, and an attempt that waits is suspended.
