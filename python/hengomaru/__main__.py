@@ -26,6 +26,7 @@ import os
 import signal
 import sys
 import time
+from pathlib import Path
 from typing import Any, Dict, Iterable, List, Optional
 
 from .client import Client, NotDone
@@ -131,10 +132,18 @@ def stop_worker(worker: Worker) -> None:
 
 async def work(given: argparse.Namespace) -> int:
     remote: Any = None
-    if given.endpoint:
-        from .remote import Remote
+    if given.http:
+        from .web import is_here_alone
 
-        remote = Remote(given.endpoint)
+        if not is_here_alone(given.http) and not given.token:
+            raise CannotBegin(f"{given.http} is reached from other machines: `--token FILE` tells what who asks has to know")
+    if given.endpoint:
+        from .remote import Remote, Signer
+
+        signer = Signer(Path(given.identity).read_bytes()) if given.identity else None
+        if signer:
+            print(f"requests are signed: `hengomaru endpoint .. --key {signer.key}` takes these alone", file=sys.stderr)
+        remote = Remote(given.endpoint, signer)
         app = await remote.discover()
     elif given.app:
         app = find_app(given.app)
@@ -143,20 +152,12 @@ async def work(given: argparse.Namespace) -> int:
     host = remote.attend if remote else None
     worker = Worker(given.database, app, ended=print_ended, limit=given.limit, linger=given.linger, threads=given.threads, tries=given.tries, host=host)
     if remote:
-        attach(remote, worker)
+        remote.attach(worker)
     async with worker:
         await go_on(worker, given)
     if remote:
         remote.close()
     return 0
-
-
-def attach(remote: Any, worker: Worker) -> None:
-    """The handlers of a worker are elsewhere."""
-    if hasattr(remote, "attach"):
-        remote.attach(worker)
-    else:
-        remote.worker, worker.version = worker, remote.version
 
 
 async def go_on(worker: Worker, given: argparse.Namespace) -> None:
@@ -372,6 +373,7 @@ def parser() -> argparse.ArgumentParser:
     it.add_argument("--name", action="append", default=[], metavar="HOST:PORT", help="a further name by which this host is asked")
     it.add_argument("--token", metavar="FILE", help="who asks over HTTP tells what stands in this file")
     it.add_argument("--endpoint", action="append", metavar="URL", help="handlers are there")
+    it.add_argument("--identity", metavar="FILE", help="endpoints are asked with the signature of the key in this file")
     it.add_argument("--watch", action="store_true", help="goes on for good")
     it.add_argument("--lines", action="store_true", help="and takes lines of its standard input")
     it.add_argument("--limit", type=int, default=256, help="attempts at a time (256)")

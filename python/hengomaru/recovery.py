@@ -10,7 +10,7 @@ from .futures import told_of
 from .jobs import Jobs
 from .services import Handler
 from .session import Session
-from .store import OPEN, NotOpened, Refused, StoreGone, Value
+from .store import DATABASE_FAILED, OPEN, NotOpened, Refused, StoreGone, Value
 
 log = logging.getLogger("hengomaru")
 FIRST_INTERVAL, LAST_INTERVAL = 50, 10_000
@@ -19,7 +19,7 @@ NEVER = float("inf")
 # Seconds until the store's process is begun again that has ended, at first and at most; and how long one goes on that is well.
 FIRST_REST, LAST_REST, WELL = 0.05, 5.0, 10.0
 # Why a file is not taken that may be taken later.
-PASSES = "the disk failed or is full", "memory was refused"
+PASSES = "the disk failed or is full", "memory was refused", DATABASE_FAILED
 
 
 class Recovery(Jobs):
@@ -28,6 +28,7 @@ class Recovery(Jobs):
     pulse: asyncio.Event
     opening: asyncio.Lock
     live: Dict[str, Session]
+    cut_off: Dict[str, Session]
     tasks: "Set[asyncio.Task[Any]]"
     backlog: Deque[str]
     dirty: Set[str]
@@ -88,11 +89,9 @@ class Recovery(Jobs):
     async def reopen(self) -> None:
         """Begins the store's process anew: at once where it was well, and later each time where it was not."""
         async with self.opening:
-            live: Dict[str, Session] = {}
             while self.store.is_gone:
                 if self.is_closed:
                     raise StoreGone("the worker is closed")
-                live.update(self.live)
                 for task in list(self.tasks):
                     task.cancel()
                 await asyncio.gather(*self.tasks, return_exceptions=True)
@@ -110,12 +109,13 @@ class Recovery(Jobs):
                 except NotOpened as error:
                     if not any(it in str(error) for it in PASSES):
                         raise
-            await self.after_reopening(live)
+            await self.after_reopening()
 
-    async def after_reopening(self, live: Dict[str, Session]) -> None:
+    async def after_reopening(self) -> None:
         """What was live when the store's process ended may have ended too, and nobody was told. What is still open rests, where the
         process ends again and again: it may be what ends it."""
-        for id, session in live.items():
+        cut_off, self.cut_off = self.cut_off, {}
+        for id, session in cut_off.items():
             if id in self.objects:
                 if self.rest > FIRST_REST:
                     self.put_off(id, self.interval(id), is_fault=False)
@@ -123,6 +123,7 @@ class Recovery(Jobs):
             try:
                 shown = await self.show(id)
             except StoreGone:
+                self.cut_off.update(cut_off)
                 return
             if shown is not None and not shown.is_open:
                 self.end_of(id, shown.answer, session.caller, self.app.find(session.target))

@@ -96,6 +96,8 @@ class Session:
             first, self.first = self.first, b""
             return first
         while True:
+            if self.is_closed:  # what has come since is for the next attempt
+                return None
             if self.has_come:
                 self.has_come = False
                 came = await self.store.input(self.id, self.number, AHEAD)
@@ -103,8 +105,6 @@ class Session:
                 if any(came):
                     self.idle_since = None
                     return b"".join(came)
-            if self.is_closed:
-                return None
             await self.wait()
 
     async def wait(self) -> None:

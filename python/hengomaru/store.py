@@ -340,7 +340,11 @@ class Store:
     async def input(self, id: str, attempt: int, frames: int = 1, most: int = 2**26) -> List[bytes]:
         """The next frames of its input, so many; an empty one where none remains now."""
         asked = [self.ask("input", word(id), attempt, most) for _ in range(frames)]
-        return [digits((await it)[0][1]) for it in asked]
+        came = await asyncio.gather(*asked, return_exceptions=True)
+        for it in came:
+            if isinstance(it, BaseException):
+                raise it
+        return [digits(it[0][1]) for it in came if not isinstance(it, BaseException)]
 
     async def output(self, id: str, attempt: int, stream: bytes) -> Tuple[List[str], Optional[str]]:
         """What each frame came to (a place, noted, suspended, failed, ended), and why no further one was taken, or None."""

@@ -57,6 +57,8 @@ class Worker(Recovery):
         self.limit, self.linger, self.tries, self.host = limit, linger, tries, host or self.here
         self.pool = ThreadPoolExecutor(threads, "hengomaru-run")
         self.live: Dict[str, Session] = {}
+        # Those whose store's process has ended under them.
+        self.cut_off: Dict[str, Session] = {}
         self.idle: Dict[str, Session] = {}
         self.backlog: Deque[str] = deque()
         self.tasks: "Set[asyncio.Task[Any]]" = set()
@@ -242,7 +244,9 @@ class Worker(Recovery):
             if not session.ended:
                 raise RuntimeError("the attempt came to no end")
         except (asyncio.CancelledError, StoreGone):
-            if not self.store.is_gone:
+            if self.store.is_gone:
+                self.cut_off[id] = session
+            else:
                 await self.stop(session)
             raise
         except KeyboardInterrupt:

@@ -14,6 +14,13 @@ from pathlib import Path
 MANY = {"show": ("open", "closed"), "state": ("end",), "requests": ("end",), "list": ("end",)}
 
 
+def write(file, told):
+    """At once: who reads it meanwhile reads what was there before."""
+    made = file.with_suffix(f".{os.getpid()}")
+    made.write_text(json.dumps(told))
+    made.replace(file)
+
+
 class Cut:
     """The file by which a test tells where to cut, and hears what was asked."""
 
@@ -24,7 +31,7 @@ class Cut:
         self.tell(**how)
 
     def tell(self, **how):
-        self.file.write_text(json.dumps({"at": 0, "how": "", "seen": 0, "words": [], **how}))
+        write(self.file, {"at": 0, "how": "", "seen": 0, "words": [], **how})
 
     def told(self):
         return json.loads(self.file.read_text())
@@ -63,7 +70,7 @@ def main():
         how = told["how"] if is_cut else ""
         if is_cut and told.get("once"):
             told["how"] = ""
-        file.write_text(json.dumps(told))
+        write(file, told)
         if how in ("before", "all"):
             end()
         if how == "full":

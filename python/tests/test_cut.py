@@ -69,7 +69,11 @@ async def waits(ctx):
 awakeables = []
 
 
-class Cuts(Beside):
+class OverCut(Beside):
+    """Jobs over a program that a test cuts off."""
+
+    app = app
+
     def logs(self):
         return self.assertLogs("hengomaru")
 
@@ -84,9 +88,17 @@ class Cuts(Beside):
         self.worker = None
 
     async def begin(self, **how):
-        self.worker = await hg.Worker(self.database, app, **{"linger": 0.05, **self.further, **how}).open()
+        self.worker = await hg.Worker(self.database, self.app, **{"linger": 0.05, **self.further, **how}).open()
         self.going = asyncio.ensure_future(self.worker.run(is_watching=True))
 
+    async def asked_behind_a_cut(self, word, how, ask):
+        self.cut.tell(word=word, how=how, once=True)
+        came = await asyncio.wait_for(ask(), LONGEST_TEST)
+        self.assertEqual(self.cut.told()["how"], "", f"no {word} was cut")
+        return came
+
+
+class Cuts(OverCut):
     async def all_have_ended(self):
         return all(it.status in ("ended", "failed") for it in await self.worker.store.list())
 
@@ -130,12 +142,6 @@ class Cuts(Beside):
                 self.assertLessEqual(effects[f"j{n}"], 2)
 
     # ---- what comes from outside, and whose answer is lost
-    async def asked_behind_a_cut(self, word, how, ask):
-        self.cut.tell(word=word, how=how, once=True)
-        came = await asyncio.wait_for(ask(), LONGEST_TEST)
-        self.assertEqual(self.cut.told()["how"], "", f"no {word} was cut")
-        return came
-
     async def test_a_signal_is_sent_once(self):
         await self.begin()
         for how in ("before", "after"):
@@ -185,7 +191,7 @@ class Cuts(Beside):
         self.assertEqual(told, ["a", "b"])
 
 
-class Shop(Cuts):
+class Shop(OverCut):
     """examples/shop.py: an order that is cancelled undoes what it did, however often it is cancelled."""
 
     def setUp(self):
@@ -193,15 +199,11 @@ class Shop(Cuts):
         self.log = f"{self.folder}/shop.log"
         os.environ.update(SHOP_LOG=self.log, SHOP_PACKING="3600000")
         sys.path.insert(0, str(Path(__file__).resolve().parents[2] / "examples"))
-        self.shop = importlib.reload(importlib.import_module("shop"))
+        self.app = importlib.reload(importlib.import_module("shop")).app
         sys.path.pop(0)
 
     def written(self):
         return Path(self.log).read_text().split("\n")[:-1] if os.path.exists(self.log) else []
-
-    async def begin(self, **how):
-        self.worker = await hg.Worker(self.database, self.shop.app, **{"linger": 0.05, **self.further, **how}).open()
-        self.going = asyncio.ensure_future(self.worker.run(is_watching=True))
 
     async def order(self, id):
         await self.worker.submit(id, "order/place", {"item": "tea", "amount": 2})
@@ -210,9 +212,6 @@ class Shop(Cuts):
             return f"paid {id}" in self.written() and any(it.id == id and it.status == "suspended" for it in await self.worker.store.list())
 
         await self.is_so(waits)
-
-    async def test_each_request(self):
-        self.skipTest("that is of Cuts")
 
     async def is_undone(self, id):
         self.assertEqual(await self.ended(id), (409, "cancelled"))

@@ -3,6 +3,7 @@ import asyncio
 import dataclasses
 import logging
 import threading
+import time
 import unittest
 from datetime import timedelta
 
@@ -48,15 +49,24 @@ class Count:
 count = Count()
 
 
+# So many bodies wait for each other, each with what it has.
+together = {"wanted": 1}
+LONGEST = 60
+
+
 @svc.handler()
 async def works(ctx, how):
     async def beside():
         with count:
-            await asyncio.sleep(0.2)
+            ends = time.monotonic() + LONGEST
+            while count.most < together["wanted"] and time.monotonic() < ends:
+                await asyncio.sleep(0.01)
 
     def in_a_thread():
         with count:
-            threading.Event().wait(0.2)
+            ends = time.monotonic() + LONGEST
+            while count.most < together["wanted"] and time.monotonic() < ends:
+                time.sleep(0.01)
 
     for name in "ab":
         await ctx.run(name, beside if how == "beside" else in_a_thread)
@@ -66,7 +76,9 @@ async def works(ctx, how):
 async def forks(ctx):
     async def body(n):
         with count:
-            await asyncio.sleep(0.2)
+            ends = time.monotonic() + LONGEST
+            while count.most < 5 and time.monotonic() < ends:
+                await asyncio.sleep(0.01)
         return n
 
     return [await it for it in await hg.gather(*(ctx.run(str(n), body, n) for n in range(5)))]
@@ -112,26 +124,26 @@ changed = []
 
 
 class Workers(unittest.IsolatedAsyncioTestCase):
-    async def run_all(self, jobs, **how):
+    async def run_all(self, jobs, wanted=1, **how):
         count.__init__()
+        together["wanted"] = wanted
         async with hg.Worker(":memory:", app, **how) as worker:
             for n, (handler, argument) in enumerate(jobs):
                 await worker.submit(f"i{n}", handler, argument)
-            await worker.run(longest=timedelta(seconds=60))
+            await worker.run(longest=timedelta(seconds=300))
             return worker.began, [await worker.status(f"i{n}") for n in range(len(jobs))]
 
     async def test_side_by_side(self):
         for how in ("beside", "in a thread"):
-            began, came = await self.run_all([(works, how)] * 20, linger=30)
-            self.assertEqual((began, {it.is_open for it in came}, count.all), (20, {False}, 40), how)
-            self.assertGreater(count.most, 10)
+            began, came = await self.run_all([(works, how)] * 20, wanted=20, linger=300)
+            self.assertEqual((began, {it.is_open for it in came}, count.all, count.most), (20, {False}, 40, 20), how)
 
     async def test_one_handlers_runs_go_side_by_side(self):
         _, [came] = await self.run_all([(forks, None)])
         self.assertEqual((came.value, count.most), ([0, 1, 2, 3, 4], 5))
 
     async def test_a_limit(self):
-        _, came = await self.run_all([(works, "beside")] * 9, limit=3)
+        _, came = await self.run_all([(works, "beside")] * 9, wanted=3, limit=3)
         self.assertEqual(({it.is_open for it in came}, count.most), ({False}, 3))
 
     async def test_a_place_that_is_wanted(self):
@@ -150,6 +162,7 @@ class Workers(unittest.IsolatedAsyncioTestCase):
 
     async def test_a_stop_waits_for_what_is_executed(self):
         count.__init__()
+        together["wanted"] = 2
         async with hg.Worker(":memory:", app) as worker:
             await worker.submit("i", works, "beside")
             going = asyncio.ensure_future(worker.run())
@@ -160,6 +173,8 @@ class Workers(unittest.IsolatedAsyncioTestCase):
             await going
             for it in worker.live.values():
                 it.leave()
+            self.assertEqual(count.now, 1)
+            count.most = 2  # now it ends
             while worker.tasks:
                 await asyncio.sleep(0.01)
             self.assertEqual((count.now, [it.status for it in await worker.store.list()][0] in ("ended", "suspended")), (0, True))
@@ -203,6 +218,36 @@ class Harnesses(unittest.TestCase):
             self.assertRaisesRegex(TypeError, "lambda.*is no handler", jobs.submit, lambda ctx: None)
         with self.assertRaisesRegex(TypeError, "a handler is an `async def`"):
             svc.handler()(lambda ctx: None)
+
+    def test_handlers_are_looked_at_where_they_are_made(self):
+        service = hg.Service("s")
+
+        async def none():
+            pass
+
+        async def three(ctx, a, b):
+            pass
+
+        async def yields(ctx):
+            yield 1
+
+        async def one(ctx):
+            pass
+
+        async def more(ctx, argument=None, *further, named=1):
+            pass
+
+        for it in (none, three, yields, print):
+            self.assertRaises(TypeError, service.handler(), it)
+        self.assertRaisesRegex(TypeError, "with its brackets", service.handler, one)
+        self.assertRaisesRegex(TypeError, "with its brackets", hg.Workflow("w").main, one)
+        service.handler()(one)
+        service.handler()(more)
+        self.assertRaisesRegex(ValueError, "is there already", service.handler(), one)
+        self.assertRaisesRegex(ValueError, "two services are named s", hg.app, [hg.Service("s"), hg.VirtualObject("s")])
+        self.assertRaisesRegex(ValueError, "is a service of the package itself", hg.app, [hg.Service("hengomaru")])
+        self.assertRaises(TypeError, hg.app, [svc, one])
+        self.assertRaises(ValueError, hg.Service, "")
 
 
 if __name__ == "__main__":
