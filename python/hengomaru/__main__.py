@@ -27,14 +27,14 @@ import signal
 import sys
 import time
 from pathlib import Path
-from typing import Any, Dict, Iterable, List, Optional
+from typing import Any, Callable, Dict, Iterable, List, Optional
 
 from .client import Client, NotDone
 from .journal import Step, steps_of
 from .services import App
 from .serving import serve_http
 from .store import HELD, NotOpened, Refused, StoreGone
-from .worker import NEVER, PAUSE, Busy, Worker
+from .worker import NEVER, PAUSE, Busy, HostGone, Worker
 
 REFUSED, CANNOT = 1, 2
 LINES = "submit", "resolve", "signal", "cancel", "pause", "resume", "show", "list"
@@ -53,6 +53,14 @@ class Misused(Exception):
 
 class CannotBegin(Exception):
     """What a worker needs is not there."""
+
+
+def usable(make: Callable[..., Any], *given: Any) -> Any:
+    """What a function makes of what was given; CannotBegin where that is none."""
+    try:
+        return make(*given)
+    except ValueError as error:
+        raise CannotBegin(str(error)) from None
 
 
 # ---- what is printed
@@ -140,7 +148,7 @@ async def work(given: argparse.Namespace) -> int:
     if given.endpoint:
         from .remote import Remote, Signer
 
-        signer = Signer(Path(given.identity).read_bytes()) if given.identity else None
+        signer = usable(Signer, Path(given.identity).read_bytes()) if given.identity else None
         if signer:
             print(f"requests are signed: `hengomaru endpoint .. --key {signer.key}` takes these alone", file=sys.stderr)
         remote = Remote(given.endpoint, signer)
@@ -184,16 +192,10 @@ async def go_on(worker: Worker, given: argparse.Namespace) -> None:
 
 
 def web_of(worker: Worker, given: argparse.Namespace) -> Any:
-    from .web import Web
+    from .web import Web, read_token
 
     print(f"http://{given.http}/ui", file=sys.stderr)
-    further: Dict[str, Any] = {"token": read_token(given.token)} if given.token else {}
-    return Web(worker, names_of(given.http, given.name), **further)
-
-
-def read_token(file: str) -> str:
-    with open(file) as it:
-        return it.read().strip()
+    return Web(worker, names_of(given.http, given.name), token=usable(read_token, given.token))
 
 
 async def take_lines(worker: Worker) -> None:
@@ -214,7 +216,8 @@ async def answer_to_line(worker: Worker, line: str) -> str:
     try:
         if word not in WORDS:
             raise Misused
-        words = line.strip().split(None, WORDS[word][1])[1:]  # the last one, JSON, may hold spaces
+        least, most = WORDS[word]
+        words = line.strip().split(None, most if least < most else -1)[1:]  # the last one, JSON, may hold spaces
         return await told(worker, word, checked(word, words))
     except Misused:
         return f"not understood: {printed(line.strip())}"
@@ -244,7 +247,8 @@ def refusal(error: Exception) -> str:
 async def endpoint(given: argparse.Namespace) -> int:
     from .endpoint import Endpoint
 
-    await serve_http(Endpoint(find_app(given.app), given.key), given.bind, stopped_by_signals(None), http2=True)
+    app = find_app(given.app)
+    await serve_http(usable(Endpoint, app, given.key), given.bind, stopped_by_signals(None), http2=True)
     return 0
 
 
@@ -255,7 +259,9 @@ async def asked(given: argparse.Namespace) -> int:
     words = given.words if given.word != "submit" or is_running else given.words[1:]
     try:
         if is_running:
-            client = Client(given.database, read_token(given.token) if given.token else None)
+            from .web import read_token
+
+            client = Client(given.database, read_token(given.token))
             print(told_by(client, given.word, checked(given.word, words), given.steps, given.again), flush=True)
             return 0
         if given.word == "submit" and not given.words:
@@ -421,7 +427,7 @@ def main() -> int:
     except NotOpened as error:
         print(f"hengomaru: {error}" + ("; a worker that has it is asked by its address: `hengomaru WORD http://HOST:PORT ..`" if HELD in str(error) else ""), file=sys.stderr)
         return CANNOT
-    except (CannotBegin, OSError, ImportError, Refused, StoreGone) as error:
+    except (CannotBegin, HostGone, OSError, ImportError, Refused, StoreGone) as error:
         print(f"hengomaru: {error}", file=sys.stderr)
         return CANNOT
     except KeyboardInterrupt:
