@@ -25,7 +25,7 @@ Message = Dict[str, Any]
 Receive = Callable[[], Awaitable[Message]]
 Send = Callable[[Message], Awaitable[None]]
 
-SERVER = (b"x-restate-server", b"hengomaru/0.1")
+SERVER = (b"x-restate-server", b"hengomaru/0.2")
 MANIFEST = "application/vnd.restate.endpointmanifest.v%d+json"
 VERSIONS = 5, 8
 KINDS = {VirtualObject: "VIRTUAL_OBJECT", Workflow: "WORKFLOW"}

@@ -192,7 +192,7 @@ class Ends(unittest.TestCase):
         async def handler(ctx, argument: int):
             return argument
 
-        service_frames, _ = gone_on_with(handler)
+        frames, _ = gone_on_with(handler)
         self.assertEqual(told_in(frames[0]), ("answer", None))
         self.assertEqual(come_to_bytes(handler, b"{")[:2], ("failure", 400))
 
