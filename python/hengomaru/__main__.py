@@ -24,6 +24,7 @@ import json
 import logging
 import os
 import signal
+import stat
 import sys
 import time
 from pathlib import Path
@@ -200,10 +201,10 @@ def web_of(worker: Worker, given: argparse.Namespace) -> Any:
 
 async def take_lines(worker: Worker) -> None:
     """Does what the lines of the standard input ask, until they end."""
-    reader = asyncio.StreamReader(limit=2**26)
-    try:
+    reader, kind = asyncio.StreamReader(limit=2**26), os.fstat(sys.stdin.fileno()).st_mode
+    if stat.S_ISFIFO(kind) or stat.S_ISSOCK(kind) or sys.stdin.isatty():
         await asyncio.get_running_loop().connect_read_pipe(lambda: asyncio.StreamReaderProtocol(reader), sys.stdin)
-    except ValueError:  # a file, which does not keep anybody waiting
+    else:  # a file, which does not keep anybody waiting
         reader.feed_data(sys.stdin.buffer.read())
         reader.feed_eof()
     while line := (await reader.readline()).decode(errors="replace"):
