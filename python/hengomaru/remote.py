@@ -65,9 +65,11 @@ class Remote:
         self.turns = itertools.count()
         self.worker: Any = None
         self.version = VERSIONS[1]
-        # Which hosts have a handler, and until when a host is left out.
+        # What hosts have told, which of them have a handler, and until when a host is left out.
+        self.manifests: Dict[Client, Dict[str, Any]] = {}
         self.hosts: Dict[Tuple[str, str], List[Client]] = {}
         self.left_out: Dict[Client, float] = {}
+        self.looking: "Optional[asyncio.Task[None]]" = None
 
     def attach(self, worker: Any) -> None:
         """Makes this the host of a worker, which has been given `attend`."""
@@ -89,7 +91,8 @@ class Remote:
                 if isinstance(error, OSError) and (manifests or not has_told):
                     log.warning("%s cannot be reached: %s", client.address, error)
             if manifests:
-                return self.take(manifests)
+                self.manifests.update(manifests)
+                return self.take()
             if time.monotonic() >= ends:
                 raise HostGone(f"none of {', '.join(it.address for it in self.clients)} can be reached")
             has_told = True
@@ -106,11 +109,11 @@ class Remote:
             raise HostGone(f"it speaks versions {least} to {most} of the protocol, and a worker {VERSIONS[0]} to {VERSIONS[1]}")
         return manifest
 
-    def take(self, manifests: Sequence[Tuple[Client, Dict[str, Any]]]) -> App:
-        self.version = min([VERSIONS[1], *(it["maxProtocolVersion"] for _, it in manifests)])
+    def take(self) -> App:
+        self.version = min([VERSIONS[1], *(it["maxProtocolVersion"] for it in self.manifests.values())])
         self.hosts = {}
         app = App([])
-        for client, manifest in manifests:
+        for client, manifest in self.manifests.items():
             for name, service in app_of(manifest).items():
                 if name in app and type(app[name]) is not type(service):
                     raise HostGone(f"{client.address} tells another kind of {name} than another host")
@@ -124,6 +127,26 @@ class Remote:
     async def refresh(self) -> None:
         """Asks all hosts anew: one may have come, or have more handlers than it had."""
         self.worker.app.update(await self.discover(0))
+
+    async def look_again(self) -> None:
+        """Asks the hosts that have told nothing yet, as they could not be reached."""
+        left = [it for it in self.clients if it not in self.manifests]
+        for client, found in zip(left, await asyncio.gather(*(self.ask(it) for it in left), return_exceptions=True)):
+            if isinstance(found, dict):
+                self.manifests[client] = found
+                self.left_out.pop(client, None)
+            else:
+                self.left_out[client] = time.monotonic() + LEFT_OUT
+                if not isinstance(found, OSError):
+                    log.error("%s is no host: %s", client.address, found)
+        self.worker.app.update(self.take())
+
+    def look_beside(self) -> None:
+        """The same beside what is done, now and then."""
+        now = time.monotonic()
+        wanted = any(it not in self.manifests and self.left_out.get(it, 0) <= now for it in self.clients)
+        if wanted and (self.looking is None or self.looking.done()):
+            self.looking = asyncio.ensure_future(self.look_again())
 
     def order(self, target: Tuple[str, str]) -> List[Client]:
         """The hosts of a handler, each attempt beginning with another one; those that could not be reached are the last."""
@@ -153,14 +176,19 @@ class Remote:
         target, why = session.target, ""
         path = f"/invoke/{quote(target.service, safe='')}/{quote(target.handler, safe='')}"
         headers = [("content-type", session.content_type), *self.headers(path)]
-        for client in self.order((target.service, target.handler)):
-            try:
-                stream = await client.ask("POST", path, headers)
-                self.left_out.pop(client, None)
-                return stream
-            except OSError as error:
-                self.left_out[client] = time.monotonic() + LEFT_OUT
-                why = f"{client.address}: {error or type(error).__name__}"
+        self.look_beside()
+        for is_last in (False, True):
+            for client in self.order((target.service, target.handler)):
+                try:
+                    stream = await client.ask("POST", path, headers)
+                    self.left_out.pop(client, None)
+                    return stream
+                except OSError as error:
+                    self.left_out[client] = time.monotonic() + LEFT_OUT
+                    why = f"{client.address}: {error or type(error).__name__}"
+            if is_last or len(self.manifests) == len(self.clients):
+                break
+            await self.look_again()
         raise HostGone(why)
 
     async def send(self, session: Session, stream: Stream) -> None:
@@ -185,5 +213,7 @@ class Remote:
                 await session.write(whole)
 
     def close(self) -> None:
+        if self.looking:
+            self.looking.cancel()
         for it in self.clients:
             it.close()

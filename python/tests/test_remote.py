@@ -233,6 +233,22 @@ class RemoteTests(unittest.IsolatedAsyncioTestCase):
             await asyncio.sleep(0.2)
         self.assertEqual(await self.run_one("rounds", 1), [[self.hosts[self.ports[1]].pid]])
 
+    async def test_a_host_that_comes_later_takes_over(self):
+        self.ports = [free_port(), free_port()]
+        first, second = self.ports
+        self.begin_host(first)
+        self.remote = Remote([f"http://127.0.0.1:{it}" for it in self.ports])
+        self.worker = hg.Worker(self.folder + "/jobs.db", await self.remote.discover(60), host=self.remote.attend, linger=0.2)
+        self.remote.attach(self.worker)
+        await self.worker.open()
+        self.assertEqual(list(self.remote.manifests), self.remote.clients[:1])
+        self.begin_host(second)
+        again = Remote([f"http://127.0.0.1:{second}"])
+        await again.discover(60)
+        again.close()
+        self.end_host(first)
+        self.assertEqual(await self.run_one("rounds", 2), [[self.hosts[second].pid] * 2])
+
     async def test_nobody_is_there(self):
         with self.assertRaises(HostGone) as gone:
             await Remote([f"http://127.0.0.1:{free_port()}"]).discover(0)
