@@ -23,7 +23,7 @@ OPEN = "live", "due", "suspended"
 class Refused(Exception):
     """The store refuses what was asked: `name` is the cause, as `S1` (docs/FORMATS.md)."""
 
-    def __init__(self, name, line):
+    def __init__(self, name: str, line: str) -> None:
         super().__init__(f"{name}: {line}")
         self.name = name
 
@@ -191,7 +191,7 @@ class Pipe(asyncio.SubprocessProtocol):
         if asked and not self.is_gone:
             self.transport.get_pipe_transport(0).write(asked)
 
-    def connection_made(self, transport) -> None:
+    def connection_made(self, transport: Any) -> None:
         self.transport = transport
 
     def pipe_data_received(self, stream: int, came: bytes) -> None:
@@ -230,7 +230,7 @@ class Pipe(asyncio.SubprocessProtocol):
         else:
             answer.set_result(lines)
 
-    def pipe_connection_lost(self, stream: int, error) -> None:
+    def pipe_connection_lost(self, stream: int, error: Any) -> None:
         if stream == 1:  # what it has answered before its end counts
             self.lose()
 
@@ -248,7 +248,7 @@ class Pipe(asyncio.SubprocessProtocol):
     def process_exited(self) -> None:
         self.lose()
 
-    def connection_lost(self, error) -> None:
+    def connection_lost(self, error: Any) -> None:
         self.lose()
         if not self.ended.done():
             self.ended.set_result(None)
@@ -258,7 +258,7 @@ class Store:
     """The store of a database, a path or `:memory:`. Where another process has the file, it waits so many seconds for it. Each call is
     sent when it is made; where it records, it is recorded when it returns."""
 
-    def __init__(self, database, program: Optional[str] = None, patience: float = 10.0) -> None:
+    def __init__(self, database: Any, program: Optional[str] = None, patience: float = 10.0) -> None:
         self.database, self.program, self.patience = os.fspath(database), program or find_program(), patience
         self.pipe: Optional[Pipe] = None
         # Hears that the process has ended.
@@ -299,7 +299,7 @@ class Store:
         pipe.transport.close()
         return pipe.said.decode(errors="replace").strip()
 
-    def ask(self, *words, last: Sequence[str] = ONE) -> Awaitable[List[Words]]:
+    def ask(self, *words: Any, last: Sequence[str] = ONE) -> Awaitable[List[Words]]:
         """Asks one line; awaited, the words of each line of its answer, up to one that begins with one of `last`."""
         if self.pipe is None:
             raise StoreGone
@@ -309,7 +309,7 @@ class Store:
         return self.pipe.ask(line, last)
 
     # ---- what comes from outside: each is recorded when it returns
-    async def invoke(self, id: str, object: str, input: bytes, headers=(), version: int = 9, seed: int = 1) -> None:
+    async def invoke(self, id: str, object: str, input: bytes, headers: Any = (), version: int = 9, seed: int = 1) -> None:
         """Makes an invocation. Refused: S1 where its object has an open one (this one, it may be), S3 where its id was used."""
         told = (word(it) for pair in dict(headers).items() for it in pair)
         await self.ask("invoke", word(id), word(object), version, "whole", seed, word(input), *told)

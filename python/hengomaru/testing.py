@@ -27,6 +27,7 @@ class StillOpen(AssertionError):
 
 class Harness:
     def __init__(self, app: Any, database: str = ":memory:", now: float = 1_700_000_000.0, **further: Any) -> None:
+        further.setdefault("tries", 10)  # what fails so often in a row is paused, and `call` comes to an end
         self.loop = asyncio.new_event_loop()
         self.now = int(now * 1000)
         self.worker = Worker(database, app, clock=lambda: self.now, linger=0, **further)

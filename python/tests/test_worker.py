@@ -2,13 +2,19 @@
 import asyncio
 import dataclasses
 import logging
+import os
+import subprocess
+import sys
+import tempfile
 import threading
 import time
 import unittest
 from datetime import timedelta
+from pathlib import Path
 
 import hengomaru as hg
 from hengomaru.testing import Harness, StillOpen
+from tests.needs import lacks
 
 logging.getLogger("hengomaru").setLevel(logging.CRITICAL)
 svc, obj = hg.Service("svc"), hg.VirtualObject("obj")
@@ -82,6 +88,11 @@ async def forks(ctx):
         return n
 
     return [await it for it in await hg.gather(*(ctx.run(str(n), body, n) for n in range(5)))]
+
+
+@svc.handler()
+async def breaks(ctx):
+    raise KeyError("always")
 
 
 @svc.handler()
@@ -180,7 +191,39 @@ class Workers(unittest.IsolatedAsyncioTestCase):
             self.assertEqual((count.now, [it.status for it in await worker.store.list()][0] in ("ended", "suspended")), (0, True))
 
 
+FIXTURE = """
+from datetime import timedelta
+import hengomaru as hg
+
+svc = hg.Service("svc")
+
+@svc.handler()
+async def remind(ctx, what):
+    await ctx.sleep(timedelta(days=1))
+    return f"drink your {what}"
+
+def test_reminder(hengomaru):
+    with hengomaru(hg.app([svc])) as jobs:
+        id = jobs.submit(remind, "tea")
+        jobs.advance(timedelta(days=1))
+        assert jobs.result(id) == "drink your tea"
+"""
+
+
 class Harnesses(unittest.TestCase):
+    @unittest.skipIf(lacks("pytest"), lacks("pytest"))
+    def test_the_fixture_of_pytest(self):
+        with tempfile.TemporaryDirectory() as folder:
+            Path(folder, "test_it.py").write_text(FIXTURE)
+            environment = {**os.environ, "PYTHONPATH": str(Path(__file__).resolve().parents[1])}
+            words = [sys.executable, "-m", "pytest", "-q", "-p", "no:cacheprovider", "-p", "hengomaru.testing", folder]
+            came = subprocess.run(words, env=environment, capture_output=True, text=True, timeout=300)
+        self.assertEqual(came.returncode, 0, came.stdout + came.stderr)
+
+    def test_what_always_fails_comes_to_an_end(self):
+        with Harness(app) as jobs:
+            self.assertRaisesRegex(StillOpen, "paused after 10 tries, of which the last has failed with: KeyError", jobs.call, breaks)
+
     def test_a_clock_that_is_moved(self):
         with Harness(app) as jobs:
             id = jobs.submit(naps)
