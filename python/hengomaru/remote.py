@@ -132,14 +132,18 @@ class Remote:
         """Asks the hosts that have told nothing yet, as they could not be reached."""
         left = [it for it in self.clients if it not in self.manifests]
         for client, found in zip(left, await asyncio.gather(*(self.ask(it) for it in left), return_exceptions=True)):
-            if isinstance(found, dict):
+            try:
+                if isinstance(found, BaseException):
+                    raise found
                 self.manifests[client] = found
+                self.worker.app.update(self.take())
                 self.left_out.pop(client, None)
-            else:
+            except (OSError, HostGone, ValueError, LookupError) as error:
+                self.manifests.pop(client, None)
                 self.left_out[client] = time.monotonic() + LEFT_OUT
-                if not isinstance(found, OSError):
-                    log.error("%s is no host: %s", client.address, found)
-        self.worker.app.update(self.take())
+                if not isinstance(error, OSError):
+                    log.error("%s is no host: %s", client.address, error)
+        self.take()
 
     def look_beside(self) -> None:
         """The same beside what is done, now and then."""
