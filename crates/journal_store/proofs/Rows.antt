@@ -1,5 +1,5 @@
 -- The rows of live attempts follow what is written.
-use Rattle.std.proofs.Common.{◌≡◌, ◌⊎◌, ℕ, refl, sym, ap, subst, ◌∙◌, inl, inr, true≢false, Bool, true, false, if◌then◌else◌, List, [], ◌∷◌, ◌++◌, map, filter, filter_map, Option, Some, None, option_map, option_to_list, bytes_eq}
+use Rattle.std.proofs.Common.{◌≡◌, ◌⊎◌, refl, sym, ap, subst, ◌∙◌, inl, inr, true≢false, Bool, true, false, if◌then◌else◌, List, [], ◌∷◌, ◌++◌, map, filter, filter_map, Option, Some, None, option_map, option_to_list, bytes_eq}
 use Rattle.std.proofs.lemmas.List.Elements.{filter-append}
 use Rattle.std.proofs.lemmas.Slice.Eq.{bytes_eq-Decides}
 use Rattle.sqlite_keyed.proofs.ListLemmas.{filter-map}
@@ -25,7 +25,7 @@ use Rattle.store_live.specs.Attempts.{ByInvocation, IsNow, ChangesLive, attempt_
 use Rattle.store_live.specs.ChangedRoom.{AreAsBefore, IsAsBefore}
 use Rattle.store_live.specs.Rows.{AreNoted, live_noted, row_after, row_noted, row_with_progress}
 use Rattle.store_live_laws.specs.LiveAttempts.{Agrees}
-use Rattle.journal_store.specs.StoreStanding.{HasRow, KeepsOutputs, output_of}
+use Rattle.journal_store.specs.StoreStanding.{HasRow, KeepsOutputs}
 use Rattle.journal_store.proofs.Dropping.{AllDropNone, DropsNone, event_drops_none}
 
 -- ---- records

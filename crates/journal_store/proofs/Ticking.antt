@@ -6,9 +6,9 @@ use Rattle.sqlite.specs.Held.{Held, state}
 use Rattle.sqlite.specs.State.{State, HasCleanDisk, Survives}
 use Rattle.sqlite.proofs.StateLemmas.{survives_then}
 use Rattle.journal_model.specs.Event.{Event}
-use Rattle.journal_model.specs.Cause.{causes_of, IsAccepted}
+use Rattle.journal_model.specs.Cause.{causes_of}
 use Rattle.store_frames.specs.ReadFrames.{AreRead}
-use Rattle.store_tables.specs.Records.{Holds, Records, applied_all}
+use Rattle.store_tables.specs.Records.{Holds, applied_all}
 use Rattle.store_tables.specs.declared.row.Write.{Write}
 use Rattle.store_tables.specs.Looks.{HasWritten, Lasts, OnlyAsks}
 use Rattle.store_tables.specs.Steps.{Lands, TurnsRecords}

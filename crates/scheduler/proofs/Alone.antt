@@ -51,19 +51,19 @@ module _ {H S E : Type 0} (g : Ghosts S) (Executes : Execution E) (function : H 
     abbrev Refused : Outcome
     Refused = Outcome.Refused (refusal.Store why)
 
-    only : PerformsSome g Executes function Attempting Refused a e b e
+    abbrev only : PerformsSome g Executes function Attempting Refused a e b e
     only = record {
       events = Begin ∷ [];
       replies = reply.Refused (refusal.Store why) ∷ [];
-      asked = inl (refl, refl, refl, refl);
-      performs = (b, e, does, refl, refl, refl);
+      asked = inl (refl, (refl, refl, refl));
+      performs = (b, e, does, refl, (refl, refl));
     }
 
     abbrev Firsts : Standing → Standing → Type 0
     Firsts = AppliesBeginning function a.options (Begin ∷ []) a.held
 
     only_endures : Endures g Firsts a.store b.store
-    only_endures = all_endure g Executes function (Begin ∷ []) (reply.Refused (refusal.Store why) ∷ []) a b e e (b, e, does, refl, refl, refl)
+    only_endures = all_endure g Executes function (Begin ∷ []) (reply.Refused (refusal.Store why) ∷ []) a b e e (b, e, does, refl, (refl, refl))
 
     -- the store has refused it
     pub not_begun : b ≡ record a { store = b.store } → Leads g (BeginsAttempt id now (Err why)) a.store b.store → GoesAlone g Executes function id Attempting Refused a e b e
@@ -139,4 +139,15 @@ module _ {H S E : Type 0} (g : Ghosts S) (Executes : Execution E) (function : H 
           },
         );
     crash = all_endure g Executes function (Begin ∷ run.events) (reply.Begun n ∷ run.replies) a c e f (b, e, does, refl, run.performs);
+  }
+
+module _ {H S E : Type 0} (g : Ghosts S) (Executes : Execution E) (function : H → Handler) (id : Text) (Asked : Rest H) where
+  -- what was held before is held again
+  pub goes_on : (told : Outcome) (old a b new : Scheduler H S) (e f : E) (others : List (HeldAttempt H)) → others ≡ old.held → a ≡ record old { held = [] }
+      → (a.held ≡ [] → GoesAlone g Executes function id Asked told a e b f) → new ≡ record b { held = others } → GoesOn g Executes function id Asked told old e new f
+  goes_on told old a b new e f others kept before goes after = record {
+    more = b.held;
+    alone = subst (λ (s : Scheduler H S). GoesAlone g Executes function id Asked told (record old { held = [] }) e (record s { held = b.held }) f) (sym after)
+        (subst (λ (s : Scheduler H S). GoesAlone g Executes function id Asked told s e b f) before (goes (ap (λ (s : Scheduler H S). s.held) before)));
+    held = ap (λ (s : Scheduler H S). s.held) after ∙ kept;
   }

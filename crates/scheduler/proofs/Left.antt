@@ -1,5 +1,5 @@
 -- Behind its stop an attempt is not live, whatever it did before.
-use Rattle.std.proofs.Common.{◌≡◌, ◌≢◌, true≢false, refl, sym, ap, subst, ◌∙◌, ℕ, suc, arith, ◌⊎◌, inl, inr, Bool, true, false, ◌&&◌, if◌then◌else◌, bytes_eq, List, [], ◌∷◌, ◌++◌, Option, Some, None, Result, Ok, Err}
+use Rattle.std.proofs.Common.{◌≡◌, ◌+◌, true≢false, refl, sym, ap, subst, ◌∙◌, ℕ, zero, suc, arith, length, take, ◌⊎◌, inl, inr, Bool, true, false, ◌&&◌, if◌then◌else◌, bytes_eq, List, [], ◌∷◌, ◌++◌, Option, Some, None, Result, Ok, Err}
 use Rattle.std.proofs.lemmas.Bool.Decides.{Decides-eqb}
 use Rattle.std.proofs.lemmas.Slice.Eq.{bytes_eq-Decides}
 use Rattle.journal_model.specs.Notification.{Bytes, Text}
@@ -16,8 +16,9 @@ use Rattle.store_calls.specs.Calls.{BeginsStoredAttempt, HandsOut, RefusesBytes,
 use Rattle.store_calls.specs.Frames.{Accepts, LeavesRefused, Rests, TakesEach}
 use Rattle.store_calls.proofs.Live.{live_so}
 use Rattle.store_steps.specs.PreparedFrames.{lies_in_frame}
-use Rattle.schedule_model.specs.Attempts.{Attempt, Turn}
+use Rattle.schedule_model.specs.Attempts.{Attempt, Turn, output_of}
 use Rattle.schedule_model.specs.Attempts.turn
+use Rattle.schedule_model.specs.First.{with_first}
 use Rattle.schedule_model.specs.HeldAttempts.{held_of, is_held, with_attempt}
 use Rattle.schedule_model.specs.InputFeed.{HandsOutEach, StopsHandingOut}
 use Rattle.schedule_model.specs.Outcomes.{tells_mismatch}
@@ -28,8 +29,8 @@ use Rattle.schedule_model.specs.declared.event.EventRefusal.TheVariants as refus
 use Rattle.schedule_model.specs.declared.event.Reply.{Reply}
 use Rattle.schedule_model.specs.declared.event.Reply.TheVariants as reply
 use Rattle.schedule_model.specs.declared.held.HeldAttempt.{HeldAttempt}
-use Rattle.schedule_model.specs.Schedule.{Applies, AppliesAll, BeginDoes, ClosesOne, FeedsOne, IfHeld, MovesOne, Scheduled, StopsOne, TurnsOne, UnlessMismatch}
-use Rattle.schedule_model.proofs.Holding.{found_is, held_is, held_with}
+use Rattle.schedule_model.specs.Schedule.{Applies, AppliesAll, BeginDoes, ClosesOne, FeedsOne, IfHeld, MovesOne, RepliesDone, Scheduled, StopsOne, TurnsOne, UnlessMismatch}
+use Rattle.schedule_model.proofs.Holding.{found_is, held_is, held_with, some_is}
 use Rattle.scheduler.specs.declared.outcome.Outcome.{Outcome}
 use Rattle.scheduler.specs.Loop.{all_bytes, Rest, Ends, UnlessRefused, Then, IsFedMore, IsWaiting, IsFedBehindBody, GoesOnBy, IsMoved, MakesTurns, IsFed, Stopping}
 use Rattle.scheduler.specs.Outcomes.{brings_none, refusal_in}
@@ -51,7 +52,9 @@ module _ (id : Text) where
       by_begin true c before = inr refl
       by_begin false true before = inl refl
       by_begin false false (inl none) = inl none
-      by_begin false false (inr some) = inr some
+      by_begin false false (inr some) =
+          let same : attempts_begun earlier id ≡ 0 + attempts_begun earlier id = omega arith in
+          inr (some ∙ ap (λ (k : ℕ). Some k) same)
 
   -- where the last one is not live, none is
   pub none_live : (events : List Accepted) (n : ℕ) → attempts_begun events id ≡ n → is_live events id n ≡ false → live_attempt events id ≡ None
@@ -63,7 +66,7 @@ module _ (id : Text) where
   pub stop_ends : (n : ℕ) (events : List Accepted) → live_attempt (Accepted.Stop id n ∷ events) id ≡ None
   stop_ends n events = rw (itself id) refl
 
-  pub begun_more : (now : ℕ) (events : List Accepted) → attempts_begun (Accepted.Begin id now ∷ events) id ≡ suc (attempts_begun events id)
+  pub begun_more : (now : ℕ) (events : List Accepted) → attempts_begun (Accepted.Begin id now ∷ events) id ≡ 1 + attempts_begun events id
   begun_more now events = rw (itself id) refl
 
   -- behind a stop of the last one, refused or not
@@ -79,11 +82,18 @@ module _ (id : Text) where
   abbrev Still : Standing → Standing → Type 0
   Still s t = attempts_begun t.events id ≡ attempts_begun s.events id
 
+  added_still : (event : Accepted) (s t : Standing) → begins_attempt id event ≡ false → t.events ≡ event ∷ s.events → Still s t
+  added_still event s t none events = by_begin (begins_attempt id event) none (ap (λ (es : List Accepted). attempts_begun es id) events)
+    where
+      by_begin : (b : Bool) → b ≡ false → attempts_begun t.events id ≡ (if b then 1 else 0) + attempts_begun s.events id → Still s t
+      by_begin true none e = absurd cc
+      by_begin false none e = omega (arith, e)
+
   stays_still : (s t : Standing) → StaysStanding s t → Still s t
   stays_still s t stays = ap (λ (es : List Accepted). attempts_begun es id) stays.events
 
   hands_still : (n most : ℕ) (result : Result Bytes Refusal) (s t : Standing) → HandsOut id n most result s t → Still s t
-  hands_still n most (Ok bytes) s t hands = ap (λ (es : List Accepted). attempts_begun es id) hands.1.events
+  hands_still n most (Ok bytes) s t hands = added_still (Accepted.Feed id n (length bytes)) s t refl hands.1.events
   hands_still n most (Err why) s t refuses = stays_still s t refuses.stays
 
   each_still : (n count : ℕ) (parts : List Bytes) (s t : Standing) → HandsOutEach id n count parts s t → Still s t
@@ -96,10 +106,10 @@ module _ (id : Text) where
 
   taken_still : (n : ℕ) (replies : List FrameReply) (s t : Standing) → TakesEach id n replies s t → Still s t
   taken_still n [] s t stays = stays_still s t stays
-  taken_still n (one ∷ replies) s t (m, takes, more) = taken_still n replies m t more ∙ ap (λ (es : List Accepted). attempts_begun es id) takes.leaves.events
+  taken_still n (one ∷ replies) s t (m, takes, more) = taken_still n replies m t more ∙ added_still (Accepted.Move id n takes.frame) s m refl takes.leaves.events
 
   left_still : (n : ℕ) (lies : Bool) (s t : Standing) → LeavesRefused lies id n s t → Still s t
-  left_still n true s t stops = ap (λ (es : List Accepted). attempts_begun es id) stops.events
+  left_still n true s t stops = added_still (Accepted.Stop id n) s t refl stops.events
   left_still n false s t stays = stays_still s t stays
 
   rests_still : (n : ℕ) (why : Option Refusal) (s t : Standing) → Rests id n why s t → Still s t
@@ -130,7 +140,7 @@ module _ {H : Type 0} (function : H → Handler) (options : VMOptions) (id : Tex
   IsKeptBy Change = (one : HeldAttempt H) (s t : Standing) (answer : Reply) (changed : Attempt H) → one.invocation ≡ id → one.number ≡ n → Change one s answer t changed → Still id s t
 
   feeds_kept : (count : ℕ) → IsKeptBy (FeedsOne count)
-  feeds_kept count one s t (reply.Fed bytes why) changed is_id is_n (parts, are, m, hands, feeds, stops) =
+  feeds_kept count one s t (reply.Fed bytes why) changed is_id is_n (parts, are, (m, hands, feeds, stops)) =
       stops_still id n count parts why m t (subst (λ (k : ℕ). StopsHandingOut id k count parts why m t) is_n (subst (λ (i : Text). StopsHandingOut i one.number count parts why m t) is_id stops))
       ∙ each_still id n count parts s m (subst (λ (k : ℕ). HandsOutEach id k count parts s m) is_n (subst (λ (i : Text). HandsOutEach i one.number count parts s m) is_id hands))
   feeds_kept count one s t (reply.Refused (refusal.Store why)) changed is_id is_n (hands, same) =
@@ -138,7 +148,7 @@ module _ {H : Type 0} (function : H → Handler) (options : VMOptions) (id : Tex
   feeds_kept count one s t _ changed is_id is_n none = absurd none
 
   closes_kept : IsKeptBy ClosesOne
-  closes_kept one s t reply.Done changed is_id is_n (adds, closes) = ap (λ (es : List Accepted). attempts_begun es id) adds.events
+  closes_kept one s t reply.Done changed is_id is_n (adds, closes) = added_still id (Accepted.Close one.invocation one.number) s t refl adds.events
   closes_kept one s t (reply.Refused (refusal.Store why)) changed is_id is_n (refuses, same) = stays_still id s t refuses.stays
   closes_kept one s t _ changed is_id is_n none = absurd none
 
@@ -146,12 +156,14 @@ module _ {H : Type 0} (function : H → Handler) (options : VMOptions) (id : Tex
   turns_kept ran one s t (reply.Turned turn) changed is_id is_n (turns, stays) = stays_still id s t stays
   turns_kept ran one s t _ changed is_id is_n none = absurd none
 
+  accepts_own : (i : Text) (k : ℕ) (bytes : Bytes) (result : Result (List FrameReply × Option Refusal) Refusal) (s t : Standing) → i ≡ id → k ≡ n → Accepts i k bytes result s t → Still id s t
+  accepts_own i k bytes result s t is_id is_n it =
+      accepts_still id n bytes result s t (subst (λ (m : ℕ). Accepts id m bytes result s t) is_n (subst (λ (j : Text). Accepts j k bytes result s t) is_id it))
+
   moves_kept : (count : ℕ) → IsKeptBy (MovesOne count)
   moves_kept count one s t (reply.Moved bytes frames why) changed is_id is_n (replies, are, so_many, accepts, advances) =
-      accepts_still id n _ (Ok (replies, why)) s t
-      (subst (λ (k : ℕ). Accepts id k _ (Ok (replies, why)) s t) is_n (subst (λ (i : Text). Accepts i one.number _ (Ok (replies, why)) s t) is_id accepts))
-  moves_kept count one s t (reply.Refused (refusal.Store why)) changed is_id is_n (accepts, gathers) =
-      accepts_still id n _ (Err why) s t (subst (λ (k : ℕ). Accepts id k _ (Err why) s t) is_n (subst (λ (i : Text). Accepts i one.number _ (Err why) s t) is_id accepts))
+      accepts_own one.invocation one.number (take bytes (output_of one.attempt)) (Ok (replies, why)) s t is_id is_n accepts
+  moves_kept count one s t (reply.Refused (refusal.Store why)) changed is_id is_n (accepts, gathers) = accepts_own one.invocation one.number [] (Err why) s t is_id is_n accepts
   moves_kept count one s t _ changed is_id is_n none = absurd none
 
   -- it is held still
@@ -162,8 +174,7 @@ module _ {H : Type 0} (function : H → Handler) (options : VMOptions) (id : Tex
         let found : held_of s.held id n ≡ Some other = there ∙ sym is in
         let own = held_is id n other (found_is id n s.held other found) in
         let new : HeldAttempt H = record other { attempt = changed } in
-        let written : held_of (with_attempt s.held other changed) id n ≡ Some new =
-        subst (λ (i : Text). held_of (with_attempt s.held (record other { invocation = i }) changed) id n ≡ Some new) refl (held_found other changed s.held found own.0 own.1) in record {
+        let written : held_of (with_attempt s.held other changed) id n ≡ Some new = held_found other changed s.held found own.0 own.1 in record {
           last = kept other s.standing t.standing answer changed own.0 own.1 does ∙ last;
           one = new;
           held = ap (λ (held : List (HeldAttempt H)). held_of held id n) more ∙ written;
@@ -172,7 +183,9 @@ module _ {H : Type 0} (function : H → Handler) (options : VMOptions) (id : Tex
         held_found : (one : HeldAttempt H) (changed : Attempt H) (held : List (HeldAttempt H)) → held_of held id n ≡ Some one → one.invocation ≡ id → one.number ≡ n
             → held_of (with_attempt held one changed) id n ≡ Some (record one { attempt = changed })
         held_found one changed held found is_id is_n =
-            rw (is_id, is_n) (held_with id n held one (record one { attempt = changed }) found refl refl)
+            let new : HeldAttempt H = record one { attempt = changed } in
+            subst (λ (i : Text). held_of (with_first (is_held i one.number) held new) id n ≡ Some new) (sym is_id)
+            (subst (λ (k : ℕ). held_of (with_first (is_held id k) held new) id n ≡ Some new) (sym is_n) (held_with id n held one new found refl refl))
     if_held one None s t answer is there last it = absurd cc
 
     pub still_held : (s t : Scheduled H) (answer : Reply) → Holds s → IfHeld Change (held_of s.held id n) s.standing s.held answer t.standing t.held → Holds t
@@ -237,26 +250,28 @@ module _ {H : Type 0} (function : H → Handler) (options : VMOptions) (id : Tex
 
     own_waiting : (is_closed : Bool) → Owns (IsWaiting id n More is_closed)
     own_waiting true events replies told ends = own_ends Outcome.Unfinished told events replies ends
-    own_waiting false = own_then (event.Feed id n all_bytes) (λ answer. IsFedMore id n More (brings_none answer)) (refl, refl) (λ answer. own_fed_more (brings_none answer))
+    own_waiting false events replies told it =
+        own_then (event.Feed id n all_bytes) (λ answer. IsFedMore id n More (brings_none answer)) (refl, refl) (λ answer. own_fed_more (brings_none answer)) events replies told it
 
     own_behind_body : (is_closed : Bool) → Owns (IsFedBehindBody id n More is_closed)
     own_behind_body true = own true
     own_behind_body false = own_then (event.Feed id n all_bytes) (λ answer. More false) (refl, refl) (λ answer. own false)
 
     own_by : (is_closed : Bool) (one : Turn) → Owns (GoesOnBy id n More is_closed one)
-    own_by is_closed turn.Answered = own is_closed
-    own_by is_closed turn.RanBody = own_behind_body is_closed
-    own_by is_closed turn.Waiting = own_waiting is_closed
+    own_by is_closed turn.Answered events replies told it = own is_closed events replies told it
+    own_by is_closed turn.RanBody events replies told it = own_behind_body is_closed events replies told it
+    own_by is_closed turn.Waiting events replies told it = own_waiting is_closed events replies told it
     own_by is_closed turn.Suspended events replies told ends = own_ends Outcome.Suspended told events replies ends
     own_by is_closed turn.Ended events replies told ends = own_ends Outcome.Ended told events replies ends
     own_by is_closed (turn.Failed error) events replies told ends = own_ends (Outcome.Failed error) told events replies ends
 
     own_moved : (is_closed : Bool) (answer : Reply) → Owns (IsMoved id n More is_closed answer)
-    own_moved is_closed (reply.Turned one) = own_then (event.Move id n all_bytes) (λ answer. GoesOnBy id n More is_closed one) (refl, refl) (λ answer. own_by is_closed one)
+    own_moved is_closed (reply.Turned one) events replies told it =
+        own_then (event.Move id n all_bytes) (λ answer. GoesOnBy id n More is_closed one) (refl, refl) (λ answer. own_by is_closed one) events replies told it
     own_moved is_closed _ events replies told ends = own_ends Outcome.Unfinished told events replies ends
 
   own_turns : (most : ℕ) (is_closed : Bool) → Owns (MakesTurns id n most is_closed)
-  own_turns 0 is_closed events replies told ends = own_ends Outcome.Unfinished told events replies ends
+  own_turns zero is_closed events replies told ends = own_ends Outcome.Unfinished told events replies ends
   own_turns (suc more) is_closed events replies told (ran, it) =
       own_then (event.Turn id n ran) (IsMoved id n (MakesTurns id n more) is_closed) (refl, refl) (λ answer. own_moved (MakesTurns id n more) (own_turns more) is_closed answer) events replies told it
 
@@ -282,7 +297,7 @@ module _ {H : Type 0} (function : H → Handler) (options : VMOptions) (id : Tex
   stop_left one (Some other) s t answer is is_id is_n last (changed, (replies, same), more) = by_reply answer replies
     where
       other_is : other ≡ one
-      other_is = cc
+      other_is = some_is other one is
 
       own : (result : Result (Unit {0}) Refusal) → Stops other.invocation other.number result s.standing t.standing → live_attempt t.standing.events id ≡ None
       own result stops =
@@ -290,7 +305,7 @@ module _ {H : Type 0} (function : H → Handler) (options : VMOptions) (id : Tex
           (subst (λ (k : ℕ). Stops id k result s.standing t.standing) (ap (λ (h : HeldAttempt H). h.number) other_is ∙ is_n)
           (subst (λ (i : Text). Stops i other.number result s.standing t.standing) (ap (λ (h : HeldAttempt H). h.invocation) other_is ∙ is_id) stops))
 
-      by_reply : (answer : Reply) → _ → live_attempt t.standing.events id ≡ None
+      by_reply : (answer : Reply) → RepliesDone (λ (result : Result (Unit {0}) Refusal). Stops other.invocation other.number result s.standing t.standing) answer → live_attempt t.standing.events id ≡ None
       by_reply reply.Done stops = own (Ok tt) stops
       by_reply (reply.Refused (refusal.Store why)) stops = own (Err why) stops
       by_reply _ none = absurd none

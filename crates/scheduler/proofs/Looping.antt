@@ -49,7 +49,7 @@ module _ {H S E : Type 0} (g : Ghosts S) (Executes : Execution E) (function : H 
       events = one ∷ [];
       replies = answer ∷ [];
       asked = (refl, subst (λ (o : Option EventRefusal). UnlessRefused o (Behind answer) [] [] (Outcome.Refused why)) (sym is) (refl, refl, refl));
-      performs = (new, f, does, asks, refl, refl);
+      performs = (new, f, does, asks, (refl, refl));
     }
 
     -- and behind another what its reply leads to
@@ -100,6 +100,31 @@ module _ {H S E : Type 0} (g : Ghosts S) (Executes : Execution E) (function : H 
     abbrev Moving : Result (Unit {0}) EventRefusal → Scheduler H S → Scheduler H S → Type 0
     Moving result a b = PerformsOr g function (event.Move id n all_bytes) IsDone result a b
 
+    -- ---- it waits, and nothing has come
+
+    abbrev Closes : ℕ → Rest H
+    Closes more = Then (event.Close id n) (λ answer. MakesTurns id n more true)
+
+    pub closed : (done : Unit {0}) (a b : Scheduler H S) (e : E) → Closing (Ok done) a b → Continues g Executes function Closes Turning (Ok true) a e b e
+    closed done a b e closes = λ more told last end rest.
+        or_done (event.Close id n) IsDone (λ answer a b e. refl) (λ answer. MakesTurns id n more true) done told a b last e end closes (λ answer tells. rest)
+
+    pub not_closed : (why : EventRefusal) (a b : Scheduler H S) (e : E) → Closing (Err why) a b → Continues g Executes function Closes Turning (Err (Outcome.Refused why)) a e b e
+    not_closed why a b e closes = λ more. or_refused (event.Close id n) IsDone (λ answer a b e. refl) (λ answer. MakesTurns id n more true) why a b e closes
+
+    module _ (is_none : Bool) where
+      abbrev FedMore : ℕ → Rest H
+      FedMore more = IsFedMore id n (MakesTurns id n more) is_none
+
+      pub came : is_none ≡ false → (s : Scheduler H S) (e : E) → Continues g Executes function FedMore Turning (Ok false) s e s e
+      came some s e = λ more told last end rest. subst (λ (x : Bool). PerformsSome g Executes function (IsFedMore id n (MakesTurns id n more) x) told s e last end) (sym some) rest
+
+      pub came_none : is_none ≡ true → (result : Result Bool Outcome) (a b : Scheduler H S) (e f : E) → Continues g Executes function Closes Turning result a e b f
+          → Continues g Executes function FedMore Turning result a e b f
+      came_none none (Ok next) a b e f on = λ more told last end rest.
+          subst (λ (x : Bool). PerformsSome g Executes function (IsFedMore id n (MakesTurns id n more) x) told a e last end) (sym none) (on more told last end rest)
+      came_none none (Err told) a b e f over = λ more. subst (λ (x : Bool). PerformsSome g Executes function (IsFedMore id n (MakesTurns id n more) x) told a e b f) (sym none) (over more)
+
     module _ (is_closed : Bool) where
       abbrev Waiting : ℕ → Rest H
       Waiting more = IsWaiting id n (MakesTurns id n more) is_closed
@@ -120,6 +145,10 @@ module _ {H S E : Type 0} (g : Ghosts S) (Executes : Execution E) (function : H 
             → PerformsSome g Executes function (Waiting more) told a e b f
         waiting more told a b e f did = subst (λ (x : Bool). PerformsSome g Executes function (IsWaiting id n (MakesTurns id n more) x) told a e b f) (sym opened) did
 
+        pub waits_not_fed : (why : EventRefusal) (a b : Scheduler H S) (e : E) → Feeding (Err why) a b → Continues g Executes function Waiting Turning (Err (Outcome.Refused why)) a e b e
+        waits_not_fed why a b e feeds = λ more. waiting more (Outcome.Refused why) a b e e
+            (or_refused (event.Feed id n all_bytes) IsNone (λ answer a b e. refl) (λ answer. IsFedMore id n (MakesTurns id n more) (brings_none answer)) why a b e feeds)
+
         fed : (more : ℕ) (is_none : Bool) (told : Outcome) (a b c : Scheduler H S) (e f : E) → Feeding (Ok is_none) a b
             → PerformsSome g Executes function (IsFedMore id n (MakesTurns id n more) is_none) told b e c f → PerformsSome g Executes function (Waiting more) told a e c f
         fed more is_none told a b c e f feeds rest =
@@ -127,22 +156,10 @@ module _ {H S E : Type 0} (g : Ghosts S) (Executes : Execution E) (function : H 
             (or_done (event.Feed id n all_bytes) IsNone (λ answer a b e. refl) (λ answer. IsFedMore id n (MakesTurns id n more) (brings_none answer)) is_none told a b c e f feeds
             (λ answer is. subst (λ (x : Bool). PerformsSome g Executes function (IsFedMore id n (MakesTurns id n more) x) told b e c f) is rest))
 
-        pub waits_not_fed : (why : EventRefusal) (a b : Scheduler H S) (e : E) → Feeding (Err why) a b → Continues g Executes function Waiting Turning (Err (Outcome.Refused why)) a e b e
-        waits_not_fed why a b e feeds = λ more. waiting more (Outcome.Refused why) a b e e
-            (or_refused (event.Feed id n all_bytes) IsNone (λ answer a b e. refl) (λ answer. IsFedMore id n (MakesTurns id n more) (brings_none answer)) why a b e feeds)
-
-        pub waits_fed : (a b : Scheduler H S) (e : E) → Feeding (Ok false) a b → Continues g Executes function Waiting Turning (Ok false) a e b e
-        waits_fed a b e feeds = λ more told last end rest. fed more false told a b last e end feeds rest
-
-        module _ (a b c : Scheduler H S) (e : E) (feeds : Feeding (Ok true) a b) where
-          pub waits_closed : Closing (Ok tt) b c → Continues g Executes function Waiting Turning (Ok true) a e c e
-          waits_closed closes = λ more told last end rest.
-              fed more true told a b last e end feeds
-              (or_done (event.Close id n) IsDone (λ answer a b e. refl) (λ answer. MakesTurns id n more true) tt told b c last e end closes (λ answer done. rest))
-
-          pub waits_not_closed : (why : EventRefusal) → Closing (Err why) b c → Continues g Executes function Waiting Turning (Err (Outcome.Refused why)) a e c e
-          waits_not_closed why closes = λ more.
-              fed more true (Outcome.Refused why) a b c e e feeds (or_refused (event.Close id n) IsDone (λ answer a b e. refl) (λ answer. MakesTurns id n more true) why b c e closes)
+        pub waits_fed : (is_none : Bool) (result : Result Bool Outcome) (a b c : Scheduler H S) (e f : E) → Feeding (Ok is_none) a b
+            → Continues g Executes function (λ more. IsFedMore id n (MakesTurns id n more) is_none) Turning result b e c f → Continues g Executes function Waiting Turning result a e c f
+        waits_fed is_none (Ok next) a b c e f feeds on = λ more told last end rest. fed more is_none told a b last e end feeds (on more told last end rest)
+        waits_fed is_none (Err told) a b c e f feeds over = λ more. fed more is_none told a b c e f feeds (over more)
 
         behind_body : (more : ℕ) (told : Outcome) (a b : Scheduler H S) (e f : E) → PerformsSome g Executes function (Then (event.Feed id n all_bytes) (λ answer. MakesTurns id n more false)) told a e b f
             → PerformsSome g Executes function (BehindBody more) told a e b f
@@ -181,7 +198,7 @@ module _ {H S E : Type 0} (g : Ghosts S) (Executes : Execution E) (function : H 
       turned_then turn more told a b c e d f turned rest = record {
         events = event.Turn id n turned.ran ∷ rest.events;
         replies = reply.Turned turn ∷ rest.replies;
-        asked = (turned.ran, refl, rest.asked);
+        asked = (turned.ran, (refl, rest.asked));
         performs = (b, d, turned.performs, turned.asks, rest.performs);
       }
 
@@ -194,8 +211,8 @@ module _ {H S E : Type 0} (g : Ghosts S) (Executes : Execution E) (function : H 
       not_turned why a b e f turned = λ more. record {
         events = event.Turn id n turned.ran ∷ [];
         replies = reply.Refused why ∷ [];
-        asked = (turned.ran, refl, refl, refl, refl);
-        performs = (b, f, turned.performs, turned.asks, refl, refl);
+        asked = (turned.ran, (refl, (refl, refl, refl)));
+        performs = (b, f, turned.performs, turned.asks, (refl, refl));
       }
 
     -- ---- all turns
@@ -212,7 +229,7 @@ module _ {H S E : Type 0} (g : Ghosts S) (Executes : Execution E) (function : H 
     -- one more event behind others: a stop
     and_stop : (events : List (Event H)) (replies : List Reply) (answer : Reply) (a b c : Scheduler H S) (e f : E) → PerformsAll g Executes function events replies a e b f
         → Performs g function (event.Stop id n) answer b c → PerformsAll g Executes function (events ++ event.Stop id n ∷ []) (replies ++ answer ∷ []) a e c f
-    and_stop [] [] answer a b c e f (same, asked) does = (c, f, subst (λ (s : Scheduler H S). Performs g function (event.Stop id n) answer s c) same does, asked, refl, refl)
+    and_stop [] [] answer a b c e f (same, asked) does = (c, f, subst (λ (s : Scheduler H S). Performs g function (event.Stop id n) answer s c) same does, asked, (refl, refl))
     and_stop [] (other ∷ replies) answer a b c e f did does = absurd did
     and_stop (first ∷ events) [] answer a b c e f did does = absurd did
     and_stop (first ∷ events) (other ∷ replies) answer a b c e f (m, d, done, asks, more) does = (m, d, done, asks, and_stop events replies answer m b c d f more does)

@@ -1,6 +1,7 @@
 //! How an invocation is gone on with: one attempt, from its begin until it is over, with each effect executed when it is asked for.
-ghost use Rattle.std.specs.Prelude.{◌≡◌};
-ghost use Rattle.scheduler.specs.Loop.{all_bytes, Continues, GoesAlone, GoesOn, GoesOnBy, IsAttempt, IsFed, IsFedBehindBody, IsWaiting, MakesTurns, PerformsOr, PerformsSome, Stopping, Then};
+ghost use Rattle.std.specs.Prelude.{◌≡◌, [], false, suc, true};
+ghost use Rattle.schedule_model.specs.declared.event.Event.TheVariants as event;
+ghost use Rattle.scheduler.specs.Loop.{all_bytes, Continues, GoesAlone, GoesOn, GoesOnBy, IsAttempt, IsFed, IsFedBehindBody, IsFedMore, IsWaiting, MakesTurns, PerformsOr, PerformsSome, Stopping, Then};
 ghost use Rattle.scheduler.specs.Outcomes.{brings_none};
 
 use crate::outcome::{Outcome, brings_none, no_memory, refused};
@@ -14,7 +15,7 @@ use std::mem::replace;
 impl<H: Handler + Drop, S: Alter + Drop> Scheduler<H, S> {
     /// An attempt is fed all of its input that there is. It tells whether there was none.
     fn feed_all(&mut self, id: &ByteStr, attempt: u32) -> Result<bool, EventRefusal>
-        ensures { PerformsOr S.Store H.next_call (Event.Feed id.now attempt all_bytes) (λ answer is_none. is_none ≡ brings_none answer) result self.old self.new }
+        ensures { PerformsOr S.Store H.next_call (event.Feed id.now attempt all_bytes) (λ answer is_none. is_none ≡ brings_none answer) result self.old self.new }
     {
         let reply = self.feed(id, attempt, usize::MAX);
         let is_none = brings_none(&reply);
@@ -26,7 +27,7 @@ impl<H: Handler + Drop, S: Alter + Drop> Scheduler<H, S> {
 
     /// All that an attempt has written is moved.
     fn move_all(&mut self, id: &ByteStr, attempt: u32) -> Result<(), EventRefusal>
-        ensures { PerformsOr S.Store H.next_call (Event.Move id.now attempt all_bytes) (λ answer done. Unit {0}) result self.old self.new }
+        ensures { PerformsOr S.Store H.next_call (event.Move id.now attempt all_bytes) (λ answer done. Unit {0}) result self.old self.new }
     {
         match refused(self.move_output(id, attempt, usize::MAX)) {
             Some(why) => Err(why),
@@ -36,7 +37,7 @@ impl<H: Handler + Drop, S: Alter + Drop> Scheduler<H, S> {
 
     /// No more of its input comes to an attempt.
     fn close_now(&mut self, id: &ByteStr, attempt: u32) -> Result<(), EventRefusal>
-        ensures { PerformsOr S.Store H.next_call (Event.Close id.now attempt) (λ answer done. Unit {0}) result self.old self.new }
+        ensures { PerformsOr S.Store H.next_call (event.Close id.now attempt) (λ answer done. Unit {0}) result self.old self.new }
     {
         match refused(self.close(id, attempt)) {
             Some(why) => Err(why),
@@ -47,7 +48,32 @@ impl<H: Handler + Drop, S: Alter + Drop> Scheduler<H, S> {
     // The functions from here to `step` tell whether the input of the attempt is closed, where it has another turn to make, and else what it
     // has come to. `E` is whom they ask for nothing: contracts speak of it.
 
-    /// An attempt that waits is fed what has come since; where that is nothing, its input is closed.
+    /// No more comes to an attempt that waits.
+    fn close_waiting<E: Effects>(&mut self, id: &ByteStr, attempt: u32) -> Result<bool, Outcome>
+        ensures { (e : E) → Continues S.Store E.executes H.next_call (λ more. Then (event.Close id.now attempt) (λ answer. MakesTurns id.now attempt more true)) (λ next more. MakesTurns id.now attempt more next) result self.old e self.new e }
+    {
+        match self.close_now(id, attempt) {
+            Ok(()) => Ok(true),
+            Err(why) => Err(Outcome::Refused(why)),
+        }
+    }
+
+    /// Where nothing has come, the input of an attempt that waits is closed.
+    fn go_on_fed<E: Effects>(
+        &mut self,
+        id: &ByteStr,
+        attempt: u32,
+        is_none: bool,
+    ) -> Result<bool, Outcome>
+        ensures { (e : E) → Continues S.Store E.executes H.next_call (λ more. IsFedMore id.now attempt (MakesTurns id.now attempt more) is_none) (λ next more. MakesTurns id.now attempt more next) result self.old e self.new e }
+    {
+        if is_none {
+            return self.close_waiting::<E>(id, attempt);
+        }
+        Ok(false)
+    }
+
+    /// An attempt that waits is fed what has come since.
     fn wait<E: Effects>(
         &mut self,
         id: &ByteStr,
@@ -60,12 +86,8 @@ impl<H: Handler + Drop, S: Alter + Drop> Scheduler<H, S> {
             return Err(Outcome::Unfinished);
         }
         match self.feed_all(id, attempt) {
+            Ok(is_none) => self.go_on_fed::<E>(id, attempt, is_none),
             Err(why) => Err(Outcome::Refused(why)),
-            Ok(false) => Ok(false),
-            Ok(true) => match self.close_now(id, attempt) {
-                Ok(()) => Ok(true),
-                Err(why) => Err(Outcome::Refused(why)),
-            },
         }
     }
 
@@ -116,7 +138,7 @@ impl<H: Handler + Drop, S: Alter + Drop> Scheduler<H, S> {
         is_closed: bool,
         turn: Turn,
     ) -> Result<bool, Outcome>
-        ensures { (e : E) → Continues S.Store E.executes H.next_call (λ more. Then (Event.Move id.now attempt all_bytes) (λ answer. GoesOnBy id.now attempt (MakesTurns id.now attempt more) is_closed turn)) (λ next more. MakesTurns id.now attempt more next) result self.old e self.new e }
+        ensures { (e : E) → Continues S.Store E.executes H.next_call (λ more. Then (event.Move id.now attempt all_bytes) (λ answer. GoesOnBy id.now attempt (MakesTurns id.now attempt more) is_closed turn)) (λ next more. MakesTurns id.now attempt more next) result self.old e self.new e }
     {
         match self.move_all(id, attempt) {
             Ok(()) => self.go_on_by::<E>(id, attempt, is_closed, turn),
@@ -220,6 +242,21 @@ impl<H: Handler + Drop, S: Alter + Drop> Scheduler<H, S> {
         }
     }
 
+    /// The attempts that are held, of which none is held any more.
+    fn take_held(&mut self) -> HeldAttempts<H>
+        ensures held { result ≡ self.old.held }
+        ensures others { self.new ≡ record self.old { held = [] } }
+    {
+        replace(&mut self.held, HeldAttempts::new(self.alloc))
+    }
+
+    /// These are held then, and no others.
+    fn put_held(&mut self, held: HeldAttempts<H>)
+        ensures { self.new ≡ record self.old { held = held } }
+    {
+        drop(replace(&mut self.held, held));
+    }
+
     /// Goes on with an invocation at this moment, as far as it goes: an attempt is begun with this handler, is fed all of its input and
     /// makes its turns, until it is suspended, has ended or has failed. Behind each turn all that it has written is moved, and what has
     /// come since is fed. Where it asks for the body of a run, `effects` executes it then: its request is recorded, and no outcome of it.
@@ -235,9 +272,9 @@ impl<H: Handler + Drop, S: Alter + Drop> Scheduler<H, S> {
     ) -> Outcome
         ensures { GoesOn S.Store E.executes H.next_call id.now (IsAttempt id.now handler now) result self.old effects.old self.new effects.new }
     {
-        let others = replace(&mut self.held, HeldAttempts::new(self.alloc));
+        let others = self.take_held();
         let told = self.go_alone(id, handler, now, effects);
-        drop(replace(&mut self.held, others));
+        self.put_held(others);
         told
     }
 }

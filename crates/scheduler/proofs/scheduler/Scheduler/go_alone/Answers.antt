@@ -27,7 +27,7 @@ returns-in-Unheld g c empty =
     let does = rw (id, c.in-Unheld.is) at (begins g.S.Store g.H.Handler.next_call c.in-Ok.invocation c.args.handler c.args.now c.args.self.now did.new.self did.result did.ensures.does did.ensures.options
     did.ensures.settled did.ensures.moment did.ensures.cause did.ensures.crash) in
     let left = rw (id, c.in-Unheld.is) at did.ensures.unheld in
-    rw c.no_memory-2.ensures
+    rw c.no_memory-in-Unheld.ensures
     (unheld g.S.Store g.E.Effects.executes g.H.Handler.next_call c.args.id.now c.args.handler c.args.now OutOfMemory c.args.self.now did.new.self c.args.effects.now does c.in-Unheld.attempt refl left.0 left.1
     c.stop.result c.stop.new.self c.stop.ensures.does c.stop.ensures.crash)
 

@@ -11,8 +11,8 @@ loop-id-init g c = record {
   room = omega (arith, c.in-Ok.ensures.capacity, c.len.ensures, c.args.ids.ok.0);
 }
 
-pub loop-id-preserved-in-Some : goal.loop-id-preserved-in-Some
-loop-id-preserved-in-Some g c =
+pub loop-id-preserved-in-Some-go_on_unless_put_off : goal.loop-id-preserved-in-Some-go_on_unless_put_off
+loop-id-preserved-in-Some-go_on_unless_put_off g c =
     let inv = c.loop-id.invariant in
     let id = c.in-Some.id in
     record {
@@ -22,13 +22,13 @@ loop-id-preserved-in-Some g c =
       room = omega (arith, inv.room, c.push_reserved.ensures.capacity);
     }
 
-pub loop-id-preserved-in-None : goal.loop-id-preserved-in-None
-loop-id-preserved-in-None g c =
+pub loop-id-preserved : goal.loop-id-preserved
+loop-id-preserved g c =
     let inv = c.loop-id.invariant in
     let id = c.in-Some.id in
     record {
       each = none_more g.S.Store g.W.Effects.executes g.W.Host.gives g.H.Handler.next_call c.args.now c.loop-id.yielded c.loop-id.outcomes.items id _ _ _ inv.each
-          (rw c.in-None.is at c.go_on_unless_put_off.ensures);
+          (rw c.in-None-go_on_unless_put_off.is at c.go_on_unless_put_off.ensures);
       count = omega (arith, inv.count, length-append c.loop-id.yielded (id ∷ []));
       room = inv.room;
     }
