@@ -2,6 +2,7 @@
 import os
 import signal
 import tempfile
+import time
 import unittest
 from datetime import timedelta
 
@@ -13,6 +14,8 @@ from hengomaru.testing import Harness
 
 logging.getLogger("hengomaru").setLevel(logging.CRITICAL)
 
+# Seconds that a job may take, however slow the store is.
+LONGEST = 300
 HOUR, MOMENT = timedelta(hours=1), timedelta(milliseconds=2)
 svc, obj, flow = hg.Service("svc"), hg.VirtualObject("obj"), hg.Workflow("flow")
 tried = []
@@ -213,7 +216,7 @@ class Blocking:
         self.do(self.worker.open())
 
     def do(self, work):
-        return self.loop.run_until_complete(asyncio.wait_for(work, 60))
+        return self.loop.run_until_complete(asyncio.wait_for(work, 2 * LONGEST))
 
     def __getattr__(self, name):
         return lambda *given, **named: self.do(getattr(self.worker, name)(*given, **named))
@@ -225,11 +228,11 @@ class Blocking:
     def state(self, object):
         return self.do(self.worker.store.state(object))
 
-    def open_ids(self):
-        async def found():
-            return [it.id for it in await self.worker.store.list() if it.status in ("live", "due", "suspended")]
+    def listed(self):
+        return self.do(self.worker.store.list())
 
-        return self.do(found())
+    def open_ids(self):
+        return [it.id for it in self.listed() if it.status in ("live", "due", "suspended")]
 
 
 class Features(unittest.TestCase):
@@ -246,8 +249,15 @@ class Features(unittest.TestCase):
 
     def run_one(self, handler, argument=None, key=None):
         id = self.worker.submit("i", handler, argument, key)
-        self.worker.run(longest=timedelta(seconds=20))
+        self.worker.run(longest=timedelta(seconds=LONGEST))
         return self.answer(id)
+
+    def run_until(self, id, status):
+        """Goes on until an invocation stands so."""
+        ends = time.monotonic() + LONGEST
+        while not any(it.id == id and it.status == status for it in self.worker.listed()):
+            self.assertLess(time.monotonic(), ends)
+            self.worker.run(longest=timedelta(seconds=0.1))
 
     def test_calls(self):
         self.assertEqual(self.run_one(calls), [
@@ -318,9 +328,9 @@ class Features(unittest.TestCase):
     def test_cancellation(self):
         self.assertEqual(self.run_one(cancels), ["i~1", "409 and on"])
         self.worker.submit("p", calls_sleepy)
-        self.worker.run(longest=timedelta(seconds=0.3))
+        self.run_until("p~1", "suspended")
         self.worker.cancel_invocation("p")
-        self.worker.run(longest=timedelta(seconds=20))
+        self.worker.run(longest=timedelta(seconds=LONGEST))
         self.assertEqual([self.answer("p"), self.answer("p~1")], [(409, "cancelled"), "409 and on"])
 
     def test_random_numbers_are_alike_in_each_attempt(self):
@@ -389,7 +399,7 @@ class Restarts(unittest.TestCase):
         for _ in range(4):
             worker.worker.store.pipe.transport.kill()
             worker.run(longest=timedelta(milliseconds=20))
-        worker.run(longest=timedelta(seconds=20))
+        worker.run(longest=timedelta(seconds=LONGEST))
         self.assertEqual(worker.status("i"), (False, [["fast", 1], [2, 1], [3, 4], 5, [6, 7], "no: all", 8, 9], None))
 
     def test_another_process_has_the_file(self):
