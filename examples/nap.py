@@ -1,4 +1,4 @@
-"""A nap: `python3 -m hengomaru /tmp/naps.db nap:app submit n1 naps/nap`, and then `python3 -m hengomaru /tmp/naps.db nap:app`."""
+"""A nap: `hengomaru submit /tmp/naps.db nap:app n1 naps/nap`, and then `hengomaru worker /tmp/naps.db nap:app`."""
 from datetime import timedelta
 
 import hengomaru as hg

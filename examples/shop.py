@@ -1,7 +1,7 @@
 """A shop: an order is reserved at the stock, paid and shipped; one that is cancelled, or not packed in time, undoes what it did.
 
-    python3 -m hengomaru /tmp/shop.db shop:app submit o1 order/place '{"item": "tea", "amount": 2}'
-    python3 -m hengomaru /tmp/shop.db shop:app
+    hengomaru submit /tmp/shop.db shop:app o1 order/place '{"item": "tea", "amount": 2}'
+    hengomaru worker /tmp/shop.db shop:app
 
 What reaches the world stands in the file that SHOP_LOG names, or shop.log, a line for each. What a kill leaves, where it comes:
 
@@ -19,6 +19,7 @@ import hengomaru as hg
 stock, order = hg.VirtualObject("stock"), hg.Service("order")
 app = hg.app([stock, order])
 PACKING = timedelta(milliseconds=float(os.environ.get("SHOP_PACKING", "300")))
+LATE = timedelta(minutes=float(os.environ.get("SHOP_LATE", "10")))
 
 
 def reach_world(line):
@@ -60,7 +61,7 @@ async def place(ctx, wanted):
         receipt = await ctx.run("pay", reach_world, f"paid {id}")
         undo.append(("refund", lambda: ctx.run("refund", reach_world, f"refunded {id}")))
         ctx.send(pack, {"order": id, **wanted})
-        name, box = await hg.select(packed=ctx.signal("packed"), late=ctx.sleep(timedelta(minutes=10)))
+        name, box = await hg.select(packed=ctx.signal("packed"), late=ctx.sleep(LATE))
         if name == "late":
             raise hg.TerminalError("not packed in time", 504)
         await ctx.run("ship", reach_world, f"shipped {id}")

@@ -1,10 +1,9 @@
 """The machine of an attempt: each method is one call of c/hengomaru.h, by ctypes."""
 import ctypes as c
-import ctypes.util
-import os
-from pathlib import Path
+from typing import Any, Callable, Dict, List, Optional, Protocol, Tuple
 
 from . import pb
+from .places import find_library
 
 NO_DELAY = 2**64 - 1
 OK, NO_MACHINE, MEMORY, NOT_READ, FAILED, SUSPENDED, UNTOLD = range(7)
@@ -29,7 +28,7 @@ class Suspended(AttemptOver):
 class MachineFailed(AttemptOver):
     """The machine has failed, and answers so to every call: `code` as in docs/FORMATS.md, `message`, and `delay` in milliseconds or None."""
 
-    def __init__(self, code, message, delay=None):
+    def __init__(self, code: int, message: str, delay: Optional[int] = None) -> None:
         super().__init__(f"({code}) {message}")
         self.code, self.message, self.delay = code, message, delay
 
@@ -52,26 +51,51 @@ class Policy(c.Structure):
     ]
 
 
-def clone():
-    """The clone of the repository that this package stands in, or None where it was installed."""
-    top = Path(__file__).resolve().parents[2]
-    return top if (top / "c/hengomaru.h").is_file() else None
+class AttemptMachine(Protocol):
+    """What an attempt asks of its machine: each call answers at once, and each that answers a number answers a handle. Behind it stands
+    the library for C (`Machine`), or whatever `use` is given."""
+
+    def close(self) -> None: ...
+    def response_head(self) -> Tuple[int, str]: ...
+    def notify_input(self, came: bytes) -> None: ...
+    def notify_input_closed(self) -> None: ...
+    def notify_error(self, code: int, message: str, delay: Optional[int] = None, pause: bool = False) -> None: ...
+    def take_output(self) -> bytes: ...
+    def is_ready_to_execute(self) -> bool: ...
+    def state(self) -> str: ...
+    def do_await(self, tree: Any) -> Any: ...
+    def is_completed(self, handle: int) -> bool: ...
+    def take_notification(self, handle: int) -> Tuple[int, Any]: ...
+    def sys_input(self) -> Tuple[bytes, int]: ...
+    def input_part(self, part: int, index: int = 0) -> Optional[str]: ...
+    def headers(self) -> Dict[str, str]: ...
+    def sys_state_get(self, key: str) -> int: ...
+    def sys_state_get_keys(self) -> int: ...
+    def sys_state_set(self, key: str, value: bytes) -> None: ...
+    def sys_state_clear(self, key: str) -> None: ...
+    def sys_state_clear_all(self) -> None: ...
+    def sys_sleep(self, millis: int, name: str = "") -> int: ...
+    def sys_call(self, target: bytes, parameter: bytes) -> Any: ...
+    def sys_send(self, target: bytes, parameter: bytes, millis: int = 0) -> int: ...
+    def sys_cancel_invocation(self, target: str) -> None: ...
+    def sys_attach_invocation(self, target: bytes) -> int: ...
+    def sys_get_invocation_output(self, target: bytes) -> int: ...
+    def sys_awakeable(self) -> Tuple[int, str]: ...
+    def sys_complete_awakeable(self, id: str, value: bytes, failed: bool = False) -> None: ...
+    def create_signal_handle(self, name: str) -> int: ...
+    def sys_complete_signal(self, target: str, name: str, value: bytes, failed: bool = False) -> None: ...
+    def sys_get_promise(self, key: str) -> int: ...
+    def sys_peek_promise(self, key: str) -> int: ...
+    def sys_complete_promise(self, key: str, value: bytes, failed: bool = False) -> int: ...
+    def sys_run(self, name: str) -> Tuple[bool, int]: ...
+    def propose_run_success(self, handle: int, value: bytes) -> None: ...
+    def propose_run_failure(self, handle: int, failure: bytes) -> None: ...
+    def propose_run_retryable(self, handle: int, millis: int, code: int, message: str, policy: Policy) -> None: ...
+    def sys_write_output(self, value: bytes, failed: bool = False) -> None: ...
+    def sys_end(self) -> None: ...
 
 
-def find_library():
-    """The path of the machine as a shared library; FileNotFoundError where there is none."""
-    told, top = os.environ.get("HENGOMARU_LIBRARY"), clone()
-    if told:
-        return told
-    if top and (top / "out/libhengomaru.so").is_file():
-        return str(top / "out/libhengomaru.so")
-    found = ctypes.util.find_library("hengomaru")
-    if not found:
-        raise FileNotFoundError("there is no libhengomaru.so: c/build of the repository makes it in out/; HENGOMARU_LIBRARY tells where another one is")
-    return found
-
-
-def parameters():
+def parameters() -> Dict[str, Any]:
     """Of each call what stands behind the handle."""
     u16, u32, u64 = c.c_uint16, c.c_uint32, c.c_uint64
     to32, to64, signed, text = c.POINTER(u32), c.POINTER(u64), c.POINTER(c.c_int64), (c.c_char_p, c.c_size_t)
@@ -93,7 +117,7 @@ def parameters():
     }
 
 
-def load(path):
+def load(path: str) -> Any:
     library = c.CDLL(path)
     for name, told in parameters().items():
         function = getattr(library, f"hengomaru_vm_{name}")
@@ -102,7 +126,7 @@ def load(path):
     return library
 
 
-def nodes_of(tree):
+def nodes_of(tree: Any) -> List[Node]:
     """A tree as its nodes, each before its children. A tree is a handle, or (kind, children) or (AT_LEAST, children, required)."""
     if isinstance(tree, int):
         return [Node(HANDLE, tree, 0)]
@@ -113,15 +137,15 @@ def nodes_of(tree):
 class Machine:
     """An attempt's machine, for a content type. Its bytes come and go by the caller: `notify_input`, `take_output`."""
 
-    library = None
+    library: Any = None
 
     @classmethod
-    def find(cls):
+    def find(cls) -> None:
         """Loads the library, where that was not done; FileNotFoundError or OSError where it cannot be."""
         if cls.library is None:
             cls.library = load(find_library())
 
-    def __init__(self, content_type, options=0, fallback_random_seed=0):
+    def __init__(self, content_type: str, options: int = 0, fallback_random_seed: int = 0) -> None:
         self.find()
         self.handle, code = Handle(), c.c_uint32()
         status = self.ask("new", content_type, options, fallback_random_seed, c.byref(code))
@@ -130,21 +154,21 @@ class Machine:
         if status:
             raise MemoryError(WHY[status])
 
-    def close(self):
+    def close(self) -> None:
         """Lets the machine go. Each further call is refused."""
         self.library.hengomaru_vm_free(c.byref(self.handle))
 
-    def __enter__(self):
+    def __enter__(self) -> "Machine":
         return self
 
-    def __exit__(self, *_):
+    def __exit__(self, *_: Any) -> None:
         self.close()
 
-    def __del__(self):
+    def __del__(self) -> None:
         if Machine.library is not None:
             self.close()
 
-    def ask(self, name, *given):
+    def ask(self, name: str, *given: Any) -> int:
         """Makes a call, and returns its status. Text and bytes are handed over as a pointer and a length."""
         handed = []
         for it in given:
@@ -152,177 +176,199 @@ class Machine:
             handed += [bytes(it), len(it)] if isinstance(it, (bytes, bytearray)) else [it]
         return getattr(self.library, f"hengomaru_vm_{name}")(c.byref(self.handle), *handed)
 
-    def call(self, name, *given):
+    def call(self, name: str, *given: Any) -> None:
         """Makes a call that is to be done; Suspended, MachineFailed, MemoryError or ValueError where it is not."""
         status = self.ask(name, *given)
         if status == SUSPENDED:
             raise Suspended
         if status == FAILED:
             raise MachineFailed(*self.last_error())
+        if status == NO_MACHINE:
+            raise RuntimeError("the attempt is over: its context is used after it has ended")
         if status:
             raise (ValueError if status == NOT_READ else MemoryError)(WHY[status])
 
-    def told(self, name, *given, kinds=(c.c_uint32,)):
+    def told(self, name: str, *given: Any, kinds: Any = (c.c_uint32,)) -> Any:
         """Makes a call, and returns the numbers that it tells: one alone, or a list."""
         told = [it() for it in kinds]
         self.call(name, *given, *(c.byref(it) for it in told))
         return told[0].value if len(told) == 1 else [it.value for it in told]
 
-    def reply(self):
+    def reply(self) -> bytes:
         """The bytes that the last call has answered."""
         length = self.ask("reply", b"")
         room = c.create_string_buffer(max(length, 1))
         self.library.hengomaru_vm_reply(c.byref(self.handle), room, length)
         return room.raw[:length]
 
-    def last_error(self):
+    def last_error(self) -> Tuple[int, str, Optional[int]]:
         """Code, text, and delay in milliseconds or None, of what was answered last."""
         code, _, delay, _ = self.told("last_error", kinds=(c.c_uint32, c.c_uint32, c.c_uint64, c.c_int64))
         return code, self.reply().decode(), None if delay == NO_DELAY else delay
 
     # ---- what comes in and goes out
-    def response_head(self):
+    def response_head(self) -> Tuple[int, str]:
         """Status and content type."""
         return self.told("response_head"), self.reply().decode()
 
-    def notify_input(self, came):
+    def notify_input(self, came: bytes) -> None:
         self.call("notify_input", came)
 
-    def notify_input_closed(self):
+    def notify_input_closed(self) -> None:
         self.call("notify_input_closed")
 
-    def notify_error(self, code, message, delay=None, pause=False):
+    def notify_error(self, code: int, message: str, delay: Optional[int] = None, pause: bool = False) -> None:
         """The handler has failed: it is tried again after `delay` milliseconds, or paused."""
         self.call("notify_error", code, message, NO_DELAY if delay is None else delay, pause)
 
-    def take_output(self):
+    def take_output(self) -> bytes:
         self.call("take_output")
         return self.reply()
 
-    def is_ready_to_execute(self):
+    def is_ready_to_execute(self) -> bool:
         return bool(self.told("is_ready_to_execute"))
 
-    def state(self):
+    def state(self) -> str:
         return STATES[self.told("state")]
 
-    def last_command_index(self):
+    def last_command_index(self) -> int:
         return self.told("last_command_index", kinds=(c.c_int64,))
 
     # ---- waiting
-    def do_await(self, tree):
+    def do_await(self, tree: Any) -> Any:
         """What the await of a tree has come to, and its detail."""
         nodes = nodes_of(tree)
         return self.told("do_await", (Node * len(nodes))(*nodes), len(nodes), kinds=(c.c_uint32, c.c_uint32))
 
-    def is_completed(self, handle):
+    def is_completed(self, handle: int) -> bool:
         return bool(self.told("is_completed", handle))
 
-    def taken(self, kind):
+    def taken(self, kind: int) -> Tuple[int, Any]:
         if kind == FAILURE:
             return kind, pb.read_failure(self.reply())
         if kind == KEYS:
             return kind, [content.decode() for number, content in pb.fields(self.reply()) if number == 1]
         return kind, {VALUE: self.reply(), INVOCATION_ID: self.reply().decode(errors="replace")}.get(kind)
 
-    def take_notification(self, handle):
+    def take_notification(self, handle: int) -> Tuple[int, Any]:
         """What has come of a handle: its kind, and bytes of a VALUE, (code, message, metadata), a list of keys, or an id."""
         return self.taken(self.told("take_notification", handle))
 
-    def take_ephemeral_notification(self, number):
+    def take_ephemeral_notification(self, number: int) -> Tuple[int, Any]:
         return self.taken(self.told("take_ephemeral_notification", number))
 
     # ---- the handler's calls: each that answers a number answers a handle
-    def sys_input(self):
+    def sys_input(self) -> Tuple[bytes, int]:
         """The input's bytes, and the seed of random numbers that are alike in each attempt."""
         seed = self.told("sys_input", kinds=(c.c_uint64,))
         return self.reply(), seed
 
-    def input_part(self, part, index=0):
+    def input_part(self, part: int, index: int = 0) -> Optional[str]:
         """A text of the input, or None."""
         return self.reply().decode() if self.told("input_part", part, index) else None
 
-    def headers(self):
-        found = {}
+    def headers(self) -> Dict[str, str]:
+        found: Dict[str, str] = {}
         while (name := self.input_part(HEADER_NAME, len(found))) is not None:
-            found[name] = self.input_part(HEADER_VALUE, len(found))
+            found[name] = self.input_part(HEADER_VALUE, len(found)) or ""
         return found
 
-    def sys_state_get(self, key):
+    def sys_state_get(self, key: str) -> int:
         return self.told("sys_state_get", key, 0)
 
-    def sys_state_get_keys(self):
+    def sys_state_get_keys(self) -> int:
         return self.told("sys_state_get_keys")
 
-    def sys_state_set(self, key, value):
+    def sys_state_set(self, key: str, value: bytes) -> None:
         self.call("sys_state_set", key, value, 0)
 
-    def sys_state_clear(self, key):
+    def sys_state_clear(self, key: str) -> None:
         self.call("sys_state_clear", key)
 
-    def sys_state_clear_all(self):
+    def sys_state_clear_all(self) -> None:
         self.call("sys_state_clear_all")
 
-    def ephemeral_state_get(self, key):
+    def ephemeral_state_get(self, key: str) -> int:
         return self.told("ephemeral_state_get", key)
 
-    def sys_sleep(self, millis, name=""):
+    def sys_sleep(self, millis: int, name: str = "") -> int:
         return self.told("sys_sleep", name, millis)
 
-    def sys_call(self, target, parameter):
+    def sys_call(self, target: bytes, parameter: bytes) -> Any:
         """Two handles: of the id of what is called, and of its answer."""
         return self.told("sys_call", target, parameter, 0, kinds=(c.c_uint32, c.c_uint32))
 
-    def sys_send(self, target, parameter, millis=0):
+    def sys_send(self, target: bytes, parameter: bytes, millis: int = 0) -> int:
         return self.told("sys_send", target, parameter, millis, 0)
 
-    def sys_cancel_invocation(self, target):
+    def sys_cancel_invocation(self, target: str) -> None:
         self.call("sys_cancel_invocation", target)
 
-    def sys_attach_invocation(self, target):
+    def sys_attach_invocation(self, target: bytes) -> int:
         return self.told("sys_attach_invocation", target)
 
-    def sys_get_invocation_output(self, target):
+    def sys_get_invocation_output(self, target: bytes) -> int:
         return self.told("sys_get_invocation_output", target)
 
-    def sys_awakeable(self):
+    def sys_awakeable(self) -> Tuple[int, str]:
         """A handle, and the text by which it is completed."""
         handle = self.told("sys_awakeable")
         return handle, self.reply().decode()
 
-    def sys_complete_awakeable(self, id, value, failed=False):
+    def sys_complete_awakeable(self, id: str, value: bytes, failed: bool = False) -> None:
         self.call("sys_complete_awakeable", id, value, failed, 0)
 
-    def create_signal_handle(self, name):
+    def create_signal_handle(self, name: str) -> int:
         return self.told("create_signal_handle", name)
 
-    def sys_complete_signal(self, target, name, value, failed=False):
+    def sys_complete_signal(self, target: str, name: str, value: bytes, failed: bool = False) -> None:
         self.call("sys_complete_signal", target, name, value, failed)
 
-    def sys_get_promise(self, key):
+    def sys_get_promise(self, key: str) -> int:
         return self.told("sys_get_promise", key)
 
-    def sys_peek_promise(self, key):
+    def sys_peek_promise(self, key: str) -> int:
         return self.told("sys_peek_promise", key)
 
-    def sys_complete_promise(self, key, value, failed=False):
+    def sys_complete_promise(self, key: str, value: bytes, failed: bool = False) -> int:
         return self.told("sys_complete_promise", key, value, failed, 0)
 
-    def sys_run(self, name):
+    def sys_run(self, name: str) -> Tuple[bool, int]:
         """Whether its outcome is recorded, and a handle."""
         replayed, handle = self.told("sys_run", name, kinds=(c.c_uint32, c.c_uint32))
         return bool(replayed), handle
 
-    def propose_run_success(self, handle, value):
+    def propose_run_success(self, handle: int, value: bytes) -> None:
         self.call("propose_run_success", handle, value)
 
-    def propose_run_failure(self, handle, failure):
+    def propose_run_failure(self, handle: int, failure: bytes) -> None:
         self.call("propose_run_failure", handle, failure)
 
-    def propose_run_retryable(self, handle, millis, code, message, policy):
+    def propose_run_retryable(self, handle: int, millis: int, code: int, message: str, policy: Policy) -> None:
         self.call("propose_run_retryable", handle, millis, code, message, c.byref(policy))
 
-    def sys_write_output(self, value, failed=False):
+    def sys_write_output(self, value: bytes, failed: bool = False) -> None:
         self.call("sys_write_output", value, failed, 0)
 
-    def sys_end(self):
+    def sys_end(self) -> None:
         self.call("sys_end")
+
+
+Open = Callable[[str], AttemptMachine]
+_open: List[Open] = []
+
+
+def use(how: Open) -> None:
+    """Has machines made by another function of a content type than by the library for C."""
+    _open[:] = [how]
+
+
+def open(content_type: str) -> AttemptMachine:
+    """A machine for a content type. MachineFailed where that is not spoken."""
+    return _open[0](content_type) if _open else Machine(content_type)
+
+
+def find() -> None:
+    """Looks for the library, where machines are made by it: FileNotFoundError or OSError where there is none."""
+    if not _open:
+        Machine.find()

@@ -1,7 +1,8 @@
 """Payloads of the protocol's records, in the wire format of Protocol Buffers (docs/FORMATS.md, "Records")."""
+from typing import Any, Dict, List, NamedTuple, Optional, Tuple
 
 
-def varint(number):
+def varint(number: int) -> bytes:
     made = bytearray()
     while number > 0x7F:
         made.append(number & 0x7F | 0x80)
@@ -10,7 +11,7 @@ def varint(number):
     return bytes(made)
 
 
-def field(number, content):
+def field(number: int, content: Any) -> bytes:
     """One field: an int is a varint, text and bytes are their length and they; None is left out."""
     if content is None:
         return b""
@@ -20,12 +21,12 @@ def field(number, content):
     return varint(number << 3 | 2) + varint(len(content)) + content
 
 
-def record(*fields):
+def record(*fields: Tuple[int, Any]) -> bytes:
     """A record of pairs: a field's number, and its content or a list of contents."""
     return b"".join(field(number, it) for number, content in fields for it in (content if isinstance(content, list) else [content]))
 
 
-def read_varint(payload, at):
+def read_varint(payload: bytes, at: int) -> Tuple[int, int]:
     number = shift = 0
     while True:
         byte = payload[at]
@@ -34,9 +35,11 @@ def read_varint(payload, at):
             return number, at
 
 
-def fields(payload):
+def fields(payload: bytes) -> List[Tuple[int, Any]]:
     """The fields of a record in their order, each its number and its content, an int or bytes. ValueError where it is no record."""
-    at, found = 0, []
+    at = 0
+    found: List[Tuple[int, Any]] = []
+    content: Any
     try:
         while at < len(payload):
             tag, at = read_varint(payload, at)
@@ -53,39 +56,53 @@ def fields(payload):
     return found
 
 
-def pairs(number, told):
+def pairs(number: int, told: Any) -> Tuple[int, List[bytes]]:
     """A repeated field of pairs of texts."""
     return number, [record((1, key), (2, value)) for key, value in dict(told).items()]
 
 
-def read_pairs(number, found):
+def read_pairs(number: int, found: List[Tuple[int, Any]]) -> Dict[str, str]:
     """The pairs of texts of a repeated field."""
     read = (dict(fields(content)) for tag, content in found if tag == number)
     return {it.get(1, b"").decode(): it.get(2, b"").decode() for it in read}
 
 
-def failure(code, message, metadata=()):
+def failure(code: int, message: str, metadata: Any = ()) -> bytes:
     """The record Failure: a code such as HTTP has, a text, and pairs of texts."""
     return record((1, code or None), (2, message or None), pairs(3, metadata))
 
 
-def read_failure(payload):
+def read_failure(payload: bytes) -> Tuple[int, str, Dict[str, str]]:
     """Code, message, metadata."""
     found = fields(payload)
     last = dict(found)
     return last.get(1, 0), last.get(2, b"").decode(), read_pairs(3, found)
 
 
-def call_target(service, handler, key=None, idempotency_key=None, headers=()):
+def call_target(service: str, handler: str, key: Optional[str] = None, idempotency_key: Optional[str] = None, headers: Any = ()) -> bytes:
     """The record CallCommand, by which a call or a send names its target."""
     return record((1, service), (2, handler), pairs(4, headers), (5, key or None), (6, idempotency_key))
 
 
-def frames(stream):
-    """The frames of a stream that is whole: each its type and its payload."""
+class Frame(NamedTuple):
+    """A frame: its type, its payload, and all its bytes."""
+
+    type: int
+    payload: bytes
+    whole: bytes
+
+
+def frame(type: int, payload: bytes) -> bytes:
+    return type.to_bytes(2, "big") + bytes(2) + len(payload).to_bytes(4, "big") + payload
+
+
+def frames(stream: bytes) -> List[Frame]:
+    """The whole frames that a stream begins with."""
     at, found = 0, []
-    while at < len(stream):
-        length = int.from_bytes(stream[at + 4 : at + 8], "big")
-        found.append((int.from_bytes(stream[at : at + 2], "big"), stream[at + 8 : at + 8 + length]))
-        at += 8 + length
+    while len(stream) - at >= 8:
+        ends = at + 8 + int.from_bytes(stream[at + 4 : at + 8], "big")
+        if ends > len(stream):
+            break
+        found.append(Frame(int.from_bytes(stream[at : at + 2], "big"), stream[at + 8 : ends], stream[at:ends]))
+        at = ends
     return found

@@ -1,9 +1,16 @@
 """Handlers by their names, and how invocations of them are named."""
-from typing import NamedTuple
+import inspect
+import typing
+from typing import Any, Awaitable, Callable, Dict, Iterable, NamedTuple, Optional, TypeVar, cast
 from urllib.parse import quote, unquote
+
+from .serdes import JSON, Serde, serde_for
+
+F = TypeVar("F", bound=Callable[..., Awaitable[Any]])
 
 # The headers by which an invocation tells what it is of, and who has called it. A handler is not shown them.
 OWN_HEADERS = "hengomaru-"
+OWN_NAME = "hengomaru"
 HANDLER, KEY, CALLER = (OWN_HEADERS + it for it in ("handler", "key", "caller"))
 
 
@@ -14,7 +21,7 @@ class Target(NamedTuple):
     handler: str
     key: str = ""
 
-    def headers(self):
+    def headers(self) -> Dict[str, str]:
         """How an invocation tells of what it is."""
         return {HANDLER: f"{quote(self.service, safe='')}/{quote(self.handler, safe='')}", KEY: self.key}
 
@@ -22,11 +29,23 @@ class Target(NamedTuple):
 class Handler(NamedTuple):
     service: "Service"
     name: str
-    function: object
+    function: Callable[..., Awaitable[Any]]
     # One invocation at a time for each key, which has the key's state.
     has_key: bool
+    input: Serde = JSON
+    output: Serde = JSON
 
-    def target(self, key):
+    @property
+    def wants_key(self) -> bool:
+        """Whether it is called with a key: of an object, or a workflow."""
+        return self.has_key or isinstance(self.service, (VirtualObject, Workflow))
+
+    def check_key(self, target: Target) -> None:
+        """ValueError where the target lacks the key that it is called with."""
+        if self.wants_key and not target.key:
+            raise ValueError(f"{target.service}/{target.handler} is called with a key")
+
+    def target(self, key: Optional[str]) -> Target:
         return Target(self.service.name, self.name, key or "")
 
 
@@ -35,17 +54,54 @@ class Service:
 
     has_keys = False
 
-    def __init__(self, name):
-        self.name, self.handlers = name, {}
+    def __init__(self, name: str) -> None:
+        check_name("service", name)
+        self.name = name
+        self.handlers: Dict[str, Handler] = {}
 
-    def handler(self, name=None):
-        """Makes a function a handler: `async def handler(ctx, argument)`."""
+    def handler(self, name: Optional[str] = None) -> Callable[[F], F]:
+        """Makes a function a handler: `async def handler(ctx, argument)`, or without an argument. Its annotations tell how what it takes
+        and answers becomes bytes (`serdes.py`)."""
+        check_brackets(name)
         return lambda function: self.add(function, name, self.has_keys)
 
-    def add(self, function, name, has_key):
-        it = Handler(self, name or function.__name__, function, has_key)
-        self.handlers[it.name] = function.handler_of_hengomaru = it
+    def add(self, function: F, name: Optional[str], has_key: bool) -> F:
+        told = name or told_name(function)
+        if not inspect.iscoroutinefunction(cast(Any, function)):
+            raise TypeError(f"{self.name}/{told} is no handler: a handler is an `async def` without `yield`")
+        takes_argument = takes(function, 2)
+        if not takes_argument and not takes(function, 1):
+            raise TypeError(f"{self.name}/{told} is no handler: it takes (ctx), or (ctx, argument)")
+        check_name("handler", told)
+        if told in self.handlers:
+            raise ValueError(f"{self.name}/{told} is there already: each handler of a service has a name of its own")
+        argument, answers = annotated(function)
+        goes: Callable[..., Awaitable[Any]] = function
+        if not takes_argument:
+            goes = lambda ctx, argument: function(ctx)
+        it = Handler(self, told, goes, has_key, serde_for(argument), serde_for(answers))
+        self.handlers[it.name] = it
+        cast(Any, function).handler_of_hengomaru = it
         return function
+
+
+def check_name(what: str, name: str) -> None:
+    if not isinstance(name, str) or not name or not is_text(name):
+        raise ValueError(f"a {what} has a name, and {name!r} is none")
+
+
+def check_brackets(name: Any) -> None:
+    if name is not None and not isinstance(name, str):
+        raise TypeError("a handler is made by `@service.handler()`, or `@service.handler(NAME)`, with its brackets")
+
+
+def takes(function: Any, many: int) -> bool:
+    """Whether a function can be called with so many arguments."""
+    try:
+        inspect.signature(function).bind(*[None] * many)
+    except TypeError:
+        return False
+    return True
 
 
 class VirtualObject(Service):
@@ -57,62 +113,123 @@ class VirtualObject(Service):
 class Workflow(Service):
     """A main handler that runs once for each key, and others that go beside it, which may complete its promises. The state is main's alone."""
 
-    def main(self, name=None):
+    def main(self, name: Optional[str] = None) -> Callable[[F], F]:
         """Makes a function the main handler."""
+        check_brackets(name)
         return lambda function: self.add(function, name, True)
 
 
-class App(dict):
+class App(Dict[str, Service]):
     """Services by their names."""
 
-    def __init__(self, services):
-        super().__init__((it.name, it) for it in services)
+    def __init__(self, services: Iterable[Service]) -> None:
+        super().__init__()
+        for it in services:
+            if not isinstance(it, Service):
+                raise TypeError(f"an app is of services, and {it!r} is none")
+            if it.name in self:
+                raise ValueError(f"two services are named {it.name}")
+            if it.name == OWN_NAME:
+                raise ValueError(f"{OWN_NAME} is a service of the package itself: yours has another name")
+            self[it.name] = it
 
-    def find(self, target):
+    def find(self, target: Target) -> Optional[Handler]:
         """The handler of a target, or None."""
         service = self.get(target.service)
         return service.handlers.get(target.handler) if service else None
 
 
-def app(services):
-    """Services together, for `python3 -m hengomaru DATABASE MODULE:APP`."""
+def app(services: Iterable[Service]) -> App:
+    """Services together, for `hengomaru worker DATABASE MODULE:APP`."""
     return App(services)
 
 
-def target_of(told, key=None):
+def told_name(function: Any) -> str:
+    return getattr(function, "__name__", repr(function))
+
+
+def annotated(function: Any) -> "tuple[Any, Any]":
+    """What a handler's argument and answer are annotated with; None where they are not, or not by names that are known here."""
+    try:
+        hints = typing.get_type_hints(function)
+    except (NameError, TypeError):
+        return None, None
+    argument = list(inspect.signature(function).parameters)[1:2]
+    return (hints.get(argument[0]) if argument else None), hints.get("return")
+
+
+def target_of(told: Any, key: Optional[str] = None) -> Target:
     """The target of a function that is a handler, of (service, handler), or of the text SERVICE/HANDLER or SERVICE/HANDLER/KEY."""
     if isinstance(told, str):
-        told, at = told.split("/", 2), key
-        told, key = told[:2], (told[2] if len(told) > 2 else at)
+        words = told.split("/", 2)
+        if len(words) < 2:
+            raise ValueError(f"{told!r} names no handler: SERVICE/HANDLER does, or SERVICE/HANDLER/KEY")
+        told, key = words[:2], (words[2] if len(words) > 2 else key)
     if isinstance(told, (tuple, list)):
-        return Target(*told[:2], key or "")
+        return Target(told[0], told[1], key or "")
+    if not isinstance(getattr(told, "handler_of_hengomaru", None), Handler):
+        raise TypeError(f"{told_name(told)} is no handler: `@service.handler()` makes a function one")
     return told.handler_of_hengomaru.target(key)
 
 
-def target_in(headers):
+def target_in(headers: Dict[str, str]) -> Target:
     """The target that an invocation's headers tell."""
     service, _, handler = headers.get(HANDLER, "").partition("/")
     return Target(unquote(service), unquote(handler), headers.get(KEY, ""))
 
 
-def named(*words):
-    return "/".join(quote(it, safe="") for it in words)
+def named(*words: str) -> str:
+    """Words as one name, which no other words have. `~` stands in no word of it."""
+    return "/".join(quote(it, safe="").replace("~", "%7E") for it in words)
 
 
-def object_of(handler, target, id):
+def is_text(told: str) -> bool:
+    """Whether it can be written as UTF-8."""
+    try:
+        told.encode()
+    except UnicodeEncodeError:
+        return False
+    return True
+
+
+def check_id(id: str) -> str:
+    """An id that its user has chosen; ValueError where the package may make such a one itself, or where it would not be told from others
+    in a list. What the package makes has a `/` (of a workflow, of an idempotency key) or a `~` (of a call, of what waits to call)."""
+    if not id or "/" in id or "~" in id or not id.isprintable() or not is_text(id):
+        raise ValueError(f"{id!r} is no id: one is of printable characters, without `/` and `~`, as the package makes ids with these itself")
+    return id
+
+
+def child_of(id: str, place: int) -> str:
+    """The id of what an invocation calls at a place."""
+    return f"{id}~{place}"
+
+
+def check_headers(headers: Any) -> Dict[str, str]:
+    """Headers of a call; ValueError for names that the package uses itself."""
+    told = dict(headers or ())
+    for name, value in told.items():
+        if not isinstance(name, str) or not isinstance(value, str) or not is_text(name) or not is_text(value):
+            raise ValueError(f"a header is a text by its name, and {name!r}: {value!r} is none")
+        if name.lower().startswith(OWN_HEADERS):
+            raise ValueError(f"a header {name} is no caller's: the package uses names that begin with {OWN_HEADERS} itself")
+    return told
+
+
+def object_of(handler: Handler, target: Target, id: str) -> str:
     """The object of an invocation: for each there is one open invocation at a time, and a state."""
     if handler.has_key:
         return named(target.service, target.key)
-    return named(target.service, target.key, "", id) if target.key else id
+    return f"{named(target.service, target.key)}/~{named(id)}" if target.key else id
 
 
-def space_of(object):
+def space_of(object: str) -> "tuple[str, str]":
     """Service and key of a workflow's invocation, by its object."""
     service, key, *_ = [*object.split("/"), ""]
     return unquote(service), unquote(key)
 
 
-def id_of(handler, target, idempotency_key):
+def id_of(handler: Handler, target: Target, idempotency_key: Optional[str]) -> Optional[str]:
     """The id that is the same each time: of a workflow's main handler, and where a key says which call is the same. Else None."""
     if isinstance(handler.service, Workflow) and handler.has_key:
         return named(target.service, target.key)

@@ -1,226 +1,323 @@
-"""A worker: it goes on with what is due, delivers what was asked of others, and wakes itself at the next moment."""
+"""A worker: it goes on with what is due, many attempts side by side, delivers what was asked of others, and wakes itself at the next
+moment. What is amiss with one invocation is told, and tried again later; it ends no other."""
+import asyncio
 import logging
 import time
+from collections import deque
+from concurrent.futures import ThreadPoolExecutor
 from datetime import timedelta
+from typing import Any, Awaitable, Callable, Coroutine, Deque, Dict, List, Optional, Set, Union
 
-from .attempt import Attempt, FrameRefused
-from .context import from_json, to_json
-from .delivery import AWAKEABLE, BUSY, OWN, SIGNAL, Delivery
-from .machine import Machine
-from .services import App, id_of, object_of, target_of
-from .store import OPEN, Refused, Store, StoreGone
+from . import machine as machines
+from .attempt import Attempt, cut
+from .delivery import LATER, OWN, TRANSIENT
+from .futures import told_of
+from .jobs import Busy, Status, answer_in
+from .recovery import FIRST_INTERVAL, LAST_INTERVAL, NEVER, PAUSE, Recovery
+from .services import OWN_NAME, App, Handler, Service
+from .session import Session, woken
+from .store import Refused, Store, StoreGone, Value
 
-FIRST_INTERVAL, LAST_INTERVAL = 50, 10_000
-PAUSE = 1
+__all__ = ["Busy", "FIRST_INTERVAL", "HostGone", "LAST_INTERVAL", "NEVER", "PAUSE", "Status", "Worker", "now_in_millis"]
+log = logging.getLogger("hengomaru")
+MISMATCH = 570
+# So many different things are told of one invocation until it gets further.
+MOST_TOLD = 10
 
 
-def now_in_millis():
+def now_in_millis() -> int:
     return int(time.time() * 1000)
 
 
-class Busy(Exception):
-    """The object has an open invocation, of another id."""
+class HostGone(Exception):
+    """Where the handler is cannot be reached, or does not speak as it should: the attempt is tried again."""
 
 
-class Worker(Delivery):
-    """Goes on with the invocations of a database, whose handlers are an app's or a list of services. Its handlers, and the bodies of their
-    runs, go one after the other. Where the store's process is gone, `step` and `run` begin it anew, and go on.
+Host = Callable[[Session], Awaitable[None]]
 
-    It tells by `ended(id, value, failure)` of each invocation that ends, and that no other has called: a value such as JSON has, or None and
-    (code, message).
+
+class Worker(Recovery):
+    """Goes on with the invocations of a database, whose handlers are an app's or a list of services.
+
+    At most `limit` attempts are live at a time. One that waits stays so for `linger` seconds, unless its place is wanted, and then is
+    suspended. One that fails is tried again, later each time; after `tries` failures in a row it is paused until `resume` (0: never).
+    Plain functions as bodies of runs go in so many `threads`. Where handlers are elsewhere, `host` takes a session there (`remote.py`). It
+    tells by `ended(id, value, failure)` of each invocation that ends, and that no other has called. Where the store's process is gone, it
+    is begun anew. A worker belongs to the loop, and the thread, that have opened it.
     """
 
-    def __init__(self, database, app, program=None, clock=now_in_millis, ended=None):
+    def __init__(
+        self, database: Any, app: Union[App, List[Service]], program: Optional[str] = None, clock: Callable[[], int] = now_in_millis,
+        ended: Optional[Callable[[str, Any, Any], None]] = None, limit: int = 256, linger: float = 0.5, threads: int = 64, host: Optional[Host] = None,
+        tries: int = 100,
+    ) -> None:
         self.app = app if isinstance(app, App) else App(app)
-        self.app[OWN.name] = OWN
-        Machine.find()
+        self.app[OWN_NAME] = OWN
         self.store, self.clock, self.tell_ended = Store(database, program), clock, ended
-        self.log = logging.getLogger("hengomaru")
+        self.limit, self.linger, self.tries, self.host = limit, linger, tries, host or self.here
+        self.pool = ThreadPoolExecutor(threads, "hengomaru-run")
+        self.live: Dict[str, Session] = {}
+        # Those whose store's process has ended under them.
+        self.cut_off: Dict[str, Session] = {}
+        self.idle: Dict[str, Session] = {}
+        self.backlog: Deque[str] = deque()
+        self.tasks: "Set[asyncio.Task[Any]]" = set()
+        self.dirty: Set[str] = set()
+        self.asked: "Dict[str, List[asyncio.Future[None]]]" = {}
+        # How often each has failed in a row, and of these how often its handler; when it is tried again; what was told of it.
+        self.failures: Dict[str, int] = {}
+        self.faults: Dict[str, int] = {}
+        self.not_before: Dict[str, float] = {}
+        self.told: Dict[str, Set[str]] = {}
+        # The protocol's version of what is made.
+        self.version = 9
+        self.is_stopping = self.is_watching = self.is_closed = False
+        self.began = self.done = 0
+        # When the store's process was begun, and how many seconds it was waited for.
+        self.opened_at, self.rest = 0.0, 0.0
+
+    # ---- beginning and end
+    async def open(self) -> "Worker":
+        if self.host == self.here:
+            machines.find()
+        self.prepare()
+        await self.store.open()
+        self.opened_at = time.monotonic()
         try:
-            self.recover()
-        except StoreGone:
-            self.reopen()
-
-    def close(self):
-        """Ends the store's process: all that is recorded is in the file then."""
-        self.store.close()
-
-    def __enter__(self):
+            try:
+                await self.recover()
+            except StoreGone:
+                await self.reopen()
+        except BaseException:
+            await self.store.close()
+            raise
         return self
 
-    def __exit__(self, *_):
-        self.close()
-
-    # ---- jobs
-    def submit(self, id, handler, argument=None, key=None, idempotency_key=None, headers=()):
-        """Makes an invocation, and returns its id: None is one of its own, or that which the idempotency key or the workflow's key
-        tells. The same id again is the same invocation. Busy where the object has another one that is open."""
-        target = target_of(handler, key)
-        found = self.app.find(target)
-        if found is None:
-            raise LookupError(f"there is no handler {target.service}/{target.handler}")
-        id = id or id_of(found, target, idempotency_key) or f"inv-{time.time_ns():x}"
-        if self.retried(self.invoke, id, target, to_json(argument), headers) == BUSY:
-            raise Busy(f"{object_of(found, target, id)} has an open invocation")
-        return id
-
-    def status(self, id):
-        """Whether an invocation is open, its answer's value, and (code, message) of a failure. LookupError where there is none."""
-        shown = self.retried(self.show, id)
-        if shown is None:
-            raise LookupError(f"there is no invocation {id}")
-        return (shown.is_open, *answer_in(shown.answer))
-
-    def resolve_awakeable(self, id, value=None):
-        """Whether its invocation waits, and had no value for it."""
-        return self.retried(self.complete_awakeable, id, to_json(value))
-
-    def reject_awakeable(self, id, message, code=500):
-        return self.retried(self.complete_awakeable, id, (code, message))
-
-    def signal(self, id, name, value=None):
-        """Refused where the invocation is closed (S5) or there is none (S4). Twice is two signals."""
-        self.retried(self.store.signal, id, name, to_json(value))
-
-    def cancel_invocation(self, id):
-        self.retried(self.cancel, id)
-
-    def open_ids(self):
-        return [it.id for it in self.retried(lambda: list(self.store.list())) if it.status in OPEN]
-
-    def retried(self, call, *given):
-        """A call that may be repeated where the store's process is gone before it has answered."""
-        while True:
-            try:
-                return call(*given)
-            except StoreGone:
-                self.reopen()
-
-    # ---- what is known without the store
-    def recover(self):
-        """Asks the store for all: who waits for whom, and what was recorded and not delivered."""
+    def prepare(self) -> None:
+        """Makes what belongs to the running loop."""
+        self.pulse, self.opening = asyncio.Event(), asyncio.Lock()
+        self.store.tell_gone = self.pulse.set
         self.forget()
-        self.failures, self.not_before = {}, {}
-        self.objects = {it.id: it.object for it in self.store.list() if it.status in OPEN}
-        self.dirty = set(self.objects)
-        for id in sorted(self.dirty):
-            self.post_again(id)
-            self.read_error(id)
 
-    def reopen(self):
+    async def close(self, grace: float = 10.0) -> None:
+        """Suspends what waits, waits so many seconds for what does not, stops the rest, and ends the store's process."""
+        self.is_stopping = True
+        for it in self.live.values():
+            it.leave()
+        if self.tasks:
+            await asyncio.wait(self.tasks, timeout=grace)
+        for task in self.tasks:
+            task.cancel()
+        await asyncio.gather(*self.tasks, return_exceptions=True)
+        self.is_closed = True
+        await self.store.close()
+        self.pool.shutdown(wait=False)
+
+    async def __aenter__(self) -> "Worker":
+        return await self.open()
+
+    async def __aexit__(self, *_: Any) -> None:
+        await self.close()
+
+    # ---- what happens beside
+    def spawn(self, work: Coroutine[Any, Any, Any]) -> "asyncio.Task[Any]":
+        task = asyncio.ensure_future(work)
+        self.tasks.add(task)
+        task.add_done_callback(self.over)
+        return task
+
+    def over(self, task: "asyncio.Task[Any]") -> None:
+        self.tasks.discard(task)
+        self.pulse.set()
+        if not task.cancelled() and task.exception() and not isinstance(task.exception(), StoreGone):
+            log.error("a task of the worker has failed", exc_info=task.exception())
+
+    def wake(self, id: str) -> None:
+        """Something has come for an invocation: its live attempt is told, or it may be due."""
+        session = self.live.get(id)
+        if session:
+            session.wake()
+        else:
+            self.pulse.set()
+
+    def awaken(self, ids: Set[str]) -> None:
+        for id in ids:
+            if id not in self.dirty:
+                self.dirty.add(id)
+                self.spawn(self.deliver_again(id))
+
+    async def deliver_again(self, id: str) -> None:
+        """What an invocation asks of others is looked at again, as often as the store has no room for it."""
+        self.dirty.discard(id)
         while True:
             try:
-                self.store.open()
-                return self.recover()
-            except StoreGone:
-                pass
-
-    def read_error(self, id):
-        """An invocation that was paused stays so until `resume`."""
-        error = self.store.error(id)
-        if error and error[1] == PAUSE:
-            self.not_before[id] = float("inf")
-
-    def resume(self, id):
-        """Goes on with an invocation that is paused, or waits for its next try."""
-        self.not_before.pop(id, None)
-
-    def interval(self, id):
-        """Milliseconds until an invocation is tried again, whose attempt has failed: each time twice as long."""
-        return min(FIRST_INTERVAL << min(self.failures.get(id, 0), 20), LAST_INTERVAL)
+                return await self.deliver(id)
+            except Refused as refused:
+                if refused.name in ("S4", "S5"):  # it has ended meanwhile
+                    return
+                if refused.name not in TRANSIENT:
+                    raise
+                await asyncio.sleep(1)
 
     # ---- going on
-    def recorded(self, id, place, type, payload):
-        if type in (SIGNAL, AWAKEABLE):
-            self.post(id, place, type, payload)
+    async def tick(self) -> None:
+        if await self.store.tick(self.clock()):
+            self.pulse.set()
 
-    def due(self, now):
-        return [it for it in self.store.due() if self.not_before.get(it, 0) <= now]
-
-    def step(self):
-        """Goes on with all that is due, and delivers; whether anything was done."""
-        try:
-            return self.step_once()
-        except StoreGone:
-            self.reopen()
-            return True
-
-    def step_once(self):
+    async def step(self) -> Optional[float]:
+        """Begins what is due, as far as there is room; when there is more to do."""
+        self.pulse.clear()
+        await self.tick()
+        waiting = [it for it in self.idle.values() if it.idle_since is not None]
+        is_asked = not self.backlog and (len(self.live) < self.limit or bool(waiting))
+        if is_asked:
+            self.backlog.extend(it for it in await self.store.due() if it not in self.live)
         now = self.clock()
-        done, due = self.store.tick(now), self.due(now)
-        for id in due:
-            self.attempt(id, now)
-        return self.deliver_dirty() or bool(done or due)
+        while self.backlog and len(self.live) < self.limit and not self.is_stopping:
+            id = self.backlog.popleft()
+            if id not in self.live and self.not_before.get(id, 0) <= now:
+                self.live[id] = Session(self, id)
+                self.live[id].task = self.spawn(self.attend(self.live[id]))
+        for it in waiting[: len(self.backlog)]:
+            it.leave()  # its place is wanted
+        if is_asked and not self.backlog:  # what is over, and was not due, waits for something else
+            for id in [it for it, moment in self.not_before.items() if moment <= now and it not in self.live]:
+                self.not_before.pop(id)
+        moment = await self.store.next_moment()
+        return min([it for it in (moment, *self.not_before.values()) if it is not None and it != NEVER], default=None)
 
-    def deliver_dirty(self):
-        done = False
-        while self.dirty:
-            done |= self.deliver(self.dirty.pop())
-        return done
+    async def settle(self) -> Optional[float]:
+        """Goes on until time has to pass, or something has to come: the next moment."""
+        while True:
+            moment = await self.step()
+            if self.tasks:
+                await woken(self.pulse, None)
+            elif not self.pulse.is_set() and not self.backlog and (moment is None or moment > self.clock()):
+                return moment
 
-    def attempt(self, id, now):
-        """Goes on with an invocation as far as it can."""
-        self.not_before.pop(id, None)
-        attempt = Attempt(self, id, now)
-        try:
-            ended = attempt.run()
-        except (FrameRefused, Refused) as refused:
-            self.log.error("%s: the attempt is stopped: %s", id, refused)
-            self.stop(attempt)
-            return self.put_off(id, self.interval(id))
-        if ended == "ended":
-            return self.close_invocation(attempt)
-        if ended == "failed":
-            return self.fail(id)
-        self.failures.pop(id, None)
-        self.dirty.add(id)
-
-    def stop(self, attempt):
-        try:
-            self.store.stop(attempt.id, attempt.number)
-        except Refused:
-            pass
-
-    def fail(self, id):
-        """The attempt has failed: when it is tried again is told by its error, or by how often it has failed."""
-        code, behavior, delay, message = self.store.error(id)
-        self.log.warning("%s: (%d) %s", id, code, message)
-        self.dirty.add(id)
-        self.put_off(id, float("inf") if behavior == PAUSE else self.interval(id) if delay is None else delay)
-
-    def put_off(self, id, delay):
-        self.failures[id] = self.failures.get(id, 0) + 1
-        self.not_before[id] = self.clock() + delay
-
-    def close_invocation(self, attempt):
-        """Goes on with whoever waits for its answer, or for its object. What no other has called is told."""
-        id = attempt.id
-        self.failures.pop(id, None)
-        self.dirty.discard(id)
-        self.dirty |= self.waiting.pop(id, set()) | self.busy.pop(self.objects.pop(id, None), set())
-        if self.tell_ended and not attempt.caller:
-            self.tell_ended(id, *answer_in(attempt.answer))
-
-    def next_moment(self):
-        """When something is due next, in milliseconds, by the clock; None where nothing sleeps."""
-        put_off = [it for it in self.not_before.values() if it != float("inf")]
-        return min([it for it in [self.retried(self.store.next_moment), *put_off] if it is not None], default=None)
-
-    def run(self, longest=None):
-        """Goes on until nothing sleeps: all has ended, or waits for what comes from outside. Not longer than a timedelta."""
-        ends = None if longest is None else time.monotonic() + longest / timedelta(seconds=1)
-        while ends is None or time.monotonic() < ends:
-            if self.step():
+    async def run(self, is_watching: bool = False, longest: Optional[timedelta] = None) -> None:
+        """Goes on until nothing sleeps: all has ended, or waits for what comes from outside. With `is_watching` for good; else not longer
+        than a timedelta."""
+        self.is_watching = is_watching
+        ends = NEVER if longest is None else time.monotonic() + longest / timedelta(seconds=1)
+        while not self.is_stopping and time.monotonic() < ends:
+            try:
+                moment = await self.step()
+            except StoreGone:
+                await self.reopen()
                 continue
-            moment = self.next_moment()
-            if moment is None:
+            except Refused as refused:
+                if refused.name not in TRANSIENT:
+                    raise
+                log.warning("the store has no memory for now (%s): asked again in a second", refused.name)
+                await asyncio.sleep(1)
+                continue
+            if moment is None and not self.tasks and not self.pulse.is_set() and not self.is_watching:
                 return
-            left = max(0, moment - self.clock()) / 1000
-            time.sleep(min(left + 0.001, 10.0 if ends is None else max(0, ends - time.monotonic())))
+            left = NEVER if moment is None else max(0.0, moment - self.clock()) / 1000 + 0.001
+            left = min(left, ends - time.monotonic())
+            await woken(self.pulse, None if left == NEVER else left)
+
+    async def here(self, session: Session) -> None:
+        """Goes on with a handler in this process."""
+        interval = lambda: self.interval(session.id)
+        attempt = Attempt(self.app, session.target, session.content_type, session, self.clock, self.pool, interval, self.tell)
+        try:
+            await attempt.run()
+        finally:
+            session.has_bound = attempt.has_bound
+
+    async def attend(self, session: Session) -> None:
+        """Goes on with an invocation as far as it can. Whatever comes of it is of this invocation alone."""
+        self.not_before.pop(session.id, None)
+        try:
+            await self.attend_to_end(session)
+        finally:
+            self.live.pop(session.id, None)
+
+    async def attend_to_end(self, session: Session) -> None:
+        id = session.id
+        try:
+            await session.begin(self.clock())
+            self.began += 1
+            await self.host(session)
+            if not session.ended:
+                raise RuntimeError("the attempt came to no end")
+        except (asyncio.CancelledError, StoreGone):
+            if self.store.is_gone:
+                self.cut_off[id] = session
+            else:
+                await self.stop(session)
+            raise
+        except KeyboardInterrupt:
+            raise
+        except BaseException as error:
+            if not (isinstance(error, Refused) and error.name in ("S4", "S5")):  # it has ended before
+                await self.stop(session)
+                await self.fail(id, told_of(error), None, None, is_fault=not isinstance(error, HostGone))
+        if session.ended == "ended":
+            self.end_of(id, session.answer, session.caller, self.app.find(session.target))
+        elif session.ended == "failed":
+            await self.fail_by(session)
+        elif session.ended == "suspended":
+            self.clear(id)
+
+    async def stop(self, session: Session) -> None:
+        if session.number:
+            try:
+                await self.store.stop(session.id, session.number)
+            except (Refused, StoreGone):
+                pass
+
+    # ---- what fails
+    def tell(self, id: str, text: str, error: Optional[BaseException]) -> None:
+        """Tells what is amiss with an invocation, once until it gets further."""
+        told = self.told.setdefault(id, set())
+        if text not in told and len(told) < MOST_TOLD:
+            told.add(text)
+            log.warning("%s: %s", id, text, exc_info=error)
+
+    async def fail_by(self, session: Session) -> None:
+        """The attempt has failed: when it is tried again is told by its error, or by how often it has failed."""
+        error = await self.store.error(session.id)
+        if error is None:
+            return
+        code, behavior, delay, message = error
+        if behavior == PAUSE:
+            self.put_off(session.id, NEVER)
+            log.error("%s: paused, as its run wants it: (%d) %s. " + ADVICE[0], session.id, code, message, session.id)
+        else:
+            await self.fail(session.id, message, code, delay, is_fault=not session.has_bound)
+
+    async def fail(self, id: str, message: str, code: Optional[int], delay: Optional[float], is_fault: bool) -> None:
+        """It is tried again later; after so many tries it is paused, and that is recorded."""
+        self.tell(id, message, None)
+        self.put_off(id, self.interval(id) if delay is None else delay, is_fault)
+        if not self.tries or self.faults.get(id, 0) < self.tries:
+            return
+        try:
+            await self.tell_error(id, f"paused after {self.tries} tries, of which the last has failed with: {cut(message)}", PAUSE)
+        except Refused as refused:
+            log.error("%s: its pause cannot be recorded: %s", id, refused)
+        self.put_off(id, NEVER)
+        log.error("%s: paused after %d tries that have failed: %s. " + ADVICE.get(code or 0, ADVICE[0]), id, self.tries, message, id)
+
+    # ---- what ends
+    def end_of(self, id: str, answer: Value, caller: Optional[str], handler: Optional[Handler]) -> None:
+        """Goes on with whoever waits for its answer, or for its object. What no other has called is told."""
+        self.done += 1
+        self.clear(id)
+        self.not_before.pop(id, None)
+        self.awaken(self.waiting.pop(id, set()) | self.busy.pop(self.objects.pop(id, ""), set()))
+        self.tell_asked(id)
+        if self.tell_ended and not caller and not id.endswith(LATER):
+            try:
+                self.tell_ended(id, *answer_in(answer, handler))
+            except Exception as error:
+                log.error("%s: it has ended, and `ended` has failed with %s", id, told_of(error), exc_info=error)
 
 
-def answer_in(answer):
-    """The value of an answer, and (code, message) of a failure."""
-    if isinstance(answer, tuple):
-        return None, answer
-    return from_json(answer), None
+ADVICE = {
+    0: "Once that is mended, `hengomaru resume DATABASE %s` goes on with it",
+    MISMATCH: "Its handler asks for something else than is recorded. With a handler that asks alike, `hengomaru resume DATABASE %s` goes on with it",
+}

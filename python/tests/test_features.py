@@ -2,11 +2,20 @@
 import os
 import signal
 import tempfile
+import time
 import unittest
 from datetime import timedelta
 
-import hengomaru as hg
+import asyncio
+import logging
 
+import hengomaru as hg
+from hengomaru.testing import Harness
+
+logging.getLogger("hengomaru").setLevel(logging.CRITICAL)
+
+# Seconds that a job may take, however slow the store is.
+LONGEST = 300
 HOUR, MOMENT = timedelta(hours=1), timedelta(milliseconds=2)
 svc, obj, flow = hg.Service("svc"), hg.VirtualObject("obj"), hg.Workflow("flow")
 tried = []
@@ -160,7 +169,7 @@ async def clears(ctx, arg):
 
 @svc.handler()
 async def sends(ctx, arg):
-    ids = [await ctx.send(later, 1), await ctx.send(later, 2, delay=timedelta(milliseconds=30)), await ctx.send(later, 3, idempotency_key="same")]
+    ids = [await ctx.send(later, 1), await ctx.send(later, 2, delay=timedelta(seconds=1)), await ctx.send(later, 3, idempotency_key="same")]
     again = await ctx.send(later, 4, idempotency_key="same")
     return [ids, again == ids[2], (await ctx.get_invocation_output(ids[1])).is_ready, await ctx.attach_invocation(ids[0]), await ctx.attach(ids[1])]
 
@@ -198,11 +207,40 @@ async def rejects(ctx, arg):
     await ctx.promise("done").reject("no promise", 410)
 
 
+class Blocking:
+    """A worker over the clock on the wall, from code without a loop."""
+
+    def __init__(self, database, app, **further):
+        self.loop = asyncio.new_event_loop()
+        self.worker = hg.Worker(database, app, **{"linger": 0.05, **further})
+        self.do(self.worker.open())
+
+    def do(self, work):
+        return self.loop.run_until_complete(asyncio.wait_for(work, 2 * LONGEST))
+
+    def __getattr__(self, name):
+        return lambda *given, **named: self.do(getattr(self.worker, name)(*given, **named))
+
+    def close(self):
+        self.do(self.worker.close())
+        self.loop.close()
+
+    def state(self, object):
+        return self.do(self.worker.store.state(object))
+
+    def listed(self):
+        return self.do(self.worker.store.list())
+
+    def open_ids(self):
+        return [it.id for it in self.listed() if it.status in ("live", "due", "suspended")]
+
+
 class Features(unittest.TestCase):
+    linger = 0.05
+
     def setUp(self):
         tried.clear()
-        self.worker = hg.Worker(":memory:", [svc, obj, flow])
-        self.worker.log.disabled = True
+        self.worker = Blocking(":memory:", [svc, obj, flow], linger=self.linger)
         self.addCleanup(self.worker.close)
 
     def answer(self, id):
@@ -211,14 +249,21 @@ class Features(unittest.TestCase):
 
     def run_one(self, handler, argument=None, key=None):
         id = self.worker.submit("i", handler, argument, key)
-        self.worker.run(timedelta(seconds=20))
+        self.worker.run(longest=timedelta(seconds=LONGEST))
         return self.answer(id)
+
+    def run_until(self, id, status):
+        """Goes on until an invocation stands so."""
+        ends = time.monotonic() + LONGEST
+        while not any(it.id == id and it.status == status for it in self.worker.listed()):
+            self.assertLess(time.monotonic(), ends)
+            self.worker.run(longest=timedelta(seconds=0.1))
 
     def test_calls(self):
         self.assertEqual(self.run_one(calls), [
             {"echo": ["ü", None], "headers": {"x": "y"}}, [418, "no: x"], [[1, ["n"], "k"], [3, ["n"], "k"], [6, ["n"], "k"]],
         ])
-        self.assertEqual(self.worker.store.state("obj/k"), {b"n": b"6"})
+        self.assertEqual(self.worker.state("obj/k"), {b"n": b"6"})
 
     def test_a_failure_is_the_answer(self):
         self.assertEqual(self.run_one(fails, "top"), (418, "no: top"))
@@ -230,15 +275,15 @@ class Features(unittest.TestCase):
         self.worker.submit("a", count, 1, "k")
         self.worker.run()
         self.assertEqual(self.run_one(clears, key="k"), [])
-        self.assertEqual(self.worker.store.state("obj/k"), {})
+        self.assertEqual(self.worker.state("obj/k"), {})
 
     def test_a_send_to_an_object_that_is_busy(self):
         self.assertEqual(self.run_one(sends_to_itself, key="k"), "sent")
-        self.assertEqual(self.worker.store.state("obj/k"), {b"n": b"5"})
+        self.assertEqual(self.worker.state("obj/k"), {b"n": b"5"})
         self.assertEqual(self.worker.open_ids(), [])
 
     def test_sends_and_attachments(self):
-        self.assertEqual(self.run_one(sends), [["i.1", "i.3", "svc/later//same"], True, False, 1, 2])
+        self.assertEqual(self.run_one(sends), [["i~1", "i~3", "svc/later//same"], True, False, 1, 2])
         self.assertEqual(self.worker.open_ids(), [])
         self.assertEqual(self.answer("svc/later//same"), 3)
 
@@ -281,17 +326,20 @@ class Features(unittest.TestCase):
         self.assertEqual(self.run_one(raises), 3)
 
     def test_cancellation(self):
-        self.assertEqual(self.run_one(cancels), ["i.1", "409 and on"])
+        self.assertEqual(self.run_one(cancels), ["i~1", "409 and on"])
         self.worker.submit("p", calls_sleepy)
-        self.worker.step()
-        self.worker.step()
+        self.run_until("p~1", "suspended")
         self.worker.cancel_invocation("p")
-        self.worker.run(timedelta(seconds=20))
-        self.assertEqual([self.answer("p"), self.answer("p.1")], [(409, "cancelled"), "409 and on"])
+        self.worker.run(longest=timedelta(seconds=LONGEST))
+        self.assertEqual([self.answer("p"), self.answer("p~1")], [(409, "cancelled"), "409 and on"])
 
     def test_random_numbers_are_alike_in_each_attempt(self):
         came = self.run_one(draws)
-        self.assertEqual(tried, [came, came])
+        self.assertEqual(tried, [came] * len(tried))
+        tried.clear()
+        with Harness([svc]) as jobs:  # its clock is moved behind the first attempt
+            came = jobs.call(draws)
+        self.assertEqual(tried, [came] * 2)
 
     def test_a_workflow(self):
         id = self.worker.submit(None, main, "Ada", "k")
@@ -320,16 +368,17 @@ class Features(unittest.TestCase):
 
         @plain.handler()
         async def sleeps(ctx, arg):
-            import asyncio
-
             await asyncio.sleep(0)
 
-        worker = hg.Worker(":memory:", [plain])
-        worker.log.disabled = True
-        self.addCleanup(worker.close)
-        worker.submit("i", sleeps)
-        worker.step()
-        self.assertIn("a handler awaits what its context gives", worker.store.error("i")[3])
+        with Harness([plain]) as jobs:
+            jobs.submit(sleeps, id="i")
+            self.assertIn("a handler awaits what its context gives", jobs.last_error("i"))
+
+
+class Suspended(Features):
+    """The same where each wait suspends the attempt."""
+
+    linger = 0
 
 
 class Restarts(unittest.TestCase):
@@ -339,28 +388,34 @@ class Restarts(unittest.TestCase):
         self.addCleanup(folder.cleanup)
         self.database = folder.name + "/jobs.db"
 
+    def worker(self):
+        worker = Blocking(self.database, [svc, obj, flow])
+        self.addCleanup(worker.close)
+        return worker
+
     def test_the_process_is_killed(self):
-        with hg.Worker(self.database, [svc, obj, flow]) as worker:
-            worker.submit("i", together)
-            for _ in range(4):
-                os.kill(worker.store.process.pid, signal.SIGKILL)
-                worker.step()
-                worker.step()
-            worker.run(timedelta(seconds=20))
-            self.assertEqual(worker.status("i"), (False, [["fast", 1], [2, 1], [3, 4], 5, [6, 7], "no: all", 8, 9], None))
+        worker = self.worker()
+        worker.submit("i", together)
+        for _ in range(4):
+            worker.worker.store.pipe.transport.kill()
+            worker.run(longest=timedelta(milliseconds=20))
+        worker.run(longest=timedelta(seconds=LONGEST))
+        self.assertEqual(worker.status("i"), (False, [["fast", 1], [2, 1], [3, 4], 5, [6, 7], "no: all", 8, 9], None))
 
     def test_another_process_has_the_file(self):
-        with hg.Store(self.database):
-            self.assertRaisesRegex(hg.NotOpened, "another process has it open", hg.Store, self.database, patience=0)
+        self.worker()
+        self.assertRaisesRegex(hg.NotOpened, "another process has it open", asyncio.run, hg.Store(self.database, patience=0).open())
 
     def test_a_workers_promises_are_found_again(self):
-        with hg.Worker(self.database, [svc, obj, flow]) as worker:
-            worker.submit("c", complete, 5, "k")
-            worker.run()
-        with hg.Worker(self.database, [svc, obj, flow]) as worker:
-            worker.submit("m", main, None, "k")
-            worker.run()
-            self.assertEqual(worker.status("m"), (False, [5, 5, 5, "k"], None))
+        worker = self.worker()
+        worker.submit("c", complete, 5, "k")
+        worker.run()
+        worker.close()
+        self._cleanups.pop()
+        worker = self.worker()
+        worker.submit("m", main, None, "k")
+        worker.run()
+        self.assertEqual(worker.status("m"), (False, [5, 5, 5, "k"], None))
 
 
 if __name__ == "__main__":
