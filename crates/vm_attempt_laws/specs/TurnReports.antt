@@ -1,5 +1,6 @@
 -- What each turn of an attempt tells of the run, by what its turns have told before.
-use Rattle.std.specs.Prelude.{◌≡◌, ◌⊎◌, ℕ, suc, pred, Bool, true, false, List, [], ◌∷◌, ◌++◌, map, Option, Some, None}
+use Rattle.std.specs.Prelude.{◌≡◌, ◌<◌, ◌+◌, ◌^◌, ◌⊎◌, ℕ, suc, pred, Bool, true, false, List, [], ◌∷◌, ◌++◌, length, map, Option, Some, None}
+use Rattle.journal_model.specs.History.{completions_of, ids_of, next_completion, next_handle, next_signal, signals_of, Step}
 use Rattle.journal_model.specs.Run.{GoesOn, RefusedCall, Ended, run, run_requests}
 use Rattle.protocol_stream.specs.ErrorText.{too_long_text}
 use Rattle.vm_context.specs.Journal.{no_id_text}
@@ -34,13 +35,10 @@ told_nothing = record { bytes = []; is_closed = false; answered = 0; proposed = 
 abbrev pub AnswersError : (told error : Error) → Type 0
 AnswersError told error = (output : Written) × FailsWith told output error
 
--- what an attempt lacks that has failed so, as its error says
-pub data IsLacking (error : Error) : Type 0 where
-  -- a number for what a call makes: a completion, a signal or a handle
-  numbers : (told : Error) → told.code.0 ≡ internal → told.message ≡ no_id_text → AnswersError told error → IsLacking error
-  -- room in a frame, for what a call asks or waits for
-  room : (told : Error) → told.code.0 ≡ internal → told.message ≡ too_long_text → AnswersError told error → IsLacking error
-  memory : error ≡ out_of_memory → IsLacking error
+-- these numbers are next, and one that a call takes of them is too large to be told
+abbrev pub LacksNumbers : (completion signal handle : ℕ) → Call → Type 0
+LacksNumbers completion signal handle call =
+    (2 ^ 32 < completion + completions_of call) ⊎ ((2 ^ 32 < signal + signals_of call) ⊎ (2 ^ 32 < handle + length (ids_of completion signal call)))
 
 -- a call that is refused is told so, in this version
 pub record TellsRefusal (version : Version) (call : Call) (refusal : Refusal) (told : Error) : Type 0 where
@@ -91,9 +89,24 @@ module _ (next : Handler) (start : AttemptStart) (told : Told) (arrivals : List 
     pub shows : ShowsStart start
     pub outcome : OutcomeIs ran (tried_of start shows written) value
 
-  -- the call that its handler makes next
+  -- the calls that were made, and the one that its handler makes next
+  abbrev pub made : List Step
+  made = (run next start.given arrivals calls).steps
+
   abbrev pub next_call : Call
-  next_call = next start.given.input (answers_of (run next start.given arrivals calls).steps)
+  next_call = next start.given.input (answers_of made)
+
+  -- of that a completion, a signal or a handle has no number
+  abbrev pub HasNoNumber : Type 0
+  HasNoNumber = LacksNumbers (next_completion made) (next_signal made) (next_handle made) next_call
+
+  -- what an attempt lacks that has failed so, as its error says
+  pub data IsLacking (error : Error) : Type 0 where
+    -- a number for what the call makes
+    numbers : HasNoNumber → (tells : Error) → tells.code.0 ≡ internal → tells.message ≡ no_id_text → AnswersError tells error → IsLacking error
+    -- room in a frame, for what it asks or waits for
+    room : (tells : Error) → tells.code.0 ≡ internal → tells.message ≡ too_long_text → AnswersError tells error → IsLacking error
+    memory : error ≡ out_of_memory → IsLacking error
 
   -- the run refuses that, which is told
   pub record IsRefused (refusal : Refusal) (error : Error) : Type 0 where
