@@ -8,7 +8,6 @@ ghost use Rattle.server_lines.specs.RequestReader.{begin_of, cancel_of, close_of
 
 use crate::command::{Command, parse_command};
 use crate::word::{parse_bytes, parse_digits, parse_key, parse_text, parse_value};
-use bstr::ByteSlice;
 use bytes::{ByteStr, Bytes};
 use journal_model::{Header, NewInvocation, NotificationResult, SignalKey};
 use script_lines::word::{LineError, parse_mode, parse_u32, parse_u64};
@@ -396,7 +395,7 @@ fn parse_words(alloc: Global, words: &[&[u8]]) -> Result<Request, LineError>
 fn words_between<'a>(alloc: Global, bytes: &'a [u8]) -> Result<Vec<&'a [u8]>, AllocError>
     ensures { IfOk result (λ words. map (λ word. word.now) words.items ≡ slice_split (λ byte. byte == 32) bytes.now) }
 {
-    bytes.split_str(b" ").collect(alloc)
+    bytes.split(|byte| *byte == b' ').collect(alloc)
 }
 
 /// The request that a line spells, without its line feed; `None` where it spells none.
