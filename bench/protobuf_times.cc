@@ -1,4 +1,4 @@
-// protobuf_times COUNT: what `bench protocol` does, by Google's protobuf. It prints the same lines.
+// protobuf_times COUNT: what `bench_machine protocol` does, by Google's protobuf. It prints the same lines.
 #include "frames.h"
 #include "samples.h"
 

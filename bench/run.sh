@@ -7,11 +7,11 @@
 #
 #     apt-get install protobuf-compiler libprotobuf-dev g++
 #
-# The first call proves bench and every crate below it, which takes long. Ends with 1 where the bytes differ.
+# The first call proves bench_machine and every crate below it, which takes long. Ends with 1 where the bytes differ.
 set -e
 cd "$(dirname "$0")"
 count=${1:-1000000}
-crate=../crates/bench
+crate=../crates/bench_machine
 built=$(mktemp -d)
 trap 'rm -rf "$built"' EXIT
 
@@ -22,7 +22,7 @@ c++ -std=c++17 -O2 -I. -I"$built" protobuf_times.cc "$built"/records.pb.cc -o "$
 (cd "$crate" && rt run) >&2
 
 uptime || true
-"$crate"/out/bench protocol "$count" > "$built"/ours
+"$crate"/out/bench_machine protocol "$count" > "$built"/ours
 "$built"/protobuf_times "$count" > "$built"/theirs
 uptime || true
 

@@ -1,4 +1,4 @@
-# A table of what `bench protocol` printed (the file that the variable `ours` names) and what protobuf_times printed.
+# A table of what `bench_machine protocol` printed (the file that the variable `ours` names) and what protobuf_times printed.
 
 function row(name, read, write) {
     if (FILENAME != ours) {

@@ -10,7 +10,42 @@ RANKS = {"||": 1, "&&": 2, "==": 3, "!=": 3, "<": 3, "<=": 3, ">": 3, ">=": 3, "
 
 
 class Unread(Exception):
-    pass
+    """What is not read, and the line where it stands, if that is known."""
+
+    def __init__(self, why, of=None):
+        super().__init__(why)
+        self.line = getattr(of, "line", None)
+
+
+class Part(tuple):
+    """A part of the code, as a tuple, with the line where it begins."""
+
+    line = None
+
+
+def placed(read):
+    """What a method reads, with the line where it has begun."""
+
+    def reads(reader, *given):
+        line = reader.line()
+        part = Part(read(reader, *given))
+        part.line = line
+        return part
+
+    return reads
+
+
+def shown(it):
+    """An expression, as its author wrote it, in short."""
+    if it[0] == "call":
+        return f"{shown(it[1]) + '.' if it[1] else ''}{it[2]}({', '.join(map(shown, it[3]))})"
+    if it[0] == "try":
+        return f"{shown(it[1])}?"
+    if it[0] == "field":
+        return f"{shown(it[1])}.{it[2]}"
+    if it[0] == "op":
+        return f"{shown(it[2])} {it[1]} {shown(it[3])}"
+    return str(it[1]) if it[0] in ("name", "num", "text") else f"{it[0]} .."
 
 
 class Reader:
@@ -18,9 +53,16 @@ class Reader:
     ("list", items), ("op", o, a, b), ("not", e), ("if", test, block, block or None), ("match", e, [(pattern, block)]), ("return", e) and
     ("block", statements, tail); statements ("let", name, type, e), ("set", name, e), ("do", e), ("for", name, low, high, block), ("continue",)."""
 
-    def __init__(self, text):
-        self.tokens = [it.group("t") for it in TOKEN.finditer(text) if it.group("t")]
-        self.at = 0
+    def __init__(self, text, start=0):
+        """Reads a text from this place in it on."""
+        found = [it for it in TOKEN.finditer(text, start) if it.group("t")]
+        self.tokens = [it.group("t") for it in found]
+        self.starts, self.text, self.at = [it.start() for it in found], text, 0
+
+    def line(self):
+        """The line of the next token."""
+        at = self.starts[min(self.at, len(self.starts) - 1)] if self.starts else 0
+        return self.text.count("\n", 0, at) + 1
 
     def peek(self, ahead=0):
         return self.tokens[self.at + ahead] if self.at + ahead < len(self.tokens) else ""
@@ -38,6 +80,7 @@ class Reader:
             return True
         return False
 
+    @placed
     def expression(self, level=0):
         left = self.unary()
         while RANKS.get(self.peek(), 0) > level:
@@ -45,6 +88,7 @@ class Reader:
             left = ("op", token, left, self.expression(RANKS[token]))
         return left
 
+    @placed
     def unary(self):
         if self.takes("!"):
             return ("not", self.unary())
@@ -72,6 +116,7 @@ class Reader:
             self.takes(",")
         return items
 
+    @placed
     def primary(self):
         token = self.next()
         if token == "(":
@@ -92,6 +137,8 @@ class Reader:
             self.tokens[self.at] = "["
             return ("list", self.items("[", "]"))
         if token == "if":
+            if self.peek() == "let":
+                raise Unread("`if let` is not read: write a `match`")
             test, then = self.expression(), self.block()
             if not self.takes("else"):
                 return ("if", test, then, None)
@@ -110,19 +157,26 @@ class Reader:
             return ("text", token.lstrip("b"))
         if re.fullmatch(r"[A-Za-z_][\w:<>]*", token):
             return ("call", None, token, self.items("(", ")")) if self.peek() == "(" else ("name", token)
+        self.at -= 1
+        if token in ("|", "||", "move"):
+            raise Unread("a closure is not read: put it into a function of values, with a definition")
         raise Unread(f"`{token}` is not read")
 
+    @placed
     def match(self):
         of, arms = self.expression(), []
         self.next("{")
         while not self.takes("}"):
             pattern = self.primary()
+            if self.peek() == "if":
+                raise Unread("an arm with an `if` is not read: write the test into the arm")
             self.next("=>")
             body = self.block() if self.peek() == "{" else ("block", [], self.expression())
             self.takes(",")
             arms.append((pattern, body))
         return ("match", of, arms)
 
+    @placed
     def block(self):
         self.next("{")
         statements = []
@@ -134,10 +188,13 @@ class Reader:
             statements.append(it)
         return ("block", statements, None)
 
+    @placed
     def statement(self):
         if self.takes("let"):
             self.takes("mut")
             name, kind = self.next(), ""
+            if self.peek() == "(" or not re.fullmatch(r"[a-z_]\w*", name):
+                raise Unread("a `let` gives a name to one value: of a pattern make a `match`")
             while self.peek() != "=":
                 kind += self.next()
             self.next()
@@ -191,6 +248,29 @@ def parts(it):
         elif isinstance(part, list):
             for inner in part:
                 yield from parts(inner)
+
+
+def given_names(block):
+    """The names that a block gives to values."""
+    for it in parts(block):
+        if it[0] in ("let", "for"):
+            yield it[1]
+        if it[0] == "match":
+            yield from (name[1] for pattern, _ in it[2] for name in parts(pattern) if name[0] == "name")
+
+
+def check_names(block, known):
+    """Each name in a block is given there, or known before."""
+    given = {*known, *given_names(block)}
+    for it in parts(block):
+        if it[0] != "name" or it[1] in given:
+            continue
+        if it[1] == "self":
+            raise Unread("`self` is not read, for the steps are the same of each value of its type: take what differs from the input", it)
+        if re.fullmatch(r"(?:\w+::)*[A-Z][A-Z0-9_]*", it[1]):
+            raise Unread(f"`{it[1]}` is a constant: make it a function of values, whose `ensures` names a definition", it)
+        if re.fullmatch(r"[a-z_]\w*", it[1]):
+            raise Unread(f"nothing here gives `{it[1]}`", it)
 
 
 def is_failure(it):

@@ -1,7 +1,8 @@
 """The part of `tools/steps` that writes: the steps of one function, and the definitions of its loops."""
+import difflib
 import re
 
-from steps_reader import Unread, is_failure, leaves, parts
+from steps_reader import Unread, is_failure, leaves, parts, shown
 
 NUMBERS = {"u8", "u16", "u32", "u64", "usize"}
 PLAIN = {"bool": "Bool", "Bytes": "Bytes", "ByteStr": "Text", "()": "Unit {0}"}
@@ -35,6 +36,7 @@ class Writer:
     def __init__(self, file, told, params, gives):
         self.file, self.told, self.params, self.gives = file, told, params, gives
         self.types, self.loops, self.defined, self.until = dict(params), [], [], False
+        self.line = None
 
     def use(self, word):
         self.file.used.add(word)
@@ -46,10 +48,20 @@ class Writer:
             it = it[1]
         return it[0] == "call" and ((it[1] == ("name", "calls") and it[2] != "alloc") or ("name", "calls") in it[3])
 
+    def at(self, it):
+        """Notes the line of a statement, which an error tells."""
+        self.line = getattr(it, "line", None) or self.line
+
+    def no_steps(self, it):
+        if it[1] is None:
+            return Unread(f"`{it[2]}` has no `ensures` with `steps.Makes`, here or in a file that a line `use crate::FILE::{{..}};` names", it)
+        near = difflib.get_close_matches(it[2], self.file.methods, 1)
+        return Unread(f"`calls` has no method `{it[2]}`" + (f": `{near[0]}` is one" if near else ""), it)
+
     def steps(self, it):
         name = self.file.methods.get(it[2]) if it[1] else self.file.told.get(it[2])
         if name is None:
-            raise Unread(f"`{it[2]}` has no `ensures` with `steps.Makes`")
+            raise self.no_steps(it)
         if it[1]:
             self.use(name)
         return " ".join([name, *(self.value(arg) for arg in it[3] if not self.is_alloc(arg))])
@@ -67,7 +79,7 @@ class Writer:
             return self.file.results.get(it[2]) if it[1] is None else self.file.signatures.get(self.file.methods.get(it[2]), (None, None))[1]
         if it[0] == "call" and it[1] is None:
             return self.file.results.get(it[2]) or ("Bytes" if it[2].startswith("Bytes::") else "Text" if it[2].startswith("ByteStr::") else None)
-        return "ℕ" if it[0] == "call" and it[2] == "saturating_add" else None
+        return {"saturating_add": "ℕ", "is_for": "Bool"}.get(it[2]) if it[0] == "call" else None
 
     def is_alloc(self, it):
         return it in (("name", "alloc"), ("name", "calls")) or (it[0] == "call" and it[1] == ("name", "calls") and it[2] == "alloc")
@@ -77,6 +89,9 @@ class Writer:
         kind, wrap = it[0], (lambda text: f"({text})") if is_tight else (lambda text: text)
         if kind == "num":
             return it[1]
+        if kind == "text":
+            self.use("codes")
+            return wrap(f"codes {it[1]}")
         if kind == "name":
             if it[1] == "None":
                 return self.use("None")
@@ -102,12 +117,12 @@ class Writer:
             return wrap(f"if {self.value(it[1], False)} then {self.value(it[2][2])} else {self.value(it[3][2])}")
         if kind == "call":
             return self.called(it, wrap)
-        raise Unread(f"no value is read of {it}: put it into a function of its own")
+        raise Unread(f"no value is read of `{shown(it)}`: put it into a function of its own", it)
 
     def called(self, it, wrap):
         _, of, name, args = it
         if self.makes(it):
-            raise Unread(f"`{name}` stands in an expression: give its value a name first, by `let`")
+            raise Unread(f"`{name}` stands in an expression: give its value a name first, by `let`", it)
         if name.endswith("::from_static"):
             self.use("codes")
             return wrap("codes " + args[0][1])
@@ -120,6 +135,8 @@ class Writer:
             for word in ("min", "◌+◌", "◌-◌", "◌^◌"):
                 self.use(word)
             return wrap(f"min ({self.value(of)} + {self.value(args[0])}) (2 ^ 64 - 1)")
+        if of is not None and name == "is_for":
+            return wrap(f"{self.use('is_for')} {self.value(of)} {self.value(args[0])}")
         if of is not None and name == "handle":
             return f"{self.value(of)}.handle"
         if of is not None and name in ("clone", "as_slice"):
@@ -131,9 +148,9 @@ class Writer:
                 return wrap(" ".join([name.replace("::", "."), *told]))
             word = self.file.values.get(name)
             if word is None:
-                raise Unread(f"`{name}` is no function of this file whose `ensures` names a definition")
+                raise Unread(f"`{name}` is no function of values whose `ensures` names a definition, here or in a file that a line `use crate::FILE::{{..}};` names", it)
             return wrap(" ".join([word, *told])) if told else word
-        raise Unread(f"the method `{name}` is not read: put it into a function of its own")
+        raise Unread(f"the method `{name}` is not read: put it into a function of values, with a definition", it)
 
     def bound(self, name, it, lines, pad):
         """A name for what steps or a value come to."""
@@ -185,7 +202,7 @@ class Writer:
             return [f"{pad}{self.use('fail')} {self.value(it[3][0][3][0])}"], None
         if self.makes(it) and it[0] != "try":
             return [f"{pad}{self.steps(it)}"], None
-        raise Unread(f"a function ends in `Ok(..)`, `Err(Stop::Failed(..))` or a call: not in {it}")
+        raise Unread(f"a function ends in `Ok(..)`, `Err(Stop::Failed(..))` or a call: not in `{shown(it)}`", it)
 
     def flowing(self, word, value):
         return f"({self.use(word)} {value})" if self.until else value
@@ -216,6 +233,7 @@ class Writer:
         pad, lines = "  " * indent, []
         while statements:
             it = statements.pop(0)
+            self.at(it)
             if it[0] == "let" and it[3][0] == "match":
                 return lines + self.let_match(it, statements, tail, goes, indent)
             if it[0] == "let":
@@ -239,11 +257,12 @@ class Writer:
             elif it[1][0] == "try" and self.makes(it[1]):
                 lines.append(pad + self.steps(it[1][1]))
             elif not (it[1][0] == "call" and it[1][2] == "drop"):
-                raise Unread(f"a statement is a call with `?`: not {it[1]}")
+                raise Unread(f"a statement is a call with `?`: not `{shown(it[1])}`", it[1])
         return lines + self.last(tail, goes, indent)
 
     def last(self, tail, goes, indent):
         pad = "  " * indent
+        self.at(tail)
         if tail is None or (tail == ("name", "()") and goes[0] != "tail"):
             return self.ended(goes, pad) if goes[0] != "tail" else [f"{pad}done tt"]
         if tail[0] == "return":

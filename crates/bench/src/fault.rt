@@ -1,4 +1,3 @@
-use journal_protocol::{DecodingError, EncodingError, Error};
 use journal_store::Refusal;
 use std::alloc::{AllocError, AllocFailed};
 use std::io;
@@ -13,10 +12,6 @@ pub enum Fault {
     Host,
     /// Memory was refused.
     Memory,
-    /// A message is not read, or not written.
-    Message,
-    /// The machine refuses a call, or an await of its journal is not over.
-    Machine,
     /// No store was made.
     NoStore,
     /// An event did not come to what it is meant to.
@@ -44,26 +39,6 @@ impl<T: Drop> From<AllocFailed<T>> for Fault {
 impl From<ParseIntError> for Fault {
     fn from(_error: ParseIntError) -> Fault {
         Fault::NotUnderstood
-    }
-}
-
-impl From<DecodingError> for Fault {
-    fn from(error: DecodingError) -> Fault {
-        drop(error);
-        Fault::Message
-    }
-}
-
-impl From<EncodingError> for Fault {
-    fn from(_error: EncodingError) -> Fault {
-        Fault::Message
-    }
-}
-
-impl From<Error> for Fault {
-    fn from(error: Error) -> Fault {
-        drop(error);
-        Fault::Machine
     }
 }
 

@@ -35,11 +35,6 @@ impl Stopwatch {
     }
 }
 
-/// What one of so many took, in nanoseconds, of what all of them took.
-pub fn nanoseconds_each(took: Duration, count: usize) -> u128 {
-    took.as_nanos() / (count.max(1) as u128)
-}
-
 /// What one of so many took, in hundredths of a microsecond, printed as microseconds.
 #[derive(Clone, Copy)]
 pub struct Micros(u128);
@@ -47,7 +42,7 @@ pub struct Micros(u128);
 impl Micros {
     /// What one of the events took, of what all of them took.
     pub fn each(took: Duration, events: u32) -> Micros {
-        Micros(nanoseconds_each(took, events as usize) / 10)
+        Micros(took.as_nanos() / (events.max(1) as u128) / 10)
     }
 }
 

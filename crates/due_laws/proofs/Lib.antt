@@ -9,3 +9,4 @@ pub mod Leaves
 pub mod Told
 pub mod DueRows
 pub mod Outcomes
+pub mod Forgetting

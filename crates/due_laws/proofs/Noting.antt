@@ -437,6 +437,7 @@ one_arrives events event id new accepted own fresh plain old going tells waits a
 pub noted_follows : NotedFollows
 noted_follows events (Event.Invoke new) id accepted own fresh = cc
 noted_follows events (Event.Tick now) id accepted own fresh = absurd (true≢false (sym own))
+noted_follows events (Event.Edit object request) id accepted own fresh = absurd (true≢false (sym own))
 noted_follows events (Event.Result other n result) id accepted own fresh =
     one_arrives events (Event.Result other n result) id (completion n result) accepted own refl refl refl refl refl refl refl
 noted_follows events (Event.Signal other key result) id accepted own fresh =

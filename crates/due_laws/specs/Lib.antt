@@ -6,3 +6,4 @@ pub mod Rows
 pub mod InputParts
 pub mod Leaves
 pub mod HandedBytes
+pub mod Forgetting

@@ -10,6 +10,7 @@ ghost use Rattle.due_laws.specs.Leaves.{OnlyAwaitedWake};
 ghost use Rattle.due_laws.specs.HandedBytes.{ChainGoesOn, ChainIsHandedOut};
 ghost use Rattle.due_laws.specs.DueList.{AwakeFound, DueListed, DueTells};
 ghost use Rattle.due_laws.specs.Rows.{AllKnownStays, OutcomesAreRead, PiecesAreRows};
+ghost use Rattle.due_laws.specs.Forgetting.{OthersStayKnown};
 ghost use Rattle.due_laws.specs.InputParts.{ChainsAreOne, CountIsUnseen, GivenIsAsked, PartIsHanded, PartIsTaken, RowsAreRead, RowsTell, TakenIsPart};
 
 /// An invocation is due where it has the flag that is kept and no attempt of it is live.
@@ -63,4 +64,9 @@ pub fn parts_are_handed()
 pub fn rows_are_read()
     ensures steps { RowsAreRead }
     ensures tells { RowsTell }
+{}
+
+/// Once invocations are forgotten, what is noted of each other, and what its live attempt knows of its input, is the same.
+pub fn others_stay_known()
+    ensures { OthersStayKnown }
 {}

@@ -35,7 +35,8 @@ module _ (id : Text) where
   not_begun event e = refl
 
   not_invoked : (event : Event) (name : Option Text) → IsOneOf name event → begins id event ≡ false → is_seen_by id name ≡ true → invoked_by event ≡ None
-  not_invoked (Event.Invoke new) name is other seen = absurd (true≢false (sym (ap (is_seen_by id) is ∙ seen) ∙ other))
+  not_invoked (Event.Invoke new) None is other seen = cc
+  not_invoked (Event.Invoke new) (Some x) is other seen = absurd (true≢false (sym (ap (is_seen_by id) is ∙ seen) ∙ other))
   not_invoked event name is other seen = refl
 
   -- what is shown of the invocation is the same, its object's state at its start is, and it keeps its object's state in what is told alone

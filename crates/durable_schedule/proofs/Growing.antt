@@ -42,7 +42,7 @@ abbrev pub kind_of : Event → Kind
 kind_of event = (invocation_of event, does_hand event)
 
 abbrev pub IsOfKind : Kind → Event → Type 0
-IsOfKind kind event = kind_of event ≡ kind
+IsOfKind kind event = IsOneOf kind.0 event × (does_hand event ≡ kind.1)
 
 -- so it is of the events that an event of a schedule adds
 abbrev pub kind_named : {H : Type 0} → scheduled.Event H → Kind
@@ -69,8 +69,8 @@ grows_on kind s t u one two =
 same_grows : (kind : Kind) (s t : Standing) → t.events ≡ s.events → GrowsBy kind s t
 same_grows kind s t same = ([], same, tt)
 
-more_grows : (s t : Standing) (last : Event) → t.events ≡ last ∷ s.events → GrowsBy (kind_of last) s t
-more_grows s t last more = (last ∷ [], more, (refl, tt))
+more_grows : (s t : Standing) (last : Event) → IsOneOf (invocation_of last) last → t.events ≡ last ∷ s.events → GrowsBy (kind_of last) s t
+more_grows s t last named more = (last ∷ [], more, ((named, refl), tt))
 
 stays_grows : (kind : Kind) (s t : Standing) → StaysStanding s t → GrowsBy kind s t
 stays_grows kind s t it = same_grows kind s t it.events
@@ -79,15 +79,15 @@ stays_grows kind s t it = same_grows kind s t it.events
 parts_grow : (id : Text) (n count : ℕ) (parts : List Bytes) (s t : Standing) → HandsOutEach id n count parts s t → GrowsBy (Some id, true) s t
 parts_grow id n count [] s t it = same_grows (Some id, true) s t (ap (λ (m : Standing). m.events) it)
 parts_grow id n count (last ∷ earlier) s t it =
-    grows_on (Some id, true) s it.0 t (parts_grow id n count earlier s it.0 it.1) (more_grows it.0 t (Event.Feed id n (length last)) it.3.1.events)
+    grows_on (Some id, true) s it.0 t (parts_grow id n count earlier s it.0 it.1) (more_grows it.0 t (Event.Feed id n (length last)) refl it.3.1.events)
 
 each_grows : (id : Text) (n : ℕ) (replies : List FrameReply) (s t : Standing) → TakesEach id n replies s t → GrowsBy (Some id, false) s t
 each_grows id n [] s t it = stays_grows (Some id, false) s t it
 each_grows id n (first ∷ replies) s t it =
-    grows_on (Some id, false) s it.0 t (more_grows s it.0 (Event.Move id n it.1.frame) it.1.leaves.events) (each_grows id n replies it.0 t it.2)
+    grows_on (Some id, false) s it.0 t (more_grows s it.0 (Event.Move id n it.1.frame) refl it.1.leaves.events) (each_grows id n replies it.0 t it.2)
 
 refused_grows : (b : Bool) (id : Text) (n : ℕ) (s t : Standing) → LeavesRefused b id n s t → GrowsBy (Some id, false) s t
-refused_grows true id n s t it = more_grows s t (Event.Stop id n) it.events
+refused_grows true id n s t it = more_grows s t (Event.Stop id n) refl it.events
 refused_grows false id n s t it = stays_grows (Some id, false) s t it
 
 rests_grow : (id : Text) (n : ℕ) (why : Option Refusal) (s t : Standing) → Rests id n why s t → GrowsBy (Some id, false) s t
@@ -120,35 +120,35 @@ count_grows Change kind (reply.Refused (refusal.Store why)) s t each it = each (
 count_grows Change kind _ s t each it = absurd it
 
 complete_grows : (id : Text) (n : ℕ) (value : NotificationResult) (s t : Standing) (result : Result ℕ Refusal) → CompletesCall id n value result s t → GrowsBy (Some id, false) s t
-complete_grows id n value s t (Ok place) it = more_grows s t (Event.Result id n value) it.1.events
+complete_grows id n value s t (Ok place) it = more_grows s t (Event.Result id n value) refl it.1.events
 complete_grows id n value s t (Err why) it = refuses_grows (Event.Result id n value) why s t it
 
 signal_grows : (id : Text) (key : SignalKey) (value : NotificationResult) (s t : Standing) (result : Result ℕ Refusal) → Signals id key value result s t → GrowsBy (Some id, false) s t
-signal_grows id key value s t (Ok place) it = more_grows s t (Event.Signal id key value) it.1.events
+signal_grows id key value s t (Ok place) it = more_grows s t (Event.Signal id key value) refl it.1.events
 signal_grows id key value s t (Err why) it = refuses_grows (Event.Signal id key value) why s t it
 
 cancel_grows : (id : Text) (s t : Standing) (result : Result ℕ Refusal) → Cancels id result s t → GrowsBy (Some id, false) s t
-cancel_grows id s t (Ok place) it = more_grows s t (Event.Cancel id) it.1.events
+cancel_grows id s t (Ok place) it = more_grows s t (Event.Cancel id) refl it.1.events
 cancel_grows id s t (Err why) it = refuses_grows (Event.Cancel id) why s t it
 
 tick_grows : (now : ℕ) (s t : Standing) (result : Result ℕ Refusal) → Ticks now result s t → GrowsBy (None, false) s t
-tick_grows now s t (Ok count) it = more_grows s t (Event.Tick now) it.1.events
+tick_grows now s t (Ok count) it = more_grows s t (Event.Tick now) refl it.1.events
 tick_grows now s t (Err why) it = refuses_grows (Event.Tick now) why s t it
 
 invoke_grows : (one : NewInvocation) (s t : Standing) (result : Result (Unit {0}) Refusal) → Invokes one result s t → GrowsBy (Some one.id, false) s t
-invoke_grows one s t (Ok done) it = more_grows s t (Event.Invoke one) it.events
+invoke_grows one s t (Ok done) it = more_grows s t (Event.Invoke one) refl it.events
 invoke_grows one s t (Err why) it = refuses_grows (Event.Invoke one) why s t it
 
 stop_grows : (id : Text) (n : ℕ) (s t : Standing) (result : Result (Unit {0}) Refusal) → Stops id n result s t → GrowsBy (Some id, false) s t
-stop_grows id n s t (Ok done) it = more_grows s t (Event.Stop id n) it.events
+stop_grows id n s t (Ok done) it = more_grows s t (Event.Stop id n) refl it.events
 stop_grows id n s t (Err why) it = stays_grows (Some id, false) s t it.stays
 
 module _ {H : Type 0} (function : H → Handler) (options : VMOptions) where
   begin_grows : (id : Text) (handler : H) (now : ℕ) (s t : Standing) (held more : List (HeldAttempt H)) (answer : Reply) → BeginDoes options id handler now s held answer t more → GrowsBy (Some id, true) s t
-  begin_grows id handler now s t held more (reply.Begun n) it = more_grows s t (Event.Begin id now) it.2.leaves.events
+  begin_grows id handler now s t held more (reply.Begun n) it = more_grows s t (Event.Begin id now) refl it.2.leaves.events
   begin_grows id handler now s t held more (reply.Refused (refusal.Store why)) it = elim it [
     | inl none_made ↦ refuses_grows (Event.Begin id now) why s t none_made.0
-    | inr unheld ↦ more_grows s t (Event.Begin id now) unheld.2.leaves.events
+    | inr unheld ↦ more_grows s t (Event.Begin id now) refl unheld.2.leaves.events
   ]
   begin_grows id handler now s t held more _ it = absurd it
 
@@ -160,7 +160,7 @@ module _ {H : Type 0} (function : H → Handler) (options : VMOptions) where
   feed_grows count one s t _ changed it = absurd it
 
   close_grows : (one : HeldAttempt H) (s t : Standing) (answer : Reply) (changed : Attempt H) → ClosesOne one s answer t changed → GrowsBy (Some one.invocation, false) s t
-  close_grows one s t reply.Done changed it = more_grows s t (Event.Close one.invocation one.number) it.0.events
+  close_grows one s t reply.Done changed it = more_grows s t (Event.Close one.invocation one.number) refl it.0.events
   close_grows one s t (reply.Refused (refusal.Store why)) changed it = refuses_grows (Event.Close one.invocation one.number) why s t it.0
   close_grows one s t _ changed it = absurd it
 
@@ -202,9 +202,9 @@ module _ {H : Type 0} (function : H → Handler) (options : VMOptions) where
       held_grows false StopsOne id n s t held more answer (λ one changed it. done_grows (λ result. Stops one.invocation one.number result s t) (Some one.invocation, false) answer s t (stop_grows one.invocation one.number s t) it.0) it
 
   name_is : (one : scheduled.Event H) (event : Event) → IsOfKind (kind_named one) event → IsOneOf (invocation_named one) event
-  name_is (event.Begin id handler now) event is = ap (λ (kind : Kind). kind.0) is
-  name_is (event.Feed id attempt count) event is = ap (λ (kind : Kind). kind.0) is
-  name_is one event is = ap (λ (kind : Kind). kind.0) is
+  name_is (event.Begin id handler now) event is = is.0
+  name_is (event.Feed id attempt count) event is = is.0
+  name_is one event is = is.0
 
   all_named : (one : scheduled.Event H) (events : List Event) → AllByRecursion (IsOfKind (kind_named one)) events → AllByRecursion (IsOneOf (invocation_named one)) events
   all_named one [] all = tt

@@ -109,7 +109,7 @@ module _ (id : Text) where
     quiet_on : (kind : Kind) (some all : List Event) (before : Bytes) → kind.1 ≡ false → AllByRecursion (IsOfKind kind) some → WasHanded before all → WasHanded before (some ++ all)
     quiet_on kind [] all before quiet own it = it
     quiet_on kind (event ∷ some) all before quiet own it =
-        goes_on event (some ++ all) before (λ e last. quiet_told event (some ++ all) (ap (λ (k : Kind). k.1) own.0 ∙ quiet)) (quiet_on kind some all before quiet own.1 it)
+        goes_on event (some ++ all) before (λ e last. quiet_told event (some ++ all) (own.0.1 ∙ quiet)) (quiet_on kind some all before quiet own.1 it)
 
     begun_on : (other : Text) (now : ℕ) (all : List Event) (before : Bytes) → WasHanded before all → WasHanded before (Event.Begin other now ∷ all)
     begun_on other now all before it = goes_on (Event.Begin other now) all before (λ e last. rw e refl) it

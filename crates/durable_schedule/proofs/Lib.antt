@@ -13,6 +13,7 @@ pub mod Crashing
 pub mod Settling
 pub mod Schedules
 mod Reopening
+mod Forgetting
 mod Adding
 mod Written
 pub mod Fronting

@@ -1,5 +1,6 @@
 -- What the function of a handler is written with, passed on, so that its specs name this crate alone.
 pub use Rattle.journal_model.specs.AwaitTree.{AwaitTree, AwaitTrees, Combinator, Single, Combined, no_trees, and_trees}
+pub use Rattle.journal_model.specs.Headers.{handler_header, is_for, tells_handler}
 pub use Rattle.journal_model.specs.Notification.{Bytes, Text}
 pub use Rattle.journal_model.specs.Run.{Handler}
 pub use Rattle.journal_model.specs.declared.call.Answer.{Answer}

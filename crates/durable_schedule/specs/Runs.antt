@@ -9,10 +9,11 @@ use Rattle.journal_model.specs.Notification.{Bytes, Text}
 use Rattle.journal_model.specs.declared.invocation.NewInvocation.{NewInvocation}
 use Rattle.journal_model.specs.Event.{Event}
 use Rattle.journal_model.specs.Cause.{IsAccepted, after_open}
-use Rattle.journal_model.specs.Journal.{begins, invocation_begun, invocation_of}
+use Rattle.journal_model.specs.Journal.{begins, invocation_begun, invocation_of, is_tick}
 use Rattle.journal_model.specs.Attempt.{due, is_due}
 use Rattle.journal_model.specs.Headline.{Headline, NeverLate, WakesExactly}
 use Rattle.journal_model.specs.Run.{Handler}
+use Rattle.journal_laws.specs.Forgetting.{without_all}
 use Rattle.vm_types.specs.Options.{run_options}
 use Rattle.vm_types.specs.declared.options.VMOptions.{VMOptions}
 use Rattle.store_calls.specs.AbstractStore.{Standing}
@@ -129,7 +130,8 @@ invocation_named (event.Stop id attempt) = Some id
 
 -- an accepted event is one of this invocation; where none is named, it is a tick
 abbrev pub IsOneOf : Option Text → Event → Type 0
-IsOneOf name event = invocation_of event ≡ name
+IsOneOf None event = is_tick event ≡ true
+IsOneOf (Some id) event = invocation_of event ≡ Some id
 
 -- whether an event of a schedule is one of the invocation's own, or a tick, by the invocation that it names
 abbrev pub is_seen_by : Text → Option Text → Bool
@@ -243,3 +245,9 @@ module _ {H : Type 0} (function : H → Handler) (options : VMOptions) where
 abbrev pub ReopenedHold : Type 0
 ReopenedHold = (next : Handler) (options : VMOptions) (id : Text) (events : List Event) → IsAccepted (after_open events) → HoldsOf next options id events
     → HoldsOf next options id (after_open events)
+
+-- ---- a store that has forgotten invocations
+
+-- What is recorded of an invocation is of the run behind what is left once these are forgotten, if it was before them.
+abbrev pub ForgottenHold : Type 0
+ForgottenHold = (next : Handler) (options : VMOptions) (id : Text) (events : List Event) (ids : List Text) → HoldsOf next options id events → HoldsOf next options id (without_all ids events)

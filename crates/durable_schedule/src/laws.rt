@@ -1,5 +1,5 @@
 //! Laws of the definitions. The functions do nothing: their contracts are the laws.
-ghost use Rattle.durable_schedule.specs.Runs.{ReopenedHold};
+ghost use Rattle.durable_schedule.specs.Runs.{ForgottenHold, ReopenedHold};
 
 use run_laws::records_hold;
 
@@ -10,3 +10,9 @@ pub fn reopened_stores_hold()
 {
     records_hold();
 }
+
+/// A store that has forgotten invocations stands for what is left of its events: what is recorded of an invocation is of its run then, if it
+/// was before, and one that is forgotten is one that was not begun yet. So the next schedule begins with what is left.
+pub fn forgotten_stores_hold()
+    ensures { ForgottenHold }
+{}

@@ -17,6 +17,7 @@ mod files;
 mod front;
 mod laws;
 pub mod options;
+pub mod values;
 
 pub use bytes::{ByteStr, Bytes};
 pub use files::{
@@ -25,17 +26,18 @@ pub use files::{
 };
 pub use front::{run_new_schedule, run_reopened_schedule};
 pub use journal_store::{Closing, InvocationRow, OpenRequest, Progress, Store};
-pub use laws::reopened_stores_hold;
+pub use laws::{forgotten_stores_hold, reopened_stores_hold};
 pub use schedule_laws::{
     entries_keep_places, frames_are_taken, inputs_are_handed_out, invocations_stand_alone,
     records_of_runs, replies_alike, schedules_keep, schedules_leave, settled_once_record_the_same,
 };
 pub use scheduler::{
-    Answer, AttachInvocationTarget, AwaitedFuture, Call, Cause, EntryKind, Event, EventRefusal,
-    Failure, Handler, Header, HeldAttempt, Input, LastError, Moment, NewInvocation, NonEmptyValue,
-    NotificationHandle, NotificationResult, Outcome, PayloadOptions, RecordedEntry, Refusal, Reply,
-    RetryPolicy, RunExitResult, RunOutcome, Scheduler, Sequence, SignalKey, StateMode, StateRow,
-    Target, TerminalFailure, Turn, UnresolvedFuture, VMOptions, Value,
+    Answer, AttachInvocationTarget, AwaitedFuture, Call, Cause, Effects, EntryKind, Error, Event,
+    EventRefusal, Failure, Handler, Header, HeldAttempt, Host, Input, LastError, Moment,
+    NewInvocation, NonEmptyValue, NotificationHandle, NotificationResult, Outcome, PayloadOptions,
+    RecordedEntry, Refusal, Reply, RetryPolicy, RunExitResult, RunOutcome, Scheduler, Sequence,
+    SignalKey, StateMode, StateRow, Target, TerminalFailure, Turn, UnresolvedFuture, VMOptions,
+    Value, Waits,
 };
 pub use sqlite::Alter;
 use std::alloc::Global;
@@ -47,7 +49,7 @@ pub use straight_line::{
     Awakeable, Called, Calls, Combinator, DurableFuture, IdAsked, KeysRead, Peeked, StateRead,
     Stop, Straight, StraightLine, Timer, Told, future_over,
 };
-pub use vm_attempt_laws::attempts_follow_runs;
+pub use vm_attempt_laws::{attempts_follow_runs, bodies_are_asked};
 
 /// Puts a reply behind the others, for which there is room.
 fn put(replies: &mut Vec<Reply>, reply: Reply)

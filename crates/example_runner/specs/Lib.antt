@@ -1,4 +1,4 @@
-pub mod Values
 pub mod Rounds
 pub mod Order
+pub mod Trip
 pub mod Job

@@ -1,8 +1,7 @@
 -- Written by tools/steps of src/order.rt.
 use Rattle.std.specs.Prelude.{codes}
 use Rattle.durable_schedule.specs.Handlers.{Bytes, Input}
-use Rattle.durable_schedule.specs.Straight.{Steps, ◌>>=◌, ◌>>◌, done, fail, on_failure, begin_signal, or_timeout, clear, run_effect, set}
-use Rattle.example_runner.specs.Values.{later}
+use Rattle.durable_schedule.specs.Straight.{Steps, ◌>>=◌, ◌>>◌, done, fail, on_failure, begin_signal, or_timeout, clear, run_effect, set, later}
 
 abbrev pub confirm : Input → Steps Bytes
 confirm input = do

@@ -1,13 +1,12 @@
 -- Written by tools/steps of src/rounds.rt.
 use Rattle.std.specs.Prelude.{ℕ, codes, ◌*◌, ◌+◌}
 use Rattle.durable_schedule.specs.Handlers.{Bytes, Input}
-use Rattle.durable_schedule.specs.Straight.{Steps, ◌>>◌, done, set, sleep_until, for_rounds}
-use Rattle.example_runner.specs.Values.{digit, later}
+use Rattle.durable_schedule.specs.Straight.{Steps, ◌>>◌, done, set, sleep_until, for_rounds, later, text_of}
 
 abbrev pub rounds-round : Input → ℕ → (Unit {0}) → Steps (Unit {0})
 rounds-round input round state = do
   sleep_until (later input.input (100 * (round + 1)))
-  let value = digit round
+  let value = text_of (round + 1)
   set (codes "rounds") value
   done tt
 

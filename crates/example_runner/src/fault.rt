@@ -31,7 +31,7 @@ impl Fault {
 impl fmt::Display for Fault {
     fn fmt<W: fmt::Write>(&self, f: &mut fmt::Formatter<W>) -> fmt::Result {
         match self {
-            Fault::Usage => write!(f, "usage: example_runner FILE [NAME [order|confirm]]"),
+            Fault::Usage => write!(f, "usage: example_runner FILE [NAME [order|trip|confirm]]"),
             Fault::NotTaken(file, reason) => write!(f, "{file}: {reason}"),
             Fault::Refused(why) | Fault::Failed(why) => write!(f, "{why}"),
         }

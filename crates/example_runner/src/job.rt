@@ -3,11 +3,11 @@ ghost use Rattle.durable_schedule.specs.Straight as steps;
 
 use crate::order::order;
 use crate::rounds::rounds;
-use crate::values::is_order;
+use crate::trip::trip;
 use durable_schedule::{Bytes, Calls, Input, StraightLine, Told};
 
-/// A job, or an order, as its input says: the moment at which it begins, in milliseconds, as eight bytes; and behind it, of an order,
-/// one byte more.
+/// A job, an order or a trip, by the name of its handler, which is recorded with it. Its input is the moment at which it begins, in
+/// milliseconds, as eight bytes.
 #[derive(Debug, Drop)]
 pub struct Job;
 
@@ -17,8 +17,10 @@ impl StraightLine for Job {
     ghost makes = { λ handler. job };
 
     fn run(&self, input: &Input, calls: &mut Calls) -> Told<Bytes> {
-        if is_order(&input.input) {
+        if input.is_for("order") {
             order(input, calls)
+        } else if input.is_for("trip") {
+            trip(calls)
         } else {
             rounds(input, calls)
         }

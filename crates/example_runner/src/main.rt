@@ -1,6 +1,7 @@
 //! `example_runner FILE` goes on with each invocation of the file that is due, and tells when the next sleep ends.
-//! `example_runner FILE NAME` adds a job of this name, which begins now; `example_runner FILE NAME order` an order.
-//! `example_runner FILE NAME confirm` confirms the order of this name.
+//! `example_runner FILE NAME` adds a job of this name, which begins now; `example_runner FILE NAME order` an order, and
+//! `example_runner FILE NAME trip` a trip. `example_runner FILE NAME confirm` confirms the order of this name.
+//! What the jobs do outside is a line each in the file FILE.ledger.
 #![tactic(auto)]
 
 mod fault;
@@ -8,31 +9,28 @@ mod job;
 mod order;
 mod outside;
 mod rounds;
-mod values;
+mod trip;
 
 use anyhow::{Error, Result, anyhow, bail};
+use durable_schedule::values::bytes_of;
 use durable_schedule::{
     Alter, ByteStr, Bytes, Event, File, FileStore, NewInvocation, NotificationResult, Outcome,
-    Reply, Scheduler, Sequence, SignalKey, StateMode, Store, Straight, VMOptions, close_file, open,
+    Reply, Scheduler, SignalKey, Store, Straight, VMOptions, Waits, close_file, open,
 };
 use fault::Fault;
 use job::Job;
-use outside::outcome_for;
+use outside::Outside;
 use std::alloc::{AllocError, Global};
 use std::process::ExitCode;
 use std::rt::{Clock, Env, HostRuntime};
 use std::time::{SystemTime, UNIX_EPOCH};
 use std::{env, io};
 
-/// How many attempts a job may have in one call: what an effect brings is told to the next one.
-const ATTEMPTS: u32 = 100;
-
 /// What a call does.
 #[derive(Drop)]
 enum Task {
     GoOn,
-    Add(String),
-    AddOrder(String),
+    Add(String, &'static str),
     Confirm(String),
 }
 
@@ -57,8 +55,9 @@ fn read_task(name: Option<String>, what: Option<String>) -> Result<Task, Fault> 
         return Err(Fault::Usage);
     }
     match what.as_deref() {
-        None => Ok(Task::Add(name)),
-        Some("order") => Ok(Task::AddOrder(name)),
+        None => Ok(Task::Add(name, "rounds")),
+        Some("order") => Ok(Task::Add(name, "order")),
+        Some("trip") => Ok(Task::Add(name, "trip")),
         Some("confirm") => Ok(Task::Confirm(name)),
         Some(_) => Err(Fault::Usage),
     }
@@ -89,27 +88,17 @@ fn now_ms<R: Clock>(rt: &R) -> io::Result<u64> {
     }
 }
 
-/// The input of a job, or of an order, that begins now.
-fn input_of(alloc: Global, now: u64, is_order: bool) -> Result<Bytes, AllocError> {
-    let mut input = Vec::new(alloc);
-    input.extend_from_slice(&now.to_be_bytes())?;
-    if is_order {
-        input.push(1)?;
-    }
-    Ok(Bytes::from_vec(input)?)
-}
-
-/// An invocation of this name, for an object of the same name.
-fn named(alloc: Global, name: &str, input: Bytes) -> Result<NewInvocation, AllocError> {
-    Ok(NewInvocation {
-        id: ByteStr::copy_from_str(alloc, name)?,
-        object: ByteStr::copy_from_str(alloc, name)?,
-        input,
-        headers: Sequence::new(alloc),
-        version: 7,
-        seed: 1,
-        state: StateMode::Whole,
-    })
+/// An invocation of this name, for an object of the same name, that begins now.
+fn named(
+    alloc: Global,
+    name: &str,
+    handler: &'static str,
+    now: u64,
+) -> Result<NewInvocation, AllocError> {
+    let id = ByteStr::copy_from_str(alloc, name)?;
+    let object = ByteStr::copy_from_str(alloc, name)?;
+    let new = NewInvocation::new(alloc, id, object, bytes_of(alloc, now)?);
+    new.for_handler(ByteStr::from_static(handler))
 }
 
 /// Tells what going on with an invocation came to: in a line, and why it failed on standard error.
@@ -133,51 +122,39 @@ fn print_outcomes(rt: &HostRuntime, outcomes: Vec<(ByteStr, Outcome)>) -> Result
 }
 
 /// Goes on with each invocation that is due.
-fn go_on_once<S: Alter + Drop>(
-    alloc: Global,
+fn go_on_with_all<S: Alter + Drop>(
+    host: &mut Outside<'_>,
     scheduler: &mut Scheduler<Straight<Job>, S>,
+    waits: &mut Waits,
     now: u64,
 ) -> Result<Vec<(ByteStr, Outcome)>> {
-    let given = |id: &ByteStr| {
-        let handler = Straight {
-            alloc,
-            handler: Job,
-        };
-        (handler, outcome_for(alloc, id))
-    };
-    match scheduler.run_due(now, 1000, given) {
+    match scheduler.run_due(now, host, waits) {
         Ok(outcomes) => Ok(outcomes),
         Err(why) => bail!("nothing went on: refused {}, {why:?}", why.name()),
     }
 }
 
-/// Goes on until nothing is due, and answers whether each came as far as it could.
-fn go_on_with_all<S: Alter + Drop>(
-    rt: &HostRuntime,
-    scheduler: &mut Scheduler<Straight<Job>, S>,
-    now: u64,
-) -> Result<bool> {
-    for _ in 0..ATTEMPTS {
-        let outcomes = go_on_once(rt.alloc(), scheduler, now)?;
-        if outcomes.is_empty() {
-            return Ok(true);
-        }
-        if !print_outcomes(rt, outcomes)? {
-            return Ok(false);
-        }
+/// The first of the two moments, of those that are.
+fn first_of(one: Option<u64>, other: Option<u64>) -> Option<u64> {
+    match (one, other) {
+        (Some(one), Some(other)) => Some(one.min(other)),
+        (one, None) => one,
+        (None, other) => other,
     }
-    Ok(false)
 }
 
-/// Tells when the next sleep ends, in milliseconds.
+/// Tells when the next sleep ends, or what was put off is due, in milliseconds.
 fn print_next<S: Alter + Drop>(
     rt: &HostRuntime,
     scheduler: &mut Scheduler<Straight<Job>, S>,
+    waits: &Waits,
 ) -> Result<()> {
-    match scheduler.next_moment() {
-        Ok(Some(moment)) => println!(rt; "next {moment}")?,
-        Ok(None) => println!(rt; "nothing sleeps")?,
-        Err(why) => bail!("the file cannot be read: {why:?}"),
+    let Ok(slept) = scheduler.next_moment() else {
+        bail!("the file cannot be read");
+    };
+    match first_of(slept, waits.next_moment()) {
+        Some(moment) => println!(rt; "next {moment}")?,
+        None => println!(rt; "nothing sleeps")?,
     }
     Ok(())
 }
@@ -194,16 +171,15 @@ fn print_done(rt: &HostRuntime, name: &str, done: &str, reply: Reply) -> Result<
     }
 }
 
-/// Adds a job, or an order, that begins now.
+/// Adds a job of this handler that begins now.
 fn add<S: Alter + Drop>(
     rt: &HostRuntime,
     scheduler: &mut Scheduler<Straight<Job>, S>,
     name: &str,
+    handler: &'static str,
     now: u64,
-    is_order: bool,
 ) -> Result<(), Fault> {
-    let input = input_of(rt.alloc(), now, is_order).map_err(Error::from)?;
-    let new = named(rt.alloc(), name, input).map_err(Error::from)?;
+    let new = named(rt.alloc(), name, handler, now).map_err(Error::from)?;
     let reply = scheduler.apply(Event::Invoke(new));
     print_done(rt, name, "added", reply)
 }
@@ -227,10 +203,15 @@ fn confirm<S: Alter + Drop>(
 fn go_on<S: Alter + Drop>(
     rt: &HostRuntime,
     scheduler: &mut Scheduler<Straight<Job>, S>,
+    ledger: String,
     now: u64,
 ) -> Result<(), Fault> {
-    let all_went_on = go_on_with_all(rt, scheduler, now)?;
-    print_next(rt, scheduler)?;
+    let alloc = rt.alloc();
+    let mut host = Outside { rt, alloc, ledger };
+    let mut waits = Waits::new(alloc);
+    let outcomes = go_on_with_all(&mut host, scheduler, &mut waits, now)?;
+    let all_went_on = print_outcomes(rt, outcomes)?;
+    print_next(rt, scheduler, &waits)?;
     if all_went_on {
         Ok(())
     } else {
@@ -243,12 +224,12 @@ fn run_over<S: Alter + Drop>(
     rt: &HostRuntime,
     scheduler: &mut Scheduler<Straight<Job>, S>,
     task: Task,
+    ledger: String,
 ) -> Result<(), Fault> {
     let now = now_ms(rt).map_err(Error::from)?;
     match task {
-        Task::GoOn => go_on(rt, scheduler, now),
-        Task::Add(name) => add(rt, scheduler, name.as_str(), now, false),
-        Task::AddOrder(name) => add(rt, scheduler, name.as_str(), now, true),
+        Task::GoOn => go_on(rt, scheduler, ledger, now),
+        Task::Add(name, handler) => add(rt, scheduler, name.as_str(), handler, now),
         Task::Confirm(name) => confirm(rt, scheduler, name.as_str()),
     }
 }
@@ -276,9 +257,10 @@ fn close(store: Store<FileStore<File>>) -> Result<()> {
 
 fn run(rt: &HostRuntime) -> Result<(), Fault> {
     let Words { file, task } = read_words(rt)?;
+    let ledger = format!(in rt.alloc(); "{file}.ledger").map_err(Error::from)?;
     let store = open_store(rt, file)?;
     let mut scheduler = Scheduler::new(rt.alloc(), store, VMOptions::default());
-    let done = run_over(rt, &mut scheduler, task);
+    let done = run_over(rt, &mut scheduler, task, ledger);
     let closed = close(scheduler.into_store());
     done?;
     Ok(closed?)

@@ -3,7 +3,7 @@ ghost use Rattle.std.specs.Prelude.{◌≡◌};
 ghost use Rattle.durable_schedule.specs.Straight as steps;
 ghost use Rattle.example_runner.specs.Order as ordering;
 
-use crate::values::later;
+use durable_schedule::values::later;
 use durable_schedule::{ByteStr, Bytes, Calls, Input, Stop, Told};
 
 /// Waits for the confirmation of what is paid, for half a second. Without it the money is given back.

@@ -1,8 +1,9 @@
 //! Every call that asks for something and waits for nothing, made in one attempt, and what is recorded of it.
+use crate::desk::Desk;
 use crate::every_call::EveryCall;
 use crate::invocation;
 use crate::work::{Work, straight};
-use durable_schedule::{Alter, ByteStr, Event, RecordedEntry, RunOutcome, Scheduler, Straight};
+use durable_schedule::{Alter, ByteStr, Event, RecordedEntry, Scheduler, Straight};
 use std::io;
 
 fn order() -> ByteStr {
@@ -39,8 +40,8 @@ pub fn make_calls<R: Print, S: Alter + Drop>(
     let alloc = scheduler.alloc;
     let handler = straight(alloc, Work::EveryCall(EveryCall));
     scheduler.apply(Event::Invoke(invocation(alloc, order())));
-    let ran = RunOutcome::default();
-    let outcome = scheduler.go_on(&order(), handler, 10, 100, &ran);
+    let mut desk = Desk::new(alloc);
+    let outcome = scheduler.go_on(&order(), handler, 10, &mut desk);
     println!(rt; "{outcome:?}")?;
     print_commands(rt, scheduler)
 }

@@ -5,6 +5,7 @@
 
 mod attempt;
 mod calls;
+mod desk;
 mod every_call;
 mod options;
 mod orders;
@@ -15,11 +16,11 @@ mod values;
 mod work;
 
 use anyhow::{Result, bail};
-use attempt::go_on;
+use attempt::{begin, feed, go_on, move_output, stop, turn};
 use calls::make_calls;
 use durable_schedule::{
-    Alter, ByteStr, Bytes, Event, NewInvocation, NoRoom, Reply, RunOutcome, Scheduler, Sequence,
-    StateMode, Store, Straight, open_in_memory, run_new_schedule,
+    Alter, ByteStr, Bytes, Event, NewInvocation, NoRoom, Reply, Scheduler, Store, Straight,
+    open_in_memory, run_new_schedule,
 };
 use options::chosen_options;
 use orders::take_orders;
@@ -29,8 +30,10 @@ use std::alloc::{AllocError, Global};
 use std::io;
 use work::{Work, straight};
 
+const ID: &str = "order-7";
+
 fn id() -> ByteStr {
-    ByteStr::from_static("order-7")
+    ByteStr::from_static(ID)
 }
 
 fn customer() -> ByteStr {
@@ -38,68 +41,21 @@ fn customer() -> ByteStr {
 }
 
 fn invocation(alloc: Global, id: ByteStr) -> NewInvocation {
-    NewInvocation {
-        id,
-        object: customer(),
-        input: Bytes::new(),
-        headers: Sequence::new(alloc),
-        version: 7,
-        seed: 1,
-        state: StateMode::Whole,
-    }
-}
-
-fn begin(alloc: Global) -> Event<Straight<Work>> {
-    Event::Begin {
-        invocation: id(),
-        handler: straight(alloc, Work::Reminder(Reminder)),
-        now: 0,
-    }
-}
-
-fn feed(attempt: u32) -> Event<Straight<Work>> {
-    Event::Feed {
-        invocation: id(),
-        attempt,
-        count: usize::MAX,
-    }
-}
-
-fn turn(attempt: u32) -> Event<Straight<Work>> {
-    Event::Turn {
-        invocation: id(),
-        attempt,
-        outcome: RunOutcome::default(),
-    }
-}
-
-fn move_output(attempt: u32) -> Event<Straight<Work>> {
-    Event::Move {
-        invocation: id(),
-        attempt,
-        count: usize::MAX,
-    }
-}
-
-fn stop(attempt: u32) -> Event<Straight<Work>> {
-    Event::Stop {
-        invocation: id(),
-        attempt,
-    }
+    NewInvocation::new(alloc, id, customer(), Bytes::new())
 }
 
 // The first attempt is stopped where it sleeps. A second one makes no turn before it is begun.
 fn events(alloc: Global) -> Result<Vec<Event<Straight<Work>>>, AllocError> {
     Ok(vec![in alloc;
         Event::Invoke(invocation(alloc, id())),
-        begin(alloc),
-        feed(1),
-        turn(1),
-        turn(1),
-        turn(1),
-        move_output(1),
-        stop(1),
-        turn(2),
+        begin(ID, straight(alloc, Work::Reminder(Reminder))),
+        feed(ID, 1),
+        turn(ID, 1),
+        turn(ID, 1),
+        turn(ID, 1),
+        move_output(ID, 1),
+        stop(ID, 1),
+        turn(ID, 2),
     ]?)
 }
 

@@ -1,8 +1,11 @@
 //! Orders of one customer, which share her state.
+use crate::attempt::cut_off;
+use crate::desk::Desk;
 use crate::stamp::Stamp;
 use crate::work::{Work, straight};
 use crate::{customer, invocation};
-use durable_schedule::{Alter, ByteStr, Event, Outcome, RunOutcome, Scheduler, Straight};
+use durable_schedule::{Alter, ByteStr, Event, Scheduler, Straight};
+use std::alloc::Global;
 use std::io;
 
 fn invoke<S: Alter + Drop>(scheduler: &mut Scheduler<Straight<Work>, S>, order: &'static str) {
@@ -10,20 +13,15 @@ fn invoke<S: Alter + Drop>(scheduler: &mut Scheduler<Straight<Work>, S>, order: 
     scheduler.apply(Event::Invoke(new));
 }
 
-/// An attempt of an order, which makes so many turns. What it asked for is recorded.
-fn attempt<S: Alter + Drop>(
-    scheduler: &mut Scheduler<Straight<Work>, S>,
-    order: &'static str,
-    turns: u32,
-) -> Outcome {
-    let stamp = straight(scheduler.alloc, Work::Stamp(Stamp));
-    scheduler.go_on(
-        &ByteStr::from_static(order),
-        stamp,
-        10,
-        turns,
-        &RunOutcome::default(),
-    )
+fn stamp(alloc: Global) -> Straight<Work> {
+    straight(alloc, Work::Stamp(Stamp))
+}
+
+/// Goes on with an order, as far as it comes.
+fn go_on<S: Alter + Drop>(scheduler: &mut Scheduler<Straight<Work>, S>, order: &'static str) {
+    let alloc = scheduler.alloc;
+    let mut desk = Desk::new(alloc);
+    scheduler.go_on(&ByteStr::from_static(order), stamp(alloc), 10, &mut desk);
 }
 
 fn print_card<R: Print, S: Alter + Drop>(
@@ -40,13 +38,13 @@ pub fn take_orders<R: Print, S: Alter + Drop>(
 ) -> io::Result<()> {
     invoke(scheduler, "order-8");
     // The first attempt comes as far as the stamp, and not to the answer.
-    attempt(scheduler, "order-8", 5);
+    cut_off(scheduler, "order-8", stamp(scheduler.alloc), 5);
     print_card(rt, scheduler)?;
     // The second one is fed what was recorded. It puts no second stamp.
-    attempt(scheduler, "order-8", 7);
+    go_on(scheduler, "order-8");
     print_card(rt, scheduler)?;
     // A later order finds that card.
     invoke(scheduler, "order-9");
-    attempt(scheduler, "order-9", 7);
+    go_on(scheduler, "order-9");
     print_card(rt, scheduler)
 }

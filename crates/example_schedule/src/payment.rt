@@ -1,11 +1,12 @@
 //! A handler that has something done outside.
 ghost use Rattle.durable_schedule.specs.Straight as steps;
 
+use crate::attempt::cut_off;
+use crate::desk::Desk;
 use crate::invocation;
 use crate::work::{Work, straight};
 use durable_schedule::{
-    Alter, ByteStr, Bytes, Calls, Event, Input, Outcome, RetryPolicy, RunExitResult, RunOutcome,
-    Scheduler, Straight, StraightLine, Told,
+    Alter, ByteStr, Bytes, Calls, Event, Input, Scheduler, Straight, StraightLine, Told,
 };
 use std::io;
 
@@ -23,33 +24,25 @@ impl StraightLine for Payment {
     }
 }
 
+const ORDER: &str = "order-10";
+
 fn order() -> ByteStr {
-    ByteStr::from_static("order-10")
+    ByteStr::from_static(ORDER)
 }
 
-/// An attempt, which makes so many turns. The one that has the order paid is given this receipt. What was asked for is recorded.
-fn attempt<S: Alter + Drop>(
-    scheduler: &mut Scheduler<Straight<Work>, S>,
-    turns: u32,
-    receipt: &'static [u8],
-) -> Outcome {
-    let paid = RunOutcome {
-        result: RunExitResult::Success(Bytes::from_static(receipt)),
-        policy: RetryPolicy::Infinite,
-    };
-    let payment = straight(scheduler.alloc, Work::Payment(Payment));
-    scheduler.go_on(&order(), payment, 10, turns, &paid)
-}
-
-/// Has an order paid in its first attempt, and answered in its second one.
+/// Has an order paid in its first attempt, which is stopped behind that, and answered in its second one.
 pub fn pay<R: Print, S: Alter + Drop>(
     rt: &R,
     scheduler: &mut Scheduler<Straight<Work>, S>,
 ) -> io::Result<()> {
-    let new = invocation(scheduler.alloc, order());
-    scheduler.apply(Event::Invoke(new));
-    println!(rt; "{:?}", attempt(scheduler, 3, b"receipt 1"))?;
-    // The receipt is recorded, so nothing is paid again.
-    println!(rt; "{:?}", attempt(scheduler, 6, b"receipt 2"))?;
+    let alloc = scheduler.alloc;
+    scheduler.apply(Event::Invoke(invocation(alloc, order())));
+    cut_off(scheduler, ORDER, straight(alloc, Work::Payment(Payment)), 3);
+    // The receipt is recorded, so the desk is not asked for another.
+    let mut desk = Desk::new(alloc);
+    let payment = straight(alloc, Work::Payment(Payment));
+    let outcome = scheduler.go_on(&order(), payment, 10, &mut desk);
+    let paid = desk.paid;
+    println!(rt; "{outcome:?} {paid}")?;
     println!(rt; "{:?}", scheduler.answer(&order()))
 }

@@ -4,7 +4,7 @@ use Rattle.journal_model.specs.Notification.{Bytes}
 use Rattle.journal_model.specs.declared.handler.Input.{Input}
 use Rattle.straight_line.specs.Steps.{Steps, ◌>>=◌, ◌>>◌, done}
 use Rattle.straight_line.specs.Everyday.{get, set}
-use Rattle.example_straight.specs.Values.{bytes_of, count_of}
+use Rattle.straight_values.specs.Values.{bytes_of, count_of}
 
 abbrev pub counter : Input → Steps Bytes
 counter input = do

@@ -7,7 +7,7 @@ use Rattle.straight_line.specs.Calls.{begin_run}
 use Rattle.straight_line.specs.Combinators.{first_succeeded}
 use Rattle.straight_line.specs.Everyday.{set}
 use Rattle.straight_line.specs.Rounds.{for_rounds}
-use Rattle.example_straight.specs.Values.{bytes_of, number_in}
+use Rattle.straight_values.specs.Values.{bytes_of, number_in}
 
 abbrev pub first_offer : Steps Bytes
 first_offer = do

@@ -7,7 +7,8 @@ use Rattle.straight_line.specs.Calls.{begin_run, begin_signal}
 use Rattle.straight_line.specs.Combinators.{or_timeout}
 use Rattle.straight_line.specs.Everyday.{result_of, run_effect, sleep_until}
 use Rattle.straight_line.specs.Rounds.{Flow, Leave, Next, for_until}
-use Rattle.example_straight.specs.Values.{later, not_paid}
+use Rattle.example_straight.specs.Values.{an_hour, not_paid}
+use Rattle.straight_values.specs.Values.{later}
 
 abbrev pub pay-attempt : Input → ℕ → (Unit {0}) → Steps (Flow (Unit {0}) Bytes)
 pay-attempt input attempt state = do
@@ -30,7 +31,7 @@ pay input = do
 abbrev pub confirm : Input → Steps Bytes
 confirm input = do
   confirmed ← begin_signal (codes "confirmed")
-  on_failure (or_timeout confirmed (later input.input 3_600_000)) λ failure. do
+  on_failure (or_timeout confirmed (later input.input an_hour)) λ failure. do
     run_effect (codes "refund")
     fail failure
 

@@ -1,27 +1,11 @@
--- The values that the handlers make and read.
-use Rattle.std.specs.Prelude.{ℕ, ◌+◌, ◌*◌, ◌-◌, ◌^◌, nat_lt, min, if◌then◌else◌, [], ◌∷◌, length, take, Option, Some, None, codes}
-use Rattle.std.specs.Int.{from_be_bytes, to_be_bytes, w64}
-use Rattle.journal_model.specs.Notification.{Bytes}
-use Rattle.journal_model.specs.declared.call.Moment.{Moment}
+-- The values of an order.
+use Rattle.std.specs.Prelude.{ℕ, [], codes}
 use Rattle.journal_model.specs.declared.value.TerminalFailure.{TerminalFailure}
 
--- the first eight bytes, as a number; 0 where there are fewer
-abbrev pub number_in : Bytes → ℕ
-number_in bytes = if nat_lt (length bytes) 8 then 0 else from_be_bytes w64 (take 8 bytes)
+-- how long an order waits for its confirmation, in milliseconds
+abbrev pub an_hour : ℕ
+an_hour = 3_600_000
 
--- so many milliseconds behind the moment in the first eight bytes
-abbrev pub later : Bytes → ℕ → Moment
-later input millis = min (number_in input + millis) (2 ^ 64 - 1) * 1_000_000
-
-abbrev pub digit : ℕ → Bytes
-digit round = (49 + round) ∷ []
-
-abbrev pub count_of : Option Bytes → ℕ
-count_of (Some bytes) = number_in bytes
-count_of None = 0
-
-abbrev pub bytes_of : ℕ → Bytes
-bytes_of count = to_be_bytes w64 count
-
+-- what an order fails with whose payment was refused as often as it was tried
 unfoldable pub not_paid : TerminalFailure
 not_paid = record { code = 402; message = codes "not paid"; metadata = [] }

@@ -1,10 +1,10 @@
 //! A counter that is kept in the state of its object.
 ghost use Rattle.straight_line.specs.Steps as steps;
 
-use crate::values::{bytes_of, count_of};
 use bytes::{ByteStr, Bytes};
 use journal_model::Input;
 use straight_line::{Calls, StraightLine, Told};
+use straight_values::{bytes_of, count_of};
 
 /// Adds one to its object's count, and answers it, as eight bytes.
 #[derive(Debug, Drop)]

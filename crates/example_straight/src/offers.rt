@@ -3,10 +3,10 @@ ghost use Rattle.std.specs.Prelude.{◌≡◌};
 ghost use Rattle.straight_line.specs.Steps as steps;
 ghost use Rattle.example_straight.specs.Offers as offering;
 
-use crate::values::{bytes_of, number_in};
 use bytes::{ByteStr, Bytes};
 use journal_model::Input;
 use straight_line::{Calls, StraightLine, Told};
+use straight_values::{bytes_of, number_in};
 
 /// Asks two suppliers of each of three parts, takes the first offer, and answers the sum, which its object's state follows.
 #[derive(Debug, Drop)]

@@ -3,10 +3,11 @@ ghost use Rattle.std.specs.Prelude.{◌≡◌};
 ghost use Rattle.straight_line.specs.Steps as steps;
 ghost use Rattle.example_straight.specs.Order as ordering;
 
-use crate::values::{later, not_paid};
+use crate::values::{an_hour, not_paid};
 use bytes::{ByteStr, Bytes};
 use journal_model::Input;
 use straight_line::{Calls, Stop, StraightLine, Told};
+use straight_values::later;
 
 /// Reserves what was ordered, has it paid, and waits for a confirmation until an hour is over. Where something fails, and where the
 /// order is cancelled, what was done is undone, the last first.
@@ -35,7 +36,7 @@ fn confirm(input: &Input, calls: &mut Calls) -> Told<Bytes>
     ensures { steps.Makes (ordering.confirm input.now) calls.old result calls.new }
 {
     let confirmed = calls.begin_signal(ByteStr::from_static("confirmed"))?;
-    match calls.or_timeout(confirmed, later(&input.input, 3_600_000)) {
+    match calls.or_timeout(confirmed, later(&input.input, an_hour())) {
         Err(Stop::Failed(failure)) => {
             calls.run(ByteStr::from_static("refund"))?;
             Err(Stop::Failed(failure))

@@ -1,10 +1,10 @@
 //! A handler that sleeps again and again.
 ghost use Rattle.straight_line.specs.Steps as steps;
 
-use crate::values::{digit, later};
 use bytes::{ByteStr, Bytes};
 use journal_model::Input;
 use straight_line::{Calls, StraightLine, Told};
+use straight_values::{later, text_of};
 
 /// Sleeps five times for a tenth of a second, counts that in the state of its object, and says that it is over.
 ///
@@ -21,7 +21,7 @@ impl StraightLine for Rounds {
     fn run(&self, input: &Input, calls: &mut Calls) -> Told<Bytes> {
         for round in 0..5 {
             calls.sleep_until(later(&input.input, 100 * (round + 1)))?;
-            let value = digit(calls.alloc(), round)?;
+            let value = text_of(calls.alloc(), round + 1)?;
             calls.set(ByteStr::from_static("rounds"), value)?;
         }
         Ok(Bytes::from_static(b"5 rounds"))

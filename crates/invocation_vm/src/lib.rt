@@ -40,10 +40,11 @@ pub use protocol_differences::CommandRelationship;
 pub use protocol_errors::{CommandMetadata, Error, ErrorBehavior, InvocationErrorCode, codes};
 pub use protocol_stream::{CommandType, HeaderMap, Version};
 
-// The handler of an attempt, and the attempt that drives it. A turn is given how the body of a run has ended, and one that fails brings an
-// `Error`.
+// The handler of an attempt, and the attempt that drives it. A turn is given how the body of a run has ended, or it asks for that body in its
+// middle; one that fails brings an `Error`.
 pub use journal_model::{Answer, AwaitedFuture, Call, Handler};
-pub use vm_attempt::{Attempt, RunOutcome, Turn};
+pub use vm_attempt::{Attempt, RunOutcome, Step, Turn};
 
-// Whatever a host does with an attempt, it follows the run of its handler: a law.
-pub use vm_attempt_laws::attempts_follow_runs;
+// Laws. Whatever a host does with an attempt, it follows the run of its handler; and it asks for the body of a run only where that run was asked
+// for, and no outcome of it has come.
+pub use vm_attempt_laws::{attempts_follow_runs, bodies_are_asked};

@@ -31,7 +31,7 @@ module _ (id : Text) where
   begun-skipped true event events e = rw e refl
   begun-skipped false event events e = refl
 
-  invocation_begun-view : (events : List Event) → invocation_begun (view_of id events) id ≡ invocation_begun events id
+  pub invocation_begun-view : (events : List Event) → invocation_begun (view_of id events) id ≡ invocation_begun events id
   invocation_begun-view [] = refl
   invocation_begun-view (Event.Invoke new ∷ events) = by_cases (bytes_eq new.id id) refl (invocation_begun-view events)
     where
@@ -43,12 +43,12 @@ module _ (id : Text) where
   invocation_begun-view (event ∷ events) =
       begun-skipped (is_of id event || is_tick event) event (view_of id events) refl ∙ invocation_begun-view events
 
-  is_open-view : (events : List Event) → is_open (view_of id events) id ≡ is_open events id
+  pub is_open-view : (events : List Event) → is_open (view_of id events) id ≡ is_open events id
   is_open-view events =
       ap₂ (λ (new : Option NewInvocation) (frames : List Frame). is_some new && not (list_any (closes (unwrap_or (option_map (λ (begun : NewInvocation). begun.version) new) 0)) frames))
       (invocation_begun-view events) (frames_of-view events)
 
-  entries_from-view : (start : StateMap) (events : List Event) → entries_from start (view_of id events) id ≡ entries_from start events id
+  pub entries_from-view : (start : StateMap) (events : List Event) → entries_from start (view_of id events) id ≡ entries_from start events id
   entries_from-view start [] = refl
   entries_from-view start (event ∷ events) =
       by_cases (is_of id event) refl (is_tick event) refl (entries_from-view start events) (is_open-view events)
@@ -65,7 +65,7 @@ module _ (id : Text) where
   version_of-view events = ap (λ (new : Option NewInvocation). unwrap_or (option_map (λ (begun : NewInvocation). begun.version) new) 0) (invocation_begun-view events)
 
   -- an event outside the view begins no attempt, ends none, hands out nothing and suspends nothing
-  is_of-begins : (event : Event) → is_of id event ≡ false → begins_attempt id event ≡ false
+  pub is_of-begins : (event : Event) → is_of id event ≡ false → begins_attempt id event ≡ false
   is_of-begins (Event.Begin other now) e = e
   is_of-begins _ e = refl
 
@@ -155,7 +155,7 @@ module _ (id : Text) where
       by_cases false e true h = kept h
       by_cases false e false h = rw (is_of-begins event e, is_of-asked event e) h
 
-  suspension_of-view : (events : List Event) → suspension_of (view_of id events) id ≡ suspension_of events id
+  pub suspension_of-view : (events : List Event) → suspension_of (view_of id events) id ≡ suspension_of events id
   suspension_of-view [] = refl
   suspension_of-view (event ∷ events) = by_cases (is_of id event) refl (is_tick event) (suspension_of-view events)
     where

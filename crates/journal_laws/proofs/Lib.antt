@@ -12,3 +12,7 @@ pub mod Keys
 pub mod Applying
 pub mod ObjectState
 pub mod Asking
+pub mod Forgetting
+pub mod Staying
+pub mod Waking
+pub mod Several

@@ -7,7 +7,7 @@ use Rattle.journal_model.specs.Request.{Request}
 use Rattle.journal_model.specs.State.{StateMap, state_after}
 use Rattle.journal_model.specs.declared.invocation.NewInvocation.{NewInvocation}
 use Rattle.journal_model.specs.Event.{Frame, Event}
-use Rattle.journal_model.specs.Journal.{Entry, Recorded, Arrived, invocation_of, is_text, is_of, is_tick, invoked_by, invocation_begun, closes, frame_of, frames_of, is_open, is_busy, request_of_frame, object_of, requests_for, object_state, starting_state, requests_in, slept, read_answer, entries_of_event, entries_added, entries_from, entries_of, recorded_requests}
+use Rattle.journal_model.specs.Journal.{Entry, Recorded, Arrived, invocation_of, is_text, is_of, is_tick, invoked_by, invocation_begun, closes, frame_of, frames_of, is_open, is_busy, request_of_frame, object_of, requests_for, edits_of, object_state, starting_state, requests_in, slept, read_answer, entries_of_event, entries_added, entries_from, entries_of, recorded_requests}
 use Rattle.journal_model.specs.Cause.{Tests, those_that_hold, open_tests, own_tests, causes_of, IsAccepted}
 use Rattle.journal_model.specs.declared.cause.Cause.{Cause}
 use Rattle.journal_laws.proofs.Applying.{state_after-append}
@@ -34,7 +34,7 @@ holds-tail [] e = refl
 holds-tail (test ∷ tests) e = (holds-none test.0 test.1 tests e).1
 
 -- an accepted begin is one of an object that is not busy, under an id that is new
-begin_when_free : (events : List Event) (new : NewInvocation) → causes_of events (Event.Invoke new) ≡ [] → is_busy events new.object ≡ false
+pub begin_when_free : (events : List Event) (new : NewInvocation) → causes_of events (Event.Invoke new) ≡ [] → is_busy events new.object ≡ false
 begin_when_free events new accepted = holds-head (own_tests events (Event.Invoke new)) accepted
 
 pub begin_when_new : (events : List Event) (new : NewInvocation) → causes_of events (Event.Invoke new) ≡ [] → is_some (invocation_begun events new.id) ≡ false
@@ -69,6 +69,7 @@ at_same events other id e opened = subst (λ (x : Text). is_open events x ≡ tr
 pub open_when_accepted : (events : List Event) (event : Event) (id : Text) → invoked_by event ≡ None → is_of id event ≡ true → causes_of events event ≡ [] → is_open events id ≡ true
 open_when_accepted events (Event.Invoke new) id e f accepted = cc
 open_when_accepted events (Event.Tick now) id e f accepted = cc
+open_when_accepted events (Event.Edit object request) id e f accepted = cc
 open_when_accepted events (Event.Result other n result) id e f accepted = at_same events other id f (open-from_tests events other (own_tests events (Event.Result other n result)) accepted)
 open_when_accepted events (Event.Signal other key result) id e f accepted = at_same events other id f (open-from_tests events other (own_tests events (Event.Signal other key result)) accepted)
 open_when_accepted events (Event.Cancel other) id e f accepted = at_same events other id f (open-from_tests events other (own_tests events (Event.Cancel other)) accepted)
@@ -306,16 +307,32 @@ pub none_of : (o : Option NewInvocation) → is_some o ≡ false → o ≡ None
 none_of None e = refl
 none_of (Some new) e = cc
 
+-- a state is not changed from outside while its object is busy
+pub edits_none : (event : Event) (earlier : List Event) (object : Text) → causes_of earlier event ≡ [] → is_busy earlier object ≡ true → edits_of object event ≡ []
+edits_none (Event.Edit other request) earlier object accepted busy = by_cases (bytes_eq other object) refl
+  where
+    by_cases : (b : Bool) → bytes_eq other object ≡ b → (if b then request ∷ [] else []) ≡ []
+    by_cases true e =
+        let same : other ≡ object = (bytes_eq-Decides other object).0 e in
+        absurd (true≢false (sym (ap (is_busy earlier) same ∙ busy) ∙ holds-head (own_tests earlier (Event.Edit other request)) accepted))
+    by_cases false e = refl
+edits_none event earlier object accepted busy = refl
+
+pub own_edits_none : (event : Event) (id object : Text) → (is_of id event || is_tick event) ≡ true → edits_of object event ≡ []
+own_edits_none (Event.Edit other request) id object own = cc
+own_edits_none event id object own = refl
+
 -- one more event, which records for the object what it records for the invocation
-state_goes_on : (event : Event) (earlier : List Event) → invoked_by event ≡ None → (id object : Text)
+state_goes_on : (event : Event) (earlier : List Event) → invoked_by event ≡ None → (id object : Text) → edits_of object event ≡ []
     → object_state earlier object ≡ state_after (recorded_requests earlier id) (starting_state earlier id)
     → requests_for object earlier event ≡ requests_in (entries_added (starting_state earlier id) earlier id event (entries_of earlier id))
     → object_state (event ∷ earlier) object ≡ state_after (recorded_requests (event ∷ earlier) id) (starting_state (event ∷ earlier) id)
-state_goes_on (Event.Invoke new) earlier e id object before records = cc
-state_goes_on event earlier e id object before records =
+state_goes_on (Event.Invoke new) earlier e id object none before records = cc
+state_goes_on event earlier e id object none before records =
     let start = starting_state earlier id in
     let entries = entries_of earlier id in
-    ap (state_after (requests_for object earlier event)) before
+    ap (λ (edits : List Request). state_after edits (state_after (requests_for object earlier event) (object_state earlier object))) none
+    ∙ ap (state_after (requests_for object earlier event)) before
     ∙ sym (state_after-append (requests_in entries) (requests_for object earlier event) start)
     ∙ ap (λ (added : List Request). state_after (requests_in entries ++ added) start) records
     ∙ ap (λ (all : List Request). state_after all start) (sym (requests_in-append entries (entries_added start earlier id event entries)))
@@ -351,7 +368,7 @@ state_kept (Event.Invoke new ∷ earlier) accepted id object opened is =
 state_kept (event ∷ earlier) accepted id object opened is =
     let opened_before : is_open earlier id ≡ true = open_before event earlier id refl opened in
     let is_before : object_in earlier id ≡ Some object = sym (object_in-before event earlier id refl) ∙ is in
-    state_goes_on event earlier refl id object (state_kept earlier accepted.1 id object opened_before is_before)
+    state_goes_on event earlier refl id object (edits_none event earlier object accepted.0 (busy_when_open earlier id object opened_before is_before)) (state_kept earlier accepted.1 id object opened_before is_before)
     (same_requests earlier accepted.1 event accepted.0 refl id object opened_before is_before (starting_state earlier id) (entries_of earlier id))
 
 pub state_of_open : (events : List Event) (new : NewInvocation) → IsAccepted events → invocation_begun events new.id ≡ Some new → is_open events new.id ≡ true
@@ -386,7 +403,7 @@ unfolding object_in
 own_followed event events id e own before new is opened =
     let is_before : invocation_begun events id ≡ Some new = sym (begun_before event events id e) ∙ is in
     let object_is : object_in events id ≡ Some new.object = ap (λ (o : Option NewInvocation). option_map (λ (begun : NewInvocation). begun.object) o) is_before in
-    state_goes_on event events e id new.object (before new is_before (open_before event events id e opened))
+    state_goes_on event events e id new.object (own_edits_none event id new.object own) (before new is_before (open_before event events id e opened))
     (requests_alike events event e id new.object (λ other of. of_object other of object_is) (starting_state events id) (entries_of events id))
   where
     of_object : (other : Text) → invocation_of event ≡ Some other → object_in events id ≡ Some new.object → is_text new.object (object_in events other) ≡ bytes_eq other id

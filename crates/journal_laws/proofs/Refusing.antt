@@ -83,6 +83,7 @@ module _ (events others : List Event) (id : Text) (told : IsToldAlike events oth
     pub refused_alike : (event : Event) → invocation_of event ≡ Some id → invoked_by event ≡ None → first_cause (causes_of events event) ≡ first_cause (causes_of others event)
     refused_alike (Event.Invoke new) own e = cc
     refused_alike (Event.Tick now) own e = cc
+    refused_alike (Event.Edit object request) own e = cc
     refused_alike (Event.Result other n result) own e =
         let same : other ≡ id = cc in
         at (λ x. Event.Result x n result) other same

@@ -3,10 +3,12 @@
 #![tactic(auto)]
 
 ghost use Rattle.journal_model.specs.Cause.{AskingAccepts};
+ghost use Rattle.journal_model.specs.Forgetting.{AllForget, HeadlineStays, WakingStays};
 ghost use Rattle.journal_model.specs.Headline.{AllIsolated, StateFollows};
 ghost use Rattle.journal_model.specs.Run.{ArrivalsExtend, CallsExtend};
 ghost use Rattle.journal_model.specs.State.{AppliesOnce};
 ghost use Rattle.journal_model.specs.PrunedTrees.{LeavingOutWidens, PruningKeeps};
+ghost use Rattle.journal_laws.specs.Forgetting.{SeveralForget};
 
 /// More arrivals and more calls only extend a run.
 pub fn runs_extend()
@@ -35,4 +37,12 @@ pub fn invocations_isolated()
 /// Whatever events are asked for, those that are kept were accepted.
 pub fn events_accepted()
     ensures { AskingAccepts }
+{}
+
+/// Once an invocation is forgotten, or several are, all others stay as they were, and what is left of the events was accepted.
+pub fn invocations_forgotten()
+    ensures others { AllForget }
+    ensures headline { HeadlineStays }
+    ensures waking { WakingStays }
+    ensures several { SeveralForget }
 {}

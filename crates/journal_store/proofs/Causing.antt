@@ -12,6 +12,7 @@ use Rattle.sql_tables.specs.QueryAnswers.{AreTablesKept}
 use Rattle.sql_tables.specs.Causes.{AreRefused, IsCause, IsCauseToWrite}
 use Rattle.sql_tables.specs.Refusals.{has_no_place}
 use Rattle.sql_tables.proofs.Causes.{cause_later}
+use Rattle.journal_model.specs.Notification.{Text}
 use Rattle.journal_model.specs.Event.{Event}
 use Rattle.store_tables.specs.Looks.{OnlyAsks}
 use Rattle.store_tables.specs.Steps.{IsStore, Lands}
@@ -19,12 +20,13 @@ use Rattle.store_tables.specs.Statements.{statements_of_all}
 use Rattle.store_tables.specs.declared.row.Write.{Write}
 use Rattle.store_tables.proofs.Ruled.{rules_refuse}
 use Rattle.store_refusals.specs.declared.refusal.Refusal.{Refusal}
+use Rattle.store_invocations.specs.ForgottenRows.{forgetting_writes_of_all}
 use Rattle.store_invocations.specs.Rows.{IsStoreOf}
 use Rattle.store_calls.specs.AbstractStore.{Standing}
 use Rattle.journal_store.specs.StoreView.{Stored}
 use Rattle.journal_store.specs.StoreStanding.{IsStanding, KeepsAll, Leads}
 use Rattle.journal_store.specs.StoreTransaction.{WritesRows}
-use Rattle.journal_store.specs.Causes.{AreWritesOf, AskingWantsMemory, RefusesEvent, RefusesTried, RunsWell, TellsWhy, TellsWhyUnwritten, Tries, TriesEvent, WritingWantsMemory}
+use Rattle.journal_store.specs.Causes.{AreWritesOf, AskingWantsMemory, ForgettingWantsMemory, RefusesEvent, RefusesForgetting, RefusesTried, RunsWell, TellsWhy, TellsWhyUnforgotten, TellsWhyUnwritten, Tries, TriesEvent, WritingWantsMemory}
 use Rattle.journal_store.proofs.Standing.{store_still}
 
 -- a question that is refused, of a call that writes
@@ -84,6 +86,40 @@ pub event_tried : {S A : Type 0} (g : Ghosts S) (event : Event) (mid : Held S) (
     → IfErr result (TellsWhyUnwritten g old new (TriesEvent event))
 event_tried g event mid old new writes result looks are wrote =
     tried_by g (TriesEvent event) mid old new writes looks (λ clean s is. (event, (refl, refl), are clean s.events is.stands.kept)) result wrote
+
+-- ---- what removes rows
+
+module _ {S : Type 0} (g : Ghosts S) (mid : Held S) (old new : Stored S) (ids : List Text) (writes : List Write) (looks : OnlyAsks g old.connection mid) (are : writes ≡ forgetting_writes_of_all ids) where
+  refuses_forgetting : (cause : Error) → IsStore (state g mid) → HasCleanDisk (state g mid) → HasCleanDisk (state g new.connection) → AreTablesKept (state g mid) (state g new.connection) → IsTrue (state g mid).is_open
+      → AreRefused (state g mid).step_limit (statements_of_all writes) (state g mid).now cause → RefusesForgetting g old new ids cause
+  refuses_forgetting cause tables early clean undone opened refused = record {
+    before = (state g mid).now;
+    left = λ is_open. (undone clean is_open).1;
+    refuses = λ s is.
+        let store = store_still s.events (state g old.connection) (state g mid) (λ _. ⊥) looks.crash looks.kept is.stands.kept in
+        record {
+          schema = tables early opened;
+          keeps = all_held s.events (state g mid) store early opened;
+          refused =
+              subst (λ (some : List Write). AreRefused (state g old.connection).step_limit (statements_of_all some) (state g mid).now cause) are
+              (subst (λ (limit : Option ℕ). AreRefused limit (statements_of_all writes) (state g mid).now cause) looks.crash.limit refused);
+        };
+  }
+
+  forgetting_cause : (cause : Error) → IsStore (state g mid) → HasCleanDisk (state g new.connection) → Survives (state g mid) (state g new.connection) (Lands writes (state g mid)) → AreTablesKept (state g mid) (state g new.connection)
+      → IsCauseToWrite (statements_of_all writes) (state g mid) (state g new.connection) cause → IsCause (state g old.connection) (state g new.connection) cause ⊎ RefusesForgetting g old new ids cause
+  unfolding IsCauseToWrite
+  forgetting_cause cause tables clean lives undone (inl own) =
+      inl (cause_later (state g old.connection) (state g mid) (state g new.connection) (λ _. ⊥) (Lands writes (state g mid)) cause looks.crash lives clean own)
+  forgetting_cause cause tables clean lives undone (inr (opened, refused)) = inr (refuses_forgetting cause tables (omega (arith, lives.clean, clean)) clean undone opened refused)
+
+  pub forgetting_tried : {A : Type 0} (result : Result A Refusal) → WritesRows g writes mid new.connection result → IfErr result (TellsWhyUnforgotten g old new ids)
+  forgetting_tried (Ok answer) wrote = tt
+  forgetting_tried (Err why) wrote = λ clean cause is. forgetting_cause cause (wrote.why.store cause is) clean wrote.crash wrote.undone (wrote.why.cause clean cause is)
+
+-- a question that is refused
+pub asked_unforgotten : {S : Type 0} (g : Ghosts S) (old new : Stored S) (ids : List Text) (why : Refusal) → TellsWhy g old new why → TellsWhyUnforgotten g old new ids why
+asked_unforgotten g old new ids why tells clean cause is = inl (tells clean cause is)
 
 -- ---- behind what was done before
 
@@ -145,4 +181,18 @@ writing_wants g Tried old new runs s is why tells cause refused = elim (tells ru
   | inr it ↦
       let tried = it.refuses s is in
       inr (without_place (state g old.connection).step_limit runs.unlimited tried.0.events tried.1 it.before cause tried.3, it)
+]
+
+pub forgetting_wants : {S : Type 0} (g : Ghosts S) → ForgettingWantsMemory g
+forgetting_wants g old new runs s is ids why tells cause refused = elim (tells runs.clean cause refused) [
+  | inl own ↦ inl (cause_wants (state g old.connection) (state g new.connection) cause runs own)
+  | inr it ↦
+      let removal = it.refuses s is in
+      inr (
+        elim (rules_refuse (state g old.connection).step_limit (forgetting_writes_of_all ids) it.before removal.keeps.records cause removal.schema removal.keeps.held removal.refused) [
+          | inl place ↦ place
+          | inr met ↦ let none : IsSome {T = ℕ} None = subst (λ (o : Option ℕ). IsSome o) runs.unlimited met.1 in absurd cc
+        ],
+        it,
+      )
 ]

@@ -1,3 +1,4 @@
+pub mod Dropping
 pub mod Rows
 pub mod Standing
 pub mod Asking
@@ -21,3 +22,4 @@ pub mod Reading
 pub mod Framed
 pub mod Causing
 pub mod Fitting
+pub mod Forgetting

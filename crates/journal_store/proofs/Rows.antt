@@ -1,5 +1,5 @@
 -- The rows of live attempts follow what is written.
-use Rattle.std.proofs.Common.{◌≡◌, ◌⊎◌, ℕ, refl, sym, ap, subst, ◌∙◌, inl, inr, true≢false, Bool, true, false, if◌then◌else◌, List, [], ◌∷◌, ◌++◌, map, filter, filter_map, Option, Some, None, option_map, option_to_list, bytes_eq}
+use Rattle.std.proofs.Common.{◌≡◌, ◌⊎◌, refl, sym, ap, subst, ◌∙◌, inl, inr, true≢false, Bool, true, false, if◌then◌else◌, List, [], ◌∷◌, ◌++◌, map, filter, filter_map, Option, Some, None, option_map, option_to_list, bytes_eq}
 use Rattle.std.proofs.lemmas.List.Elements.{filter-append}
 use Rattle.std.proofs.lemmas.Slice.Eq.{bytes_eq-Decides}
 use Rattle.sqlite_keyed.proofs.ListLemmas.{filter-map}
@@ -14,7 +14,7 @@ use Rattle.store_tables.specs.Records.{Records, applied, applied_all, no_records
 use Rattle.store_tables.specs.declared.row.InvocationRow.{InvocationRow}
 use Rattle.store_tables.specs.declared.row.Progress.{Progress}
 use Rattle.store_tables.specs.declared.row.Write.{Write}
-use Rattle.store_tables.specs.declared.row.Write.TheVariants.{AddInvocation, SetProgress}
+use Rattle.store_tables.specs.declared.row.Write.TheVariants.{AddInvocation, DropInvocation, SetProgress}
 use Rattle.store_model.specs.KeptRecords.{IsKept, invocation_row}
 use Rattle.store_model.specs.Writes.{writes_of}
 use Rattle.store_model.proofs.Finding.{all_found}
@@ -25,17 +25,20 @@ use Rattle.store_live.specs.Attempts.{ByInvocation, IsNow, ChangesLive, attempt_
 use Rattle.store_live.specs.ChangedRoom.{AreAsBefore, IsAsBefore}
 use Rattle.store_live.specs.Rows.{AreNoted, live_noted, row_after, row_noted, row_with_progress}
 use Rattle.store_live_laws.specs.LiveAttempts.{Agrees}
-use Rattle.journal_store.specs.StoreStanding.{HasRow, KeepsOutputs, output_of}
+use Rattle.journal_store.specs.StoreStanding.{HasRow, KeepsOutputs}
+use Rattle.journal_store.proofs.Dropping.{AllDropNone, DropsNone, event_drops_none}
 
 -- ---- records
 
--- these writes keep the event
+-- these writes keep the event, and remove no invocation
 abbrev pub KeepsBy : List Event → Event → List Write → Type 0
-KeepsBy events event writes = (r : Records) → IsAccepted events → IsKept events r → IsKept (event ∷ events) (applied_all writes r)
+KeepsBy events event writes = AllDropNone writes × ((r : Records) → IsAccepted events → IsKept events r → IsKept (event ∷ events) (applied_all writes r))
 
 pub keeps_event : (events : List Event) (event : Event) (writes : List Write) → causes_of events event ≡ [] → writes ≡ writes_of events event → KeepsBy events event writes
-keeps_event events event writes none are r accepted kept =
-    subst (λ (ws : List Write). IsKept (event ∷ events) (applied_all ws r)) (sym are) (kept_after events event r accepted none kept)
+keeps_event events event writes none are = (
+  subst AllDropNone (sym are) (event_drops_none events event),
+  λ r accepted kept. subst (λ (ws : List Write). IsKept (event ∷ events) (applied_all ws r)) (sym are) (kept_after events event r accepted none kept),
+)
 
 -- some records are kept of whatever was accepted
 some_kept : (events : List Event) → IsAccepted events → (r : Records) × IsKept events r
@@ -87,18 +90,19 @@ first_set id other progress row rows named (more, first) = (
       ∙ ap (λ (one : InvocationRow). one ∷ map (set_in other progress) more) (row_set id other progress row named),
 )
 
-first_noted : (id : Text) (write : Write) (row : InvocationRow) (r : Records) → row.id ≡ id → StandsFirst id row r.invocations → StandsFirst id (row_noted id write row) (applied write r).invocations
-first_noted id (AddInvocation new) row r named (more, first) = (
+first_noted : (id : Text) (write : Write) (row : InvocationRow) (r : Records) → DropsNone write → row.id ≡ id → StandsFirst id row r.invocations → StandsFirst id (row_noted id write row) (applied write r).invocations
+first_noted id (AddInvocation new) row r none named (more, first) = (
   more ++ filter (has_id id) (new ∷ []),
   filter-append (has_id id) r.invocations (new ∷ []) ∙ ap (λ (rows : List InvocationRow). rows ++ filter (has_id id) (new ∷ [])) first,
 )
-first_noted id (SetProgress other progress) row r named stands = first_set id other progress row r.invocations named stands
-first_noted id write row r named stands = stands
+first_noted id (SetProgress other progress) row r none named stands = first_set id other progress row r.invocations named stands
+first_noted id (DropInvocation other) row r none named stands = absurd none
+first_noted id write row r none named stands = stands
 
-first_after : (id : Text) (writes : List Write) (row : InvocationRow) (r : Records) → row.id ≡ id → StandsFirst id row r.invocations → StandsFirst id (row_after id writes row) (applied_all writes r).invocations
-first_after id [] row r named stands = stands
-first_after id (write ∷ writes) row r named stands =
-    first_after id writes (row_noted id write row) (applied write r) (noted_named id write row ∙ named) (first_noted id write row r named stands)
+first_after : (id : Text) (writes : List Write) (row : InvocationRow) (r : Records) → AllDropNone writes → row.id ≡ id → StandsFirst id row r.invocations → StandsFirst id (row_after id writes row) (applied_all writes r).invocations
+first_after id [] row r none named stands = stands
+first_after id (write ∷ writes) row r none named stands =
+    first_after id writes (row_noted id write row) (applied write r) none.1 (noted_named id write row ∙ named) (first_noted id write row r none.0 named stands)
 
 -- it is that of the events
 only_first : (o : Option InvocationRow) (row : InvocationRow) (more : List InvocationRow) → option_to_list o ≡ row ∷ more → o ≡ Some row
@@ -124,8 +128,8 @@ row_follows events event writes accepted keeps id row of =
     let before = (all_found events it.0 accepted.1 it.1).invocation id in
     let is : option_map (invocation_row events) (invocation_begun events id) ≡ Some row = ap (option_map (invocation_row events)) of.begun ∙ ap Some (sym of.is) in
     let named : row.id ≡ id = ap (λ (one : InvocationRow). one.id) of.is ∙ of.named in
-    let first = first_after id writes row it.0 named ([], before ∙ ap option_to_list is) in
-    let after = (all_found (event ∷ events) (applied_all writes it.0) accepted (keeps it.0 accepted.1 it.1)).invocation id in
+    let first = first_after id writes row it.0 keeps.0 named ([], before ∙ ap option_to_list is) in
+    let after = (all_found (event ∷ events) (applied_all writes it.0) accepted (keeps.1 it.0 accepted.1 it.1)).invocation id in
     row_begun (event ∷ events) id (row_after id writes row) (invocation_begun (event ∷ events) id) refl
     (only_first (option_map (invocation_row (event ∷ events)) (invocation_begun (event ∷ events) id)) (row_after id writes row) first.0 (sym after ∙ first.1))
 

@@ -6,9 +6,9 @@ use Rattle.sqlite.specs.Held.{Held, state}
 use Rattle.sqlite.specs.State.{State, HasCleanDisk, Survives}
 use Rattle.sqlite.proofs.StateLemmas.{survives_then}
 use Rattle.journal_model.specs.Event.{Event}
-use Rattle.journal_model.specs.Cause.{causes_of, IsAccepted}
+use Rattle.journal_model.specs.Cause.{causes_of}
 use Rattle.store_frames.specs.ReadFrames.{AreRead}
-use Rattle.store_tables.specs.Records.{Holds, Records, applied_all}
+use Rattle.store_tables.specs.Records.{Holds, applied_all}
 use Rattle.store_tables.specs.declared.row.Write.{Write}
 use Rattle.store_tables.specs.Looks.{HasWritten, Lasts, OnlyAsks}
 use Rattle.store_tables.specs.Steps.{Lands, TurnsRecords}
@@ -27,6 +27,7 @@ use Rattle.store_calls.specs.Calls.{Ticks}
 use Rattle.journal_store.specs.StoreView.{stored}
 use Rattle.journal_store.specs.StoreStanding.{EnduresAlways, KeepsAll, KeepsOf, Leads, Settles, Stands}
 use Rattle.journal_store.specs.StoreTransaction.{WritesRows}
+use Rattle.journal_store.proofs.Dropping.{AllDropNone, tick_drops_none}
 use Rattle.journal_store.proofs.Enduring.{tick_landed}
 use Rattle.journal_store.proofs.Lasting.{outlasts_now}
 use Rattle.journal_store.proofs.Leading.{adds, refuses}
@@ -38,9 +39,11 @@ use Rattle.journal_store.proofs.Waiting.{still_waits}
 
 pub tick_keeps : (events : List Event) (now : ℕ) (made : PreparedTick) → causes_of events (Event.Tick now) ≡ [] → IsTickReady events now made
     → KeepsBy events (Event.Tick now) made.writes.items
-tick_keeps events now made none ready r accepted kept =
-    subst (λ (writes : List Write). IsKept (Event.Tick now ∷ events) (applied_all writes r)) (sym ready.writes)
-    (ready_keeps events now ready.ids r accepted none ready.ending kept)
+tick_keeps events now made none ready = (
+  subst AllDropNone (sym ready.writes) (tick_drops_none events now ready.ids),
+  λ r accepted kept. subst (λ (writes : List Write). IsKept (Event.Tick now ∷ events) (applied_all writes r)) (sym ready.writes)
+      (ready_keeps events now ready.ids r accepted none ready.ending kept),
+)
 
 kept_by : (events : List Event) (event : Event) (s : State) (writes : List Write) (trees : Trees) → Keeps events s → AreRead (event ∷ events) → KeepsBy events event writes
     → TurnsRecords (applied_all writes) s.now.trees trees → KeepsAll (event ∷ events) trees
@@ -48,7 +51,7 @@ kept_by events event s writes trees k read keeps turns = record {
   read = read;
   records = applied_all writes k.records;
   held = turns k.records k.held;
-  kept = keeps k.records k.accepted k.kept;
+  kept = keeps.1 k.records k.accepted k.kept;
 }
 
 module _ (events : List Event) (now : ℕ) (writes : List Write) (keeps : KeepsBy events (Event.Tick now) writes) (none : causes_of events (Event.Tick now) ≡ []) where
@@ -63,7 +66,7 @@ module _ (events : List Event) (now : ℕ) (writes : List Write) (keeps : KeepsB
       }
 
   none_written : (s : State) → writes ≡ [] → IsStoreOf events s → IsStoreOf (Event.Tick now ∷ events) s
-  none_written s nothing store = stored_still events (Event.Tick now) s writes store tt none nothing keeps
+  none_written s nothing store = stored_still events (Event.Tick now) s writes store tt none nothing keeps.1
 
   pub tick_stored : (mid new : State) (P : Trees → Type 0) → Survives mid new P → IsStoreOf events mid → HasCleanDisk mid → HasWritten writes mid new → IsStoreOf (Event.Tick now ∷ events) new
   tick_stored mid new P lives store clean (inl nothing) = none_written new nothing.0 (store_still events mid new P lives nothing.1 store)

@@ -18,6 +18,7 @@ use Rattle.store_model.specs.Writes.{AreEnding, writes_of}
 use Rattle.store_refusals.specs.declared.refusal.Refusal.{Refusal}
 use Rattle.store_refusals.specs.declared.refusal.Refusal.TheVariants.{StatementRefused}
 use Rattle.store_refusals.specs.Causes.{TellsCause}
+use Rattle.store_invocations.specs.ForgottenRows.{forgetting_writes_of_all}
 use Rattle.store_arrivals.specs.PreparedTicks.{ready_writes}
 use Rattle.store_steps.specs.declared.frame.FrameReply.{FrameReply}
 use Rattle.store_calls.specs.AbstractStore.{Standing}
@@ -84,6 +85,26 @@ module _ {S : Type 0} (g : Ghosts S) where
         HasCleanDisk (state g new.connection) → (cause : Error) → why ≡ StatementRefused cause
         → IsCause (state g old.connection) (state g new.connection) cause ⊎ RefusesTried Tried old new cause
 
+-- ---- what forgets invocations
+
+-- SQL's own rules refuse a statement that removes a row of theirs, over the tables of a store that keep these events
+pub record RefusesRemoval (limit : Option ℕ) (events : List Event) (ids : List Text) (before : Database) (cause : Error) : Type 0 where
+  pub schema : before.schema ≡ store_schema
+  pub keeps : KeepsAll events before.trees
+  pub refused : AreRefused limit (statements_of_all (forgetting_writes_of_all ids)) before cause
+
+module _ {S : Type 0} (g : Ghosts S) (old new : Stored S) (ids : List Text) where
+  -- So it is, whatever the store stood for. Where the connection is open, its tables are those before.
+  pub record RefusesForgetting (cause : Error) : Type 0 where
+    pub before : Database
+    pub left : IsTrue (state g new.connection).is_open → (state g new.connection).now ≡ before
+    pub refuses : (s : Standing) → IsStanding g s old → RefusesRemoval (state g old.connection).step_limit s.events ids before cause
+
+  -- a call that forgets tells the database's own cause, or for what SQL's rules refuse a statement of it
+  abbrev pub TellsWhyUnforgotten : Refusal → Type 0
+  TellsWhyUnforgotten why =
+      HasCleanDisk (state g new.connection) → (cause : Error) → why ≡ StatementRefused cause → IsCause (state g old.connection) (state g new.connection) cause ⊎ RefusesForgetting cause
+
 -- ---- what that comes to
 
 -- the connection was open and had no limit on steps, and its disk has not failed since and returned what was written
@@ -105,3 +126,9 @@ module _ {S : Type 0} (g : Ghosts S) where
   WritingWantsMemory Tried =
       (old new : Stored S) → RunsWell (state g old.connection) (state g new.connection) → (s : Standing) → IsStanding g s old → (why : Refusal) → TellsWhyUnwritten g old new Tried why
       → (cause : Error) → why ≡ StatementRefused cause → (cause ≡ SqliteFailure code.OutOfMemory) ⊎ (IsTrue (has_no_place cause) × RefusesTried g Tried old new cause)
+
+  -- so is one of a call that forgets
+  abbrev pub ForgettingWantsMemory : Type 0
+  ForgettingWantsMemory =
+      (old new : Stored S) → RunsWell (state g old.connection) (state g new.connection) → (s : Standing) → IsStanding g s old → (ids : List Text) (why : Refusal) → TellsWhyUnforgotten g old new ids why
+      → (cause : Error) → why ≡ StatementRefused cause → (cause ≡ SqliteFailure code.OutOfMemory) ⊎ (IsTrue (has_no_place cause) × RefusesForgetting g old new ids cause)

@@ -1,14 +1,15 @@
 // Events that are recorded: each is made ready, and then written in one transaction.
-ghost use Rattle.std.specs.Prelude.{◌≡◌, Some, [], ◌<◌, IfOk, OnErr, OnOk, IfErr};
+ghost use Rattle.std.specs.Prelude.{◌≡◌, ◌≢◌, Some, [], ◌<◌, IfOk, OnErr, OnOk, IfErr};
 ghost use Rattle.journal_model.specs.Event.{Event};
 ghost use Rattle.store_live.specs.Rows.{AreNoted};
 ghost use Rattle.store_calls.specs.AbstractStore.{Adds};
 ghost use Rattle.store_calls.specs.Calls.{BeginsAttempt, CompletesCall, Invokes};
+ghost use Rattle.store_calls.specs.Forgetting.{Forgets, LeavesOthers};
 ghost use Rattle.journal_store.specs.Attempts.{BeginsSome, IsNowNoted, IsToldAs, fresh};
 ghost use Rattle.journal_store.specs.StoreStanding.{EnduresAlways, KeepsOutputs, Leads, Settles, WaitsAfter, WaitsNow};
 ghost use Rattle.journal_store.specs.Words.{state, AreTablesKept};
 ghost use Rattle.journal_store.specs.StoreTransaction.{WritesRows};
-ghost use Rattle.journal_store.specs.Causes.{TellsWhyUnwritten, TriesEvent};
+ghost use Rattle.journal_store.specs.Causes.{TellsWhyUnforgotten, TellsWhyUnwritten, TriesEvent};
 
 use crate::store::Store;
 use bytes::ByteStr;
@@ -18,7 +19,7 @@ use sqlite::Alter;
 use std::alloc::{AllocError, Global};
 use store_arrivals::{PreparedArrival, prepare_result};
 use store_calls::BegunAttempt;
-use store_invocations::{PreparedAttempt, prepare_begin, prepare_invoke};
+use store_invocations::{PreparedAttempt, prepare_begin, prepare_forget, prepare_invoke};
 use store_live::{AttemptInput, FrameBuffer, LiveAttempt, LiveAttempts};
 use store_refusals::Refusal;
 use store_tables::{InvocationRow, StoreTables, Write, commit_all};
@@ -179,6 +180,23 @@ impl<S: Alter + Drop> Store<S> {
         let prepared = prepare_invoke(&mut self.tables, &new);
         drop(new);
         match prepared {
+            Ok(writes) => commit_ready(&mut self.tables, writes),
+            Err(why) => Err(why),
+        }
+    }
+
+    /// Forgets closed invocations, all of them or none, in one transaction: their ids are those of no invocation then, and may be used
+    /// again. What their requests have made of their objects' states stays. The first that is open or not known tells why none is forgotten.
+    /// Where none is named nothing is done.
+    pub fn forget(&mut self, ids: &[ByteStr]) -> Result<(), Refusal>
+        ensures does { Leads S.Store (Forgets ids.now result) self.old self.new }
+        ensures live { self.new.live ≡ self.old.live }
+        ensures settled { ids.now ≢ [] → OnOk result (Settles S.Store (Forgets ids.now result) self.old self.new) }
+        ensures kept { OnErr result (AreTablesKept (state S.Store self.old.connection) (state S.Store self.new.connection)) }
+        ensures cause { IfErr result (TellsWhyUnforgotten S.Store self.old self.new ids.now) }
+        ensures crash { EnduresAlways S.Store (LeavesOthers ids.now) self.old self.new }
+    {
+        match prepare_forget(&mut self.tables, ids) {
             Ok(writes) => commit_ready(&mut self.tables, writes),
             Err(why) => Err(why),
         }

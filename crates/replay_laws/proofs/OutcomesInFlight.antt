@@ -131,6 +131,7 @@ passed events id (Event.Tick now) coming coming' going passes = left passes (no_
 passed events id (Event.Feed other attempt count) coming coming' going passes = left passes (no_request events id (Event.Feed other attempt count) refl) (λ n t. t)
 passed events id (Event.Close other attempt) coming coming' going passes = left passes (no_request events id (Event.Close other attempt) refl) (λ n t. t)
 passed events id (Event.Stop other attempt) coming coming' going passes = left passes (no_request events id (Event.Stop other attempt) refl) (λ n t. t)
+passed events id (Event.Edit object request) coming coming' going passes = left passes (no_request events id (Event.Edit object request) refl) (λ n t. t)
 
 module _ (events : List Event) (id : Text) (event : Event) (journal : List Arrival) (proposed : List (ℕ × NonEmptyValue)) (coming : List Frame)
     (accepted : IsAccepted (event ∷ events)) (old : begins id event ≡ false) (whole : (n : ℕ) → count_of n (numbers_asked (recorded_requests events id ++ requests_sent coming)) ≤ 1)

@@ -18,6 +18,7 @@ pub mod Following
 pub mod Whole
 pub mod Due
 pub mod Holding
+pub mod Forgetting
 pub mod TakenRows
 pub mod WeakPremise
 pub mod Beginning

@@ -9,7 +9,7 @@ use Rattle.journal_model.specs.Notification.{Bytes, Text}
 use Rattle.journal_model.specs.Request.{Request}
 use Rattle.journal_model.specs.State.{StateMap, bytes_cmp, state_change, state_after, IsOrdered}
 use Rattle.journal_model.specs.Event.{Event, Frame}
-use Rattle.journal_model.specs.Journal.{is_text, object_of, invocation_begun, is_open, requests_for, object_state, starting_state}
+use Rattle.journal_model.specs.Journal.{is_text, object_of, invocation_begun, is_open, requests_for, edits_of, object_state, starting_state}
 use Rattle.journal_model.specs.Cause.{Tests, keys_of, own_tests, causes_of}
 use Rattle.journal_model.specs.declared.cause.Cause.{Cause}
 use Rattle.journal_laws.proofs.Applying.{state_after-ordered}
@@ -25,7 +25,9 @@ holds_true false t = absurd t
 
 ordered : (events : List Event) (object : Text) → T (is_sorted bytes_cmp (object_state events object))
 ordered [] object = tt
-ordered (event ∷ earlier) object = state_after-ordered (requests_for object earlier event) (object_state earlier object) (ordered earlier object)
+ordered (event ∷ earlier) object =
+    state_after-ordered (edits_of object event) (state_after (requests_for object earlier event) (object_state earlier object))
+    (state_after-ordered (requests_for object earlier event) (object_state earlier object) (ordered earlier object))
 
 pub states_ordered : StatesAreOrdered
 states_ordered events object = holds_true (is_sorted bytes_cmp (object_state events object)) (ordered events object)
@@ -76,6 +78,13 @@ text_asked earlier id attempt request causes =
     tests : Tests
     tests = own_tests earlier (Event.Move id attempt (Frame.Command request))
 
+text_edited : (earlier : List Event) (object : Text) (request : Request) → causes_of earlier (Event.Edit object request) ≡ [] → list_all is_utf8 (keys_of request) ≡ true
+text_edited earlier object request causes =
+    not-false (list_all is_utf8 (keys_of request)) (holds-head (tail_of tests) (holds-tail tests causes))
+  where
+    tests : Tests
+    tests = own_tests earlier (Event.Edit object request)
+
 pub states_text : StatesHaveTextKeys
 states_text [] object accepted = tt
 states_text (Event.Move id attempt (Frame.Command request) ∷ earlier) object accepted =
@@ -83,6 +92,11 @@ states_text (Event.Move id attempt (Frame.Command request) ∷ earlier) object a
   where
     by_object : (b : Bool) → HasTextKeys (object_state earlier object) → HasTextKeys (state_after (if b then request ∷ [] else []) (object_state earlier object))
     by_object true later = text_change request (object_state earlier object) (text_asked earlier id attempt request accepted.0) later
+    by_object false later = later
+states_text (Event.Edit other request ∷ earlier) object accepted = by_object (bytes_eq other object) (states_text earlier object accepted.1)
+  where
+    by_object : (b : Bool) → HasTextKeys (object_state earlier object) → HasTextKeys (state_after (if b then request ∷ [] else []) (object_state earlier object))
+    by_object true later = text_change request (object_state earlier object) (text_edited earlier other request accepted.0) later
     by_object false later = later
 states_text (event ∷ earlier) object accepted = by_object (is_text object (object_of earlier event)) (states_text earlier object accepted.1)
   where

@@ -9,6 +9,7 @@ use Rattle.journal_model.specs.Event.{Event}
 use Rattle.journal_model.specs.Journal.{invocation_begun, starting_state}
 use Rattle.journal_model.specs.Cause.{IsAccepted}
 use Rattle.journal_model.specs.Headline.{IsWholeRun, run_of, Headline, NeverLate, WakesExactly}
+use Rattle.journal_laws.specs.Forgetting.{is_among, without_all}
 use Rattle.run_laws.specs.TakenFrames.{TakesOfRun, AllOfRun}
 use Rattle.run_laws.specs.HeldInvocations.{Holds}
 
@@ -27,7 +28,12 @@ abbrev pub HoldsOfTaken : Type 0
 HoldsOfTaken = (next : Handler) (given : Invocation) (id : Text) (events : List Event) → IsAccepted events → AllOfRun next given id events
     → Holds next given id events
 
--- and where it holds the headline does
+-- and it holds of each other once invocations are forgotten
+abbrev pub OthersHold : Type 0
+OthersHold = (next : Handler) (given : Invocation) (events : List Event) (ids : List Text) (other : Text) → is_among ids other ≡ false → Holds next given other events
+    → Holds next given other (without_all ids events)
+
+-- where it holds the headline does
 abbrev pub HeadlineStands : Type 0
 HeadlineStands = (next : Handler) (options : RunOptions) (fallback_seed : ℕ) (events : List Event) (id : Text) → IsAccepted events
     → ((new : NewInvocation) → invocation_begun events id ≡ Some new → Holds next (run_of options fallback_seed new (starting_state events id)) id events)

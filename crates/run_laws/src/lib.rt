@@ -6,7 +6,7 @@
 ghost use Rattle.run_laws.specs.RunLaws.{CallsReplay, CompletionsAscend, RunsStay};
 ghost use Rattle.run_laws.specs.WakingLaws.{AwaitsAreTold, PastWhereWoken, SuspensionsTell, WokenWherePast};
 ghost use Rattle.run_laws.specs.Keys.{StartsAreOrdered, StartsHaveTextKeys, StatesAreOrdered, StatesHaveTextKeys};
-ghost use Rattle.run_laws.specs.HeadlineLaws.{HeadlineStands, HoldsAtFirst, HoldsOfTaken, HoldsOn, RunsRecordTheSame, SuspensionsWake};
+ghost use Rattle.run_laws.specs.HeadlineLaws.{HeadlineStands, HoldsAtFirst, HoldsOfTaken, HoldsOn, OthersHold, RunsRecordTheSame, SuspensionsWake};
 ghost use Rattle.run_laws.specs.SettledInvocations.{SettledRecordTheSame};
 
 /// A run that does not wait is the same over more arrivals.
@@ -54,11 +54,12 @@ pub fn keys_are_text()
 {}
 
 /// It holds of an invocation that was not begun, and each accepted event keeps it, if what is taken of the invocation's attempts is of
-/// the run. So it holds where every frame that was taken is of the run.
+/// the run. So it holds where every frame that was taken is of the run; and of each other once invocations are forgotten.
 pub fn records_hold()
     ensures at_first { HoldsAtFirst }
     ensures on { HoldsOn }
     ensures of_taken { HoldsOfTaken }
+    ensures of_others { OthersHold }
 {}
 
 /// Where it holds, the headline does.

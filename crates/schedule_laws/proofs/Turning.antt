@@ -26,12 +26,12 @@ use Rattle.replay_laws.specs.Laws.{LivesOn}
 use Rattle.vm_attempt_laws.specs.Attempts.{output_of, Turns, Attempt, Turn}
 use Rattle.vm_attempt_laws.specs.Bodies.{Among, IsReplayed, outcome_frame, outcomes_in, RunOutcome}
 use Rattle.vm_attempt_laws.specs.BodyExecution.{MayNotEnd}
-use Rattle.vm_attempt_laws.specs.AttemptInvariants.{IsLast, LacksMemory}
+use Rattle.vm_attempt_laws.specs.AttemptInvariants.{early_error, IsLast, LacksMemory}
 use Rattle.vm_attempt_laws.specs.Machine.phases
 use Rattle.vm_attempt_laws.specs.OutputOfAttempt.sent
 use Rattle.vm_attempt_laws.specs.OutputOfAttempt.{Sent, frame_meant, IsOfStore}
 use Rattle.vm_attempt_laws.specs.AttemptSimulation.{AnswersKept, IsOver}
-use Rattle.vm_attempt_laws.specs.TurnReports.{arrivals_told, IsFrameTold, Told, FailsSo, early, IsLacking, lacks, memory, TurnTells, GoesOnTold}
+use Rattle.vm_attempt_laws.specs.TurnReports.{arrivals_told, AnswersError, IsFrameTold, Told, FailsSo, early, lacks, memory, TurnTells, GoesOnTold}
 use Rattle.vm_attempt_laws.specs.TurnsInRun.{ProposesAs, RunsOne, TurnKeeps, TurnsBehind}
 use Rattle.schedule_model.specs.declared.held.HeldAttempt.{HeldAttempt}
 use Rattle.schedule_model.specs.First.{with_first}
@@ -331,8 +331,8 @@ module _ {H : Type 0} (function : H → Handler) (next : Handler) (options : VMO
         let it = turned_failed function ran e.error one.attempt turn changed going e.failed turns in
         let why : FailsSo next t.start t.told (arrivals_told t.start t.told) ran it.0 = elim it.2 [
           | inl same ↦ elim e.tells [
-            | inl code ↦ early e.unread e.closed (ap (λ (error : Error). error.code.0) same ∙ code)
-            | inr lacking ↦ lacks (subst IsLacking (sym same) lacking)
+            | inl answers ↦ early e.unread e.closed (subst (AnswersError early_error) (sym same) answers)
+            | inr none ↦ lacks (memory (same ∙ none))
           ]
           | inr none ↦ lacks (memory none)
         ] in

@@ -3,3 +3,4 @@ pub mod Holding
 pub mod Applying
 mod Placing
 pub mod Keeping
+pub mod Executing

@@ -12,3 +12,4 @@ pub mod HeldCode
 pub mod Places
 pub mod AttemptIndex
 pub mod Lends
+pub mod Executing

@@ -3,9 +3,11 @@ ghost use Rattle.std.specs.Prelude.{◌≡◌, ◌≤◌, length, IfErr, IfOk, I
 ghost use Rattle.vm_attempt.specs.Attempt.{ClosesInput, Feeds};
 ghost use Rattle.vm_attempt.specs.Output.{taken_of, Advances, Gathers, Shows};
 ghost use Rattle.vm_attempt.specs.TurnOutcomes.{Turns};
+ghost use Rattle.schedule_model.specs.Executing.{TurnsWith};
 ghost use Rattle.schedule_model.specs.AttemptMemory.{attempt_kept, FailsAgain, IsKept};
 
-use bytes::Bytes;
+use crate::effects::{Effects, turn_with};
+use bytes::{ByteStr, Bytes};
 use journal_model::Handler;
 use protocol_errors::Error;
 use std::alloc::{AllocError, AllocFailed, Global};
@@ -132,6 +134,17 @@ impl<H: Handler> KeptAttempt<H> {
                 drop(outcome);
                 failed_again(error)
             }
+        }
+    }
+
+    /// One turn, whose body is executed when it is asked for.
+    pub fn turn_with<E: Effects>(&mut self, id: &ByteStr, effects: &mut E) -> Turn
+        ensures { TurnsWith E.executes H.next_call id.now self.old effects.old result self.new effects.new }
+    {
+        match &mut self.kept {
+            Kept::Whole(attempt) => turn_with(attempt, id, effects),
+            Kept::Over(finish, _) => turn_again(*finish),
+            Kept::Failed { error, .. } => failed_again(error),
         }
     }
 

@@ -3,6 +3,7 @@
 #![tactic(auto)]
 
 mod attempts;
+mod effects;
 mod event;
 mod fitting;
 mod held;
@@ -12,6 +13,7 @@ mod outcome;
 mod places;
 
 pub use attempts::HeldAttempts;
+pub use effects::Effects;
 pub use event::{Event, EventRefusal, Reply};
 pub use fitting::{invocation_fits, result_fits, signal_fits};
 pub use held::HeldAttempt;

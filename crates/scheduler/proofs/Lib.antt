@@ -6,3 +6,7 @@ pub mod Lasting
 pub mod Replying
 pub mod Looping
 pub mod DueAttempts
+pub mod Left
+pub mod Alone
+pub mod Begun
+pub mod Turning

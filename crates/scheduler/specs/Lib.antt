@@ -4,3 +4,5 @@ pub mod Schedules
 pub mod Outcomes
 pub mod Loop
 pub mod DueAttempts
+pub mod Begins
+pub mod PutOff

@@ -5,16 +5,21 @@ mod attempt;
 mod due;
 mod feeding;
 mod held;
+mod host;
 mod outcome;
 mod replies;
 mod scheduler;
+mod waits;
 
+pub use host::Host;
 pub use outcome::Outcome;
+pub use protocol_errors::Error;
 pub use schedule_model::{
-    Attempt, Cause, Event, EventRefusal, HeldAttempt, HeldAttempts, Refusal, Reply, RetryPolicy,
-    RunExitResult, RunOutcome, Turn, attempts_are_held, schedules_grow,
+    Attempt, Cause, Effects, Event, EventRefusal, HeldAttempt, HeldAttempts, Refusal, Reply,
+    RetryPolicy, RunExitResult, RunOutcome, Turn, attempts_are_held, schedules_grow,
 };
 pub use scheduler::Scheduler;
+pub use waits::Waits;
 
 // What a scheduler tells of an invocation, and of an object.
 pub use store_invocations::{EntryKind, RecordedEntry};

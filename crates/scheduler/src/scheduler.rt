@@ -16,6 +16,8 @@ ghost use Rattle.journal_store.specs.Causes.{TellsWhy, TellsWhyUnwritten, TriesE
 ghost use Rattle.journal_store.specs.StoreStanding.{Endures, EnduresAlways, IsQuiet, Leads, Settles};
 ghost use Rattle.schedule_model.specs.Schedule.{BeginDoes, Applies, Scheduled};
 ghost use Rattle.schedule_model.specs.ArgumentBounds.{FitsEvent};
+ghost use Rattle.scheduler.specs.Begins.{LeadsUnheld, begun_reply};
+ghost use Rattle.scheduler.specs.Loop.{TurnsAsking};
 ghost use Rattle.scheduler.specs.SchedulerCalls.{AppliesWith, HasBegun, IsScheduled, IsTakenUp, IsEventWritten, OutlastsEvent, Performs, Spares, TakesLive, TellsAlways, TellsCauseOf, TellsOf, refusal_told};
 
 use crate::feeding::feed_in;
@@ -25,8 +27,8 @@ use bytes::ByteStr;
 use journal_model::{Handler, NewInvocation, NonEmptyValue, NotificationResult, SignalKey};
 use journal_store::Store;
 use schedule_model::{
-    Event, EventRefusal, HeldAttempt, HeldAttempts, Reply, RunOutcome, invocation_fits,
-    result_fits, signal_fits, tells_mismatch,
+    Effects, Event, EventRefusal, HeldAttempt, HeldAttempts, Reply, RunOutcome, Turn,
+    invocation_fits, result_fits, signal_fits, tells_mismatch,
 };
 use sqlite::Alter;
 use std::alloc::Global;
@@ -43,6 +45,28 @@ pub struct Scheduler<H, S: Alter> {
     pub store: Store<S>,
     pub options: VMOptions,
     pub held: HeldAttempts<H>,
+}
+
+/// What a begin has come to.
+#[derive(Clone, Copy)]
+pub(crate) enum Begun {
+    /// The attempt has this number, and is held.
+    Held(u32),
+    /// It has this number. There was no memory for it, and nobody holds it.
+    Unheld(u32),
+    /// The store has refused it, for this.
+    Refused(Refusal),
+}
+
+// What is answered of that.
+fn begun_reply(begun: Begun) -> Reply
+    ensures { result ≡ begun_reply begun }
+{
+    match begun {
+        Begun::Held(number) => Reply::Begun(number),
+        Begun::Unheld(_) => Reply::Refused(EventRefusal::Store(Refusal::OutOfMemory)),
+        Begun::Refused(refusal) => Reply::Refused(EventRefusal::Store(refusal)),
+    }
 }
 
 impl<H: Handler + Drop, S: Alter + Drop> Scheduler<H, S> {
@@ -103,7 +127,7 @@ impl<H: Handler + Drop, S: Alter + Drop> Scheduler<H, S> {
     }
 
     /// An attempt is stopped.
-    fn stop(&mut self, invocation: &ByteStr, number: u32) -> Reply
+    pub(crate) fn stop(&mut self, invocation: &ByteStr, number: u32) -> Reply
         ensures { Performs S.Store H.next_call (Event.Stop invocation.now number) result self.old self.new }
     {
         match self.held.get_mut(invocation, number) {
@@ -113,18 +137,19 @@ impl<H: Handler + Drop, S: Alter + Drop> Scheduler<H, S> {
     }
 
     /// An attempt is begun, and held. Where memory is refused for that, it stays begun, and nobody holds it.
-    fn begin(&mut self, invocation: ByteStr, handler: H, now: u64) -> Reply
-        ensures does { Leads S.Store (λ s t. BeginDoes self.old.options invocation handler now s self.old.held result t self.new.held) self.old.store self.new.store }
+    pub(crate) fn begin_numbered(&mut self, invocation: ByteStr, handler: H, now: u64) -> Begun
+        ensures does { Leads S.Store (λ s t. BeginDoes self.old.options invocation handler now s self.old.held (begun_reply result) t self.new.held) self.old.store self.new.store }
         ensures options { self.new.options ≡ self.old.options }
-        ensures settled { HasBegun result → Settles S.Store (λ s t. BeginDoes self.old.options invocation handler now s self.old.held result t self.new.held) self.old.store self.new.store }
+        ensures settled { HasBegun (begun_reply result) → Settles S.Store (λ s t. BeginDoes self.old.options invocation handler now s self.old.held (begun_reply result) t self.new.held) self.old.store self.new.store }
         ensures moment { now < 2 ^ 64 }
-        ensures held { IsTakenUp result }
-        ensures cause { IfSome (refusal_told result) (TellsWhyUnwritten S.Store self.old.store self.new.store (TriesEvent (model.Event.Begin invocation now))) }
+        ensures cause { IfSome (refusal_told (begun_reply result)) (TellsWhyUnwritten S.Store self.old.store self.new.store (TriesEvent (model.Event.Begin invocation now))) }
         ensures crash { EnduresAlways S.Store (BeginsSome invocation now) self.old.store self.new.store }
+        // Of what was begun and is not held the number is known, and of what was refused that nothing was begun.
+        ensures unheld { LeadsUnheld S.Store invocation now result self.old self.new }
     {
         let begun = match self.store.begin(&invocation, now) {
             Ok(begun) => begun,
-            Err(refusal) => return Reply::Refused(EventRefusal::Store(refusal)),
+            Err(refusal) => return Begun::Refused(refusal),
         };
         let BegunAttempt {
             number,
@@ -132,19 +157,26 @@ impl<H: Handler + Drop, S: Alter + Drop> Scheduler<H, S> {
             start,
         } = begun;
         let Some(attempt) = make(self.alloc, version, self.options, handler, start) else {
-            return Reply::Refused(EventRefusal::Store(Refusal::OutOfMemory));
+            return Begun::Unheld(number);
         };
         match self.held.push(HeldAttempt {
             invocation,
             number,
             attempt,
         }) {
-            Ok(()) => Reply::Begun(number),
+            Ok(()) => Begun::Held(number),
             Err(refused) => {
                 drop(refused);
-                Reply::Refused(EventRefusal::Store(Refusal::OutOfMemory))
+                Begun::Unheld(number)
             }
         }
+    }
+
+    /// The same, as an event.
+    fn begin(&mut self, invocation: ByteStr, handler: H, now: u64) -> Reply
+        ensures { Performs S.Store H.next_call (Event.Begin invocation handler now) result self.old self.new }
+    {
+        begun_reply(self.begin_numbered(invocation, handler, now))
     }
 
     /// Bytes of its input go to an attempt.
@@ -187,6 +219,21 @@ impl<H: Handler + Drop, S: Alter + Drop> Scheduler<H, S> {
                 Reply::Refused(EventRefusal::AttemptNotHeld)
             }
             Some(attempt) => Reply::Turned(attempt.turn(outcome)),
+        }
+    }
+
+    /// An attempt makes a turn, and the body for which it asks is executed then.
+    pub(crate) fn turn_with<E: Effects>(
+        &mut self,
+        invocation: &ByteStr,
+        number: u32,
+        effects: &mut E,
+    ) -> Result<Turn, EventRefusal>
+        ensures { TurnsAsking S.Store E.executes H.next_call invocation.now number result self.old effects.old self.new effects.new }
+    {
+        match self.held.get_mut(invocation, number) {
+            None => Err(EventRefusal::AttemptNotHeld),
+            Some(attempt) => Ok(attempt.turn_with(invocation, effects)),
         }
     }
 

@@ -3,5 +3,5 @@ pub mod TargetLaws
 pub mod ValueLaws
 pub mod OutcomeLaws
 pub mod LineLaws
-pub mod SplitLaws
 pub mod Writing
+pub mod LineFeeds

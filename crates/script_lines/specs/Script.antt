@@ -1,6 +1,8 @@
 -- The lines of a whole script.
-use Rattle.std.specs.Prelude.{ℕ, ◌+◌, Bool, true, ◌==◌, List, [], ◌∷◌, if◌then◌else◌}
+use Rattle.std.specs.Prelude.{ℕ, ◌+◌, Bool, true, ◌==◌, List, [], ◌∷◌, if◌then◌else◌, Option}
+use Rattle.std.specs.Borrow.{Bor}
 use Rattle.std.specs.List.{slice_split}
+use Rattle.std.specs.Option.{option_map_or}
 
 -- a line that says nothing: an empty one, and a remark, which begins with '#'
 abbrev pub is_skipped : List ℕ → Bool
@@ -16,3 +18,7 @@ numbered_from n (line ∷ lines) = if is_skipped line then numbered_from (n + 1)
 -- line feed is empty, and so is skipped
 abbrev pub numbered_lines : List ℕ → List (ℕ × List ℕ)
 numbered_lines script = numbered_from 1 (slice_split (λ byte. byte == 10) script)
+
+-- all lines of what is left of a script, if something is
+abbrev pub lines_of_rest : Option (Bor (List ℕ)) → List (List ℕ)
+lines_of_rest rest = option_map_or (λ script. slice_split (λ byte. byte == 10) script.now) rest []

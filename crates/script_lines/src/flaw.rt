@@ -9,7 +9,6 @@ use crate::word::{
     Command, is_printable, parse_command, parse_handler, parse_mode, parse_u16, parse_u32,
     parse_u64,
 };
-use bstr::ByteSlice;
 use protocol_types::HexByte;
 use std::{fmt, str};
 
@@ -351,7 +350,7 @@ fn is_count_of(command: Command, count: usize) -> bool
 
 /// The first word behind a command that is not of the kind that is wanted in its place.
 fn word_flaw(command: Command, line: &[u8]) -> Option<LineFlaw<'_>> {
-    for (place, word) in line.split_str(b" ").skip(1).enumerate() {
+    for (place, word) in line.split(|byte| *byte == b' ').skip(1).enumerate() {
         let kind = kind_at(command, place);
         if !fits(kind, word) {
             return Some(LineFlaw::Word(kind, shown(word)));
@@ -362,7 +361,7 @@ fn word_flaw(command: Command, line: &[u8]) -> Option<LineFlaw<'_>> {
 
 /// What is amiss with the words of a line behind its command, the first of all words.
 fn words_flaw(command: Command, line: &[u8]) -> Option<LineFlaw<'_>> {
-    let count = line.split_str(b" ").count();
+    let count = line.split(|byte| *byte == b' ').count();
     if is_count_of(command, count.saturating_sub(1)) {
         word_flaw(command, line)
     } else {
@@ -387,10 +386,13 @@ pub fn flaw_of(line: &[u8]) -> Option<LineFlaw<'_>> {
         Some(byte) => return Some(LineFlaw::Byte(byte)),
         None => {}
     }
-    if line.split_str(b" ").any(|word| word.is_empty()) {
+    if line.split(|byte| *byte == b' ').any(|word| word.is_empty()) {
         return Some(LineFlaw::Spaces);
     }
-    let first = line.split_str(b" ").next().unwrap_or(b"".as_slice());
+    let first = line
+        .split(|byte| *byte == b' ')
+        .next()
+        .unwrap_or(b"".as_slice());
     match parse_command(first) {
         Some(command) => words_flaw(command, line),
         None => Some(LineFlaw::Command(shown(first))),

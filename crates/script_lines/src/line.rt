@@ -15,7 +15,6 @@ use crate::word::{
     Command, HandlerName, LineError, parse_command, parse_handler, parse_mode, parse_text,
     parse_u32, parse_u64,
 };
-use bstr::ByteSlice;
 use bytes::{ByteStr, Bytes};
 use journal_model::{SignalKey, StateMode};
 use std::alloc::{AllocError, Global};
@@ -334,7 +333,7 @@ fn parse_state(alloc: Global, arguments: &[&[u8]]) -> Result<Line, LineError>
 fn words_between<'a>(alloc: Global, bytes: &'a [u8]) -> Result<Vec<&'a [u8]>, AllocError>
     ensures { IfOk result (λ words. map (λ word. word.now) words.items ≡ slice_split (λ byte. byte == 32) bytes.now) }
 {
-    bytes.split_str(b" ").collect(alloc)
+    bytes.split(|byte| *byte == b' ').collect(alloc)
 }
 
 #[tactic(auto, unfolding(crate::specs::LineReader::line_of, crate::specs::LineReader::arguments_of, crate::specs::LineReader::then_read))]

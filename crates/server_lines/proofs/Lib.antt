@@ -3,3 +3,4 @@ pub mod WordLaws
 pub mod Spaces
 pub mod RequestLaws
 pub mod Headers
+pub mod Ids

@@ -1,5 +1,5 @@
 -- No word of a request has a space.
-use Rattle.std.proofs.Common.{◌≡◌, ℕ, ◌^◌, ◌<◌, true, false, eqb, List, [], ◌∷◌, ◌++◌, refl, ◌∙◌, arith, inl, inr, All}
+use Rattle.std.proofs.Common.{◌≡◌, ℕ, ◌^◌, ◌<◌, true, false, eqb, List, [], ◌∷◌, ◌++◌, map, refl, ◌∙◌, arith, inl, inr, All}
 use Rattle.std.specs.Prelude.{codes, decimal, bytes_eq, nat_lt}
 use Rattle.std.specs.List.{AllByRecursion, join_with_byte, list_all, slice_split}
 use Rattle.std.specs.Str.Parse.{AllDigits}
@@ -20,7 +20,7 @@ use Rattle.script_lines.specs.Word.{IsWordByte, mode_word}
 use Rattle.server_lines.specs.Word.{IsByte, IsKey, IsValue, escaped, key_word, text_word, value_word}
 use Rattle.server_lines.specs.Request.{IsRequest, header_words, words_of}
 use Rattle.server_lines.specs.declared.request.Request.{Request}
-use Rattle.server_lines.specs.declared.request.Request.TheVariants.{Invoke, Result, Signal, Cancel, Tick, Begin, Input, Output, Close, Stop, Due, Next, Show, State, Error, List as ListRequest, Requests}
+use Rattle.server_lines.specs.declared.request.Request.TheVariants.{Invoke, Result, Signal, Cancel, Tick, Begin, Input, Output, Close, Stop, Forget, Due, Next, Show, State, Error, List as ListRequest, Requests}
 use Rattle.server_lines.proofs.Escapes.{escaped-AreWordBytes, digits-AreWordBytes}
 
 -- ---- words without a space are those between the spaces
@@ -101,6 +101,10 @@ headers-no_space : (headers : List Header) → AllByRecursion NoSpace (header_wo
 headers-no_space [] = tt
 headers-no_space (header ∷ headers) = (text-no_space header.key, (text-no_space header.value, headers-no_space headers))
 
+ids-no_space : (ids : List (List ℕ)) → AllByRecursion NoSpace (map text_word ids)
+ids-no_space [] = tt
+ids-no_space (id ∷ ids) = (text-no_space id, ids-no_space ids)
+
 counted-no_space : (command id : List ℕ) (attempt count : ℕ) → NoSpace command → attempt < 2 ^ 32 → count < 2 ^ 32 → AllByRecursion NoSpace (command ∷ text_word id ∷ decimal attempt ∷ decimal count ∷ [])
 counted-no_space command id attempt count h a c = (h, (text-no_space id, (number-no_space attempt a, (number-no_space count c, tt))))
 
@@ -119,6 +123,7 @@ words-no_space (Input id attempt most) h = counted-no_space (codes "input") id a
 words-no_space (Output id attempt bytes) h = (letters (codes "output") refl, (text-no_space id, (number-no_space attempt h.1, (hex-no_space bytes h.2, tt))))
 words-no_space (Close id attempt) h = (letters (codes "close") refl, (text-no_space id, (number-no_space attempt h.1, tt)))
 words-no_space (Stop id attempt) h = (letters (codes "stop") refl, (text-no_space id, (number-no_space attempt h.1, tt)))
+words-no_space (Forget ids) h = (letters (codes "forget") refl, ids-no_space ids)
 words-no_space Due h = (letters (codes "due") refl, tt)
 words-no_space Next h = (letters (codes "next") refl, tt)
 words-no_space (Show id) h = named-no_space (codes "show") id (letters (codes "show") refl)

@@ -1,12 +1,12 @@
 -- The one line by which a request is printed, and which requests have one.
-use Rattle.std.specs.Prelude.{◌≡◌, ℕ, ◌<◌, ◌^◌, List, [], ◌∷◌, All, Some, codes, decimal}
+use Rattle.std.specs.Prelude.{◌≡◌, ℕ, ◌<◌, ◌≤◌, ◌^◌, List, [], ◌∷◌, length, map, All, Some, codes, decimal}
 use Rattle.std.specs.List.{AllByRecursion, join_with_byte}
 use Rattle.script_lines.specs.Text.{hex_text}
 use Rattle.script_lines.specs.Word.{mode_word}
 use Rattle.journal_model.specs.declared.call.Header.{Header}
 use Rattle.journal_model.specs.declared.invocation.NewInvocation.{NewInvocation}
 use Rattle.server_lines.specs.declared.request.Request.{Request}
-use Rattle.server_lines.specs.declared.request.Request.TheVariants.{Invoke, Result, Signal, Cancel, Tick, Begin, Input, Output, Close, Stop, Due, Next, Show, State, Error, List as ListRequest, Requests}
+use Rattle.server_lines.specs.declared.request.Request.TheVariants.{Invoke, Result, Signal, Cancel, Tick, Begin, Input, Output, Close, Stop, Forget, Due, Next, Show, State, Error, List as ListRequest, Requests}
 use Rattle.server_lines.specs.Word.{IsByte, IsKey, IsText, IsValue, key_word, text_word, value_word}
 use Rattle.server_lines.specs.RequestReader.{request_of}
 
@@ -27,6 +27,7 @@ words_of (Input id attempt most) = codes "input" ∷ text_word id ∷ decimal at
 words_of (Output id attempt bytes) = codes "output" ∷ text_word id ∷ decimal attempt ∷ hex_text bytes ∷ []
 words_of (Close id attempt) = codes "close" ∷ text_word id ∷ decimal attempt ∷ []
 words_of (Stop id attempt) = codes "stop" ∷ text_word id ∷ decimal attempt ∷ []
+words_of (Forget ids) = codes "forget" ∷ map text_word ids
 words_of Due = codes "due" ∷ []
 words_of Next = codes "next" ∷ []
 words_of (Show id) = codes "show" ∷ text_word id ∷ []
@@ -62,6 +63,7 @@ IsRequest (Input id attempt most) = IsText id × (attempt < 2 ^ 32) × (most < 2
 IsRequest (Output id attempt bytes) = IsText id × (attempt < 2 ^ 32) × All IsByte bytes
 IsRequest (Close id attempt) = IsText id × (attempt < 2 ^ 32)
 IsRequest (Stop id attempt) = IsText id × (attempt < 2 ^ 32)
+IsRequest (Forget ids) = (1 ≤ length ids) × AllByRecursion IsText ids
 IsRequest Due = Unit {0}
 IsRequest Next = Unit {0}
 IsRequest (Show id) = IsText id

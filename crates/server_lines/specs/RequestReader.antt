@@ -7,7 +7,7 @@ use Rattle.script_lines.specs.LineReader.{◌>>=◌, mode_of, number_below}
 use Rattle.server_lines.specs.declared.command.Command.{Command}
 use Rattle.server_lines.specs.declared.command.Command.TheVariants as command
 use Rattle.server_lines.specs.declared.request.Request.{Request}
-use Rattle.server_lines.specs.declared.request.Request.TheVariants.{Invoke, Result, Signal, Cancel, Tick, Begin, Input, Output, Close, Stop, Due, Next, Show, State, Error, List as ListRequest, Requests}
+use Rattle.server_lines.specs.declared.request.Request.TheVariants.{Invoke, Result, Signal, Cancel, Tick, Begin, Input, Output, Close, Stop, Forget, Due, Next, Show, State, Error, List as ListRequest, Requests}
 use Rattle.server_lines.specs.WordReader.{word_bytes_of, digits_of, key_of, text_of, word_value_of}
 
 unfoldable pub header_read : List ℕ → List ℕ → Option Header
@@ -92,6 +92,20 @@ stop_request_of id attempt = do
   id ← text_of id
   Some (Stop id attempt)
 
+unfoldable pub ids_of : List (List ℕ) → Option (List (List ℕ))
+ids_of [] = Some []
+ids_of (word ∷ words) = do
+  id ← text_of word
+  ids ← ids_of words
+  Some (id ∷ ids)
+
+-- one at least
+unfoldable pub forget_of : List (List ℕ) → Option Request
+forget_of [] = None
+forget_of (word ∷ words) = do
+  ids ← ids_of (word ∷ words)
+  Some (Forget ids)
+
 unfoldable pub show_of : List ℕ → Option Request
 show_of id = do
   id ← text_of id
@@ -158,7 +172,8 @@ bringing_of word =
     (if bytes_eq word (codes "input") then Some command.Input else
     (if bytes_eq word (codes "output") then Some command.Output else
     (if bytes_eq word (codes "close") then Some command.Close else
-    (if bytes_eq word (codes "stop") then Some command.Stop else None)))))))))
+    (if bytes_eq word (codes "stop") then Some command.Stop else
+    (if bytes_eq word (codes "forget") then Some command.Forget else None))))))))))
 
 -- the commands that only ask
 unfoldable pub asking_of : List ℕ → Option Command
@@ -185,6 +200,7 @@ arguments_of command.Input = of_three input_of
 arguments_of command.Output = of_three output_request
 arguments_of command.Close = of_two close_of
 arguments_of command.Stop = of_two stop_request_of
+arguments_of command.Forget = forget_of
 arguments_of command.Due = of_none Due
 arguments_of command.Next = of_none Next
 arguments_of command.Show = of_one show_of

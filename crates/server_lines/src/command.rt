@@ -16,6 +16,7 @@ pub enum Command {
     Output,
     Close,
     Stop,
+    Forget,
     Due,
     Next,
     Show,
@@ -50,6 +51,8 @@ fn parse_bringing(word: &[u8]) -> Option<Command>
         Some(Command::Close)
     } else if word == b"stop".as_slice() {
         Some(Command::Stop)
+    } else if word == b"forget".as_slice() {
+        Some(Command::Forget)
     } else {
         None
     }

@@ -4,11 +4,10 @@ ghost use Rattle.std.specs.Prelude.{◌≡◌, ◌==◌, map, IfOk};
 ghost use Rattle.std.specs.List.{slice_split};
 ghost use Rattle.script_lines.specs.LineReader.{Gives};
 ghost use Rattle.server_lines.specs.declared.request.Request.TheVariants as asked;
-ghost use Rattle.server_lines.specs.RequestReader.{begin_of, cancel_of, close_of, error_of, header_read, headers_of, input_of, invoke_of, list_of, of_invoke, of_list, of_none, of_one, of_three, of_two, output_request, request_spelled, request_of, requests_of, result_request_of, show_of, signal_of, state_of, stop_request_of, tick_of};
+ghost use Rattle.server_lines.specs.RequestReader.{begin_of, cancel_of, close_of, error_of, forget_of, header_read, headers_of, ids_of, input_of, invoke_of, list_of, of_invoke, of_list, of_none, of_one, of_three, of_two, output_request, request_spelled, request_of, requests_of, result_request_of, show_of, signal_of, state_of, stop_request_of, tick_of};
 
 use crate::command::{Command, parse_command};
 use crate::word::{parse_bytes, parse_digits, parse_key, parse_text, parse_value};
-use bstr::ByteSlice;
 use bytes::{ByteStr, Bytes};
 use journal_model::{Header, NewInvocation, NotificationResult, SignalKey};
 use script_lines::word::{LineError, parse_mode, parse_u32, parse_u64};
@@ -66,6 +65,10 @@ pub enum Request {
     Stop {
         id: ByteStr,
         attempt: u32,
+    },
+    /// Forgets closed invocations, one at least: all of them or none.
+    Forget {
+        ids: Sequence<ByteStr>,
     },
     /// Asks which invocations are due.
     Due,
@@ -277,6 +280,28 @@ fn parse_stop(alloc: Global, arguments: &[&[u8]]) -> Result<Request, LineError>
     Ok(Request::Stop { id, attempt })
 }
 
+/// The ids that words spell.
+fn parse_ids(alloc: Global, words: &[&[u8]]) -> Result<Sequence<ByteStr>, LineError>
+    ensures { Gives result (ids_of (map (λ word. word.now) words.now)) }
+{
+    let mut ids = Sequence::new(alloc);
+    for word in words {
+        let id = parse_text(alloc, word)?;
+        ids.push(id)?;
+    }
+    Ok(ids)
+}
+
+fn parse_forget(alloc: Global, arguments: &[&[u8]]) -> Result<Request, LineError>
+    ensures { Gives result (forget_of (map (λ word. word.now) arguments.now)) }
+{
+    if arguments.is_empty() {
+        return Err(LineError::NotUnderstood);
+    }
+    let ids = parse_ids(alloc, arguments)?;
+    Ok(Request::Forget { ids })
+}
+
 #[tactic(auto, unfolding(crate::specs::RequestReader::of_none))]
 fn parse_due(arguments: &[&[u8]]) -> Result<Request, LineError>
     ensures { Gives result (of_none asked.Due (map (λ word. word.now) arguments.now)) }
@@ -382,6 +407,7 @@ fn parse_words(alloc: Global, words: &[&[u8]]) -> Result<Request, LineError>
         Command::Output => parse_output(alloc, arguments),
         Command::Close => parse_close(alloc, arguments),
         Command::Stop => parse_stop(alloc, arguments),
+        Command::Forget => parse_forget(alloc, arguments),
         Command::Due => parse_due(arguments),
         Command::Next => parse_next(arguments),
         Command::Show => parse_show(alloc, arguments),
@@ -396,7 +422,7 @@ fn parse_words(alloc: Global, words: &[&[u8]]) -> Result<Request, LineError>
 fn words_between<'a>(alloc: Global, bytes: &'a [u8]) -> Result<Vec<&'a [u8]>, AllocError>
     ensures { IfOk result (λ words. map (λ word. word.now) words.items ≡ slice_split (λ byte. byte == 32) bytes.now) }
 {
-    bytes.split_str(b" ").collect(alloc)
+    bytes.split(|byte| *byte == b' ').collect(alloc)
 }
 
 /// The request that a line spells, without its line feed; `None` where it spells none.

@@ -129,6 +129,7 @@ all_counted (Event.Feed x n most ∷ earlier) rows accepted of_begun = all_count
 all_counted (Event.Close x n ∷ earlier) rows accepted of_begun = all_counted earlier rows accepted.1 of_begun
 all_counted (Event.Move x n frame ∷ earlier) rows accepted of_begun = all_counted earlier rows accepted.1 of_begun
 all_counted (Event.Stop x n ∷ earlier) rows accepted of_begun = all_counted earlier rows accepted.1 of_begun
+all_counted (Event.Edit object request ∷ earlier) rows accepted of_begun = all_counted earlier rows accepted.1 of_begun
 
 -- ---- those that the tick ends
 

@@ -5,3 +5,4 @@ pub mod Replies
 pub mod Behind
 pub mod Frames
 pub mod Pieces
+pub mod Forgetting

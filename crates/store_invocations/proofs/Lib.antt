@@ -16,3 +16,4 @@ pub mod Next
 pub mod Starts
 pub mod Deciding
 pub mod KeysOfStates
+pub mod Forgetting

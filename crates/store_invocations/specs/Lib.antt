@@ -4,3 +4,4 @@ pub mod JournalContent
 pub mod InvocationAnswers
 pub mod Start
 pub mod BegunAttempts
+pub mod ForgottenRows

@@ -1,5 +1,5 @@
-//! What is read of an invocation's rows, and what is made ready of a new invocation and of an attempt that is begun. Nothing is
-//! written here.
+//! What is read of an invocation's rows, and what is made ready of a new invocation, of an attempt that is begun, and of invocations that
+//! are forgotten. Nothing is written here.
 //!
 //! A call that changes an invocation begins with its row. A store tells of one whether it is open, its requests and arrivals by
 //! place, what it answers once it is closed, and the last error that an attempt of it told. A new invocation, and a begun attempt,
@@ -11,6 +11,7 @@ mod answering;
 mod attempt;
 mod begin;
 mod begun;
+mod forget;
 mod frame;
 mod input;
 mod invoke;
@@ -24,6 +25,7 @@ mod states;
 pub use answering::answer;
 pub use attempt::PreparedAttempt;
 pub use begin::prepare_begin;
+pub use forget::prepare_forget;
 pub use frame::payload_frame;
 pub use invoke::prepare_invoke;
 pub use progress::{failure, is_open};

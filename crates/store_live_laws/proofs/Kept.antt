@@ -118,6 +118,7 @@ changed_covers events (Event.Begin named now) id accepted old e = noted_elsewher
 changed_covers events (Event.Feed named attempt most) id accepted old e = noted_still events (Event.Feed named attempt most) id refl
 changed_covers events (Event.Close named attempt) id accepted old e = noted_still events (Event.Close named attempt) id refl
 changed_covers events (Event.Stop named attempt) id accepted old e = noted_still events (Event.Stop named attempt) id refl
+changed_covers events (Event.Edit object request) id accepted old e = noted_elsewhere events (Event.Edit object request) id refl refl
 changed_covers events (Event.Move named attempt Frame.AwaitingOn) id accepted old e = noted_still events (Event.Move named attempt Frame.AwaitingOn) id refl
 changed_covers events (Event.Move named attempt Frame.Broken) id accepted old e = noted_still events (Event.Move named attempt Frame.Broken) id refl
 changed_covers events (Event.Move named attempt Frame.TooDeep) id accepted old e = noted_still events (Event.Move named attempt Frame.TooDeep) id refl

@@ -8,6 +8,7 @@ pub mod Awake
 pub mod NextSleep
 pub mod Growing
 pub mod Steps
+pub mod Forgetting
 pub mod Begun
 pub mod Left
 pub mod Tests

@@ -7,6 +7,7 @@ use Rattle.journal_model.specs.Event.{Frame, Event}
 use Rattle.journal_model.specs.Journal.{is_of, is_tick, version_of, invocation_begun, is_open, entries_of, recorded_arrivals, ends_attempt}
 use Rattle.journal_model.specs.Attempt.{attempts_begun, live_attempt, is_live, is_input_closed, input_left, acknowledged}
 use Rattle.journal_model.specs.Cause.{is_empty, those_that_hold, causes_of, IsAccepted}
+use Rattle.journal_laws.specs.Forgetting.{is_among, without_all}
 use Rattle.journal_model.specs.declared.cause.Cause.{Cause}
 use Rattle.journal_model.specs.declared.cause.Cause.TheVariants.{UnknownInvocation, InvocationClosed, AttemptNotLive, InputRemains, InputAlreadyClosed}
 use Rattle.protocol_types.specs.Feature.{has_feature}
@@ -40,6 +41,10 @@ AgreesAtFirst = (id : Text) → Agrees [] id None
 abbrev pub AgreesElsewhere : Type 0
 AgreesElsewhere = (events : List Event) (event : Event) (id : Text) (attempt : Option LiveAttempt) → IsAccepted (event ∷ events) → is_of id event ≡ false → is_tick event ≡ false
     → Agrees events id attempt → Agrees (event ∷ events) id attempt
+
+-- nor does it that others are forgotten
+abbrev pub AgreesForgotten : Type 0
+AgreesForgotten = (events : List Event) (ids : List Text) (id : Text) (attempt : Option LiveAttempt) → is_among ids id ≡ false → Agrees events id attempt → Agrees (without_all ids events) id attempt
 
 -- an invocation that is new has no live attempt
 abbrev pub AgreesInvoked : Type 0

@@ -6,7 +6,7 @@
 ghost use Rattle.store_live_laws.specs.RowLaws.{AwakeAreArranged, ChangedCovers, DueFromRecords, DueFromRows, NextFromRecords, RowsAreNotHeard};
 ghost use Rattle.store_live_laws.specs.Memory.{AllArrivalsAreTold, AllInputsCount, InputAgrees};
 ghost use Rattle.store_live_laws.specs.InputRows.{AllFramesAreRead, HandedIsRead, KnownAtBegin};
-ghost use Rattle.store_live_laws.specs.LiveAttempts.{AgreesAtFirst, AgreesBegun, AgreesElsewhere, AgreesInvoked, AllLeftIsTold, CausesAreTold, KeepsEnded, KeepsInput, KeepsRecorded, LiveIsOpen, LiveIsTold, PartIsTold, StaleIsTold};
+ghost use Rattle.store_live_laws.specs.LiveAttempts.{AgreesAtFirst, AgreesBegun, AgreesElsewhere, AgreesForgotten, AgreesInvoked, AllLeftIsTold, CausesAreTold, KeepsEnded, KeepsInput, KeepsRecorded, LiveIsOpen, LiveIsTold, PartIsTold, StaleIsTold};
 
 /// Each frame of an attempt's input is read from one row, by its place or by its ordinal among the arrivals.
 pub fn frames_are_read()
@@ -40,10 +40,12 @@ pub fn inputs_agree()
     ensures arrivals { AllArrivalsAreTold }
 {}
 
-/// Before any event no attempt is live; and an event of another invocation, that is no tick, changes nothing.
+/// Before any event no attempt is live; an event of another invocation, that is no tick, changes nothing, nor does it that others are
+/// forgotten.
 pub fn elsewhere_kept()
     ensures first { AgreesAtFirst }
     ensures elsewhere { AgreesElsewhere }
+    ensures forgotten { AgreesForgotten }
 {}
 
 /// A new invocation has no live attempt; and of one that is begun it is kept how many entries and arrivals are recorded then.

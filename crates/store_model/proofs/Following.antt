@@ -396,6 +396,7 @@ FollowsAt events event id = progress_of (event ∷ events) id ≡ after_event ev
 pub follows : ProgressFollows
 follows events (Event.Invoke new) id named e = cc
 follows events (Event.Tick now) id named e = cc
+follows events (Event.Edit object request) id named e = cc
 follows events (Event.Result x n result) id named e =
     subst (FollowsAt events (Event.Result x n result)) (same_text x id named)
     (follows_arrival events (Event.Result x n result) x (completion n result) refl (itself x) refl refl refl refl (zero-add (attempts_begun events x)) refl refl)

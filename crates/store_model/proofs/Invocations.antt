@@ -155,6 +155,7 @@ stays events (Event.Feed id attempt most) x accepted is e = left events (Event.F
 stays events (Event.Close id attempt) x accepted is e = left events (Event.Close id attempt) x refl (inr refl)
 stays events (Event.Move id attempt frame) x accepted is e = stays_frame events id x attempt frame e
 stays events (Event.Stop id attempt) x accepted is e = left events (Event.Stop id attempt) x refl (inr refl)
+stays events (Event.Edit object request) x accepted is e = left events (Event.Edit object request) x refl (inl refl)
 
 -- an invocation's row becomes the row after the event
 row_kept : (events : List Event) (event : Event) (new : NewInvocation) → causes_of events event ≡ [] → is_some (invocation_begun events new.id) ≡ true

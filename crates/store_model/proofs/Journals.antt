@@ -185,6 +185,8 @@ writes_rows events (Event.Feed x attempt most) id accepted e = of_none events (E
 writes_rows events (Event.Close x attempt) id accepted e = of_none events (Event.Close x attempt) id refl refl
 writes_rows events (Event.Move x attempt frame) id accepted e = of_frame events id x attempt frame
 writes_rows events (Event.Stop x attempt) id accepted e = of_none events (Event.Stop x attempt) id refl refl
+writes_rows events (Event.Edit object request) id accepted e =
+    sym (ap (rows_behind events (Event.Edit object request) id) (foreign_adds (starting_state events id) events (Event.Edit object request) id (entries_of events id) refl refl))
 
 no_more : (xs ys : List Entry) → (xs ++ ys) ≡ [] → ys ≡ []
 no_more [] ys e = e

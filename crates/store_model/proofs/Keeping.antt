@@ -4,7 +4,7 @@ use Rattle.std.proofs.lemmas.List.Elements.{filter-append}
 use Rattle.std.proofs.lemmas.List.Sorted.{IsPermutation-refl}
 use Rattle.journal_model.specs.Notification.{Text}
 use Rattle.journal_model.specs.Event.{Event}
-use Rattle.journal_model.specs.Journal.{object_of, frame_of, request_of_frame, object_state}
+use Rattle.journal_model.specs.Journal.{object_state}
 use Rattle.journal_model.specs.Cause.{IsAccepted}
 use Rattle.store_tables.specs.Records.{Records}
 use Rattle.store_tables.specs.declared.row.InvocationRow.{InvocationRow}
@@ -13,7 +13,7 @@ use Rattle.store_tables.specs.Questions.{journal_of}
 use Rattle.store_model.specs.Progress.{progress_of}
 use Rattle.store_model.specs.Sleeps.{sleeps_after}
 use Rattle.store_model.specs.KeptRecords.{input_row, journal_rows, begun, begun_by, invocation_row, state_row, AreStates, IsKept}
-use Rattle.store_model.specs.Writes.{rows_added, changed_by, KeptAtFirst, KeptAfter}
+use Rattle.store_model.specs.Writes.{rows_added, changed_by, object_changed, state_requests, KeptAtFirst, KeptAfter}
 use Rattle.store_model.proofs.Writing.{stepped, states_written, applied-event}
 use Rattle.store_model.proofs.Journals.{is_row_of, journals_kept}
 use Rattle.store_model.proofs.Invocations.{rows_kept}
@@ -27,7 +27,7 @@ abbrev written : List Event → Event → Records → Records
 written events event r = record {
   invocations = map (stepped (progress_of (event ∷ events)) (changed_by events event)) (r.invocations ++ map (invocation_row (event ∷ events)) (begun_by event));
   entries = (r.entries ++ map input_row (begun_by event)) ++ flat_map (rows_added events event) (changed_by events event);
-  states = states_written (object_of events event) (request_of_frame (frame_of event)) r.states;
+  states = states_written (object_changed events event) (state_requests event) r.states;
   sleeps = sleeps_after events event r.sleeps;
 }
 

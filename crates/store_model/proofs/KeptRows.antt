@@ -11,7 +11,7 @@ use Rattle.protocol_types.specs.declared.message_type.MessageType.{MessageType}
 use Rattle.store_tables.specs.declared.row.Progress.{Progress}
 use Rattle.store_tables.specs.declared.row.EntryRow.{EntryRow}
 use Rattle.store_tables.specs.declared.row.Closing.TheVariants.{Ended}
-use Rattle.store_tables.specs.declared.row.Write.TheVariants.{AddInvocation, SetProgress, AddEntry, PutState, OpenSleep, CloseSleeps, CloseSleepsUntil}
+use Rattle.store_tables.specs.declared.row.Write.TheVariants.{AddInvocation, SetProgress, AddEntry, PutState, DropState, OpenSleep, CloseSleeps, CloseSleepsUntil}
 use Rattle.store_model.specs.KeptRecords.{version_kept, plain_row}
 use Rattle.store_model.specs.Progress.{begun_progress}
 use Rattle.store_model.specs.Writes.{writes_of}
@@ -87,6 +87,9 @@ at_state : writes_of (Event.Begin (codes "nap") 6000 ∷ woken) (Event.Move (cod
     ∷ SetProgress (codes "nap") (record start { attempts = 2; last_completion = 1; entries = 4; arrivals = 1 })
     ∷ PutState (record { object = codes "bed"; key = codes "k"; value = 9 ∷ [] }) ∷ []
 at_state = refl
+
+at_edit : writes_of [] (Event.Edit (codes "bed") (Request.ClearState (codes "k") [])) ≡ DropState (codes "bed") (codes "k") ∷ []
+at_edit = refl
 
 at_end : writes_of sets_state (Event.Move (codes "nap") 2 Frame.End)
     ≡ SetProgress (codes "nap") (record start { open_object = None; attempts = 2; last_completion = 1; entries = 4; handed = Some 0; closing = Some Ended; heard = Some 0; arrivals = 1; is_awake = false })

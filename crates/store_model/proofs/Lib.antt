@@ -6,6 +6,7 @@ pub mod Invocations
 pub mod States
 pub mod Ticking
 pub mod Keeping
+pub mod Forgetting
 pub mod KeptRows
 pub mod Following
 pub mod Versions

@@ -11,13 +11,14 @@ use Rattle.journal_model.specs.Notification.{Bytes, Text}
 use Rattle.journal_model.specs.Request.{Request}
 use Rattle.journal_model.specs.State.{StateMap, bytes_cmp, with_value, without_key, state_change, state_after}
 use Rattle.journal_model.specs.Event.{Event}
-use Rattle.journal_model.specs.Journal.{is_text, object_of, frame_of, request_of_frame, requests_for, object_state}
+use Rattle.journal_model.specs.Journal.{is_text, object_of, frame_of, request_of_frame, requests_for, edits_of, object_state}
 use Rattle.journal_laws.proofs.Keys.{first_holds, second_holds, is_less, below_less}
 use Rattle.journal_laws.proofs.Applying.{same_bytes, state_change-ordered, state_after-ordered}
 use Rattle.store_tables.specs.Records.{is_at_key, is_of_object}
 use Rattle.store_tables.specs.declared.row.StateRow.{StateRow}
 use Rattle.store_tables.specs.Questions.{DoAscend}
 use Rattle.store_model.specs.KeptRecords.{state_row}
+use Rattle.store_model.specs.Writes.{object_changed, state_requests}
 use Rattle.store_model.proofs.Lists.{filter_swap}
 use Rattle.store_model.proofs.Writing.{states_changed, states_after, states_written}
 
@@ -169,29 +170,35 @@ module _ (object other : Text) (apart : bytes_eq other object ≡ false) where
 
 pub ordered : (events : List Event) (object : Text) → T (is_sorted bytes_cmp (object_state events object))
 ordered [] object = tt
-ordered (event ∷ earlier) object = state_after-ordered (requests_for object earlier event) (object_state earlier object) (ordered earlier object)
+ordered (event ∷ earlier) object =
+    state_after-ordered (edits_of object event) (state_after (requests_for object earlier event) (object_state earlier object))
+    (state_after-ordered (requests_for object earlier event) (object_state earlier object) (ordered earlier object))
+
+-- requests of one object, which may be this one
+requests_kept : (events : List Event) (object other : Text) (requests : List Request) (states : List StateRow) → AreRows object states (object_state events object)
+    → AreRows object (states_after other requests states) (state_after (if bytes_eq other object then requests else []) (object_state events object))
+requests_kept events object other requests states kept = by_test (bytes_eq other object) refl
+  where
+    by_test : (b : Bool) → bytes_eq other object ≡ b → AreRows object (states_after other requests states) (state_after (if b then requests else []) (object_state events object))
+    by_test true e =
+        let same : other ≡ object = (bytes_eq-Decides other object).0 e in
+        subst (λ (x : Text). AreRows object (states_after x requests states) (state_after requests (object_state events object)))
+        (sym same)
+        (changes_kept object requests states (object_state events object) (ordered events object) kept)
+    by_test false e =
+        subst (λ (rows : List StateRow). IsPermutation rows (rows_for object (object_state events object)))
+        (sym (all_untouched object other e requests states)) kept
 
 pub states_kept : (events : List Event) (event : Event) (object : Text) (states : List StateRow) → AreRows object states (object_state events object)
-    → AreRows object (states_written (object_of events event) (request_of_frame (frame_of event)) states) (object_state (event ∷ events) object)
+    → AreRows object (states_written (object_changed events event) (state_requests event) states) (object_state (event ∷ events) object)
+states_kept events (Event.Edit other request) object states kept = requests_kept events object other (request ∷ []) states kept
 states_kept events event object states kept = by_object (object_of events event)
   where
-    by_test : (other : Text) (b : Bool) → bytes_eq other object ≡ b
-        → AreRows object (states_after other (request_of_frame (frame_of event)) states)
-        (state_after (if b then request_of_frame (frame_of event) else []) (object_state events object))
-    by_test other true e =
-        let same : other ≡ object = (bytes_eq-Decides other object).0 e in
-        subst (λ (x : Text). AreRows object (states_after x (request_of_frame (frame_of event)) states) (state_after (request_of_frame (frame_of event)) (object_state events object)))
-        (sym same)
-        (changes_kept object (request_of_frame (frame_of event)) states (object_state events object) (ordered events object) kept)
-    by_test other false e =
-        subst (λ (rows : List StateRow). IsPermutation rows (rows_for object (object_state events object)))
-        (sym (all_untouched object other e (request_of_frame (frame_of event)) states)) kept
-
     by_object : (o : Option Text)
         → AreRows object (states_written o (request_of_frame (frame_of event)) states)
         (state_after (if is_text object o then request_of_frame (frame_of event) else []) (object_state events object))
     by_object None = kept
-    by_object (Some other) = by_test other (bytes_eq other object) refl
+    by_object (Some other) = requests_kept events object other (request_of_frame (frame_of event)) states kept
 
 -- the rows are in the order of their keys
 pub ascends : (object : Text) (es : StateMap) → T (is_sorted bytes_cmp es) → DoAscend (λ (s : StateRow). s.key) (map (state_row object) es)

@@ -4,7 +4,7 @@ use Rattle.sqlite_keyed.proofs.ListLemmas.{map-map}
 use Rattle.journal_model.specs.Notification.{Text}
 use Rattle.journal_model.specs.Request.{Request}
 use Rattle.journal_model.specs.Event.{Frame, Event}
-use Rattle.journal_model.specs.Journal.{version_of, closes, object_of, frame_of, request_of_frame}
+use Rattle.journal_model.specs.Journal.{version_of, closes}
 use Rattle.store_tables.specs.Records.{Records, is_at_key, is_of_object, is_sleep_of, set_in, applied, applied_all}
 use Rattle.store_tables.specs.declared.row.Progress.{Progress}
 use Rattle.store_tables.specs.declared.row.InvocationRow.{InvocationRow}
@@ -16,7 +16,7 @@ use Rattle.store_tables.specs.declared.row.Write.TheVariants.{SetProgress, AddEn
 use Rattle.store_model.specs.Progress.{progress_of}
 use Rattle.store_model.specs.KeptRecords.{input_row, begun_by, invocation_row}
 use Rattle.store_model.specs.Sleeps.{sleeps_opened, sleeps_after_frame, sleeps_after}
-use Rattle.store_model.specs.Writes.{begin_writes, rows_added, invocation_writes, changed_by, sleep_writes, sleep_writes_of, state_write, state_writes, writes_of}
+use Rattle.store_model.specs.Writes.{begin_writes, rows_added, invocation_writes, changed_by, sleep_writes, sleep_writes_of, state_write, state_writes, object_changed, state_requests, writes_of}
 
 pub applied-append : (ws vs : List Write) (r : Records) → applied_all (ws ++ vs) r ≡ applied_all vs (applied_all ws r)
 applied-append [] vs r = refl
@@ -124,13 +124,13 @@ pub applied-event : (events : List Event) (event : Event) (r : Records)
       invocations = map (stepped (progress_of (event ∷ events)) (changed_by events event))
           (r.invocations ++ map (invocation_row (event ∷ events)) (begun_by event));
       entries = (r.entries ++ map input_row (begun_by event)) ++ flat_map (rows_added events event) (changed_by events event);
-      states = states_written (object_of events event) (request_of_frame (frame_of event)) r.states;
+      states = states_written (object_changed events event) (state_requests event) r.states;
       sleeps = sleeps_after events event r.sleeps;
     }
 applied-event events event r =
     let first = begin_writes events event in
     let each = flat_map (invocation_writes events event) (changed_by events event) in
-    let states = state_writes (object_of events event) (request_of_frame (frame_of event)) in
+    let states = state_writes (object_changed events event) (state_requests event) in
     let begun : Records = record r {
       invocations = r.invocations ++ map (invocation_row (event ∷ events)) (begun_by event);
       entries = r.entries ++ map input_row (begun_by event);
@@ -146,4 +146,4 @@ applied-event events event r =
     ∙ ap (applied_all (sleeps ++ states)) (applied-each (rows_added events event) (progress_of (event ∷ events)) (changed_by events event) begun)
     ∙ applied-append sleeps states changed
     ∙ ap (applied_all states) (applied-sleeps events event changed)
-    ∙ applied-written (object_of events event) (request_of_frame (frame_of event)) (record changed { sleeps = sleeps_after events event changed.sleeps })
+    ∙ applied-written (object_changed events event) (state_requests event) (record changed { sleeps = sleeps_after events event changed.sleeps })

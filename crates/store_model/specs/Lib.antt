@@ -5,3 +5,4 @@ pub mod KeptRecords
 pub mod Writes
 pub mod Steps
 pub mod Lookups
+pub mod Forgetting

@@ -70,12 +70,21 @@ sleep_writes events (Event.Move id attempt frame) = sleep_writes_of (version_of 
 sleep_writes events (Event.Tick now) = CloseSleepsUntil (due_until now) ∷ []
 sleep_writes events _ = []
 
+-- the object whose state an event may change, and the requests by which it does
+abbrev pub object_changed : List Event → Event → Option Text
+object_changed events (Event.Edit object request) = Some object
+object_changed events event = object_of events event
+
+abbrev pub state_requests : Event → List Request
+state_requests (Event.Edit object request) = request ∷ []
+state_requests event = request_of_frame (frame_of event)
+
 abbrev pub writes_of : List Event → Event → List Write
 writes_of events event =
     begin_writes events event
     ++ (flat_map (invocation_writes events event) (changed_by events event)
     ++ (sleep_writes events event
-    ++ state_writes (object_of events event) (request_of_frame (frame_of event))))
+    ++ state_writes (object_changed events event) (state_requests event)))
 
 -- of no events no records are kept
 abbrev pub KeptAtFirst : Type 0

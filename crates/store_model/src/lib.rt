@@ -3,16 +3,19 @@
 //! nothing: its contract is the law.
 #![tactic(auto)]
 
+ghost use Rattle.store_model.specs.Forgetting.{KeptWithout};
 ghost use Rattle.store_model.specs.Writes.{KeptAfter, KeptAtFirst, KeptInAnyOrder};
 ghost use Rattle.store_model.specs.Steps.{ProgressFollows, ProgressTicks};
 ghost use Rattle.store_model.specs.Lookups.{AllAnswerOnce, AllArrivalsFound, AllAskOnce, AllEndedFound, AllFind, AllFrames, AllOpenOnce, SleepsKeptAfter};
 
 /// Of no events there are no records, and each accepted event writes what is missing: nothing else changes, of this invocation or
-/// of another. What a tick writes of several invocations may be written in any order.
+/// of another. What a tick writes of several invocations may be written in any order. Without the rows of some invocations they are those
+/// of what is left of the events.
 pub fn records_kept()
     ensures at_first { KeptAtFirst }
     ensures after { KeptAfter }
     ensures in_any_order { KeptInAnyOrder }
+    ensures without { KeptWithout }
 {}
 
 /// What is kept of an invocation after an event is computed from what was kept before it.

@@ -243,6 +243,7 @@ begun_named (event ∷ earlier) accepted = all-append IsNamed (begun earlier) (b
     by_event (Event.Close id attempt) none = tt
     by_event (Event.Move id attempt frame) none = tt
     by_event (Event.Stop id attempt) none = tt
+    by_event (Event.Edit object request) none = tt
 
 pub pages_are_due : PagesAreDue
 pages_are_due events most accepted = ap (take most) (filter_all (is_before []) (due events) (subst (AllByRecursion (λ (id : Text). is_before [] id ≡ true)) (sym (due_by_rows events accepted)) named))

@@ -10,7 +10,7 @@ use Rattle.script_lines.specs.declared.text.LineReply.TheVariants.{Done, Placed,
 use Rattle.server_lines.specs.declared.reply.TakenFrame.{TakenFrame}
 use Rattle.server_lines.specs.declared.reply.TakenFrame.TheVariants as frame
 use Rattle.server_lines.specs.declared.request.Request.{Request}
-use Rattle.server_lines.specs.declared.request.Request.TheVariants.{Invoke, Result as ResultRequest, Signal, Cancel, Tick, Begin, Input, Output, Close, Stop, Due, Next, Show, State, Error, List as ListRequest, Requests}
+use Rattle.server_lines.specs.declared.request.Request.TheVariants.{Invoke, Result as ResultRequest, Signal, Cancel, Tick, Begin, Input, Output, Close, Stop, Forget, Due, Next, Show, State, Error, List as ListRequest, Requests}
 use Rattle.server_lines.specs.Reply.{begun_line, due_line, error_line, input_line, next_line, no_error_text, not_understood_text, output_line}
 use Rattle.server_lines.specs.RequestReader.{request_of}
 use Rattle.shown_records.specs.ShownTexts.{Shows, TellsState}
@@ -25,6 +25,7 @@ use Rattle.store_steps.specs.declared.frame.FrameReply.TheVariants as reply
 use Rattle.store_calls.specs.declared.begun.BegunAttempt.{BegunAttempt}
 use Rattle.store_calls.specs.AbstractStore.{Standing, StaysStanding, Adds}
 use Rattle.store_calls.specs.Calls.{BeginsAttempt, Cancels, ClosesStoredInput, CompletesCall, HandsOut, Invokes, Signals, Stops, Ticks}
+use Rattle.store_calls.specs.Forgetting.{Forgets, LeavesOthers}
 use Rattle.store_calls.specs.Frames.{Accepts, AcceptsFirst}
 use Rattle.journal_store.specs.Attempts.{BeginsSome}
 use Rattle.store_server.specs.StoreChanges.{CommitsNothing, Tells, TellsKnown}
@@ -106,6 +107,7 @@ DoesRequest (Input id attempt most) = Answers handed_line (HandsOut id attempt m
 DoesRequest (Output id attempt bytes) = Answers taken_line (Accepts id attempt bytes)
 DoesRequest (Close id attempt) = Answers done_line (ClosesStoredInput id attempt)
 DoesRequest (Stop id attempt) = Answers done_line (Stops id attempt)
+DoesRequest (Forget ids) = Answers done_line (Forgets ids)
 DoesRequest Due = Answers ids_line (Tells (λ events ids. ids ≡ due events))
 DoesRequest Next = Answers moment_line (Tells IsNextMoment)
 DoesRequest (Show id) = λ text. Shown (Shows id text)
@@ -123,6 +125,7 @@ CutsRequest (Cancel id) = Adds (Event.Cancel id)
 CutsRequest (Tick now) = Adds (Event.Tick now)
 CutsRequest (Begin id now) = BeginsSome id now
 CutsRequest (Output id attempt bytes) = AcceptsFirst id attempt bytes
+CutsRequest (Forget ids) = LeavesOthers ids
 CutsRequest _ = CommitsNothing
 
 -- ---- the lines

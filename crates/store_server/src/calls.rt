@@ -3,6 +3,7 @@ ghost use Rattle.std.specs.Prelude.{string_bytes};
 ghost use Rattle.journal_model.specs.Event.{Event};
 ghost use Rattle.store_calls.specs.AbstractStore.{Adds};
 ghost use Rattle.store_calls.specs.Calls.{BeginsAttempt, Cancels, ClosesStoredInput, CompletesCall, HandsOut, Invokes, Signals, Stops, Ticks};
+ghost use Rattle.store_calls.specs.Forgetting.{Forgets, LeavesOthers};
 ghost use Rattle.store_calls.specs.Frames.{Accepts, AcceptsFirst};
 ghost use Rattle.journal_store.specs.Attempts.{BeginsSome};
 ghost use Rattle.store_server.specs.StoreChanges.{CommitsNothing, ReachesStore};
@@ -132,5 +133,16 @@ pub(crate) fn stop<S: Alter + Drop>(
     ensures { MakesAnswer string_bytes result (λ text. ReachesStore S.Store CommitsNothing (Answers done_line (Stops id.now attempt) text) store.old store.new) }
 {
     let told = store.stop(id, attempt);
+    done(alloc, told)
+}
+
+pub(crate) fn forget<S: Alter + Drop>(
+    alloc: Global,
+    store: &mut Store<S>,
+    ids: &[ByteStr],
+) -> Result<String, AllocError>
+    ensures { MakesAnswer string_bytes result (λ text. ReachesStore S.Store (LeavesOthers ids.now) (Answers done_line (Forgets ids.now) text) store.old store.new) }
+{
+    let told = store.forget(ids);
     done(alloc, told)
 }

@@ -7,7 +7,9 @@ ghost use Rattle.store_server.specs.Dialogue.{DoesGiven, GoesOn, Serves, StopsAt
 
 use crate::answer::not_understood;
 use crate::asks::{due, error, list, next, requests, show, state};
-use crate::calls::{begin, cancel, close, complete, input, invoke, output, signal, stop, tick};
+use crate::calls::{
+    begin, cancel, close, complete, forget, input, invoke, output, signal, stop, tick,
+};
 use crate::fault::ServerFault;
 use crate::reading::read_line;
 use journal_store::Store;
@@ -40,6 +42,7 @@ fn answer_request<S: Alter + Drop>(
         Request::Output { id, attempt, bytes } => output(alloc, store, &id, attempt, &bytes),
         Request::Close { id, attempt } => close(alloc, store, &id, attempt),
         Request::Stop { id, attempt } => stop(alloc, store, &id, attempt),
+        Request::Forget { ids } => forget(alloc, store, ids.as_slice()),
         Request::Due => due(alloc, store),
         Request::Next => next(alloc, store),
         Request::Show { id } => show(alloc, store, &id),

@@ -5,17 +5,17 @@ use Rattle.journal_model.specs.Notification.{Bytes, Text}
 use Rattle.journal_model.specs.Request.{Request}
 use Rattle.journal_model.specs.Event.{Event, Frame}
 use Rattle.journal_model.specs.State.{value_of_key}
-use Rattle.journal_model.specs.Journal.{closes, frame_of, invocation_begun, object_of, object_state, request_of_frame, version_of}
+use Rattle.journal_model.specs.Journal.{closes, invocation_begun, object_state, version_of}
 use Rattle.journal_model.specs.Cause.{IsAccepted}
 use Rattle.sqlite_keyed.proofs.ListLemmas.{all-append}
 use Rattle.store_tables.specs.Records.{Records, applied}
 use Rattle.store_tables.specs.declared.row.Write.{Write}
-use Rattle.store_tables.specs.declared.row.Write.TheVariants.{AddInvocation, AddEntry, CloseSleeps, CloseSleepsUntil, DropState, DropStates, OpenSleep, PutState, SetProgress}
+use Rattle.store_tables.specs.declared.row.Write.TheVariants.{AddInvocation, AddEntry, CloseSleeps, CloseSleepsUntil, DropEntries, DropInvocation, DropState, DropStates, OpenSleep, PutState, SetProgress}
 use Rattle.store_tables.specs.declared.row.EntryRow.{EntryRow}
 use Rattle.store_tables.specs.declared.row.SleepRow.{SleepRow}
 use Rattle.store_model.specs.KeptRecords.{IsKept, invocation_row, state_row}
 use Rattle.store_model.specs.Sleeps.{sleeps_opened}
-use Rattle.store_model.specs.Writes.{changed_by, invocation_writes, rows_added, sleep_writes, sleep_writes_of, state_write, state_writes, writes_of}
+use Rattle.store_model.specs.Writes.{changed_by, invocation_writes, object_changed, rows_added, sleep_writes, sleep_writes_of, state_requests, state_write, state_writes, writes_of}
 use Rattle.store_model.proofs.Finding.{all_found}
 use Rattle.store_sql_laws.specs.Events.{AddsNone, BeginsNew, NoEventTakesAKey}
 use Rattle.store_sql_laws.specs.Keys.{AreNew, IsNewIn, KeysAreApart}
@@ -33,6 +33,8 @@ one_new (DropStates object) r none = tt
 one_new (OpenSleep sleep) r none = tt
 one_new (CloseSleeps invocation) r none = tt
 one_new (CloseSleepsUntil moment) r none = tt
+one_new (DropInvocation id) r none = tt
+one_new (DropEntries invocation) r none = tt
 
 all_new : (writes : List Write) (r : Records) → AllByRecursion AddsNone writes → AreNew writes r
 all_new [] r none = tt
@@ -79,12 +81,12 @@ states_add_none (Some object) requests = each_adds_none (state_write object) (re
 
 -- what is written behind the begin of an invocation
 abbrev behind : List Event → Event → List Write
-behind events event = flat_map (invocation_writes events event) (changed_by events event) ++ (sleep_writes events event ++ state_writes (object_of events event) (request_of_frame (frame_of event)))
+behind events event = flat_map (invocation_writes events event) (changed_by events event) ++ (sleep_writes events event ++ state_writes (object_changed events event) (state_requests event))
 
 behind_adds_none : (events : List Event) (event : Event) → AllByRecursion AddsNone (behind events event)
 behind_adds_none events event =
     all-append AddsNone (flat_map (invocation_writes events event) (changed_by events event)) _ (each_adds_none (invocation_writes events event) (invocation_adds_none events event) (changed_by events event))
-    (all-append AddsNone (sleep_writes events event) _ (closed_add_none events event) (states_add_none (object_of events event) (request_of_frame (frame_of event))))
+    (all-append AddsNone (sleep_writes events event) _ (closed_add_none events event) (states_add_none (object_changed events event) (state_requests event)))
 
 -- ---- the records that are kept
 

@@ -5,10 +5,10 @@ use Rattle.sql_tables.specs.Causes.{AreRefused, Statement}
 use Rattle.store_tables.specs.Records.{Records, applied, applied_all, with_state, without_state}
 use Rattle.store_tables.specs.declared.row.Write.{Write}
 use Rattle.store_tables.specs.Statements.{statements_of, statements_of_all}
-use Rattle.store_tables.specs.declared.row.Write.TheVariants.{AddInvocation, AddEntry, CloseSleeps, CloseSleepsUntil, DropState, DropStates, OpenSleep, PutState, SetProgress}
+use Rattle.store_tables.specs.declared.row.Write.TheVariants.{AddInvocation, AddEntry, CloseSleeps, CloseSleepsUntil, DropEntries, DropInvocation, DropState, DropStates, OpenSleep, PutState, SetProgress}
 use Rattle.store_sql_laws.specs.Keys.{AreNew, IsNewIn, NoKeyIsTaken, key_taken}
 use Rattle.store_sql_laws.proofs.Records.{none_left}
-use Rattle.store_sql_laws.proofs.Spared.{IsSpared, adds_entry, adds_invocation, adds_state, closes_sleeps, closes_sleeps_until, drops_state, drops_states, opens_sleep, sets_progress}
+use Rattle.store_sql_laws.proofs.Spared.{IsSpared, adds_entry, adds_invocation, adds_state, closes_sleeps, closes_sleeps_until, drops_entries, drops_invocation, drops_state, drops_states, opens_sleep, sets_progress}
 use Rattle.store_sql_laws.proofs.Stands.{Stands}
 
 module _ (limit : Option ℕ) where
@@ -33,6 +33,8 @@ module _ (limit : Option ℕ) where
   spared (OpenSleep sleep) r new = (applied (OpenSleep sleep) r, opens_sleep limit sleep r, refl)
   spared (CloseSleeps invocation) r new = (applied (CloseSleeps invocation) r, closes_sleeps limit invocation r, refl)
   spared (CloseSleepsUntil moment) r new = (applied (CloseSleepsUntil moment) r, closes_sleeps_until limit moment r, refl)
+  spared (DropInvocation id) r new = (applied (DropInvocation id) r, drops_invocation limit id r, refl)
+  spared (DropEntries invocation) r new = (applied (DropEntries invocation) r, drops_entries limit invocation r, refl)
 
   all_spared : (writes : List Write) (r : Records) → AreNew writes r → Spares (statements_of_all writes) r (applied_all writes r)
   all_spared [] r new = refl

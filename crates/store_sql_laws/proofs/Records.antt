@@ -52,6 +52,10 @@ none_left object key (x ∷ xs) = go (is_at_key object key x) refl (none_left ob
 pub apart_among : (r : Records) (test : StateRow → Bool) → KeysAreApart r → KeysAreApart (record r { states = filter test r.states })
 apart_among r test apart = record { ids = apart.ids; keys = λ object key. let less = fewer (is_at_key object key) test r.states in let few = apart.keys object key in omega arith }
 
+-- the ids of the invocations that are left
+pub apart_left : (r : Records) (test : InvocationRow → Bool) → KeysAreApart r → KeysAreApart (record r { invocations = filter test r.invocations })
+apart_left r test apart = record { ids = λ id. let less = fewer (has_id id) test r.invocations in let few = apart.ids id in omega arith; keys = apart.keys }
+
 -- behind a value that is put where none has its key
 pub apart_with : (r : Records) (s : StateRow) → KeysAreApart r → filter (is_at_key s.object s.key) r.states ≡ [] → KeysAreApart (record r { states = r.states ++ s ∷ [] })
 apart_with r s apart none = record {

@@ -42,7 +42,7 @@ use Rattle.sql_tables.proofs.Rows.{deleted}
 use Rattle.sql_tables.proofs.Tables.{cells, rewrites}
 use Rattle.sql_tables.proofs.Writes.{cast_null, delete_does, insert_does, update_does}
 use Rattle.store_tables.specs.Tables.{entry_columns, entry_keys, invocation_columns, invocation_keys, sleep_columns, sleep_keys, state_columns, state_keys, store_schema}
-use Rattle.store_tables.specs.Statements.{add_entry_text, add_invocation_text, add_state_text, close_sleeps_text, close_sleeps_until_text, drop_state_text, drop_states_text, open_sleep_text, set_progress_text, statement, statements_of, statements_of_all}
+use Rattle.store_tables.specs.Statements.{add_entry_text, add_invocation_text, add_state_text, close_sleeps_text, close_sleeps_until_text, drop_entries_text, drop_invocation_text, drop_state_text, drop_states_text, open_sleep_text, set_progress_text, statement, statements_of, statements_of_all}
 use Rattle.store_tables.specs.Records.{entry_cells, invocation_cells, progress_cells, sleep_cells, state_cells}
 use Rattle.store_tables.specs.declared.row.EntryRow.{EntryRow}
 use Rattle.store_tables.specs.declared.row.InvocationRow.{InvocationRow}
@@ -50,7 +50,7 @@ use Rattle.store_tables.specs.declared.row.Progress.{Progress}
 use Rattle.store_tables.specs.declared.row.SleepRow.{SleepRow}
 use Rattle.store_tables.specs.declared.row.StateRow.{StateRow}
 use Rattle.store_tables.specs.declared.row.Write.{Write}
-use Rattle.store_tables.specs.declared.row.Write.TheVariants.{AddInvocation, AddEntry, CloseSleeps, CloseSleepsUntil, DropState, DropStates, OpenSleep, PutState, SetProgress}
+use Rattle.store_tables.specs.declared.row.Write.TheVariants.{AddInvocation, AddEntry, CloseSleeps, CloseSleepsUntil, DropEntries, DropInvocation, DropState, DropStates, OpenSleep, PutState, SetProgress}
 use Rattle.store_tables.proofs.Matching.{Test, equal, tests_of, until}
 use Rattle.store_tables.proofs.Moves.{IsDelete, IsInsert, none_refers}
 use Rattle.store_tables.proofs.Refusals.{HasInvocations, IsTame, accepts_entry, accepts_invocation, accepts_progress, accepts_sleep, accepts_state, no_sums, no_sums_set}
@@ -144,6 +144,13 @@ module _ (limit : Option ℕ) where
   closes_sleeps_until : (moment : ℕ) → IsFree limit (statement close_sleeps_until_text (long_cell moment ∷ []))
   closes_sleeps_until moment =
       free_delete close_sleeps_until_text (long_cell moment ∷ []) 4 3 (until 0 0 ∷ []) sleeps.closes_until (codes "sleep") sleep_columns sleep_keys refl (λ db up. up.1.1.1.0) refl (tame.closes_sleeps_until limit moment)
+
+  drops_entries : (invocation : List ℕ) → IsFree limit (statement drop_entries_text (Text invocation ∷ []))
+  drops_entries invocation = free_delete drop_entries_text (Text invocation ∷ []) 0 0 (equal 0 0 ∷ []) entries.drops_own (codes "entry") entry_columns entry_keys refl (λ db up. up.0) refl (tame.drops_entries limit invocation)
+
+  drops_invocation : (id : List ℕ) → IsFree limit (statement drop_invocation_text (Text id ∷ []))
+  drops_invocation id =
+      free_delete drop_invocation_text (Text id ∷ []) 1 1 (equal 0 0 ∷ []) invocations.drops_own (codes "invocation") invocation_columns invocation_keys refl (λ db up. up.1.0) refl (tame.drops_invocation limit id)
 
   -- ---- UPDATE
 
@@ -259,6 +266,8 @@ module _ (limit : Option ℕ) where
   free_write (OpenSleep sleep) = (opens_sleep sleep, tt)
   free_write (CloseSleeps invocation) = (closes_sleeps invocation, tt)
   free_write (CloseSleepsUntil moment) = (closes_sleeps_until moment, tt)
+  free_write (DropInvocation id) = (drops_invocation id, tt)
+  free_write (DropEntries invocation) = (drops_entries invocation, tt)
 
   all_free : (writes : List Write) → AllByRecursion (IsFree limit) (statements_of_all writes)
   all_free [] = tt

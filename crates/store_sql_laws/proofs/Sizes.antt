@@ -39,7 +39,7 @@ use Rattle.sql_tables.proofs.Places.{changed, insert_stops, refused_as}
 use Rattle.sql_tables.proofs.Refusals.{StopsAtLimit, StopsEdit, delete_refused, told, update_refused}
 use Rattle.sql_tables.proofs.Tables.{cells, rewrites}
 use Rattle.store_tables.specs.Tables.{entry_columns, entry_keys, invocation_columns, invocation_keys, sleep_columns, sleep_keys, state_columns, state_keys, store_schema}
-use Rattle.store_tables.specs.Statements.{add_entry_text, add_invocation_text, add_state_text, close_sleeps_text, close_sleeps_until_text, drop_state_text, drop_states_text, open_sleep_text, set_progress_text, statement, statements_of, statements_of_all}
+use Rattle.store_tables.specs.Statements.{add_entry_text, add_invocation_text, add_state_text, close_sleeps_text, close_sleeps_until_text, drop_entries_text, drop_invocation_text, drop_state_text, drop_states_text, open_sleep_text, set_progress_text, statement, statements_of, statements_of_all}
 use Rattle.store_tables.specs.Questions.{has_id}
 use Rattle.store_tables.specs.Records.{Records, applied, applied_all, entry_cells, invocation_cells, progress_cells, sleep_cells, state_cells, with_state, without_state}
 use Rattle.store_tables.specs.declared.row.EntryRow.{EntryRow}
@@ -48,7 +48,7 @@ use Rattle.store_tables.specs.declared.row.Progress.{Progress}
 use Rattle.store_tables.specs.declared.row.SleepRow.{SleepRow}
 use Rattle.store_tables.specs.declared.row.StateRow.{StateRow}
 use Rattle.store_tables.specs.declared.row.Write.{Write}
-use Rattle.store_tables.specs.declared.row.Write.TheVariants.{AddInvocation, AddEntry, CloseSleeps, CloseSleepsUntil, DropState, DropStates, OpenSleep, PutState, SetProgress}
+use Rattle.store_tables.specs.declared.row.Write.TheVariants.{AddInvocation, AddEntry, CloseSleeps, CloseSleepsUntil, DropEntries, DropInvocation, DropState, DropStates, OpenSleep, PutState, SetProgress}
 use Rattle.store_tables.proofs.Matching.{Test, cells_match, equal, match_cells, one_test, tests_of, until}
 use Rattle.store_tables.proofs.Moves.{IsDelete, IsInsert, none_refers}
 use Rattle.store_tables.proofs.Refusals.{accepts_entry, accepts_invocation, accepts_progress, accepts_sleep, accepts_state, no_sums, no_sums_set, written}
@@ -151,6 +151,12 @@ module _ (limit : Option ℕ) where
   closes_sleeps_until : (moment : ℕ) (r : Records) → IsRoomy limit (statement close_sleeps_until_text (long_cell moment ∷ [])) r
   closes_sleeps_until moment = roomy_delete close_sleeps_until_text (long_cell moment ∷ []) 4 3 (until 0 0 ∷ []) sleeps.closes_until (codes "sleep") sleep_columns sleep_keys refl refl
 
+  drops_entries : (invocation : List ℕ) (r : Records) → IsRoomy limit (statement drop_entries_text (Text invocation ∷ [])) r
+  drops_entries invocation = roomy_delete drop_entries_text (Text invocation ∷ []) 0 0 (equal 0 0 ∷ []) entries.drops_own (codes "entry") entry_columns entry_keys refl refl
+
+  drops_invocation : (id : List ℕ) (r : Records) → IsRoomy limit (statement drop_invocation_text (Text id ∷ [])) r
+  drops_invocation id = roomy_delete drop_invocation_text (Text id ∷ []) 1 1 (equal 0 0 ∷ []) invocations.drops_own (codes "invocation") invocation_columns invocation_keys refl refl
+
   -- ---- UPDATE
 
   abbrev setting : Program
@@ -219,6 +225,8 @@ module _ (limit : Option ℕ) where
   roomy (OpenSleep s) r new small = (opens_sleep s r small, applied (OpenSleep s) r, spared.opens_sleep limit s r, refl)
   roomy (CloseSleeps invocation) r new small = (closes_sleeps invocation r, applied (CloseSleeps invocation) r, spared.closes_sleeps limit invocation r, refl)
   roomy (CloseSleepsUntil moment) r new small = (closes_sleeps_until moment r, applied (CloseSleepsUntil moment) r, spared.closes_sleeps_until limit moment r, refl)
+  roomy (DropInvocation id) r new small = (drops_invocation id r, applied (DropInvocation id) r, spared.drops_invocation limit id r, refl)
+  roomy (DropEntries invocation) r new small = (drops_entries invocation r, applied (DropEntries invocation) r, spared.drops_entries limit invocation r, refl)
 
   all_roomy : (writes : List Write) (r : Records) → AreNew writes r → AreSmall writes r → Roomy (statements_of_all writes) r (applied_all writes r)
   all_roomy [] r new small = refl

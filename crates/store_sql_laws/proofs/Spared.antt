@@ -37,9 +37,9 @@ use Rattle.sql_tables.proofs.Places.{changed, insert_stops, refused_as}
 use Rattle.sql_tables.proofs.Refusals.{delete_refused, update_refused}
 use Rattle.sql_tables.proofs.Tables.{cells, rewrites}
 use Rattle.store_tables.specs.Tables.{entry_columns, entry_keys, invocation_columns, invocation_keys, sleep_columns, sleep_keys, state_columns, state_keys, store_schema}
-use Rattle.store_tables.specs.Statements.{add_entry_text, add_invocation_text, add_state_text, close_sleeps_text, close_sleeps_until_text, drop_state_text, drop_states_text, open_sleep_text, set_progress_text, statement}
+use Rattle.store_tables.specs.Statements.{add_entry_text, add_invocation_text, add_state_text, close_sleeps_text, close_sleeps_until_text, drop_entries_text, drop_invocation_text, drop_state_text, drop_states_text, open_sleep_text, set_progress_text, statement}
 use Rattle.store_tables.specs.Questions.{has_id}
-use Rattle.store_tables.specs.Records.{Records, entry_cells, invocation_cells, is_at_key, is_of_object, progress_cells, set_in, sleep_cells, state_cells, with_entry, with_invocation, with_progress, with_sleep, with_state, without_sleeps, without_sleeps_until, without_state, without_states}
+use Rattle.store_tables.specs.Records.{Records, entry_cells, invocation_cells, is_at_key, is_named, is_of_object, progress_cells, set_in, sleep_cells, state_cells, with_entry, with_invocation, with_progress, with_sleep, with_state, without_entries, without_invocation, without_sleeps, without_sleeps_until, without_state, without_states}
 use Rattle.store_tables.specs.declared.row.EntryRow.{EntryRow}
 use Rattle.store_tables.specs.declared.row.InvocationRow.{InvocationRow}
 use Rattle.store_tables.specs.declared.row.Progress.{Progress}
@@ -55,7 +55,7 @@ use Rattle.store_tables.proofs.Sleeps as sleeps
 use Rattle.store_tables.proofs.States as states
 use Rattle.sql_tables.proofs.Cells.{same_blob, same_text}
 use Rattle.store_sql_laws.specs.Keys.{key_taken}
-use Rattle.store_sql_laws.proofs.Records.{apart_among, apart_begun, apart_set, apart_with}
+use Rattle.store_sql_laws.proofs.Records.{apart_among, apart_begun, apart_left, apart_set, apart_with}
 use Rattle.store_sql_laws.proofs.Rows.{IsTwin, apart_fewer, apart_put, apart_twins, from_mapped, keeps_unique, stands_for}
 use Rattle.store_sql_laws.proofs.Stands.{Stands, elsewhere, ids_apart, keys_apart, never_for_key, new_id, new_key, with_invocations, with_states}
 
@@ -177,6 +177,28 @@ module _ (limit : Option ℕ) where
 
   pub closes_sleeps_until : (moment : ℕ) (r : Records) → IsSpared limit (statement close_sleeps_until_text (long_cell moment ∷ [])) r (without_sleeps_until moment r)
   closes_sleeps_until moment r = closes close_sleeps_until_text (long_cell moment ∷ []) (until 0 0 ∷ []) sleeps.closes_until refl r (without_sleeps_until moment r).sleeps
+
+  pub drops_entries : (invocation : List ℕ) (r : Records) → IsSpared limit (statement drop_entries_text (Text invocation ∷ [])) r (without_entries invocation r)
+  drops_entries invocation r = record {
+    never = λ db h. never_delete drop_entries_text (Text invocation ∷ []) 0 0 (equal 0 0 ∷ []) entries.drops_own (codes "entry") entry_columns entry_keys refl db h.schema refl
+        (λ ids. keeps_unique (with_tree db.trees 0 (without_all (db.trees 0) (ids_of ids))) (ids_apart db r h) (keys_apart db r h));
+    comes = λ db new h tally comes.
+        let change = cut_by drop_entries_text (Text invocation ∷ []) 0 0 (equal 0 0 ∷ []) entries.drops_own (codes "entry") entry_columns entry_keys refl db h.schema tally new comes in
+        elsewhere db r h 0 (λ same. omega (arith, same)) (λ same. omega (arith, same)) new change.schema change.others (without_entries invocation r) refl refl;
+  }
+
+  pub drops_invocation : (id : List ℕ) (r : Records) → IsSpared limit (statement drop_invocation_text (Text id ∷ [])) r (without_invocation id r)
+  drops_invocation id r = record {
+    never = λ db h. never_delete drop_invocation_text (Text id ∷ []) 1 1 (equal 0 0 ∷ []) invocations.drops_own (codes "invocation") invocation_columns invocation_keys refl db h.schema refl
+        (λ ids. keeps_unique (with_tree db.trees 1 (without_all (db.trees 1) (ids_of ids))) (apart_fewer (1 ∷ []) (db.trees 1) (without_all (db.trees 1) (ids_of ids)) (without_all_has (ids_of ids) (db.trees 1)) (ids_apart db r h)) (keys_apart db r h));
+    comes = λ db new h tally comes.
+        let keeps = λ (cells : Row). not (match_cells (Text id ∷ []) (equal 0 0 ∷ []) cells) in
+        let stays = λ (i : InvocationRow). not (is_named id i) in
+        let change = cut_by drop_invocation_text (Text id ∷ []) 1 1 (equal 0 0 ∷ []) invocations.drops_own (codes "invocation") invocation_columns invocation_keys refl db h.schema tally new comes in
+        with_invocations db r h new change.schema change.others (filter stays r.invocations)
+        (subst (HasRows (new.trees 1)) (filter-map keeps invocation_cells r.invocations ∙ ap (map invocation_cells) (filter_same _ _ (λ i. ap not (one_test _ _ (same_text i.id id))) r.invocations)) (change.rows _ h.invocations))
+        (apart_left r stays h.apart);
+  }
 
   -- ---- UPDATE
 

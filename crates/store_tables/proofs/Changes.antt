@@ -8,7 +8,7 @@ use Rattle.sql_tables.specs.Cells.{long_cell}
 use Rattle.sql_tables.proofs.Readable.{IsWhole}
 use Rattle.sql_tables.proofs.Refused.{IsChange, change_by, is_change}
 use Rattle.store_tables.specs.Tables.{store_schema}
-use Rattle.store_tables.specs.Statements.{add_entry_text, add_invocation_text, add_state_text, close_sleeps_text, close_sleeps_until_text, drop_state_text, drop_states_text, open_sleep_text, set_progress_text}
+use Rattle.store_tables.specs.Statements.{add_entry_text, add_invocation_text, add_state_text, close_sleeps_text, close_sleeps_until_text, drop_entries_text, drop_invocation_text, drop_state_text, drop_states_text, open_sleep_text, set_progress_text}
 use Rattle.store_tables.specs.Records.{EntryRow, InvocationRow, Progress, SleepRow, StateRow, entry_cells, invocation_cells, progress_cells, sleep_cells, state_cells}
 
 whole_add_invocation : IsWhole (understood store_schema add_invocation_text) (length add_invocation_text) 22
@@ -145,3 +145,33 @@ plain_set_progress = (refl, refl)
 
 pub sets_progress : (id : List ℕ) (p : Progress) → IsChange store_schema set_progress_text (Text id ∷ progress_cells p)
 sets_progress id p = change_by store_schema set_progress_text (Text id ∷ progress_cells p) (understood store_schema set_progress_text) refl plain_set_progress whole_set_progress changes_set_progress
+
+whole_drop_invocation : IsWhole (understood store_schema drop_invocation_text) (length drop_invocation_text) 1
+unfolding understood everything
+whole_drop_invocation = (omega arith, refl)
+
+changes_drop_invocation : is_change (command_of (understood store_schema drop_invocation_text)) ≡ true
+unfolding understood everything
+changes_drop_invocation = refl
+
+plain_drop_invocation : IsPlain (understood store_schema drop_invocation_text)
+unfolding understood everything
+plain_drop_invocation = (refl, refl)
+
+pub drops_invocation : (id : List ℕ) → IsChange store_schema drop_invocation_text (Text id ∷ [])
+drops_invocation id = change_by store_schema drop_invocation_text (Text id ∷ []) (understood store_schema drop_invocation_text) refl plain_drop_invocation whole_drop_invocation changes_drop_invocation
+
+whole_drop_entries : IsWhole (understood store_schema drop_entries_text) (length drop_entries_text) 1
+unfolding understood everything
+whole_drop_entries = (omega arith, refl)
+
+changes_drop_entries : is_change (command_of (understood store_schema drop_entries_text)) ≡ true
+unfolding understood everything
+changes_drop_entries = refl
+
+plain_drop_entries : IsPlain (understood store_schema drop_entries_text)
+unfolding understood everything
+plain_drop_entries = (refl, refl)
+
+pub drops_entries : (invocation : List ℕ) → IsChange store_schema drop_entries_text (Text invocation ∷ [])
+drops_entries invocation = change_by store_schema drop_entries_text (Text invocation ∷ []) (understood store_schema drop_entries_text) refl plain_drop_entries whole_drop_entries changes_drop_entries

@@ -1,11 +1,11 @@
 -- What the statements over invocations do to the records.
-use Rattle.std.proofs.Common.{◌≡◌, ℕ, pos, Bool, true, false, if◌then◌else◌, List, [], ◌∷◌, ◌++◌, map, drop, cond, Option, None, Some, refl, sym, ap, subst, ◌∙◌, bytes_eq, codes}
+use Rattle.std.proofs.Common.{◌≡◌, ℕ, pos, Bool, true, false, not, filter, if◌then◌else◌, List, [], ◌∷◌, ◌++◌, map, drop, cond, Option, None, Some, refl, sym, ap, subst, ◌∙◌, bytes_eq, codes}
 use Rattle.std.specs.Prelude.{IfSome, IsUtf8}
 use Rattle.std.specs.List.{AllByRecursion}
 use Rattle.std.specs.Int.{w64, cast_signed}
 use Rattle.std.proofs.lemmas.List.{map-append}
 use Rattle.protocol_types.specs.Version.{version_number}
-use Rattle.sqlite_keyed.proofs.ListLemmas.{map-map, map_same, all-append}
+use Rattle.sqlite_keyed.proofs.ListLemmas.{map-map, map_same, all-append, all-filter}
 use Rattle.sqlite.specs.declared.types.Value.TheVariants.{Null, Text}
 use Rattle.sqlite.specs.Values.{or_null}
 use Rattle.sqlite_value.specs.Order.{Row}
@@ -27,11 +27,11 @@ use Rattle.sql_tables.proofs.Cells.{same_text, cast_or_null}
 use Rattle.sql_tables.proofs.Tables.{update_changes}
 use Rattle.sql_tables.proofs.Writes.{cast_null, cast_int}
 use Rattle.store_tables.specs.Tables.{store_schema, invocation_columns, invocation_keys}
-use Rattle.store_tables.specs.Statements.{add_invocation_text, set_progress_text}
-use Rattle.store_tables.specs.Records.{InvocationRow, Progress, LastError, Closing, FitsInvocation, FitsProgress, FitsError, invocation_cells, progress_cells, closing_cell, delay_of, with_invocation, with_progress, set_in}
+use Rattle.store_tables.specs.Statements.{add_invocation_text, drop_invocation_text, set_progress_text}
+use Rattle.store_tables.specs.Records.{InvocationRow, Progress, LastError, Closing, FitsInvocation, FitsProgress, FitsError, invocation_cells, progress_cells, closing_cell, delay_of, is_named, with_invocation, with_progress, without_invocation, set_in}
 use Rattle.store_tables.specs.declared.row.Closing.TheVariants.{Ended, Failed}
 use Rattle.store_tables.proofs.Matching.{cells_match, equal, match_cells, one_test, tests_of}
-use Rattle.store_tables.proofs.Moves.{IsInsert, Moves, inserted, invocations_turned, none_refers}
+use Rattle.store_tables.proofs.Moves.{IsDelete, IsInsert, Moves, dropped, inserted, invocations_turned, none_refers}
 
 unfoldable pub terms : List Term
 terms =
@@ -177,3 +177,16 @@ progress_set id p fits old new has run =
 pub error_fits : (o : Option LastError) → IfSome o (λ e. IsShort e.code) → IfSome o (λ e. IsShort e.behavior) → IfSome o (λ e. IfSome e.delay IsLong) → IfSome o (λ e. IsUtf8 e.message) → IfSome o FitsError
 error_fits None a b c d = tt
 error_fits (Some e) a b c d = record { code = a; behavior = b; delay = c; message = d }
+
+-- ---- an invocation that is removed
+
+pub drops_own : IsDelete drop_invocation_text 1 1 (equal 0 0 ∷ [])
+unfolding understood everything
+drops_own = record { command = refl; plain = (refl, refl) }
+
+pub invocation_dropped : (id : List ℕ) (old new : State) → old.now.schema ≡ store_schema → HasRun drop_invocation_text (Text id ∷ []) old new → Moves (without_invocation id) old new
+invocation_dropped id old new has run =
+    let change = dropped drop_invocation_text (Text id ∷ []) 1 1 (equal 0 0 ∷ []) drops_own (codes "invocation") invocation_columns invocation_keys refl invocation_cells (is_named id) (λ i. one_test _ _ (same_text i.id id)) old new has run in (
+      change.0,
+      λ r h. invocations_turned old.now new.now r h change.1.0 (filter (λ i. not (is_named id i)) r.invocations) (change.1.1 r.invocations h.invocations) (all-filter FitsInvocation (λ i. not (is_named id i)) r.invocations h.fit_invocations),
+    )

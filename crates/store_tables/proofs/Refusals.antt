@@ -1,5 +1,5 @@
 -- Each statement of a write is refused only where a row finds no place, and leaves the tables of a store behind it.
-use Rattle.std.proofs.Common.{◌≡◌, ◌++◌, ℕ, inl, inr, true, not, List, [], ◌∷◌, drop, map, slice_get, Option, Some, Ok, codes, refl, sym, ap, subst, ◌∙◌, arith}
+use Rattle.std.proofs.Common.{◌≡◌, ◌++◌, ℕ, inl, inr, true, not, List, [], ◌∷◌, drop, filter, map, slice_get, Option, Some, Ok, codes, refl, sym, ap, subst, ◌∙◌, arith}
 use Rattle.std.proofs.lemmas.List.{map-append}
 use Rattle.sqlite.specs.declared.types.Value.TheVariants.{Blob, Text}
 use Rattle.sqlite_value.specs.Order.{Row}
@@ -9,7 +9,7 @@ use Rattle.sqlite_sql.specs.Program.{ProgramOverflows}
 use Rattle.sqlite_schema.specs.Program.{lets_of}
 use Rattle.sqlite_schema.specs.declared.program.Program.{Program}
 use Rattle.sqlite_schema.specs.declared.schema.Column.{Column}
-use Rattle.sqlite_keyed.proofs.ListLemmas.{map-map, map_same}
+use Rattle.sqlite_keyed.proofs.ListLemmas.{filter-map, filter_same, map-map, map_same}
 use Rattle.sqlite.specs.Cast.{cast_all}
 use Rattle.sqlite.specs.Does.{Tally}
 use Rattle.sqlite.specs.Effect.{Database}
@@ -25,10 +25,11 @@ use Rattle.sql_tables.specs.Statements.{program_of, rows_of}
 use Rattle.sql_tables.proofs.Comes.{delete_comes, insert_comes, update_comes}
 use Rattle.sql_tables.proofs.Places.{AreTyped, changed, delete_place, insert_place, update_place}
 use Rattle.store_tables.specs.Tables.{entry_columns, entry_keys, invocation_columns, invocation_keys, sleep_columns, sleep_keys, state_columns, state_keys, store_schema}
-use Rattle.store_tables.specs.Statements.{add_entry_text, add_invocation_text, add_state_text, close_sleeps_text, close_sleeps_until_text, drop_state_text, drop_states_text, open_sleep_text, set_progress_text, statement}
-use Rattle.store_tables.specs.Records.{EntryRow, InvocationRow, Progress, SleepRow, StateRow, delay_of, entry_cells, invocation_cells, progress_cells, set_in, sleep_cells, state_cells}
+use Rattle.store_tables.specs.Statements.{add_entry_text, add_invocation_text, add_state_text, close_sleeps_text, close_sleeps_until_text, drop_entries_text, drop_invocation_text, drop_state_text, drop_states_text, open_sleep_text, set_progress_text, statement}
+use Rattle.store_tables.specs.Records.{EntryRow, InvocationRow, Progress, SleepRow, StateRow, delay_of, entry_cells, invocation_cells, is_named, progress_cells, set_in, sleep_cells, state_cells}
 use Rattle.store_tables.proofs.Cells.{class_behaviors, class_blobs, class_closings, class_codes, class_longs, class_messages, class_shorts, class_texts, typed_entry, typed_invocation, typed_sleep, typed_state}
-use Rattle.store_tables.proofs.Matching.{Test, cells_match, equal, match_cells, tests_of, until}
+use Rattle.store_tables.proofs.Matching.{Test, cells_match, equal, match_cells, one_test, tests_of, until}
+use Rattle.sql_tables.proofs.Cells.{same_text}
 use Rattle.store_tables.proofs.Moves.{IsDelete, IsInsert, none_refers}
 use Rattle.store_tables.proofs.Entries as entries
 use Rattle.store_tables.proofs.Invocations as invocations
@@ -152,6 +153,27 @@ module _ (limit : Option ℕ) where
 
   pub closes_sleeps_until : (moment : ℕ) → IsTame limit (statement close_sleeps_until_text (long_cell moment ∷ []))
   closes_sleeps_until moment = tame_delete close_sleeps_until_text (long_cell moment ∷ []) 4 3 (until 0 0 ∷ []) sleeps.closes_until (codes "sleep") sleep_columns sleep_keys refl refl (λ same. omega (arith, same))
+
+  pub drops_entries : (invocation : List ℕ) → IsTame limit (statement drop_entries_text (Text invocation ∷ []))
+  drops_entries invocation = tame_delete drop_entries_text (Text invocation ∷ []) 0 0 (equal 0 0 ∷ []) entries.drops_own (codes "entry") entry_columns entry_keys refl refl (λ same. omega (arith, same))
+
+  -- from the table of the invocations itself
+  pub drops_invocation : (id : List ℕ) → IsTame limit (statement drop_invocation_text (Text id ∷ []))
+  drops_invocation id = record {
+    refused = λ db h cause refused.
+        delete_place store_schema none_refers limit (statement drop_invocation_text (Text id ∷ [])) db h.schema invocations.drops_own.plain 1 (codes "invocation") invocation_columns invocation_keys (plain_orders invocation_keys) 1 refl cause refused
+        (program_of (rows_of 1 (tests_of (equal 0 0 ∷ [])) (col 1 0 ∷ []) [])) invocations.drops_own.command refl
+        (no_sums drop_invocation_text (Text id ∷ []) 1 1 (equal 0 0 ∷ []) invocations.drops_own (codes "invocation") invocation_columns invocation_keys refl db.trees);
+    comes = λ db after h tally comes.
+        let keeps = λ (row : Row). not (match_cells (Text id ∷ []) (equal 0 0 ∷ []) row) in
+        let change = delete_comes store_schema none_refers limit (statement drop_invocation_text (Text id ∷ [])) db h.schema invocations.drops_own.plain 1 (codes "invocation") invocation_columns invocation_keys (plain_orders invocation_keys) 1 refl tally after comes
+        (tests_of (equal 0 0 ∷ [])) keeps invocations.drops_own.command (λ r. ap not (cells_match (Text id ∷ []) (equal 0 0 ∷ []) r)) in
+        record {
+          schema = change.schema;
+          invocations = filter (λ i. not (is_named id i)) h.invocations;
+          rows = subst (HasRows (after.trees 1)) (filter-map keeps invocation_cells h.invocations ∙ ap (map invocation_cells) (filter_same _ _ (λ i. ap not (one_test _ _ (same_text i.id id))) h.invocations)) (change.rows _ h.rows);
+        };
+  }
 
   -- ---- UPDATE
 

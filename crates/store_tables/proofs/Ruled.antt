@@ -9,8 +9,8 @@ use Rattle.sql_tables.specs.Refusals.{IsPlaceCause}
 use Rattle.store_tables.specs.Refusals.{RulesRefuse}
 use Rattle.store_tables.specs.Records.{Write}
 use Rattle.store_tables.specs.Statements.{statements_of, statements_of_all}
-use Rattle.store_tables.specs.declared.row.Write.TheVariants.{AddInvocation, SetProgress, AddEntry, PutState, DropState, DropStates, OpenSleep, CloseSleeps, CloseSleepsUntil}
-use Rattle.store_tables.proofs.Refusals.{HasInvocations, IsTame, adds_entry, adds_invocation, adds_state, closes_sleeps, closes_sleeps_until, drops_state, drops_states, opens_sleep, sets_progress}
+use Rattle.store_tables.specs.declared.row.Write.TheVariants.{AddInvocation, SetProgress, AddEntry, PutState, DropState, DropStates, OpenSleep, CloseSleeps, CloseSleepsUntil, DropInvocation, DropEntries}
+use Rattle.store_tables.proofs.Refusals.{HasInvocations, IsTame, adds_entry, adds_invocation, adds_state, closes_sleeps, closes_sleeps_until, drops_entries, drops_invocation, drops_state, drops_states, opens_sleep, sets_progress}
 
 module _ (limit : Option ℕ) where
   in_turn : (statements : List Statement) → AllByRecursion (IsTame limit) statements → (db : Database) → HasInvocations db → (cause : Error) → AreRefused limit statements db cause → IsPlaceCause limit cause
@@ -28,6 +28,8 @@ module _ (limit : Option ℕ) where
   tame (OpenSleep sleep) = (opens_sleep limit sleep, tt)
   tame (CloseSleeps invocation) = (closes_sleeps limit invocation, tt)
   tame (CloseSleepsUntil moment) = (closes_sleeps_until limit moment, tt)
+  tame (DropInvocation id) = (drops_invocation limit id, tt)
+  tame (DropEntries invocation) = (drops_entries limit invocation, tt)
 
   all_tame : (writes : List Write) → AllByRecursion (IsTame limit) (statements_of_all writes)
   all_tame [] = tt

@@ -25,7 +25,7 @@ pub use Rattle.store_tables.specs.declared.row.SleepRow.{SleepRow}
 pub use Rattle.store_tables.specs.declared.row.Mark.{Mark}
 pub use Rattle.store_tables.specs.declared.row.Write.{Write}
 use Rattle.store_tables.specs.declared.row.Closing.TheVariants.{Ended, Failed}
-use Rattle.store_tables.specs.declared.row.Write.TheVariants.{AddInvocation, SetProgress, AddEntry, PutState, DropState, DropStates, OpenSleep, CloseSleeps, CloseSleepsUntil}
+use Rattle.store_tables.specs.declared.row.Write.TheVariants.{AddInvocation, SetProgress, AddEntry, PutState, DropState, DropStates, OpenSleep, CloseSleeps, CloseSleepsUntil, DropInvocation, DropEntries}
 
 -- no order is kept of them
 pub record Records : Type 0 where
@@ -203,6 +203,18 @@ without_sleeps invocation r = record r { sleeps = filter (λ s. not (is_sleep_of
 abbrev pub without_sleeps_until : ℕ → Records → Records
 without_sleeps_until moment r = record r { sleeps = filter (λ s. not (ends_by moment s)) r.sleeps }
 
+abbrev pub is_named : List ℕ → InvocationRow → Bool
+is_named id i = bytes_eq i.id id
+
+abbrev pub without_invocation : List ℕ → Records → Records
+without_invocation id r = record r { invocations = filter (λ i. not (is_named id i)) r.invocations }
+
+abbrev pub is_entry_of : List ℕ → EntryRow → Bool
+is_entry_of invocation e = bytes_eq e.invocation invocation
+
+abbrev pub without_entries : List ℕ → Records → Records
+without_entries invocation r = record r { entries = filter (λ e. not (is_entry_of invocation e)) r.entries }
+
 -- the records after a write, and after each in turn
 abbrev pub applied : Write → Records → Records
 applied (AddInvocation invocation) r = with_invocation invocation r
@@ -214,6 +226,8 @@ applied (DropStates object) r = without_states object r
 applied (OpenSleep sleep) r = with_sleep sleep r
 applied (CloseSleeps invocation) r = without_sleeps invocation r
 applied (CloseSleepsUntil moment) r = without_sleeps_until moment r
+applied (DropInvocation id) r = without_invocation id r
+applied (DropEntries invocation) r = without_entries invocation r
 
 abbrev pub applied_all : List Write → Records → Records
 applied_all [] r = r

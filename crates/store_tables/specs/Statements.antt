@@ -5,7 +5,7 @@ use Rattle.sqlite_value.specs.Order.{Row}
 use Rattle.sql_tables.specs.Cells.{long_cell}
 use Rattle.sql_tables.specs.Causes.{Statement}
 use Rattle.store_tables.specs.Records.{Write, entry_cells, invocation_cells, progress_cells, sleep_cells, state_cells}
-use Rattle.store_tables.specs.declared.row.Write.TheVariants.{AddInvocation, SetProgress, AddEntry, PutState, DropState, DropStates, OpenSleep, CloseSleeps, CloseSleepsUntil}
+use Rattle.store_tables.specs.declared.row.Write.TheVariants.{AddInvocation, SetProgress, AddEntry, PutState, DropState, DropStates, OpenSleep, CloseSleeps, CloseSleepsUntil, DropInvocation, DropEntries}
 
 abbrev pub mark_text : List ℕ
 mark_text = codes "INSERT INTO meta VALUES ('journal_store', 1)"
@@ -82,6 +82,12 @@ close_sleeps_text = codes "DELETE FROM sleep WHERE invocation = ?1"
 abbrev pub close_sleeps_until_text : List ℕ
 close_sleeps_until_text = codes "DELETE FROM sleep WHERE moment <= ?1"
 
+abbrev pub drop_invocation_text : List ℕ
+drop_invocation_text = codes "DELETE FROM invocation WHERE id = ?1"
+
+abbrev pub drop_entries_text : List ℕ
+drop_entries_text = codes "DELETE FROM entry WHERE invocation = ?1"
+
 abbrev pub sleeps_until_text : List ℕ
 sleeps_until_text = codes "SELECT * FROM sleep WHERE moment <= ?1 ORDER BY invocation, moment, completion"
 
@@ -106,6 +112,8 @@ statements_of (DropStates object) = statement drop_states_text (Text object ∷ 
 statements_of (OpenSleep sleep) = statement open_sleep_text (sleep_cells sleep) ∷ []
 statements_of (CloseSleeps invocation) = statement close_sleeps_text (Text invocation ∷ []) ∷ []
 statements_of (CloseSleepsUntil moment) = statement close_sleeps_until_text (long_cell moment ∷ []) ∷ []
+statements_of (DropInvocation id) = statement drop_invocation_text (Text id ∷ []) ∷ []
+statements_of (DropEntries invocation) = statement drop_entries_text (Text invocation ∷ []) ∷ []
 
 -- of one write after another
 abbrev pub statements_of_all : List Write → List Statement

@@ -124,6 +124,10 @@ pub enum Write {
     CloseSleeps { invocation: ByteStr },
     /// All sleeps that end at a moment or before it.
     CloseSleepsUntil { moment: u64 },
+    /// The row of an invocation.
+    DropInvocation { id: ByteStr },
+    /// All entries of an invocation, its input's too.
+    DropEntries { invocation: ByteStr },
 }
 
 /// The row by which a database is a store's.

@@ -9,7 +9,7 @@ ghost use Rattle.sqlite_value.specs.declared.value.Value.TheVariants.{Text};
 ghost use Rattle.sql_tables.specs.Causes.{TellsWriteCause};
 ghost use Rattle.sql_tables.specs.Cells.{IsLong, IsShort, long_cell, short_cell};
 ghost use Rattle.store_tables.specs.Looks.{MakesWrites};
-ghost use Rattle.store_tables.specs.Records.{FitsInvocation, FitsProgress, applied, closing_cell, delay_of, invocation_cells, progress_cells, state_cells, with_entry, with_invocation, with_progress, with_sleep, with_state, without_sleeps, without_sleeps_until, without_state, without_states};
+ghost use Rattle.store_tables.specs.Records.{FitsInvocation, FitsProgress, applied, closing_cell, delay_of, invocation_cells, progress_cells, state_cells, with_entry, with_invocation, with_progress, with_sleep, with_state, without_sleeps, without_entries, without_invocation, without_sleeps_until, without_state, without_states};
 ghost use Rattle.store_tables.specs.Statements.{add_state_text, statement, statements_of, statements_of_all};
 ghost use Rattle.store_tables.specs.Steps.{Alters, IsWriting};
 
@@ -264,6 +264,26 @@ fn close_sleeps_until<S: Alter>(tx: &mut Transaction<'_, S>, moment: u64) -> Res
     run(tx, "DELETE FROM sleep WHERE moment <= ?1", &[long(moment)])
 }
 
+fn drop_invocation<S: Alter>(tx: &mut Transaction<'_, S>, id: &ByteStr) -> Result<(), Error>
+    requires { IsWriting (state S.Store tx.old.conn.now) }
+    ensures same_reference { tx.new.conn.ghost_name ≡ tx.old.conn.ghost_name }
+    ensures alters { Alters S.Store (without_invocation id.now) (statements_of (Write.DropInvocation id.now)) tx.old.conn.now tx.new.conn.now result }
+{
+    run(tx, "DELETE FROM invocation WHERE id = ?1", &[text(id)])
+}
+
+fn drop_entries<S: Alter>(tx: &mut Transaction<'_, S>, invocation: &ByteStr) -> Result<(), Error>
+    requires { IsWriting (state S.Store tx.old.conn.now) }
+    ensures same_reference { tx.new.conn.ghost_name ≡ tx.old.conn.ghost_name }
+    ensures alters { Alters S.Store (without_entries invocation.now) (statements_of (Write.DropEntries invocation.now)) tx.old.conn.now tx.new.conn.now result }
+{
+    run(
+        tx,
+        "DELETE FROM entry WHERE invocation = ?1",
+        &[text(invocation)],
+    )
+}
+
 fn apply<S: Alter>(tx: &mut Transaction<'_, S>, write: &Write) -> Result<(), Error>
     requires { IsWriting (state S.Store tx.old.conn.now) }
     ensures same_reference { tx.new.conn.ghost_name ≡ tx.old.conn.ghost_name }
@@ -279,6 +299,8 @@ fn apply<S: Alter>(tx: &mut Transaction<'_, S>, write: &Write) -> Result<(), Err
         Write::OpenSleep(sleep) => open_sleep(tx, sleep),
         Write::CloseSleeps { invocation } => close_sleeps(tx, invocation),
         Write::CloseSleepsUntil { moment } => close_sleeps_until(tx, *moment),
+        Write::DropInvocation { id } => drop_invocation(tx, id),
+        Write::DropEntries { invocation } => drop_entries(tx, invocation),
     }
 }
 

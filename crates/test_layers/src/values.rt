@@ -1,5 +1,5 @@
 //! Values that code and contracts share.
-use bytes::ByteStr;
+use bytes::{ByteStr, Bytes};
 use journal_model::{
     Answer, AwaitedFuture, CANCEL_NOTIFICATION_HANDLE, Moment, NotificationHandle, PayloadOptions,
     UnresolvedFuture,
@@ -7,6 +7,7 @@ use journal_model::{
 use std::alloc::{AllocError, Global};
 use std::test::Fail;
 use std::time::Duration;
+use straight_values::{bytes_of, count_of, later, number_in, text_of};
 
 /// Whether a copy is equal to what it is a copy of.
 fn is_copied<T: Clone + PartialEq + Drop>(one: T) -> Result<bool, AllocError> {
@@ -59,5 +60,31 @@ fn values_and_their_copies(rt: HostRuntime) -> Result<(), Fail> {
         handle: NotificationHandle::new(17),
     };
     assert!(rt; is_copied(answer)?);
+    Ok(())
+}
+
+/// Whether a number is read back from its bytes, and a moment is so far behind it.
+fn is_read_back(alloc: Global) -> Result<bool, AllocError> {
+    let seven = bytes_of(alloc, 7)?;
+    let is_seven = number_in(&seven) == 7;
+    let is_later = later(&seven, 3).duration() == Duration::from_millis(10);
+    let value = Some(seven);
+    let is_counted = count_of(&value) == 7 && count_of(&None) == 0;
+    drop(value);
+    Ok(is_seven && is_later && is_counted)
+}
+
+/// Whether a number is told in its digits.
+fn is_told(alloc: Global) -> Result<bool, AllocError> {
+    let text = text_of(alloc, 70)?;
+    let is_told = text == Bytes::from_static(b"70");
+    drop(text);
+    Ok(is_told)
+}
+
+#[test]
+fn numbers_and_their_bytes(rt: HostRuntime) -> Result<(), Fail> {
+    assert!(rt; is_read_back(rt.alloc())?);
+    assert!(rt; is_told(rt.alloc())?);
     Ok(())
 }

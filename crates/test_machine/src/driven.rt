@@ -4,6 +4,7 @@
 use crate::answers::{debug, failed};
 use crate::feeding::options;
 use crate::operands::bytes;
+use bytes::Bytes;
 use invocation_vm::{Attempt, RunOutcome, Sequence, Turn, Version};
 use protocol_stream::{Decoder, RawMessage};
 use protocol_types::MessageType;
@@ -56,7 +57,7 @@ pub fn told_of(alloc: Global, turn: Turn) -> Option<String> {
 fn drive(alloc: Global, attempt: &mut Attempt<Steps>) -> Option<String> {
     let mut told = String::new(alloc);
     for _ in 0..100 {
-        let turn = attempt.turn(RunOutcome::default());
+        let turn = attempt.turn(RunOutcome::done(Bytes::new()));
         let goes_on = matches!(&turn, Turn::Answered | Turn::RanBody);
         let turn = told_of(alloc, turn)?;
         let frames = attempt.take_output(usize::MAX).ok()?;

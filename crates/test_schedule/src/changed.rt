@@ -43,7 +43,7 @@ fn turn(attempt: u32) -> Event<BuiltIn> {
     Event::Turn {
         invocation: id(),
         attempt,
-        outcome: RunOutcome::default(),
+        outcome: RunOutcome::done(Bytes::new()),
     }
 }
 

@@ -138,6 +138,20 @@ fn accept<R: Print>(
     }
 }
 
+fn forget<R: Print>(
+    rt: &R,
+    alloc: Global,
+    store: &mut Memory,
+    words: &[&str],
+) -> Result<(), Fault> {
+    let mut ids = Vec::new(alloc);
+    for word in words {
+        let id = parse_text(alloc, *word)?;
+        ids.push(id).or(Err(Fault::Memory))?;
+    }
+    print_done(rt, store.forget(ids.as_slice()))
+}
+
 /// A call about one attempt.
 fn ask_attempt<R: Print>(
     rt: &R,
@@ -209,6 +223,9 @@ fn ask<R: Print>(
     }
     if call == "tick" {
         return tick(rt, store, words);
+    }
+    if call == "forget" {
+        return forget(rt, alloc, store, words);
     }
     if call == "due" {
         return print_ids(rt, store.due());

@@ -7,3 +7,4 @@ pub mod TurnOutcomes
 pub mod Machine
 pub mod Outcomes
 pub mod MachineInput
+pub mod RunNames

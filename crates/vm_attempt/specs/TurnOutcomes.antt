@@ -19,7 +19,10 @@ use Rattle.vm_attempt.specs.declared.attempt.Attempt.{Attempt}
 use Rattle.vm_attempt.specs.declared.run_outcome.RunOutcome.{RunOutcome}
 use Rattle.vm_attempt.specs.declared.turn.Finish.{Finish}
 use Rattle.vm_attempt.specs.declared.turn.Finish.TheVariants as finishes
+use Rattle.vm_attempt.specs.declared.turn.Step.{Step}
+use Rattle.vm_attempt.specs.declared.turn.Step.TheVariants as steps
 use Rattle.vm_attempt.specs.declared.turn.Turn.{Turn}
+use Rattle.vm_attempt.specs.declared.turn.Turn.TheVariants as turns
 
 -- what each turn comes to of an attempt that is over
 abbrev pub again : Finish → Turn
@@ -31,6 +34,16 @@ again finishes.OutOfMemory = Turn.Failed out_of_memory
 abbrev pub ran_or_failed : Result (Unit {0}) Error → Turn
 ran_or_failed (Ok done) = Turn.RanBody
 ran_or_failed (Err error) = Turn.Failed error
+
+-- a turn that has ended no body
+abbrev pub RanNone : Turn → Type 0
+RanNone turns.RanBody = ⊥
+RanNone _ = Unit {0}
+
+-- a turn that is over without a body has ended none
+abbrev pub EndsNone : Step → Type 0
+EndsNone (steps.Turned turn) = RanNone turn
+EndsNone (steps.Asks handle) = Unit {0}
 
 module _ {H : Type 0} where
   -- the attempt is over, and answers that in each turn
@@ -109,3 +122,60 @@ module _ {H : Type 0} where
     -- an attempt that is over answers the same again, and nothing changes; another makes a turn of its machine
     abbrev pub Turns : (before : Attempt H) → Turn → (after : Attempt H) → Type 0
     Turns before turn after = TurnsUnless before.over before turn after
+
+  -- ---- a turn in two halves, with the body of a run between them
+
+  -- What it has come to: a turn, whatever the end of a body would be, or one that the end of this body ends.
+  abbrev pub StepIs : (Does : RunOutcome → Turn → Attempt H → Type 0) → Step → (after : Attempt H) → Type 0
+  StepIs Does (steps.Turned turn) after = (ran : RunOutcome) → Does ran turn after
+  StepIs Does (steps.Asks handle) between = (ran : RunOutcome) (turn : Turn) (after : Attempt H) → RunsBody ran handle between turn after → Does ran turn after
+
+  -- where a body is asked for, nothing but the machine has changed
+  abbrev pub StaysAsked : Step → (before after : Attempt H) → Type 0
+  StaysAsked (steps.Turned turn) before after = Unit {0}
+  StaysAsked (steps.Asks handle) before after = after ≡ record before { vm = after.vm }
+
+  -- ---- whether a call is made
+
+  -- it is not over, and calls are made of its machine
+  pub record MakesCalls (a : Attempt H) : Type 0 where
+    pub going : a.over ≡ None
+    pub ready : TellsReady a.vm.state.phase (Ok true)
+
+  -- where none is, this is the turn of every handler, and nothing changes
+  abbrev pub IsAtOnce : Option Turn → Attempt H → Type 0
+  IsAtOnce (Some turn) a = (function : H → Handler) (ran : RunOutcome) → Turns function ran a turn a
+  IsAtOnce None a = MakesCalls a
+
+  -- ---- when a body is asked for
+
+  -- what a call has come to says so, and nothing more is done then
+  abbrev pub AsksAs : CallOutcome → Step → (before after : Attempt H) → Type 0
+  AsksAs outcome (steps.Turned turn) before after = Unit {0}
+  AsksAs outcome (steps.Asks handle) before after = (outcome ≡ outcomes.Executes handle) × (after ≡ before)
+
+  -- the call has come to that: it is of its type, and the machine has handed out the body of this run
+  pub record ComesToBody (call : Call) (handle : ℕ) (before between : Attempt H) : Type 0 where
+    pub typed : IsTypedCall call
+    pub carries : CarriesOut call before.vm.state (outcomes.Executes handle) between.vm.state
+
+  abbrev pub AsksBy : Call → Step → (before after : Attempt H) → Type 0
+  AsksBy call (steps.Turned turn) before after = Unit {0}
+  AsksBy call (steps.Asks handle) before after = ComesToBody call handle before after
+
+  module _ (function : H → Handler) where
+    -- the handler's next call has come to that, behind what was read and answered
+    pub record AsksForBody (handle : ℕ) (before between : Attempt H) : Type 0 where
+      pub input : Input
+      pub has_read : before.input ≡ Some input
+      pub comes : ComesToBody (function before.handler input before.answers) handle before between
+
+    abbrev pub AsksWhere : Step → (before after : Attempt H) → Type 0
+    AsksWhere (steps.Turned turn) before after = Unit {0}
+    AsksWhere (steps.Asks handle) before after = AsksForBody handle before after
+
+    -- ---- a call that comes from outside
+
+    -- this is the call that the handler makes next, if it is asked for one
+    abbrev pub IsNextCall : Call → (before : Attempt H) → Type 0
+    IsNextCall call before = (input : Input) → before.input ≡ Some input → function before.handler input before.answers ≡ call

@@ -1,17 +1,19 @@
 // An attempt.
-ghost use Rattle.std.specs.Prelude.{◌≡◌, [], Some, None, IsSome, IfSome, OnOk};
-ghost use Rattle.std.specs.Option.{ForSome};
+ghost use Rattle.std.specs.Prelude.{◌≡◌, ◌<◌, [], length, Some, None, IfOk, IfSome, OnOk};
+ghost use Rattle.std.specs.Option.{option_copied};
+ghost use Rattle.journal_model.specs.Run.{Handler as Function};
+ghost use Rattle.vm_attempt.specs.RunNames.{is_handle, place_of, run_name};
 ghost use Rattle.vm_start.specs.declared.phase.Phase.TheVariants.{Failed};
 ghost use Rattle.vm_attempt.specs.Attempt.{IsBegun, has_stopped, Feeds, ClosesInput};
 ghost use Rattle.vm_attempt.specs.Output.{output_of, Gathers, HasFront, Shows, LetsGo, TakesOutput};
-ghost use Rattle.vm_attempt.specs.TurnOutcomes.{FinishesBy, TakesAnswer, RunsBody, TakesOutcome, CarriesCall, ReadsInput, ReadsOrAsks, TurnsOn, Turns};
+ghost use Rattle.vm_attempt.specs.TurnOutcomes.{FinishesBy, TakesAnswer, RunsBody, TakesOutcome, CarriesCall, ReadsInput, ReadsOrAsks, Turns, StepIs, StaysAsked, IsAtOnce, AsksAs, AsksBy, AsksWhere, IsNextCall, EndsNone, RanNone};
 
 use crate::header::ContentType;
 use crate::output::{advance, first, join};
 use crate::run_outcome::{RunOutcome, by_policy};
-use crate::turn::{Finish, Turn, ran_or_failed, turn_again};
+use crate::turn::{Finish, Step, Turn, ran_or_failed, turn_again};
 use crate::typed::{call_is_typed, outcome_is_typed};
-use bytes::Bytes;
+use bytes::{ByteStr, Bytes};
 use journal_model::{Answer, Call, Handler, Input, NotificationHandle};
 use protocol_errors::Error;
 use protocol_types::Version;
@@ -38,15 +40,22 @@ pub struct Attempt<H> {
     behind: Bytes,
 }
 
-// How a body has ended, which is held until one is executed.
-fn taken(ran: &mut Option<RunOutcome>) -> RunOutcome
-    requires { IsSome ran.old }
-    ensures { ran.old ≡ Some result }
+// Whether an answer is this handle, and nothing else.
+fn is_handle(answer: &Answer, handle: NotificationHandle) -> bool
+    ensures { result ≡ is_handle handle answer.now }
 {
-    match ran.take() {
-        Some(ran) => ran,
-        None => unreachable!(),
+    match answer {
+        Answer::Handle(given) => *given == handle,
+        _ => false,
     }
+}
+
+// The place of the first answer that is this handle.
+fn place_of(handle: NotificationHandle, answers: &[Answer]) -> Option<usize>
+    ensures place { result ≡ place_of handle answers.now }
+    ensures within { IfSome result (λ place. place < length answers.now) }
+{
+    answers.iter().position(|answer| is_handle(answer, handle))
 }
 
 impl<H: Handler> Attempt<H> {
@@ -134,41 +143,33 @@ impl<H: Handler> Attempt<H> {
         }
     }
 
-    // The body of a run has ended so.
-    fn run_body(&mut self, handle: NotificationHandle, ran: RunOutcome) -> Turn
-        ensures { RunsBody ran handle self.old result self.new }
-    {
-        let ran = by_policy(ran);
-        outcome_is_typed(&ran);
-        let proposed = self
-            .vm
-            .propose_run_completion(handle, ran.result, ran.policy);
-        ran_or_failed(proposed)
-    }
-
-    // A call has come to this.
-    fn come_to(&mut self, outcome: CallOutcome, ran: &mut Option<RunOutcome>) -> Turn
-        requires { IsSome ran.old }
-        ensures { ForSome ran.old (λ ran. TakesOutcome ran outcome self.old result self.new) }
+    // A call has come to this. The body that it asks for is not executed yet.
+    fn come_to(&mut self, outcome: CallOutcome) -> Step
+        ensures step { StepIs (λ ran turn after. TakesOutcome ran outcome self.old turn after) result self.new }
+        ensures stays { StaysAsked result self.old self.new }
+        ensures asks { AsksAs outcome result self.old self.new }
+        ensures none { EndsNone result }
     {
         match outcome {
-            CallOutcome::Answered(answer) => self.take_answer(answer),
-            CallOutcome::Waiting => Turn::Waiting,
-            CallOutcome::Executes(handle) => self.run_body(handle, taken(ran)),
-            CallOutcome::Suspended => self.finish(Finish::Suspended),
-            CallOutcome::Ended => self.finish(Finish::Ended),
-            CallOutcome::Failed(error) => Turn::Failed(error),
+            CallOutcome::Answered(answer) => Step::Turned(self.take_answer(answer)),
+            CallOutcome::Waiting => Step::Turned(Turn::Waiting),
+            CallOutcome::Executes(handle) => Step::Asks(handle),
+            CallOutcome::Suspended => Step::Turned(self.finish(Finish::Suspended)),
+            CallOutcome::Ended => Step::Turned(self.finish(Finish::Ended)),
+            CallOutcome::Failed(error) => Step::Turned(Turn::Failed(error)),
         }
     }
 
-    // The handler's call is carried out.
-    fn carry(&mut self, call: Call, ran: &mut Option<RunOutcome>) -> Turn
-        requires { IsSome ran.old }
-        ensures { ForSome ran.old (λ ran. CarriesCall ran call self.old result self.new) }
+    // A call is carried out.
+    fn carry(&mut self, call: Call) -> Step
+        ensures step { StepIs (λ ran turn after. CarriesCall ran call self.old turn after) result self.new }
+        ensures stays { StaysAsked result self.old self.new }
+        ensures asks { AsksBy call result self.old self.new }
+        ensures none { EndsNone result }
     {
         call_is_typed(&call);
         let outcome = carry_out(&mut self.vm, call);
-        self.come_to(outcome, ran)
+        self.come_to(outcome)
     }
 
     // The input is read.
@@ -184,51 +185,151 @@ impl<H: Handler> Attempt<H> {
         }
     }
 
-    // The handler is asked for its next call, once the input was read.
-    fn go_on(&mut self, ran: &mut Option<RunOutcome>) -> Turn
-        requires { IsSome ran.old }
-        ensures { ForSome ran.old (λ ran. ReadsOrAsks H.next_call ran self.old.input self.old result self.new) }
+    // What a turn comes to in which nothing is asked of the machine: the attempt is over, or has failed, or more has to come.
+    fn turn_at_once(&self) -> Option<Turn>
+        ensures at_once { IsAtOnce result self.now }
+        ensures none { IfSome result RanNone }
     {
-        let next = match &self.input {
-            None => return self.read_input(),
-            Some(input) => self.handler.next(input, self.answers.as_slice()),
-        };
-        match next {
-            Ok(call) => self.carry(call, ran),
-            Err(_) => self.finish(Finish::OutOfMemory),
+        if let Some(finish) = self.over {
+            return Some(turn_again(finish));
+        }
+        match self.vm.is_ready_to_execute() {
+            Ok(true) => None,
+            Ok(false) => Some(Turn::Waiting),
+            Err(error) => Some(Turn::Failed(error)),
         }
     }
 
-    // A turn of an attempt that is not over, unless its machine has failed. How a body has ended stays where it is, unless one is executed.
-    fn turn_on(&mut self, ran: &mut Option<RunOutcome>) -> Turn
-        requires { IsSome ran.old }
-        ensures { ForSome ran.old (λ ran. TurnsOn H.next_call ran self.old result self.new) }
+    // The handler is asked for its next call, once the input was read.
+    fn go_on(&mut self) -> Step
+        ensures step { StepIs (λ ran turn after. ReadsOrAsks H.next_call ran self.old.input self.old turn after) result self.new }
+        ensures stays { StaysAsked result self.old self.new }
+        ensures asks { AsksWhere H.next_call result self.old self.new }
+        ensures none { EndsNone result }
     {
-        match self.vm.is_ready_to_execute() {
-            Ok(true) => self.go_on(ran),
-            Ok(false) => Turn::Waiting,
-            Err(error) => Turn::Failed(error),
+        let next = match &self.input {
+            None => return Step::Turned(self.read_input()),
+            Some(input) => self.handler.next(input, self.answers.as_slice()),
+        };
+        match next {
+            Ok(call) => self.carry(call),
+            Err(_) => Step::Turned(self.finish(Finish::OutOfMemory)),
         }
+    }
+
+    /// One turn, as far as it goes without the body of a run: it reads the input once it has come with the journal, or asks the handler
+    /// and carries its call out. Where that is an await for which the body of a run is to be executed, the turn is not over: `end_body`
+    /// ends it, and until then nothing else is done with the attempt.
+    ///
+    /// An attempt that is over answers the same again. What it has failed with is copied for each answer; where memory is refused for
+    /// the copy, the answer says so.
+    pub fn turn_or_ask(&mut self) -> Step
+        ensures step { StepIs (λ ran turn after. Turns H.next_call ran self.old turn after) result self.new }
+        ensures stays { StaysAsked result self.old self.new }
+        ensures asks { AsksWhere H.next_call result self.old self.new }
+        ensures none { EndsNone result }
+    {
+        match self.turn_at_once() {
+            Some(turn) => Step::Turned(turn),
+            None => self.go_on(),
+        }
+    }
+
+    // A call that comes from outside is carried out, once the input was read.
+    fn relay_on(&mut self, call: Call) -> Step
+        ensures step { (function : H → Function) → IsNextCall function call self.old → StepIs (λ ran turn after. ReadsOrAsks function ran self.old.input self.old turn after) result self.new }
+        ensures stays { StaysAsked result self.old self.new }
+        ensures asks { (function : H → Function) → IsNextCall function call self.old → AsksWhere function result self.old self.new }
+        ensures none { EndsNone result }
+    {
+        match self.input {
+            None => {
+                drop(call);
+                Step::Turned(self.read_input())
+            }
+            Some(_) => self.carry(call),
+        }
+    }
+
+    /// The same with this call, which comes from outside: the handler is not asked. So it is what `turn_or_ask` does with every handler that
+    /// makes this call next. Where no call is made, as while the input was not read, it is let go of.
+    pub fn relay(&mut self, call: Call) -> Step
+        ensures step { (function : H → Function) → IsNextCall function call self.old → StepIs (λ ran turn after. Turns function ran self.old turn after) result self.new }
+        ensures stays { StaysAsked result self.old self.new }
+        ensures asks { (function : H → Function) → IsNextCall function call self.old → AsksWhere function result self.old self.new }
+        ensures none { EndsNone result }
+    {
+        match self.turn_at_once() {
+            Some(turn) => {
+                drop(call);
+                Step::Turned(turn)
+            }
+            None => self.relay_on(call),
+        }
+    }
+
+    /// The turn ends that has asked for the body of this run: the body has ended so, which is proposed. What becomes of an invocation
+    /// whose body has failed its policy alone says, whatever its error asks for.
+    pub fn end_body(&mut self, handle: NotificationHandle, ran: RunOutcome) -> Turn
+        ensures { RunsBody ran handle self.old result self.new }
+    {
+        let ran = by_policy(ran);
+        outcome_is_typed(&ran);
+        let proposed = self
+            .vm
+            .propose_run_completion(handle, ran.result, ran.policy);
+        ran_or_failed(proposed)
     }
 
     /// One turn: reads the input once it has come with the journal, or asks the handler and carries its call out.
     ///
     /// Where that is an await for which the body of a run is to be executed, the body has ended with the outcome that is given, and this is
-    /// proposed. What becomes of an invocation whose body has failed its policy alone says, whatever its error asks for. In any other turn
-    /// the outcome is let go of.
-    ///
-    /// An attempt that is over answers the same again. What it has failed with is copied for each answer; where memory is refused for
-    /// the copy, the answer says so.
+    /// proposed. In any other turn the outcome is let go of.
     pub fn turn(&mut self, outcome: RunOutcome) -> Turn
         ensures { Turns H.next_call outcome self.old result self.new }
     {
-        let mut ran = Some(outcome);
-        let turn = match self.over {
-            Some(finish) => turn_again(finish),
-            None => self.turn_on(&mut ran),
+        match self.turn_or_ask() {
+            Step::Turned(turn) => {
+                drop(outcome);
+                turn
+            }
+            Step::Asks(handle) => self.end_body(handle, outcome),
+        }
+    }
+
+    /// What the handler was given, once it was read.
+    pub fn input(&self) -> Option<&Input>
+        ensures { option_copied result ≡ self.now.input }
+    {
+        self.input.as_ref()
+    }
+
+    /// What the handler was answered so far, the first answer first.
+    pub fn answers(&self) -> &[Answer]
+        ensures { result.now ≡ self.now.answers }
+    {
+        self.answers.as_slice()
+    }
+
+    /// The name by which the handler has asked for the run of this handle: that of its call which this handle has answered. The handler is
+    /// asked for that call again, so nothing is kept of it.
+    pub fn name_of_run(&self, handle: NotificationHandle) -> Result<ByteStr, AllocError>
+        ensures { IfOk result (λ name. name ≡ run_name H.next_call handle self.now) }
+    {
+        let Some(input) = &self.input else {
+            return Ok(ByteStr::new());
         };
-        drop(ran);
-        turn
+        let answers = self.answers.as_slice();
+        let Some(place) = place_of(handle, answers) else {
+            return Ok(ByteStr::new());
+        };
+        match self.handler.next(input, &answers[..place])? {
+            Call::Run { name } => Ok(name),
+            other => {
+                drop(other);
+                Ok(ByteStr::new())
+            }
+        }
     }
 
     // Has the front piece be all that waits and all that the machine has written, unless it has so many bytes already.

@@ -13,6 +13,6 @@ mod typed;
 
 pub use attempt::Attempt;
 pub use run_outcome::RunOutcome;
-pub use turn::{Finish, Turn, turn_again};
+pub use turn::{Finish, Step, Turn, turn_again};
 pub use vm_core::{CoreVM, VM, VMResult};
 pub use vm_refusals::{RetryPolicy, RunExitResult};

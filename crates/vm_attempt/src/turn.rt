@@ -2,6 +2,7 @@
 ghost use Rattle.std.specs.Prelude.{◌≡◌};
 ghost use Rattle.vm_attempt.specs.TurnOutcomes.{again, ran_or_failed};
 
+use journal_model::NotificationHandle;
 use protocol_errors::Error;
 use vm_start::out_of_memory;
 
@@ -20,6 +21,15 @@ pub enum Turn {
     Ended,
     /// The attempt has failed, with this.
     Failed(Error),
+}
+
+/// What the first part of a turn has come to: all of it, but for the body of a run.
+#[derive(Debug, Drop)]
+pub enum Step {
+    /// The turn is over.
+    Turned(Turn),
+    /// The body of this run is to be executed. `end_body` ends the turn, and until then nothing else is done with the attempt.
+    Asks(NotificationHandle),
 }
 
 /// How an attempt is over, if not by an error of its machine.

@@ -143,12 +143,12 @@ module _ {H : Type 0} (function : H → Handler) (next : Handler) (version : Ver
   here_alone : (cause : Result Error AllocError) (error : Error) → MachineFails cause mid error after.vm.state → Alone cause error
   here_alone cause error fails = alone cause error (fails_alone cause mid error after.vm.state x.driven.phase x.driven.sees.opened x.driven.written fails)
 
-  for_body : (error : Error) (sent : List Sent) (why : BodyCause) → BodyFailsWhen version options ran (tried_by live r.shows) before.vm.state one.run why → ToldHere why error sent
+  for_body : (error : Error) (sent : List Sent) (why : BodyCause) → BodyFailsWhen version ran (tried_by live r.shows) one.run.completion why → ToldHere why error sent
       → FailsForBody function next version options is_closed live before proposed given error sent
   for_body error sent why when told = record { body = one.body; first = one.first; run = one.run; kept = one.kept; completion = one.completion; shows = r.shows; cause = why; when = when; told = told }
 
   -- for this cause, of which each error tells so
-  module _ (error : Error) (result : p.proposed ≡ Err error) (cause : Result Error AllocError) (fails : Alone cause error) (why : BodyCause) (when : BodyFailsWhen version options ran (tried_by live r.shows) before.vm.state one.run why)
+  module _ (error : Error) (result : p.proposed ≡ Err error) (cause : Result Error AllocError) (fails : Alone cause error) (why : BodyCause) (when : BodyFailsWhen version ran (tried_by live r.shows) one.run.completion why)
       (tells : (told : Error) → cause ≡ Ok told → BodyTells version options ran (tried_by live r.shows) before.vm.state one.run why (failed_with (version_number version) options.journal_mismatch_retry_behavior told))
       (told_as : (told : Error) (sent : List Sent) → BodyTells version options ran (tried_by live r.shows) before.vm.state one.run why told → FailsWith told before.vm.state.active.output error → sent ≡ Fails (told_error error) ∷ [] → ToldHere why error sent) where
     opens : MayNotEnd options given → (some : Result Error AllocError) → cause ≡ some → CauseAsksNoEnd version options.journal_mismatch_retry_behavior some

@@ -55,6 +55,10 @@ pub either_code : (new : MachineState) (text : Option Bytes) (told : Error) → 
 either_code new text told (inl plain) = ap (λ (e : Error). e.code.0) plain.plain
 either_code new text told (inr last) = ap (λ (e : Error). e.code.0) last.about
 
+pub either_text : (new : MachineState) (text : Bytes) (told : Error) → TellsEither new.active.journal internal (Some text) told → told.message ≡ text
+either_text new text told (inl plain) = plain.message
+either_text new text told (inr last) = last.message
+
 no_mismatch : (code : ℕ) → (code ≡ internal) ⊎ (code ≡ unsupported_feature) → (code == journal_mismatch) ≡ false
 no_mismatch code (inl is) = ap (λ (n : ℕ). n == journal_mismatch) is
 no_mismatch code (inr is) = ap (λ (n : ℕ). n == journal_mismatch) is

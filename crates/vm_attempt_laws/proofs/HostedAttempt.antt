@@ -12,7 +12,7 @@ use Rattle.replay_laws.specs.Laws.{ReplaysBegin}
 use Rattle.vm_attempt.specs.Attempt.{ClosesInput}
 use Rattle.vm_input_laws.proofs.Messages.{all_behind}
 use Rattle.vm_attempt_laws.specs.ArrivalsCome.{HasJournal}
-use Rattle.vm_attempt_laws.specs.AttemptInvariants.{attempt_started, BeginsServing, ClosesEarly, ClosesServing, FeedsServing, InputsCome, IsLast, LacksMemory, OversStay, ServesOn, StaysClosed, StaysServing, TakesServing}
+use Rattle.vm_attempt_laws.specs.AttemptInvariants.{attempt_started, BeginsServing, ClosesEarly, ClosesServing, early_error, FeedsServing, InputsCome, IsLast, LacksMemory, OversStay, ServesOn, StaysClosed, StaysServing, TakesServing}
 use Rattle.vm_attempt_laws.specs.AttemptSimulation.{AnswersKept, HasBodies, HasNotRead, HasRead, IsOver, machine_failed, Serves}
 use Rattle.vm_attempt_laws.specs.Attempts.{Attempt, Feeds, IsBegun, OnlyMoves, output_of, TakesOutput, Turn, Turns}
 use Rattle.vm_attempt_laws.specs.Bodies.{ComesAsAsked, executor_over, IsBehind, IsReplayed, NonEmptyValue, ReplaysStay, requests_asked_by, RunOutcome}
@@ -22,7 +22,7 @@ use Rattle.vm_attempt_laws.specs.Machine.phases
 use Rattle.vm_attempt_laws.specs.Machine.{IsCopy, out_of_memory}
 use Rattle.vm_attempt_laws.specs.OutputOfAttempt.{frame_meant, Sent}
 use Rattle.vm_attempt_laws.specs.OverAttempts.{by_error, IsClosedEarly, IsOverBy}
-use Rattle.vm_attempt_laws.specs.TurnReports.{arrivals_told, early, FailsSo, IsAttemptTold, IsLacking, lacks, memory, Told, TurnsTell, TurnTells, TurnTellsNow}
+use Rattle.vm_attempt_laws.specs.TurnReports.{arrivals_told, early, AnswersError, FailsSo, IsAttemptTold, lacks, memory, Told, TurnsTell, TurnTells, TurnTellsNow}
 use Rattle.vm_attempt_laws.specs.TurnsInRun.{GoesOnBehind, ProposesAs, TurnKeeps, turns_answered, TurnsBehind, TurnServes}
 use Rattle.vm_attempt_laws.specs.Words.{after_reading, after_turn, Arrival, arrivals_carried, attempt_begun, AttemptInRun, AttemptStart, Bytes, CarriesInput, Error, Frame, handed_bytes, Handler, Input, input_bytes, InputMessage, Machine, machine_at_start, piece_of, Queued, Request, requests_carried, requests_sent, Version, VMOptions}
 use Rattle.vm_attempt_laws.proofs.ArrivalsCome.{arrivals_read, read_journal}
@@ -315,8 +315,8 @@ module _ {H : Type 0} (function : H → Handler) (next : Handler) (version : Ver
           let it = turned_failed function ran failing.error a turn after going failing.failed turns in
           let why : FailsSo next start host.told (arrivals_told start host.told) ran it.0 = elim it.2 [
             | inl same ↦ elim failing.tells [
-              | inl code ↦ early failing.unread failing.closed (ap (λ (error : Error). error.code.0) same ∙ code)
-              | inr lacking ↦ lacks (subst IsLacking (sym same) lacking)
+              | inl answers ↦ early failing.unread failing.closed (subst (AnswersError early_error) (sym same) answers)
+              | inr none ↦ lacks (memory (same ∙ none))
             ]
             | inr none ↦ lacks (memory none)
           ] in

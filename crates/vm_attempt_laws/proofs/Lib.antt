@@ -25,6 +25,8 @@ pub mod Failing
 pub mod Going
 pub mod Alone
 pub mod BodyExecution
+pub mod RunNames
+pub mod AskedBodies
 pub mod TurnsInRun
 pub mod Turns
 pub mod Matching

@@ -11,10 +11,10 @@ use Rattle.vm_refusals.specs.RetryDecisions.{AfterFailure, after_failure, FailsA
 use Rattle.vm_start.specs.Failure.{asked_behavior, failed_with}
 use Rattle.vm_types.specs.declared.options.JournalMismatchRetryBehavior.{JournalMismatchRetryBehavior}
 use Rattle.vm_attempt_laws.specs.Attempts.{Turn}
-use Rattle.vm_attempt_laws.specs.Bodies.{about, ending, NonEmptyValue, Outcome, Pause, pausing, Retry, run_told, RunExitResult, RunOutcome, exit_by_policy, by_policy, with_delay}
+use Rattle.vm_attempt_laws.specs.Bodies.{about, ending, NonEmptyValue, Outcome, Pause, pausing, Retry, Run, run_told, RunExitResult, RunOutcome, exit_by_policy, by_policy, with_delay}
 use Rattle.vm_attempt_laws.specs.AttemptInvariants.{FailsWith}
 use Rattle.vm_attempt_laws.specs.Machine.{MachineState, Written, Cause, ByFault, NoNumber, TooLong, TooDeep, NoReplay, NoMemory}
-use Rattle.vm_attempt_laws.specs.BodyExecution.{BodyCause, BodyFailsWhen, BodyToldAs, IsLong, Lacks, LacksMemory, Pauses, TriedAgain}
+use Rattle.vm_attempt_laws.specs.BodyExecution.{BodyCause, BodyFailsWhen, BodySays, BodyTells, BodyToldAs, IsLong, Lacks, LacksMemory, Pauses, TriedAgain}
 use Rattle.vm_attempt_laws.specs.OutputOfAttempt.{Sent}
 use Rattle.vm_attempt_laws.specs.Words.{internal, unsupported_feature, journal_mismatch, Error, Version, version_number, Call, Request, Handler, arrivals_carried, AttemptInRun, VMOptions}
 use Rattle.vm_attempt_laws.specs.TurnsInRun.{FailsByBody, tried_by, IsBodyCode, IsOwnCause, IsToldAs, FailsBy, TurnServes, TurnsMatch}
@@ -28,6 +28,31 @@ failed_code version asked error = by_test ((error.code.0 == journal_mismatch) &&
     by_test : (b : Bool) → (if b then record error { behavior = asked_behavior asked } else error).code.0 ≡ error.code.0
     by_test true = refl
     by_test false = refl
+
+failed_text : (version : Version) (asked : JournalMismatchRetryBehavior) (error : Error) → (failed_with (version_number version) asked error).message ≡ error.message
+failed_text version asked error = by_test ((error.code.0 == journal_mismatch) && has_feature (version_number version) features.ErrorBehavior)
+  where
+    by_test : (b : Bool) → (if b then record error { behavior = asked_behavior asked } else error).message ≡ error.message
+    by_test true = refl
+    by_test false = refl
+
+-- the code and the text of what a body that fails its attempt is told as
+pub body_says : (version : Version) (options : VMOptions) (ran : RunOutcome) (tried : Tried) (vm : MachineState) (run : Run) (cause : BodyCause) (told : Error) → BodyTells version options ran tried vm run cause told
+    → BodySays version cause told
+body_says version options ran tried vm run (Lacks feature) told tells = (ap (λ (e : Error). e.code.0) tells.plain, tells.message)
+body_says version options ran tried vm run (TriedAgain error delay) told tells = (
+  ap (λ (e : Error). e.code.0) tells ∙ failed_code version options.journal_mismatch_retry_behavior (about (run_told run) (with_delay delay error)),
+  ap (λ (e : Error). e.message) tells ∙ failed_text version options.journal_mismatch_retry_behavior (about (run_told run) (with_delay delay error)),
+)
+body_says version options ran tried vm run (Pauses error) told tells = (
+  ap (λ (e : Error). e.code.0) tells ∙ failed_code version options.journal_mismatch_retry_behavior (about (run_told run) (pausing error)),
+  ap (λ (e : Error). e.message) tells ∙ failed_text version options.journal_mismatch_retry_behavior (about (run_told run) (pausing error)),
+)
+body_says version options ran tried vm run (IsLong value) told tells = (
+  ap (λ (e : Error). e.code.0) tells.about ∙ ap (λ (e : Error). e.code.0) tells.causes.plain,
+  ap (λ (e : Error). e.message) tells.about ∙ tells.causes.message,
+)
+body_says version options ran tried vm run LacksMemory told tells = absurd tells
 
 -- the error of a body that has ended without an outcome is its own
 abbrev HasError : Error → Ending → Type 0
@@ -120,7 +145,7 @@ body_code next live proposed version options ran vm error sent by = by_why by.ca
         subst (λ (code : ℕ). IsBodyCode ran.result code) (sym same)
         (policy_code ran.result own.code.0 (ended_code ran.policy (tried_by live by.shows) (by_policy ran).result own has))
 
-    by_why : (why : BodyCause) → BodyFailsWhen version options (by_policy ran) (tried_by live by.shows) vm by.run why
+    by_why : (why : BodyCause) → BodyFailsWhen version (by_policy ran) (tried_by live by.shows) by.run.completion why
         → BodyToldAs version options (by_policy ran) (tried_by live by.shows) vm by.run why error sent → IsCode ran error.code.0
     by_why (Lacks feature) when told = by_told told.0 (inr (inl (ap (λ (e : Error). e.code.0) told.1.plain))) told.2
     by_why (TriedAgain own delay) when told =

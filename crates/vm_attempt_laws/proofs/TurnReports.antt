@@ -1,20 +1,45 @@
 -- What each turn of an attempt tells of the run.
 use Rattle.std.proofs.Common.{◌≡◌, ◌⊎◌, inl, inr, ◌∙◌, ℕ, suc, pred, Bool, false, List, [], ◌∷◌, ◌++◌, map, Option, Some, None, refl, sym, ap, subst}
+use Rattle.journal_model.specs.History.{next_completion, next_handle, next_signal, Step}
+use Rattle.live_laws.specs.MachinePosition.{entries_carried, IsMachineAt, with_messages}
 use Rattle.journal_model.specs.Run.{GoesOn, RefusedCall, Ended, run, run_requests}
+use Rattle.protocol_stream.specs.ErrorText.{too_long_text}
+use Rattle.replay_laws.proofs.Asked.{journal_read}
 use Rattle.replay_laws.proofs.Standing.{at}
+use Rattle.vm_context.specs.Journal.{no_id_text}
+use Rattle.vm_machine.specs.Causes.{TellsPlainError}
+use Rattle.vm_outcomes.specs.Causes.{LacksNumber, moment_event}
+use Rattle.vm_refusals.specs.Refusals.{refusal_code, text_of_refusal}
 use Rattle.attempt_model.specs.Machine.{Mismatch, UncompletedInReplay, EndInReplay, KeysNotText, ChildNotId, Refused}
 use Rattle.vm_attempt_laws.specs.Attempts.{Attempt, Turn}
+use Rattle.vm_attempt_laws.specs.AttemptInvariants.{FailsWith}
 use Rattle.vm_attempt_laws.specs.Bodies.{Body, by_policy, NonEmptyValue, RunOutcome}
-use Rattle.vm_attempt_laws.specs.Machine.{Cause, ByFault, NoNumber, TooLong, TooDeep, NoReplay, NoMemory}
-use Rattle.vm_attempt_laws.specs.BodyExecution.{BodyCause, BodyToldAs, IsBodyCode, LacksMemory, RunWaitsFor, tried_by, WaitsForOthers, ExecutesFirst}
+use Rattle.vm_attempt_laws.specs.Machine.{Cause, ByFault, FailsWhen, NoNumber, TooLong, TooDeep, NoReplay, NoMemory}
+use Rattle.vm_attempt_laws.specs.BodyExecution.{BodyCause, BodyFailsWhen, BodyTells, BodyToldAs, IsLong, Lacks, LacksMemory, Pauses, RunWaitsFor, TriedAgain, tried_by, WaitsForOthers, ExecutesFirst}
 use Rattle.vm_attempt_laws.specs.OutputOfAttempt.{Sent, frame_meant}
 use Rattle.vm_attempt_laws.specs.AttemptSimulation.{HasBodies, HasNotRead, HasRead, Serves}
 use Rattle.vm_attempt_laws.specs.ArrivalsCome.{HasJournal}
-use Rattle.vm_attempt_laws.specs.TurnReports.{Told, ProposesOutcomeOf, FailsSo, refused, of_body, lacks, too_deep, IsLacking, memory, numbers, room, TurnTellsOver, TurnTells, IsAttemptTold, TellsOne, TurnsTell}
+use Rattle.vm_attempt_laws.specs.TurnReports.{Told, ProposesOutcomeOf, FailsSo, HasNoNumber, LacksNumbers, refused, of_body, lacks, next_call, too_deep, memory, numbers, room, TurnTellsOver, TurnTells, IsAttemptTold, TellsOne, TurnsTell}
 use Rattle.vm_attempt_laws.specs.TurnsInRun.{RunsOne, turns_answered, IsOwnCause, IsToldAs, FailsBy, FailsFor, FailsForBody, TurnsBehind, TurnServes}
-use Rattle.vm_attempt_laws.specs.Words.{Arrival, arrivals_carried, after_turn, Error, Handler, HasReadJournal, Input, AttemptInRun, Request, requests_carried, unsupported_feature, Version, VMOptions}
+use Rattle.vm_attempt_laws.specs.Words.{Answer, answers_of, Arrival, Arrived, arrivals_carried, after_turn, Call, Entry, Error, Handler, HasReadJournal, Input, InputMessage, Invocation, AttemptInRun, Machine, machine_at_start, next_slot, Progress, Recorded, Request, requests_carried, Version, version_number, VMOptions, with_arrival, with_entries, with_entry}
 use Rattle.vm_attempt_laws.proofs.ArrivalsCome.{arrivals_read, read_journal, requests_of_journal, told_journal}
-use Rattle.vm_attempt_laws.proofs.Matching.{code_of_cause, body_code, IsCodeOf, IsOwnCode, IsCode}
+use Rattle.vm_attempt_laws.proofs.Failing.{either_code, either_text}
+use Rattle.vm_attempt_laws.proofs.Matching.{body_says}
+
+-- ---- what a machine has counted
+
+record Counts (m : Machine) (steps : List Step) : Type 0 where
+  completions : m.completions ≡ next_completion steps
+  signals : m.signals ≡ next_signal steps
+  handles : next_slot m ≡ next_handle steps
+
+entries_count : (m : Machine) (entries : List Entry) → Counts m [] → Counts (with_entries m entries) []
+entries_count m [] c = c
+entries_count m (Recorded request ∷ entries) c = entries_count (with_entry m (Recorded request)) entries (record { completions = c.completions; signals = c.signals; handles = c.handles })
+entries_count m (Arrived arrival ∷ entries) c = entries_count (with_arrival m arrival) entries (record { completions = c.completions; signals = c.signals; handles = c.handles })
+
+messages_count : (m : Machine) (messages : List InputMessage) → Counts m [] → Counts (with_messages m messages) []
+messages_count m messages c = entries_count m (entries_carried messages) c
 
 -- ---- what a turn tells
 
@@ -103,52 +128,118 @@ module _ {H : Type 0} (function : H → Handler) (next : Handler) (version : Ver
 
   -- ---- why it has failed
 
-  of_depth : (error : Error) → RunWaitsFor next live.start.given (arrivals_carried live.read) live.calls → IsOwnCode error → FailsSo next live.start told come ran error
-  of_depth error waits (inl is) = lacks (room is)
-  of_depth error waits (inr is) = too_deep (subst (λ (calls : ℕ). RunWaitsFor next live.start.given (arrivals_carried live.read) calls) (sym calls_are) waits) is
+  of_version : live.start.given.version ≡ version_number version
+  of_version = ap (λ (given : Invocation). given.version) s.of_run.given_is ∙ s.of_run.version_is
+
+  -- the call that its handler makes next is that of the run
+  answers_are : HasNotRead function next version options live is_closed before ⊎ HasRead function next version options live before → before.answers ≡ answers_of (run next live.start.given come live.calls).steps
+  answers_are (inl n) = n.answers ∙ sym (ap (λ (calls : ℕ). answers_of (run next live.start.given come calls).steps) n.calls)
+  answers_are (inr r) = r.answers
+
+  call_is : next live.start.given.input before.answers ≡ next_call next live.start told come
+  call_is =
+      ap (λ (answers : List Answer). next live.start.given.input answers) (answers_are s.stands)
+      ∙ sym (ap (λ (calls : ℕ). next live.start.given.input (answers_of (run next live.start.given come calls).steps)) calls_are)
+
+  -- its machine has counted what the run has taken
+  counted : IsMachineAt next live.start.given live.start.shown live.read live.unread live.calls live.machine → Counts live.machine (run next live.start.given come live.calls).steps
+  counted (inl only) =
+      subst (λ (calls : ℕ). Counts live.machine (run next live.start.given come calls).steps) (sym only.none_asked)
+      (subst (λ (m : Machine). Counts m []) (sym only.reads) (messages_count (machine_at_start live.start.shown [] []) live.read (record { completions = refl; signals = refl; handles = refl })))
+  counted (inr at) =
+      subst (λ (p : Progress). Counts live.machine p.steps) (sym at.stands.going)
+      (record { completions = at.stands.completions; signals = at.stands.signals; handles = at.stands.tables.next })
+
+  abbrev call_now : Call
+  call_now = next live.start.given.input before.answers
+
+  abbrev steps_now : List Step
+  steps_now = (run next live.start.given come live.calls).steps
+
+  abbrev LacksAt : List Step → Type 0
+  LacksAt steps = LacksNumbers (next_completion steps) (next_signal steps) (next_handle steps) (next live.start.given.input (answers_of steps))
+
+  no_number : LacksNumber live.machine call_now → HasNoNumber next live.start told come
+  no_number lacks_it =
+      subst (λ (calls : ℕ). LacksAt (run next live.start.given come calls).steps) (sym calls_are)
+      (subst (λ (answers : List Answer). LacksNumbers (next_completion steps_now) (next_signal steps_now) (next_handle steps_now) (next live.start.given.input answers)) (answers_are s.stands)
+      (subst (λ (handle : ℕ). LacksNumbers (next_completion steps_now) (next_signal steps_now) handle call_now) counts.handles
+      (subst (λ (signal : ℕ). LacksNumbers (next_completion steps_now) signal (next_slot live.machine) call_now) counts.signals
+      (subst (λ (completion : ℕ). LacksNumbers completion live.machine.signals (next_slot live.machine) call_now) counts.completions lacks_it))))
+    where
+      counts : Counts live.machine steps_now
+      counts = counted own.lives.stands
 
   for_call : (error : Error) (sent : List Sent) (after : Attempt H) → FailsBy next version live (next live.start.given.input before.answers) before.vm.state after.vm.state error sent → FailsSo next live.start told come ran error
-  for_call error sent after by = by_why by.cause by.own by.told (code_of_cause next version live (next live.start.given.input before.answers) before.vm.state after.vm.state error sent by)
+  for_call error sent after by = by_why by.cause by.own by.when by.told
     where
       by_why : (cause : Cause) → IsOwnCause next live.start.given (arrivals_carried live.read) live.calls cause
-          → IsToldAs version live (next live.start.given.input before.answers) before.vm.state after.vm.state by.far.more cause error sent → IsCodeOf cause error → FailsSo next live.start told come ran error
-      by_why (ByFault (Refused refusal)) own told_as code = refused refusal (subst (λ (calls : ℕ). (run next live.start.given (arrivals_carried live.read) (suc calls)).ending ≡ RefusedCall refusal) (sym calls_are) own)
-      by_why (ByFault Mismatch) own told_as code = absurd own
-      by_why (ByFault UncompletedInReplay) own told_as code = absurd own
-      by_why (ByFault EndInReplay) own told_as code = absurd own
-      by_why (ByFault KeysNotText) own told_as code = absurd own
-      by_why (ByFault ChildNotId) own told_as code = absurd own
-      by_why TooDeep own told_as code = of_depth error own code
-      by_why NoNumber own told_as code = lacks (numbers code)
-      by_why TooLong own told_as code = lacks (room code)
-      by_why NoReplay own told_as code = absurd own
-      by_why NoMemory own told_as code = lacks (memory told_as)
+          → FailsWhen live.start.given live.machine (next live.start.given.input before.answers) before.vm.state by.far cause
+          → IsToldAs version live (next live.start.given.input before.answers) before.vm.state after.vm.state by.far.more cause error sent → FailsSo next live.start told come ran error
+      by_why (ByFault (Refused refusal)) own when (tells, (by_call, (meant, says)), fails, is_sent) = refused refusal (record {
+        refuses = subst (λ (calls : ℕ). (run next live.start.given (arrivals_carried live.read) (suc calls)).ending ≡ RefusedCall refusal) (sym calls_are) own;
+        version = version;
+        of_version = of_version;
+        tells = tells;
+        is_told = record {
+          refused = by_call;
+          meant = meant;
+          says = subst (λ (call : Call). TellsPlainError (refusal_code by_call) (Some (text_of_refusal by_call version (moment_event call))) tells) call_is says;
+        };
+        answers = (before.vm.state.active.output, fails);
+      })
+      by_why (ByFault Mismatch) own when told_as = absurd own
+      by_why (ByFault UncompletedInReplay) own when told_as = absurd own
+      by_why (ByFault EndInReplay) own when told_as = absurd own
+      by_why (ByFault KeysNotText) own when told_as = absurd own
+      by_why (ByFault ChildNotId) own when told_as = absurd own
+      by_why TooDeep own when (tells, is, fails, is_sent) =
+          too_deep (subst (λ (calls : ℕ). RunWaitsFor next live.start.given (arrivals_carried live.read) calls) (sym calls_are) own)
+          (before.vm.state.active.output, subst (λ (cause : Error). FailsWith cause before.vm.state.active.output error) is fails)
+      by_why NoNumber own when (tells, either, fails, is_sent) =
+          lacks (numbers (no_number when.1) tells (either_code after.vm.state (Some no_id_text) tells either) (either_text after.vm.state no_id_text tells either) (before.vm.state.active.output, fails))
+      by_why TooLong own when (tells, either, fails, is_sent) =
+          lacks (room tells (either_code after.vm.state (Some too_long_text) tells either) (either_text after.vm.state too_long_text tells either) (before.vm.state.active.output, fails))
+      by_why NoReplay own when told_as = absurd own
+      by_why NoMemory own when told_as = lacks (memory told_as)
 
-  for_body : (error : Error) (sent : List Sent) → (body : Body) → ExecutesFirst next live.start.given (arrivals_carried live.read) live.calls (requests_carried live.read ++ live.machine.written) proposed body
-      → IsLacking error ⊎ ((error.code.0 ≡ unsupported_feature) ⊎ IsBodyCode ran.result error.code.0) → FailsSo next live.start told come ran error
-  for_body error sent body first (inl lacking) = lacks lacking
-  for_body error sent body first (inr (inl is)) = of_body body (told_first next live told proposed calls_are t.outcomes body first) (inr is)
-  for_body error sent body first (inr (inr own)) = of_body body (told_first next live told proposed calls_are t.outcomes body first) (inl own)
-
-  -- an internal error of a body is that there was no memory, or no room for its outcome or its error
-  body_lacks : (error : Error) (sent : List Sent) → FailsForBody function next version options is_closed live before proposed ran error sent
-      → IsLacking error ⊎ ((error.code.0 ≡ unsupported_feature) ⊎ IsBodyCode ran.result error.code.0)
-  body_lacks error sent by = by_why by.cause by.told (body_code next live proposed version options ran before.vm.state error sent by)
+  -- the body that it has executed has ended without an outcome that is written
+  for_body : (error : Error) (sent : List Sent) → FailsForBody function next version options is_closed live before proposed ran error sent → FailsSo next live.start told come ran error
+  for_body error sent by = by_why by.cause by.when by.told
     where
-      by_code : IsCode ran error.code.0 → IsLacking error ⊎ ((error.code.0 ≡ unsupported_feature) ⊎ IsBodyCode ran.result error.code.0)
-      by_code (inl is) = inl (room is)
-      by_code (inr other) = inr other
+      journal : HasReadJournal live
+      journal = journal_read next live own.lives.asked by.body by.first.to_execute.called
 
-      by_why : (why : BodyCause) → BodyToldAs version options (by_policy ran) (tried_by live by.shows) before.vm.state by.run why error sent → IsCode ran error.code.0
-          → IsLacking error ⊎ ((error.code.0 ≡ unsupported_feature) ⊎ IsBodyCode ran.result error.code.0)
-      by_why LacksMemory told_as code = inl (memory told_as)
-      by_why why told_as code = by_code code
+      ends : (cause : BodyCause) → BodyFailsWhen version (by_policy ran) (tried_by live by.shows) by.run.completion cause → (tells : Error) → BodyTells version options (by_policy ran) (tried_by live by.shows) before.vm.state by.run cause tells
+          → FailsWith tells before.vm.state.active.output error → FailsSo next live.start told come ran error
+      ends cause when tells is_told fails = of_body by.body (record {
+        first = told_first next live told proposed calls_are t.outcomes by.body by.first;
+        written = live.machine.written;
+        behind = ap (λ (calls : ℕ). run_requests next live.start.given (arrivals_carried live.read) (suc calls)) calls_are ∙ by.first.waits.exactly
+            ∙ ap (λ (requests : List Request). requests ++ live.machine.written) (requests_of_journal live journal s.fed);
+        shows = by.shows;
+        version = version;
+        of_version = of_version;
+        cause = cause;
+        when = subst (λ (completion : ℕ). BodyFailsWhen version (by_policy ran) (tried_by live by.shows) completion cause) by.completion when;
+        tells = tells;
+        says = body_says version options (by_policy ran) (tried_by live by.shows) before.vm.state by.run cause tells is_told;
+        answers = (before.vm.state.active.output, fails);
+      })
+
+      by_why : (cause : BodyCause) → BodyFailsWhen version (by_policy ran) (tried_by live by.shows) by.run.completion cause
+          → BodyToldAs version options (by_policy ran) (tried_by live by.shows) before.vm.state by.run cause error sent → FailsSo next live.start told come ran error
+      by_why LacksMemory when told_as = lacks (memory told_as)
+      by_why (Lacks feature) when (tells, is_told, fails, is_sent) = ends (Lacks feature) when tells is_told fails
+      by_why (TriedAgain own_error delay) when (tells, is_told, fails, is_sent) = ends (TriedAgain own_error delay) when tells is_told fails
+      by_why (Pauses own_error) when (tells, is_told, fails, is_sent) = ends (Pauses own_error) when tells is_told fails
+      by_why (IsLong value) when (tells, is_told, fails, is_sent) = ends (IsLong value) when tells is_told fails
 
   failed_so : (error : Error) (sent : List Sent) (after : Attempt H) → FailsFor function next version options is_closed live before error sent after
       ⊎ FailsForBody function next version options is_closed live before proposed ran error sent
       → FailsSo next live.start told come ran error
   failed_so error sent after (inl by) = for_call error sent after by
-  failed_so error sent after (inr by) = for_body error sent by.body by.first (body_lacks error sent by)
+  failed_so error sent after (inr by) = for_body error sent by
 
   abbrev One : Turn → Attempt H → Type 0
   One turn after = TellsOne function next version options live.start is_closed told ran turn after

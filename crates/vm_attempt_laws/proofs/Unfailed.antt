@@ -170,7 +170,7 @@ module _ (version : Version) (options : VMOptions) (ran : RunOutcome) (before : 
   of_body own ends mismatch = may (subst (IsBodyCode ran.result) mismatch ends.code)
 
   -- each cause for which a body fails its attempt
-  pub body_open : (why : BodyCause) → BodyFailsWhen version options (by_policy ran) before vm run why → (told : Error) → BodyTells version options (by_policy ran) before vm run why told → AsksNoEnd told
+  pub body_open : (why : BodyCause) → BodyFailsWhen version (by_policy ran) before run.completion why → (told : Error) → BodyTells version options (by_policy ran) before vm run why told → AsksNoEnd told
   body_open (Lacks feature) when told tells = plain_open told unsupported_feature told.message tells.plain
   body_open (TriedAgain own delay) when told tells =
       let ends : EndsOpen ran.result own = ends_open ran.policy before ran.result own (subst (IsErrorOf own) (sym when.1) refl) in

@@ -92,7 +92,8 @@ pub data BodyCause : Type 0 where
   IsLong : NonEmptyValue → BodyCause
   LacksMemory : BodyCause
 
-module _ (version : Version) (options : VMOptions) (ran : RunOutcome) (tried : Tried) (vm : MachineState) (run : Run) where
+-- by how it has ended, what was tried before, and the completion by which its outcome would come
+module _ (version : Version) (ran : RunOutcome) (tried : Tried) (completion : ℕ) where
   abbrev pub LacksFeature : Option Feature → Type 0
   LacksFeature feature = feature_lacked (version_number version) ran.policy ran.result ≡ feature
 
@@ -100,9 +101,10 @@ module _ (version : Version) (options : VMOptions) (ran : RunOutcome) (tried : T
   BodyFailsWhen (Lacks feature) = LacksFeature (Some feature)
   BodyFailsWhen (TriedAgain error delay) = LacksFeature None × (ending ran.policy tried ran.result ≡ Retry (option_map as_nanos delay) error)
   BodyFailsWhen (Pauses error) = LacksFeature None × (ending ran.policy tried ran.result ≡ Pause error)
-  BodyFailsWhen (IsLong value) = LacksFeature None × OutcomeIs ran tried value × (2 ^ 32 ≤ length (proposal_message version (proposal run.completion value)).payload)
+  BodyFailsWhen (IsLong value) = LacksFeature None × OutcomeIs ran tried value × (2 ^ 32 ≤ length (proposal_message version (proposal completion value)).payload)
   BodyFailsWhen LacksMemory = Unit {0}
 
+module _ (version : Version) (options : VMOptions) (ran : RunOutcome) (tried : Tried) (vm : MachineState) (run : Run) where
   -- the error that it is told by; the body's own error is told about its run, and where that is of a journal which does not match, it takes the
   -- behaviour that is asked for
   abbrev pub BodyTells : BodyCause → Error → Type 0
@@ -128,8 +130,16 @@ pub record FailsByBody (next : Handler) (live : AttemptInRun) (proposed : List (
   pub completion : run.completion ≡ body.completion
   pub shows : ShowsStart live.start
   pub cause : BodyCause
-  pub when : BodyFailsWhen version options (by_policy ran) (tried_by live shows) vm run cause
+  pub when : BodyFailsWhen version (by_policy ran) (tried_by live shows) run.completion cause
   pub told : BodyToldAs version options (by_policy ran) (tried_by live shows) vm run cause error sent
+
+-- what the error of a body that fails its attempt says in this version; of its own error the code and the text
+abbrev pub BodySays : Version → BodyCause → Error → Type 0
+BodySays version (Lacks feature) told = (told.code.0 ≡ unsupported_feature) × (told.message ≡ feature_text (feature_name_of feature) version (first_version feature))
+BodySays version (TriedAgain error delay) told = (told.code.0 ≡ error.code.0) × (told.message ≡ error.message)
+BodySays version (Pauses error) told = (told.code.0 ≡ error.code.0) × (told.message ≡ error.message)
+BodySays version (IsLong value) told = (told.code.0 ≡ internal) × (told.message ≡ too_long_text)
+BodySays version LacksMemory told = ⊥
 
 -- the code of the error by which a body has failed
 abbrev pub IsBodyCode : RunExitResult → ℕ → Type 0

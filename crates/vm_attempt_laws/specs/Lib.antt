@@ -2,6 +2,7 @@ pub mod AttemptSimulation
 pub mod ArrivalsCome
 pub mod AttemptInvariants
 pub mod BodyExecution
+pub mod AskedBodies
 pub mod TurnsInRun
 pub mod TurnReports
 pub mod Laws

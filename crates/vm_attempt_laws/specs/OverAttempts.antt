@@ -4,8 +4,8 @@ use Rattle.vm_attempt_laws.specs.ArrivalsCome.{HasJournal}
 use Rattle.vm_attempt_laws.specs.AttemptInvariants.{early_error}
 use Rattle.vm_attempt_laws.specs.Attempts.{again, Attempt, Finish, Turn}
 use Rattle.vm_attempt_laws.specs.Machine.phases
-use Rattle.vm_attempt_laws.specs.Machine.{IsCopy}
-use Rattle.vm_attempt_laws.specs.TurnReports.{IsLacking, Told}
+use Rattle.vm_attempt_laws.specs.Machine.{IsCopy, out_of_memory}
+use Rattle.vm_attempt_laws.specs.TurnReports.{AnswersError, Told}
 use Rattle.vm_attempt_laws.specs.Words.{AttemptStart, Error}
 
 module _ {H : Type 0} where
@@ -20,4 +20,4 @@ module _ {H : Type 0} where
     pub closed : told.is_closed ≡ true
     pub error : Error
     pub failed : a.vm.state.phase ≡ phases.Failed error
-    pub tells : (error.code.0 ≡ early_error.code.0) ⊎ IsLacking error
+    pub tells : AnswersError early_error error ⊎ (error ≡ out_of_memory)

@@ -1,15 +1,23 @@
 -- What each turn of an attempt tells of the run, by what its turns have told before.
-use Rattle.std.specs.Prelude.{◌≡◌, ◌⊎◌, ℕ, suc, pred, Bool, true, false, List, [], ◌∷◌, ◌++◌, map, Option, Some, None}
+use Rattle.std.specs.Prelude.{◌≡◌, ◌<◌, ◌+◌, ◌^◌, ◌⊎◌, ℕ, suc, pred, Bool, true, false, List, [], ◌∷◌, ◌++◌, length, map, Option, Some, None}
+use Rattle.journal_model.specs.History.{completions_of, ids_of, next_completion, next_handle, next_signal, signals_of, Step}
 use Rattle.journal_model.specs.Run.{GoesOn, RefusedCall, Ended, run, run_requests}
+use Rattle.protocol_stream.specs.ErrorText.{too_long_text}
+use Rattle.vm_context.specs.Journal.{no_id_text}
+use Rattle.vm_machine.specs.Causes.{TellsPlainError}
+use Rattle.vm_outcomes.specs.Causes.{moment_event}
+use Rattle.vm_progress.specs.SleepingAwaits.{too_deep_error}
+use Rattle.vm_refusals.specs.Refusals.{refusal_code, refusal_meant, text_of_refusal}
+use Rattle.vm_refusals.specs.declared.refusal.CallRefusal.{CallRefusal}
 use Rattle.vm_attempt_laws.specs.Attempts.{Attempt, Turn, Turns}
-use Rattle.vm_attempt_laws.specs.Machine.{IsCopy, out_of_memory}
-use Rattle.vm_attempt_laws.specs.Bodies.{Among, Body, NonEmptyValue, RunOutcome}
+use Rattle.vm_attempt_laws.specs.Machine.{IsCopy, out_of_memory, Written}
+use Rattle.vm_attempt_laws.specs.Bodies.{Among, Body, by_policy, NonEmptyValue, RunOutcome}
 use Rattle.vm_attempt_laws.specs.ArrivalsCome.{arrivals_come, HasJournal}
-use Rattle.vm_attempt_laws.specs.AttemptInvariants.{early_error, IsNoError, IsNoFailure, TellsErrorBy}
-use Rattle.vm_attempt_laws.specs.BodyExecution.{RunWaitsFor, WaitsForOthers, ExecutesFirst, IsBodyCode, OutcomeIs, tried_of}
+use Rattle.vm_attempt_laws.specs.AttemptInvariants.{early_error, FailsWith, IsNoError, IsNoFailure, TellsErrorBy}
+use Rattle.vm_attempt_laws.specs.BodyExecution.{BodyCause, BodyFailsWhen, BodySays, RunWaitsFor, WaitsForOthers, ExecutesFirst, OutcomeIs, tried_of}
 use Rattle.vm_attempt_laws.specs.AttemptSimulation.{HasBodies, IsOver, Serves}
 use Rattle.vm_attempt_laws.specs.TurnsInRun.{turns_answered}
-use Rattle.vm_attempt_laws.specs.Words.{Arrival, AttemptStart, Bytes, Error, Frame, Handler, input_bytes, internal, AttemptInRun, piece_of, Queued, Refusal, Request, requests_carried, ShowsStart, unsupported_feature, Version, VMOptions}
+use Rattle.vm_attempt_laws.specs.Words.{answers_of, Arrival, AttemptStart, Bytes, Call, Error, Frame, Handler, input_bytes, internal, AttemptInRun, piece_of, Queued, Refusal, Request, requests_carried, ShowsStart, Version, version_number, VMOptions}
 
 -- What was told of one attempt by the replies so far: the bytes that it was handed, whether its input was closed, how many of its turns have
 -- answered, the first of which reads the input, which outcomes it has proposed, and the turn by which it is over.
@@ -23,13 +31,20 @@ pub record Told : Type 0 where
 abbrev pub told_nothing : Told
 told_nothing = record { bytes = []; is_closed = false; answered = 0; proposed = []; over = None }
 
--- what an attempt lacks that has failed so
-pub data IsLacking (error : Error) : Type 0 where
-  -- a number for what a call makes: a completion, a signal or a handle
-  numbers : error.code.0 ≡ internal → IsLacking error
-  -- room in a frame, for what a call asks or waits for, for the outcome of a body, or for an error
-  room : error.code.0 ≡ internal → IsLacking error
-  memory : error ≡ out_of_memory → IsLacking error
+-- an attempt that is to fail with an error answers it, or, where its frame would be too long, one that says so
+abbrev pub AnswersError : (told error : Error) → Type 0
+AnswersError told error = (output : Written) × FailsWith told output error
+
+-- these numbers are next, and one that a call takes of them is too large to be told
+abbrev pub LacksNumbers : (completion signal handle : ℕ) → Call → Type 0
+LacksNumbers completion signal handle call =
+    (2 ^ 32 < completion + completions_of call) ⊎ ((2 ^ 32 < signal + signals_of call) ⊎ (2 ^ 32 < handle + length (ids_of completion signal call)))
+
+-- a call that is refused is told so, in this version
+pub record TellsRefusal (version : Version) (call : Call) (refusal : Refusal) (told : Error) : Type 0 where
+  pub refused : CallRefusal
+  pub meant : refusal_meant refused ≡ refusal
+  pub says : TellsPlainError (refusal_code refused) (Some (text_of_refusal refused version (moment_event call))) told
 
 -- while no turn has told that it is over, it has written no error
 abbrev pub TellsErrorAt : Option Turn → Frame → Type 0
@@ -74,18 +89,61 @@ module _ (next : Handler) (start : AttemptStart) (told : Told) (arrivals : List 
     pub shows : ShowsStart start
     pub outcome : OutcomeIs ran (tried_of start shows written) value
 
+  -- the calls that were made, and the one that its handler makes next
+  abbrev pub made : List Step
+  made = (run next start.given arrivals calls).steps
+
+  abbrev pub next_call : Call
+  next_call = next start.given.input (answers_of made)
+
+  -- of that a completion, a signal or a handle has no number
+  abbrev pub HasNoNumber : Type 0
+  HasNoNumber = LacksNumbers (next_completion made) (next_signal made) (next_handle made) next_call
+
+  -- what an attempt lacks that has failed so, as its error says
+  pub data IsLacking (error : Error) : Type 0 where
+    -- a number for what the call makes
+    numbers : HasNoNumber → (tells : Error) → tells.code.0 ≡ internal → tells.message ≡ no_id_text → AnswersError tells error → IsLacking error
+    -- room in a frame, for what it asks or waits for
+    room : (tells : Error) → tells.code.0 ≡ internal → tells.message ≡ too_long_text → AnswersError tells error → IsLacking error
+    memory : error ≡ out_of_memory → IsLacking error
+
+  -- the run refuses that, which is told
+  pub record IsRefused (refusal : Refusal) (error : Error) : Type 0 where
+    pub refuses : (run next start.given arrivals (suc calls)).ending ≡ RefusedCall refusal
+    pub version : Version
+    pub of_version : start.given.version ≡ version_number version
+    pub tells : Error
+    pub is_told : TellsRefusal version next_call refusal tells
+    pub answers : AnswersError tells error
+
+  -- The body that it executes has ended without an outcome that is written: it is the body that the run waits for first, and the policy says so of
+  -- how it has ended, by what was tried before by an attempt that has asked for these requests behind its journal.
+  pub record EndsWithout (ran : RunOutcome) (body : Body) (error : Error) : Type 0 where
+    pub first : First body
+    pub written : List Request
+    pub behind : requests ≡ requests_carried start.journal ++ written
+    pub shows : ShowsStart start
+    pub version : Version
+    pub of_version : start.given.version ≡ version_number version
+    pub cause : BodyCause
+    pub when : BodyFailsWhen version (by_policy ran) (tried_of start shows written) body.completion cause
+    pub tells : Error
+    pub says : BodySays version cause tells
+    pub answers : AnswersError tells error
+
   -- why an attempt has failed
   pub data FailsSo (ran : RunOutcome) (error : Error) : Type 0 where
     -- the run refuses the call that its handler makes next
-    refused : (refusal : Refusal) → (run next start.given arrivals (suc calls)).ending ≡ RefusedCall refusal → FailsSo ran error
-    -- the body that it has executed has ended with that error, or as this version cannot tell
-    of_body : (body : Body) → First body → IsBodyCode ran.result error.code.0 ⊎ (error.code.0 ≡ unsupported_feature) → FailsSo ran error
+    refused : (refusal : Refusal) → IsRefused refusal error → FailsSo ran error
+    -- the body that it has executed has ended without an outcome
+    of_body : (body : Body) → EndsWithout ran body error → FailsSo ran error
     -- its input was closed before its journal had come
-    early : (HasJournal start told.bytes → ⊥) → told.is_closed ≡ true → error.code.0 ≡ early_error.code.0 → FailsSo ran error
+    early : (HasJournal start told.bytes → ⊥) → told.is_closed ≡ true → AnswersError early_error error → FailsSo ran error
     -- there was no number or no room for what it makes, or no memory
     lacks : IsLacking error → FailsSo ran error
     -- the run waits, for what is nested too deep to be told
-    too_deep : RunWaitsFor next start.given arrivals calls → error.code.0 ≡ unsupported_feature → FailsSo ran error
+    too_deep : RunWaitsFor next start.given arrivals calls → AnswersError too_deep_error error → FailsSo ran error
 
   -- by what a reply tells of a turn, and of what was told then
   abbrev pub TurnTellsOver : RunOutcome → Turn → (now : Told) → Type 0

@@ -2,9 +2,8 @@
 use crate::fault::Fault;
 use crate::schedule::timed::Timed;
 use bytes::{ByteStr, Bytes};
-use invocation_vm::RunOutcome;
 use journal_store::{NewInvocation, NotificationResult, StateMode};
-use scheduler::{Event, Reply, Scheduler};
+use scheduler::{Event, Reply, RunOutcome, Scheduler};
 use sequence::Sequence;
 use sqlite::Alter;
 use std::alloc::Global;
@@ -110,7 +109,7 @@ impl Place {
             Step::Turn(_) => Event::Turn {
                 invocation,
                 attempt,
-                outcome: RunOutcome::default(),
+                outcome: RunOutcome::done(Bytes::new()),
             },
             Step::Move(_) => Event::Move {
                 invocation,

@@ -3,4 +3,4 @@ use Rattle.vm_attempt_laws.proofs.Beginning.{attempts_begin}
 use Rattle.vm_attempt_laws.proofs.attempts_begin.Goals as goal
 
 pub returns : goal.returns
-returns g c = λ next version options. attempts_begin g.H.Handler.next_call next version options c.starts_are_read.ensures
+returns g c = λ function next version options. attempts_begin function next version options c.starts_are_read.ensures

@@ -1,6 +1,6 @@
 -- The laws are proved in `Causing`.
 use Rattle.journal_store.specs.Causes.{TriesEvent, TriesFrame, TriesFrameOf}
-use Rattle.journal_store.proofs.Causing.{asking_wants, writing_wants}
+use Rattle.journal_store.proofs.Causing.{asking_wants, forgetting_wants, writing_wants}
 use Rattle.journal_store.proofs.laws.refused_for_memory.Goals as goal
 
 pub returns-clause-asking : goal.returns-clause-asking
@@ -14,3 +14,6 @@ returns-clause-frame g c id attempt = writing_wants g.S.Store (TriesFrame id att
 
 pub returns-clause-accepted : goal.returns-clause-accepted
 returns-clause-accepted g c id attempt bytes replies = writing_wants g.S.Store (TriesFrameOf id attempt bytes replies)
+
+pub returns-clause-forgotten : goal.returns-clause-forgotten
+returns-clause-forgotten g c = forgetting_wants g.S.Store

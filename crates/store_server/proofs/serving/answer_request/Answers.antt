@@ -30,6 +30,9 @@ returns-in-Close g c = rw c.in-Close.is c.close.ensures
 pub returns-in-Stop : goal.returns-in-Stop
 returns-in-Stop g c = rw c.in-Stop.is c.stop.ensures
 
+pub returns-in-Forget : goal.returns-in-Forget
+returns-in-Forget g c = rw c.in-Forget.is (rw c.as_slice.ensures at c.forget.ensures)
+
 pub returns-in-Due : goal.returns-in-Due
 returns-in-Due g c = rw c.in-Due.is c.due.ensures
 

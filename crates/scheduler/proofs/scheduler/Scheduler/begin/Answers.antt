@@ -1,46 +1,9 @@
-use Rattle.std.proofs.Common.{refl, inl, inr}
+use Rattle.scheduler.proofs.Begun.{begins}
 use Rattle.scheduler.proofs.scheduler.Scheduler.begin.Goals as goal
 
-pub returns-in-Err-clause-does : goal.returns-in-Err-clause-does
-returns-in-Err-clause-does g c clean s is =
-    let it = c.in-Err.ensures.does clean s is in
-    (it.0, it.1, inl (it.2, refl {a = c.args.self.now.held}))
-
-pub returns-in-Err-clause-crash : goal.returns-in-Err-clause-crash
-returns-in-Err-clause-crash g c = c.begin.ensures.crash
-
-pub returns-in_default-clause-does : goal.returns-in_default-clause-does
-returns-in_default-clause-does g c clean s is =
-    let it = c.in-Ok.ensures.does clean s is in
-    (it.0, it.1, inr (c.in-Ok.begun, refl, it.2, refl {a = c.args.self.now.held}))
-
-pub returns-in_default-clause-crash : goal.returns-in_default-clause-crash
-returns-in_default-clause-crash g c = c.begin.ensures.crash
-
-pub returns-in-Ok-push-clause-settled : goal.returns-in-Ok-push-clause-settled
-returns-in-Ok-push-clause-settled g c written clean s is =
-    let it = c.in-Ok.ensures.settled clean s is in (
-      it.0,
-      it.1,
-      (
-        c.in-Ok.begun,
-        refl,
-        it.2,
-        record { attempt = c.in-Some.attempt; fresh = c.in-Some.ensures.fed; goes_on = c.in-Some.ensures.goes_on; held = c.in-Ok-push.ensures.ok },
-      ),
-      it.3,
-    )
-
-pub returns-in-Ok-push-clause-does : goal.returns-in-Ok-push-clause-does
-returns-in-Ok-push-clause-does g c clean s is = let it = returns-in-Ok-push-clause-settled g c tt clean s is in (it.0, it.1, it.2)
-
-pub returns-in-Ok-push-clause-crash : goal.returns-in-Ok-push-clause-crash
-returns-in-Ok-push-clause-crash g c = c.begin.ensures.crash
-
-pub returns-in-Err-push-clause-does : goal.returns-in-Err-push-clause-does
-returns-in-Err-push-clause-does g c clean s is =
-    let it = c.in-Ok.ensures.does clean s is in
-    (it.0, it.1, inr (c.in-Ok.begun, refl, it.2, c.in-Err-push.ensures.err))
-
-pub returns-in-Err-push-clause-crash : goal.returns-in-Err-push-clause-crash
-returns-in-Err-push-clause-crash g c = c.begin.ensures.crash
+pub returns : goal.returns
+returns g c =
+    let did = c.begin_numbered in
+    rw c.begun_reply.ensures
+    (begins g.S.Store g.H.Handler.next_call c.args.invocation c.args.handler c.args.now c.args.self.now did.new.self did.result did.ensures.does did.ensures.options did.ensures.settled did.ensures.moment
+    did.ensures.cause did.ensures.crash)

@@ -1,7 +1,6 @@
-use Rattle.std.proofs.Common.{◌∙◌, ap, List, ℕ}
-use Rattle.script_lines.specs.Script.{numbered_from}
-use Rattle.script_lines.proofs.SplitLaws.{pieces_are_parts}
+use Rattle.std.proofs.Common.{arith}
+use Rattle.script_lines.proofs.LineFeeds.{lines_are_few}
 use Rattle.script_lines.proofs.script.ScriptLines.new.Goals as goal
 
-pub returns : goal.returns
-returns c = ap (λ (lines : List (List ℕ)). numbered_from 1 lines) (c.split_str.ensures.value ∙ pieces_are_parts c.args.script.now 10)
+pub invariant_of-result : goal.invariant_of-result
+invariant_of-result c = record { counted = omega (arith, lines_are_few c.args.script.now) }

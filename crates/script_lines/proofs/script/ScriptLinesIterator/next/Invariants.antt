@@ -1,9 +1,10 @@
 use Rattle.std.proofs.Common.{◌≡◌, length}
+use Rattle.script_lines.specs.Script.{lines_of_rest}
 use Rattle.script_lines.specs.ScriptLines.{lines_left}
 use Rattle.script_lines.proofs.script.ScriptLinesIterator.next.Given as goal
 
-abbrev pub invariant-loop-bytes : goal.invariant-loop-bytes
-invariant-loop-bytes l = lines_left l.self ≡ lines_left l.initial.self
+abbrev pub invariant-loop-self : goal.invariant-loop-self
+invariant-loop-self l = lines_left l.self ≡ lines_left l.initial.self
 
-abbrev pub decreases-loop-bytes : goal.decreases-loop-bytes
-decreases-loop-bytes l = length l.self.lines
+abbrev pub decreases-loop-self : goal.decreases-loop-self
+decreases-loop-self l = length (lines_of_rest l.self.rest)
