@@ -133,7 +133,7 @@ typedef struct hengomaru_policy {
 
 /* ---- a machine, its input and its output */
 
-/* For a request of this content type (`application/vnd.restate.invocation.v7`). Where none is made, the code says why, as in HTTP. */
+/* For a request of this content type (`application/vnd.restate.invocation.v7`). The code is 0, or why it has FAILED, as in HTTP. */
 uint32_t hengomaru_vm_new(hengomaru_vm *, const uint8_t *content_type, size_t, uint32_t options, uint64_t fallback_random_seed, uint32_t *code);
 void     hengomaru_vm_free(hengomaru_vm *);
 /* How the response begins. Reply: its content type. */

@@ -1,5 +1,5 @@
 -- What the calls of a handle do to what it has.
-use Rattle.std.specs.Prelude.{◌≡◌, ◌==◌, ℕ, true, false, if◌then◌else◌, [], length, take, drop, ◌++◌, Result, Ok, Err}
+use Rattle.std.specs.Prelude.{◌≡◌, ◌==◌, ◌≤◌, ℕ, true, false, if◌then◌else◌, [], length, take, drop, ◌++◌, Result, Ok, Err}
 use Rattle.std.specs.declared.option.Option.{Option}
 use Rattle.std.specs.declared.option.Option.TheVariants.{None, Some}
 use Rattle.journal_model.specs.Notification.{Bytes, Text}
@@ -11,7 +11,11 @@ use Rattle.vm_c_machine.specs.Calls.{MakesMachine}
 use Rattle.vm_c_machine.specs.declared.machine.Machine.{Machine}
 use Rattle.vm_c.specs.declared.held.Held.{Held}
 
--- what a status and a reply tell of a call
+-- the statuses that a call has come to: those of the header, but 1
+abbrev pub IsStatus : ℕ → Type 0
+IsStatus status = (status ≤ 6) × (status ≡ 1 → ⊥)
+
+-- what one of them and a reply tell
 abbrev pub done_of : (status : ℕ) → (reply : Bytes) → Result Bytes NotDone
 done_of status reply =
     if status == 0 then Ok reply
@@ -31,12 +35,17 @@ reply_in (Err why) = []
 abbrev pub Over : ((old : Machine) → Result Bytes NotDone → (new : Machine) → Type 0) → (old : Option Held) → (status : ℕ) → (new : Option Held) → Type 0
 Over Call None status new = (status ≡ 1) × (new ≡ None)
 Over Call (Some old) status None = ⊥
-Over Call (Some old) status (Some new) = Call old.machine (done_of status new.reply) new.machine × (reply_in (done_of status new.reply) ≡ new.reply)
+Over Call (Some old) status (Some new) = IsStatus status × Call old.machine (done_of status new.reply) new.machine × (reply_in (done_of status new.reply) ≡ new.reply)
 
--- a machine is made and has no reply, or the handle has none
-abbrev pub Begun : (content_type : Text) → VMOptions → (status : ℕ) → (new : Option Held) → Type 0
-Begun content_type options status None = status ≡ 0 → ⊥
-Begun content_type options status (Some new) = (status ≡ 0) × MakesMachine content_type options (Ok new.machine) × (new.reply ≡ [])
+-- none is made, and the code says why
+abbrev pub MakesNone : (content_type : Text) → VMOptions → (code : ℕ) → Result Bytes NotDone → Type 0
+MakesNone content_type options code (Ok reply) = ⊥
+MakesNone content_type options code (Err why) = MakesMachine content_type options code (Err why)
+
+-- a machine is made and has no reply, or the handle has none, and status and code tell why
+abbrev pub Begun : (content_type : Text) → VMOptions → (status code : ℕ) → (new : Option Held) → Type 0
+Begun content_type options status code None = IsStatus status × MakesNone content_type options code (done_of status [])
+Begun content_type options status code (Some new) = (status ≡ 0) × MakesMachine content_type options code (Ok new.machine) × (new.reply ≡ [])
 
 -- the reply that a handle has; none where there is no machine
 abbrev pub reply_held : Option Held → Bytes

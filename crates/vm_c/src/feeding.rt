@@ -1,12 +1,13 @@
 // What comes in and goes out.
-ghost use Rattle.std.specs.Prelude.{◌≡◌, None};
+ghost use Rattle.std.specs.Prelude.{◌≡◌, None, IsUtf8};
 ghost use Rattle.vm_feeding.specs.MachineQueries.{TellsReady};
 ghost use Rattle.vm_feeding.specs.EndOfInput.{ClosesInput};
 ghost use Rattle.vm_feeding.specs.InputBytes.{IsFed};
-ghost use Rattle.vm_c_machine.specs.Calls.{Changes, DoesCall, GivesOutput, KeepsReadInput};
+ghost use Rattle.vm_c_machine.specs.Calls.{Changes, DoesCall, GivesOutput, KeepsReadInput, Given};
 ghost use Rattle.vm_c_machine.specs.Host.{ToldByHost};
 ghost use Rattle.vm_c_values.specs.Options.{is_set};
 ghost use Rattle.vm_c.specs.Calls.{Over};
+ghost use Rattle.vm_c_values.specs.Arguments.{AnyBytes};
 
 use crate::handle::Handle;
 use crate::status::NO_MACHINE;
@@ -15,7 +16,7 @@ use std::alloc::Global;
 /// Bytes have come.
 #[unsafe(no_mangle)]
 pub extern "C" fn hengomaru_vm_notify_input(alloc: Global, handle: &mut Handle, bytes: &[u8]) -> u32
-    ensures { Over (Changes (IsFed bytes.now)) handle.old.value result handle.new.value }
+    ensures { Over (Given AnyBytes (Changes (IsFed bytes.now))) handle.old.value result handle.new.value }
 {
     match handle.take(alloc) {
         Some(mut held) => {
@@ -50,7 +51,7 @@ pub extern "C" fn hengomaru_vm_notify_error(
     delay_millis: u64,
     pause: u32,
 ) -> u32
-    ensures { Over (Changes (ToldByHost code message.now delay_millis pause)) handle.old.value result handle.new.value }
+    ensures { Over (Given (IsUtf8 message.now) (Changes (ToldByHost code message.now delay_millis pause))) handle.old.value result handle.new.value }
 {
     match handle.take(alloc) {
         Some(mut held) => {
@@ -84,7 +85,7 @@ pub extern "C" fn hengomaru_vm_is_ready_to_execute(
     handle: &mut Handle,
     ready: &mut u32,
 ) -> u32
-    ensures { Over (DoesCall (λ old made new. TellsReady old.phase made × (new ≡ old)) (λ _. is_set ready.new)) handle.old.value result handle.new.value }
+    ensures { Over (DoesCall (λ old made new. TellsReady old.phase made × (new ≡ old)) (is_set ready.new)) handle.old.value result handle.new.value }
 {
     match handle.take(alloc) {
         Some(mut held) => {

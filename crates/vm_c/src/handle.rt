@@ -6,7 +6,7 @@ ghost use Rattle.std.specs.declared.option.Option.TheVariants.{None, Some};
 ghost use Rattle.std.specs.Coded.{coded_option};
 ghost use Rattle.vm_c.specs.declared.held.Held.{Held};
 ghost use Rattle.vm_c.specs.contracts.held.Held.{the_row as HeldRow};
-ghost use Rattle.vm_c.specs.Calls.{done_of, reply_in};
+ghost use Rattle.vm_c.specs.Calls.{IsStatus, done_of, reply_in};
 
 use crate::held::Held;
 use crate::status::status_of;
@@ -78,6 +78,7 @@ impl Handle {
     /// Puts a machine back after a call, with what the call has answered as its reply, and tells the status.
     pub(crate) fn put_back(&mut self, mut held: Box<Held>, done: Result<Bytes, NotDone>) -> u32
         ensures put { self.new.value ≡ Some (record { machine = held.value.machine; reply = reply_in done }) }
+        ensures status { IsStatus result }
         ensures done { done_of result (reply_in done) ≡ done }
     {
         let status = status_of(&done);

@@ -1,11 +1,12 @@
 // Other invocations.
-ghost use Rattle.std.specs.Prelude.{IfSome};
+ghost use Rattle.std.specs.Prelude.{IfSome, IsUtf8};
 ghost use Rattle.vm_core.specs.Calls.{SysCall, SysSend, SysCancelInvocation, SysAttachInvocation, SysGetInvocationOutput};
-ghost use Rattle.vm_c_machine.specs.Calls.{DoesCall};
+ghost use Rattle.vm_c_machine.specs.Calls.{DoesCall, Given};
 ghost use Rattle.vm_c_machine.specs.Numbers.{moment_given};
 ghost use Rattle.vm_c_values.specs.Options.{payload_options};
 ghost use Rattle.vm_c_values.specs.Records.{attach_target_in, call_target_in};
 ghost use Rattle.vm_c.specs.Calls.{Over};
+ghost use Rattle.vm_c_values.specs.Arguments.{IsAttachTarget, IsCallTarget};
 
 use crate::handle::Handle;
 use crate::status::NO_MACHINE;
@@ -18,7 +19,7 @@ pub extern "C" fn hengomaru_vm_sys_cancel_invocation(
     handle: &mut Handle,
     target_id: &[u8],
 ) -> u32
-    ensures { Over (DoesCall (SysCancelInvocation target_id.now) (λ _. tt)) handle.old.value result handle.new.value }
+    ensures { Over (Given (IsUtf8 target_id.now) (DoesCall (SysCancelInvocation target_id.now) tt)) handle.old.value result handle.new.value }
 {
     match handle.take(alloc) {
         Some(mut held) => {
@@ -37,7 +38,7 @@ pub extern "C" fn hengomaru_vm_sys_attach_invocation(
     target: &[u8],
     notification: &mut u32,
 ) -> u32
-    ensures { Over (DoesCall (λ old made new. IfSome (attach_target_in target.now) (λ target. SysAttachInvocation target old made new)) (λ _. notification.new)) handle.old.value result handle.new.value }
+    ensures { Over (Given (IsAttachTarget target.now) (DoesCall (λ old made new. IfSome (attach_target_in target.now) (λ target. SysAttachInvocation target old made new)) notification.new)) handle.old.value result handle.new.value }
 {
     match handle.take(alloc) {
         Some(mut held) => {
@@ -56,7 +57,7 @@ pub extern "C" fn hengomaru_vm_sys_get_invocation_output(
     target: &[u8],
     notification: &mut u32,
 ) -> u32
-    ensures { Over (DoesCall (λ old made new. IfSome (attach_target_in target.now) (λ target. SysGetInvocationOutput target old made new)) (λ _. notification.new)) handle.old.value result handle.new.value }
+    ensures { Over (Given (IsAttachTarget target.now) (DoesCall (λ old made new. IfSome (attach_target_in target.now) (λ target. SysGetInvocationOutput target old made new)) notification.new)) handle.old.value result handle.new.value }
 {
     match handle.take(alloc) {
         Some(mut held) => {
@@ -78,7 +79,7 @@ pub extern "C" fn hengomaru_vm_sys_call(
     invocation_id: &mut u32,
     answer: &mut u32,
 ) -> u32
-    ensures { Over (DoesCall (SysCall (call_target_in target.now).target parameter.now (call_target_in target.now).name (payload_options unstable)) (λ _. record { invocation_id_notification_handle = invocation_id.new; call_notification_handle = answer.new })) handle.old.value result handle.new.value }
+    ensures { Over (Given (IsCallTarget target.now) (DoesCall (SysCall (call_target_in target.now).target parameter.now (call_target_in target.now).name (payload_options unstable)) (record { invocation_id_notification_handle = invocation_id.new; call_notification_handle = answer.new }))) handle.old.value result handle.new.value }
 {
     match handle.take(alloc) {
         Some(mut held) => {
@@ -103,7 +104,7 @@ pub extern "C" fn hengomaru_vm_sys_send(
     unstable: u32,
     invocation_id: &mut u32,
 ) -> u32
-    ensures { Over (DoesCall (SysSend (call_target_in target.now).target parameter.now (moment_given execution_time_millis) (call_target_in target.now).name (payload_options unstable)) (λ _. record { invocation_id_notification_handle = invocation_id.new })) handle.old.value result handle.new.value }
+    ensures { Over (Given (IsCallTarget target.now) (DoesCall (SysSend (call_target_in target.now).target parameter.now (moment_given execution_time_millis) (call_target_in target.now).name (payload_options unstable)) (record { invocation_id_notification_handle = invocation_id.new }))) handle.old.value result handle.new.value }
 {
     match handle.take(alloc) {
         Some(mut held) => {

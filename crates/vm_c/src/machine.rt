@@ -21,7 +21,7 @@ pub extern "C" fn hengomaru_vm_new(
     fallback_random_seed: u64,
     code: &mut u32,
 ) -> u32
-    ensures { Begun content_type.now (vm_options options fallback_random_seed) result handle.new.value }
+    ensures { Begun content_type.now (vm_options options fallback_random_seed) result code.new handle.new.value }
 {
     drop(handle.take(alloc));
     match Machine::new(alloc, content_type, options, fallback_random_seed, code) {

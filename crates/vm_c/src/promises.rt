@@ -1,9 +1,11 @@
 // Promises.
+ghost use Rattle.std.specs.Prelude.{IsUtf8};
 ghost use Rattle.vm_core.specs.Calls.{SysGetPromise, SysPeekPromise, SysCompletePromise};
-ghost use Rattle.vm_c_machine.specs.Calls.{DoesCall};
+ghost use Rattle.vm_c_machine.specs.Calls.{DoesCall, Given};
 ghost use Rattle.vm_c_values.specs.Options.{payload_options};
 ghost use Rattle.vm_c_values.specs.Records.{value_in};
 ghost use Rattle.vm_c.specs.Calls.{Over};
+ghost use Rattle.vm_c_values.specs.Arguments.{IsValue};
 
 use crate::handle::Handle;
 use crate::status::NO_MACHINE;
@@ -17,7 +19,7 @@ pub extern "C" fn hengomaru_vm_sys_get_promise(
     key: &[u8],
     notification: &mut u32,
 ) -> u32
-    ensures { Over (DoesCall (SysGetPromise key.now) (λ _. notification.new)) handle.old.value result handle.new.value }
+    ensures { Over (Given (IsUtf8 key.now) (DoesCall (SysGetPromise key.now) notification.new)) handle.old.value result handle.new.value }
 {
     match handle.take(alloc) {
         Some(mut held) => {
@@ -36,7 +38,7 @@ pub extern "C" fn hengomaru_vm_sys_peek_promise(
     key: &[u8],
     notification: &mut u32,
 ) -> u32
-    ensures { Over (DoesCall (SysPeekPromise key.now) (λ _. notification.new)) handle.old.value result handle.new.value }
+    ensures { Over (Given (IsUtf8 key.now) (DoesCall (SysPeekPromise key.now) notification.new)) handle.old.value result handle.new.value }
 {
     match handle.take(alloc) {
         Some(mut held) => {
@@ -58,7 +60,7 @@ pub extern "C" fn hengomaru_vm_sys_complete_promise(
     unstable: u32,
     notification: &mut u32,
 ) -> u32
-    ensures { Over (DoesCall (SysCompletePromise key.now (value_in failed value.now) (payload_options unstable)) (λ _. notification.new)) handle.old.value result handle.new.value }
+    ensures { Over (Given (IsUtf8 key.now × IsValue failed value.now) (DoesCall (SysCompletePromise key.now (value_in failed value.now) (payload_options unstable)) notification.new)) handle.old.value result handle.new.value }
 {
     match handle.take(alloc) {
         Some(mut held) => {

@@ -1,12 +1,14 @@
 // Runs.
+ghost use Rattle.std.specs.Prelude.{IsUtf8, IsTrue};
 ghost use Rattle.vm_proposals.specs.RunCallEffects.{CallsRun};
 ghost use Rattle.vm_proposals.specs.ProposalEffects.{ProposesRun};
 ghost use Rattle.vm_refusals.specs.declared.retries.RetryPolicy.{RetryPolicy};
 ghost use Rattle.vm_refusals.specs.declared.runs.RunExitResult.{RunExitResult};
-ghost use Rattle.vm_c_machine.specs.Calls.{DoesCall, ProposesRetry};
+ghost use Rattle.vm_c_machine.specs.Calls.{DoesCall, ProposesRetry, Given};
 ghost use Rattle.vm_c_values.specs.Options.{is_set};
 ghost use Rattle.vm_c_values.specs.Records.{failure_in};
 ghost use Rattle.vm_c.specs.Calls.{Over};
+ghost use Rattle.vm_c_values.specs.Arguments.{AnyBytes, IsFailure, is_policy};
 
 use crate::handle::Handle;
 use crate::status::NO_MACHINE;
@@ -22,7 +24,7 @@ pub extern "C" fn hengomaru_vm_sys_run(
     replayed: &mut u32,
     notification: &mut u32,
 ) -> u32
-    ensures { Over (DoesCall (CallsRun name.now) (λ _. record { replayed = is_set replayed.new; handle = notification.new })) handle.old.value result handle.new.value }
+    ensures { Over (Given (IsUtf8 name.now) (DoesCall (CallsRun name.now) (record { replayed = is_set replayed.new; handle = notification.new }))) handle.old.value result handle.new.value }
 {
     match handle.take(alloc) {
         Some(mut held) => {
@@ -41,7 +43,7 @@ pub extern "C" fn hengomaru_vm_propose_run_success(
     notification: u32,
     value: &[u8],
 ) -> u32
-    ensures { Over (DoesCall (ProposesRun notification (RunExitResult.Success value.now) RetryPolicy.Infinite) (λ _. tt)) handle.old.value result handle.new.value }
+    ensures { Over (Given AnyBytes (DoesCall (ProposesRun notification (RunExitResult.Success value.now) RetryPolicy.Infinite) tt)) handle.old.value result handle.new.value }
 {
     match handle.take(alloc) {
         Some(mut held) => {
@@ -60,7 +62,7 @@ pub extern "C" fn hengomaru_vm_propose_run_failure(
     notification: u32,
     failure: &[u8],
 ) -> u32
-    ensures { Over (DoesCall (ProposesRun notification (RunExitResult.TerminalFailure (failure_in failure.now)) RetryPolicy.Infinite) (λ _. tt)) handle.old.value result handle.new.value }
+    ensures { Over (Given (IsFailure failure.now) (DoesCall (ProposesRun notification (RunExitResult.TerminalFailure (failure_in failure.now)) RetryPolicy.Infinite) tt)) handle.old.value result handle.new.value }
 {
     match handle.take(alloc) {
         Some(mut held) => {
@@ -82,7 +84,7 @@ pub extern "C" fn hengomaru_vm_propose_run_retryable(
     message: &[u8],
     policy: &Policy,
 ) -> u32
-    ensures { Over (ProposesRetry notification attempt_millis code message.now policy.now) handle.old.value result handle.new.value }
+    ensures { Over (Given (IsTrue (is_policy policy.now) × IsUtf8 message.now) (ProposesRetry notification attempt_millis code message.now policy.now)) handle.old.value result handle.new.value }
 {
     match handle.take(alloc) {
         Some(mut held) => {

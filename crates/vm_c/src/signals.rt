@@ -1,9 +1,11 @@
 // Awakeables and signals.
+ghost use Rattle.std.specs.Prelude.{IsUtf8};
 ghost use Rattle.vm_core.specs.Calls.{SysAwakeable, SysCompleteAwakeable, CreateSignalHandle, SysCompleteSignal};
-ghost use Rattle.vm_c_machine.specs.Calls.{DoesCall};
+ghost use Rattle.vm_c_machine.specs.Calls.{DoesCall, Given, GivesAwakeable};
 ghost use Rattle.vm_c_values.specs.Options.{payload_options};
 ghost use Rattle.vm_c_values.specs.Records.{value_in};
 ghost use Rattle.vm_c.specs.Calls.{Over};
+ghost use Rattle.vm_c_values.specs.Arguments.{IsValue};
 
 use crate::handle::Handle;
 use crate::status::NO_MACHINE;
@@ -19,7 +21,7 @@ pub extern "C" fn hengomaru_vm_sys_complete_awakeable(
     failed: u32,
     unstable: u32,
 ) -> u32
-    ensures { Over (DoesCall (SysCompleteAwakeable id.now (value_in failed value.now) (payload_options unstable)) (λ _. tt)) handle.old.value result handle.new.value }
+    ensures { Over (Given (IsUtf8 id.now × IsValue failed value.now) (DoesCall (SysCompleteAwakeable id.now (value_in failed value.now) (payload_options unstable)) tt)) handle.old.value result handle.new.value }
 {
     match handle.take(alloc) {
         Some(mut held) => {
@@ -40,7 +42,7 @@ pub extern "C" fn hengomaru_vm_create_signal_handle(
     name: &[u8],
     notification: &mut u32,
 ) -> u32
-    ensures { Over (DoesCall (CreateSignalHandle name.now) (λ _. notification.new)) handle.old.value result handle.new.value }
+    ensures { Over (Given (IsUtf8 name.now) (DoesCall (CreateSignalHandle name.now) notification.new)) handle.old.value result handle.new.value }
 {
     match handle.take(alloc) {
         Some(mut held) => {
@@ -61,7 +63,7 @@ pub extern "C" fn hengomaru_vm_sys_complete_signal(
     value: &[u8],
     failed: u32,
 ) -> u32
-    ensures { Over (DoesCall (SysCompleteSignal target_id.now name.now (value_in failed value.now)) (λ _. tt)) handle.old.value result handle.new.value }
+    ensures { Over (Given (IsUtf8 target_id.now × IsUtf8 name.now × IsValue failed value.now) (DoesCall (SysCompleteSignal target_id.now name.now (value_in failed value.now)) tt)) handle.old.value result handle.new.value }
 {
     match handle.take(alloc) {
         Some(mut held) => {
@@ -81,7 +83,7 @@ pub extern "C" fn hengomaru_vm_sys_awakeable(
     handle: &mut Handle,
     notification: &mut u32,
 ) -> u32
-    ensures { Over (DoesCall SysAwakeable (λ reply. record { id = reply; handle = notification.new })) handle.old.value result handle.new.value }
+    ensures { Over (GivesAwakeable notification.new) handle.old.value result handle.new.value }
 {
     match handle.take(alloc) {
         Some(mut held) => {

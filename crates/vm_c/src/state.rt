@@ -1,8 +1,8 @@
 // The object's state.
-ghost use Rattle.std.specs.Prelude.{None};
+ghost use Rattle.std.specs.Prelude.{None, IsUtf8};
 ghost use Rattle.vm_core.specs.Calls.{SysStateGet, SysStateGetKeys, SysStateSet, SysStateClear, SysStateClearAll};
 ghost use Rattle.vm_feeding.specs.EphemeralStateReads.{IsGot, IsReadTaken};
-ghost use Rattle.vm_c_machine.specs.Calls.{DoesCall, Takes};
+ghost use Rattle.vm_c_machine.specs.Calls.{DoesCall, Takes, Given};
 ghost use Rattle.vm_c_values.specs.Options.{payload_options};
 ghost use Rattle.vm_c.specs.Calls.{Over};
 
@@ -19,7 +19,7 @@ pub extern "C" fn hengomaru_vm_sys_state_get(
     unstable: u32,
     notification: &mut u32,
 ) -> u32
-    ensures { Over (DoesCall (SysStateGet key.now None (payload_options unstable)) (λ _. notification.new)) handle.old.value result handle.new.value }
+    ensures { Over (Given (IsUtf8 key.now) (DoesCall (SysStateGet key.now None (payload_options unstable)) notification.new)) handle.old.value result handle.new.value }
 {
     match handle.take(alloc) {
         Some(mut held) => {
@@ -37,7 +37,7 @@ pub extern "C" fn hengomaru_vm_sys_state_get_keys(
     handle: &mut Handle,
     notification: &mut u32,
 ) -> u32
-    ensures { Over (DoesCall (SysStateGetKeys None) (λ _. notification.new)) handle.old.value result handle.new.value }
+    ensures { Over (DoesCall (SysStateGetKeys None) notification.new) handle.old.value result handle.new.value }
 {
     match handle.take(alloc) {
         Some(mut held) => {
@@ -57,7 +57,7 @@ pub extern "C" fn hengomaru_vm_sys_state_set(
     value: &[u8],
     unstable: u32,
 ) -> u32
-    ensures { Over (DoesCall (SysStateSet key.now value.now None (payload_options unstable)) (λ _. tt)) handle.old.value result handle.new.value }
+    ensures { Over (Given (IsUtf8 key.now) (DoesCall (SysStateSet key.now value.now None (payload_options unstable)) tt)) handle.old.value result handle.new.value }
 {
     match handle.take(alloc) {
         Some(mut held) => {
@@ -75,7 +75,7 @@ pub extern "C" fn hengomaru_vm_sys_state_clear(
     handle: &mut Handle,
     key: &[u8],
 ) -> u32
-    ensures { Over (DoesCall (SysStateClear key.now None) (λ _. tt)) handle.old.value result handle.new.value }
+    ensures { Over (Given (IsUtf8 key.now) (DoesCall (SysStateClear key.now None) tt)) handle.old.value result handle.new.value }
 {
     match handle.take(alloc) {
         Some(mut held) => {
@@ -89,7 +89,7 @@ pub extern "C" fn hengomaru_vm_sys_state_clear(
 /// Clears the state.
 #[unsafe(no_mangle)]
 pub extern "C" fn hengomaru_vm_sys_state_clear_all(alloc: Global, handle: &mut Handle) -> u32
-    ensures { Over (DoesCall (SysStateClearAll None) (λ _. tt)) handle.old.value result handle.new.value }
+    ensures { Over (DoesCall (SysStateClearAll None) tt) handle.old.value result handle.new.value }
 {
     match handle.take(alloc) {
         Some(mut held) => {
@@ -108,7 +108,7 @@ pub extern "C" fn hengomaru_vm_ephemeral_state_get(
     key: &[u8],
     id: &mut u32,
 ) -> u32
-    ensures { Over (DoesCall (IsGot key.now) (λ _. record { number = id.new })) handle.old.value result handle.new.value }
+    ensures { Over (Given (IsUtf8 key.now) (DoesCall (IsGot key.now) (record { number = id.new }))) handle.old.value result handle.new.value }
 {
     match handle.take(alloc) {
         Some(mut held) => {

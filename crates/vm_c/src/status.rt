@@ -1,6 +1,6 @@
 // What a call answers as a number.
 ghost use Rattle.std.specs.Prelude.{◌≡◌, [], Err};
-ghost use Rattle.vm_c.specs.Calls.{done_of, reply_in};
+ghost use Rattle.vm_c.specs.Calls.{IsStatus, done_of, reply_in};
 
 use bytes::Bytes;
 use vm_c_values::{NotDone, Unread};
@@ -27,7 +27,8 @@ pub const SUSPENDED: u32 = 5;
 pub const UNTOLD: u32 = 6;
 
 pub(crate) fn number_of(why: NotDone) -> u32
-    ensures { done_of result [] ≡ Err why }
+    ensures status { IsStatus result }
+    ensures done { done_of result [] ≡ Err why }
 {
     match why {
         NotDone::Unread(Unread::Memory) => MEMORY,
@@ -39,7 +40,8 @@ pub(crate) fn number_of(why: NotDone) -> u32
 
 /// The status of what a call has come to.
 pub(crate) fn status_of(done: &Result<Bytes, NotDone>) -> u32
-    ensures { done_of result (reply_in done.now) ≡ done.now }
+    ensures status { IsStatus result }
+    ensures done { done_of result (reply_in done.now) ≡ done.now }
 {
     match done {
         Ok(_) => OK,

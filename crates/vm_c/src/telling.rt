@@ -3,7 +3,7 @@ ghost use Rattle.std.specs.Prelude.{◌≡◌, ◌-ℤ◌, pos};
 ghost use Rattle.protocol_types.specs.Version.{version_content_type};
 ghost use Rattle.vm_feeding.specs.MachineQueries.{state_of_phase};
 ghost use Rattle.vm_feeding.specs.Handles.{LooksAtHandle};
-ghost use Rattle.vm_c_machine.specs.Calls.{Asks};
+ghost use Rattle.vm_c_machine.specs.Calls.{Asks, AsksForBytes};
 ghost use Rattle.vm_c_machine.specs.Numbers.{TellsError, TellsPart, state_number};
 ghost use Rattle.vm_c_values.specs.Options.{is_set};
 ghost use Rattle.vm_c.specs.Calls.{Over};
@@ -19,7 +19,7 @@ pub extern "C" fn hengomaru_vm_response_head(
     handle: &mut Handle,
     status_code: &mut u32,
 ) -> u32
-    ensures { Over (Asks (λ vm reply. (status_code.new ≡ 200) × (reply ≡ version_content_type vm.version))) handle.old.value result handle.new.value }
+    ensures { Over (AsksForBytes (λ machine reply. (status_code.new ≡ 200) × (reply ≡ version_content_type machine.vm.state.version))) handle.old.value result handle.new.value }
 {
     match handle.take(alloc) {
         Some(held) => {
@@ -33,7 +33,7 @@ pub extern "C" fn hengomaru_vm_response_head(
 /// How far the attempt has come: 0 its start has not come, 1 replaying, 2 processing, 3 closed.
 #[unsafe(no_mangle)]
 pub extern "C" fn hengomaru_vm_state(alloc: Global, handle: &mut Handle, state: &mut u32) -> u32
-    ensures { Over (Asks (λ vm reply. state.new ≡ state_number (state_of_phase vm.phase vm.active.is_replaying))) handle.old.value result handle.new.value }
+    ensures { Over (Asks (λ vm. state.new ≡ state_number (state_of_phase vm.phase vm.active.is_replaying))) handle.old.value result handle.new.value }
 {
     match handle.take(alloc) {
         Some(held) => {
@@ -51,7 +51,7 @@ pub extern "C" fn hengomaru_vm_last_command_index(
     handle: &mut Handle,
     index: &mut i64,
 ) -> u32
-    ensures { Over (Asks (λ vm reply. index.new ≡ pos vm.active.journal.commands -ℤ pos 1)) handle.old.value result handle.new.value }
+    ensures { Over (Asks (λ vm. index.new ≡ pos vm.active.journal.commands -ℤ pos 1)) handle.old.value result handle.new.value }
 {
     match handle.take(alloc) {
         Some(held) => {
@@ -70,7 +70,7 @@ pub extern "C" fn hengomaru_vm_is_completed(
     notification: u32,
     completed: &mut u32,
 ) -> u32
-    ensures { Over (Asks (λ vm reply. LooksAtHandle vm.phase vm.active notification (is_set completed.new))) handle.old.value result handle.new.value }
+    ensures { Over (Asks (λ vm. LooksAtHandle vm.phase vm.active notification (is_set completed.new))) handle.old.value result handle.new.value }
 {
     match handle.take(alloc) {
         Some(held) => {
@@ -113,7 +113,7 @@ pub extern "C" fn hengomaru_vm_last_error(
     delay_millis: &mut u64,
     command_index: &mut i64,
 ) -> u32
-    ensures { Over (TellsError code.new behavior.new) handle.old.value result handle.new.value }
+    ensures { Over (TellsError code.new behavior.new delay_millis.new command_index.new) handle.old.value result handle.new.value }
 {
     match handle.take(alloc) {
         Some(held) => {

@@ -1,9 +1,10 @@
 // Sleeps, awaits and takes.
-ghost use Rattle.std.specs.Prelude.{◌*◌, None};
+ghost use Rattle.std.specs.Prelude.{◌*◌, None, IsUtf8};
 ghost use Rattle.vm_core.specs.Calls.{SysSleep, TakeNotification};
-ghost use Rattle.vm_c_machine.specs.Calls.{DoesCall, Takes};
-ghost use Rattle.vm_c_machine.specs.Numbers.{AwaitsNodes, response_told};
+ghost use Rattle.vm_c_machine.specs.Calls.{DoesCall, Takes, Given};
+ghost use Rattle.vm_c_machine.specs.Numbers.{AwaitsNodes};
 ghost use Rattle.vm_c.specs.Calls.{Over};
+ghost use Rattle.vm_c_values.specs.Arguments.{IsTree};
 
 use crate::handle::Handle;
 use crate::status::NO_MACHINE;
@@ -19,7 +20,7 @@ pub extern "C" fn hengomaru_vm_sys_sleep(
     wake_up_millis: u64,
     notification: &mut u32,
 ) -> u32
-    ensures { Over (DoesCall (SysSleep name.now (wake_up_millis * 1_000_000) None) (λ _. notification.new)) handle.old.value result handle.new.value }
+    ensures { Over (Given (IsUtf8 name.now) (DoesCall (SysSleep name.now (wake_up_millis * 1_000_000) None) notification.new)) handle.old.value result handle.new.value }
 {
     match handle.take(alloc) {
         Some(mut held) => {
@@ -40,7 +41,7 @@ pub extern "C" fn hengomaru_vm_do_await(
     outcome: &mut u32,
     detail: &mut u32,
 ) -> u32
-    ensures { Over (DoesCall (AwaitsNodes tree.now) (λ _. response_told outcome.new detail.new)) handle.old.value result handle.new.value }
+    ensures { Over (Given (IsTree tree.now) (DoesCall (AwaitsNodes tree.now outcome.new detail.new) tt)) handle.old.value result handle.new.value }
 {
     match handle.take(alloc) {
         Some(mut held) => {

@@ -18,7 +18,7 @@ use Rattle.vm_c_values.specs.declared.policy.Policy.{Policy}
 -- the greatest number says that none is given
 abbrev pub IsDelay : (millis : ℕ) → Option Duration → Type 0
 IsDelay millis None = millis ≡ 2 ^ 64 - 1
-IsDelay millis (Some delay) = as_nanos delay ≡ millis * 1_000_000
+IsDelay millis (Some delay) = (millis ≡ 2 ^ 64 - 1 → ⊥) × (as_nanos delay ≡ millis * 1_000_000)
 
 -- an error with this code and text, which is tried again after the delay, or pauses the invocation
 abbrev pub IsErrorOfHost : (code : ℕ) → (message : Text) → (delay pause : ℕ) → Error → Type 0

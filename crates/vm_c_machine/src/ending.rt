@@ -3,9 +3,10 @@ ghost use Rattle.std.specs.Prelude.{◌≡◌};
 ghost use Rattle.vm_core.specs.Calls.{SysWriteOutput};
 ghost use Rattle.vm_progress.specs.EndEffects.{EndsAs};
 ghost use Rattle.vm_start.specs.Phases.{kept_error};
-ghost use Rattle.vm_c_machine.specs.Calls.{DoesCall};
+ghost use Rattle.vm_c_machine.specs.Calls.{DoesCall, Given};
 ghost use Rattle.vm_c_values.specs.Options.{payload_options};
 ghost use Rattle.vm_c_values.specs.Records.{value_in};
+ghost use Rattle.vm_c_values.specs.Arguments.{IsValue};
 
 use crate::Machine;
 use bytes::Bytes;
@@ -20,7 +21,7 @@ impl Machine {
         failed: u32,
         unstable: u32,
     ) -> Result<Bytes, NotDone>
-        ensures { DoesCall (SysWriteOutput (value_in failed value.now) (payload_options unstable)) (λ _. tt) self.old result self.new }
+        ensures { Given (IsValue failed value.now) (DoesCall (SysWriteOutput (value_in failed value.now) (payload_options unstable)) tt) self.old result self.new }
     {
         let value = non_empty_value(self.alloc, value, failed)?;
         let options = payload_options(unstable);
@@ -32,7 +33,7 @@ impl Machine {
 
     /// Ends the invocation.
     pub fn sys_end(&mut self) -> Result<Bytes, NotDone>
-        ensures { DoesCall (λ old. EndsAs (kept_error old.phase) old) (λ _. tt) self.old result self.new }
+        ensures { DoesCall (λ old. EndsAs (kept_error old.phase) old) tt self.old result self.new }
     {
         match self.vm.sys_end() {
             Ok(()) => Ok(Bytes::new()),

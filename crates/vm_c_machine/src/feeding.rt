@@ -1,11 +1,12 @@
 // What comes in and goes out.
-ghost use Rattle.std.specs.Prelude.{◌≡◌, None};
+ghost use Rattle.std.specs.Prelude.{◌≡◌, None, IsUtf8};
 ghost use Rattle.vm_feeding.specs.MachineQueries.{TellsReady};
 ghost use Rattle.vm_feeding.specs.EndOfInput.{ClosesInput};
 ghost use Rattle.vm_feeding.specs.InputBytes.{IsFed};
-ghost use Rattle.vm_c_machine.specs.Calls.{Changes, DoesCall, GivesOutput, KeepsReadInput};
+ghost use Rattle.vm_c_machine.specs.Calls.{Changes, DoesCall, GivesOutput, KeepsReadInput, Given};
 ghost use Rattle.vm_c_machine.specs.Host.{IsErrorOfHost, ToldByHost};
 ghost use Rattle.vm_c_values.specs.Options.{is_set};
+ghost use Rattle.vm_c_values.specs.Arguments.{AnyBytes};
 
 use crate::Machine;
 use bytes::{ByteStr, Bytes};
@@ -44,7 +45,7 @@ fn error_of(code: u16, message: ByteStr, delay_millis: u64, pause: u32) -> Error
 impl Machine {
     /// Bytes have come.
     pub fn notify_input(&mut self, bytes: &[u8]) -> Result<Bytes, NotDone>
-        ensures { Changes (IsFed bytes.now) self.old result self.new }
+        ensures { Given AnyBytes (Changes (IsFed bytes.now)) self.old result self.new }
     {
         let copied = copied_bytes(self.alloc, bytes)?;
         self.vm.notify_input(copied);
@@ -67,7 +68,7 @@ impl Machine {
         delay_millis: u64,
         pause: u32,
     ) -> Result<Bytes, NotDone>
-        ensures { Changes (ToldByHost code message.now delay_millis pause) self.old result self.new }
+        ensures { Given (IsUtf8 message.now) (Changes (ToldByHost code message.now delay_millis pause)) self.old result self.new }
     {
         let message = copied_text(self.alloc, message)?;
         let error = error_of(code, message, delay_millis, pause);
@@ -87,7 +88,7 @@ impl Machine {
 
     /// Whether the start and all entries have come that it announces, so that calls can be made.
     pub fn is_ready_to_execute(&mut self, ready: &mut u32) -> Result<Bytes, NotDone>
-        ensures { DoesCall (λ old made new. TellsReady old.phase made × (new ≡ old)) (λ _. is_set ready.new) self.old result self.new }
+        ensures { DoesCall (λ old made new. TellsReady old.phase made × (new ≡ old)) (is_set ready.new) self.old result self.new }
     {
         match self.vm.is_ready_to_execute() {
             Ok(is_ready) => {

@@ -1,10 +1,11 @@
 // Other invocations.
-ghost use Rattle.std.specs.Prelude.{◌≡◌, IfSome};
+ghost use Rattle.std.specs.Prelude.{◌≡◌, IfSome, IsUtf8};
 ghost use Rattle.vm_core.specs.Calls.{SysCall, SysSend, SysCancelInvocation, SysAttachInvocation, SysGetInvocationOutput};
-ghost use Rattle.vm_c_machine.specs.Calls.{DoesCall};
+ghost use Rattle.vm_c_machine.specs.Calls.{DoesCall, Given};
 ghost use Rattle.vm_c_machine.specs.Numbers.{moment_given};
 ghost use Rattle.vm_c_values.specs.Options.{payload_options};
 ghost use Rattle.vm_c_values.specs.Records.{attach_target_in, call_target_in};
+ghost use Rattle.vm_c_values.specs.Arguments.{IsAttachTarget, IsCallTarget};
 
 use crate::Machine;
 use bytes::Bytes;
@@ -27,7 +28,7 @@ fn moment_given(millis: u64) -> Option<Moment>
 impl Machine {
     /// Cancels another invocation.
     pub fn sys_cancel_invocation(&mut self, target_id: &[u8]) -> Result<Bytes, NotDone>
-        ensures { DoesCall (SysCancelInvocation target_id.now) (λ _. tt) self.old result self.new }
+        ensures { Given (IsUtf8 target_id.now) (DoesCall (SysCancelInvocation target_id.now) tt) self.old result self.new }
     {
         let target_id = copied_text(self.alloc, target_id)?;
         match self.vm.sys_cancel_invocation(target_id) {
@@ -42,7 +43,7 @@ impl Machine {
         target: &[u8],
         notification: &mut u32,
     ) -> Result<Bytes, NotDone>
-        ensures { DoesCall (λ old made new. IfSome (attach_target_in target.now) (λ target. SysAttachInvocation target old made new)) (λ _. notification.new) self.old result self.new }
+        ensures { Given (IsAttachTarget target.now) (DoesCall (λ old made new. IfSome (attach_target_in target.now) (λ target. SysAttachInvocation target old made new)) notification.new) self.old result self.new }
     {
         let target = attach_target(self.alloc, target)?;
         match self.vm.sys_attach_invocation(target) {
@@ -60,7 +61,7 @@ impl Machine {
         target: &[u8],
         notification: &mut u32,
     ) -> Result<Bytes, NotDone>
-        ensures { DoesCall (λ old made new. IfSome (attach_target_in target.now) (λ target. SysGetInvocationOutput target old made new)) (λ _. notification.new) self.old result self.new }
+        ensures { Given (IsAttachTarget target.now) (DoesCall (λ old made new. IfSome (attach_target_in target.now) (λ target. SysGetInvocationOutput target old made new)) notification.new) self.old result self.new }
     {
         let target = attach_target(self.alloc, target)?;
         match self.vm.sys_get_invocation_output(target) {
@@ -81,7 +82,7 @@ impl Machine {
         invocation_id: &mut u32,
         answer: &mut u32,
     ) -> Result<Bytes, NotDone>
-        ensures { DoesCall (SysCall (call_target_in target.now).target parameter.now (call_target_in target.now).name (payload_options unstable)) (λ _. record { invocation_id_notification_handle = invocation_id.new; call_notification_handle = answer.new }) self.old result self.new }
+        ensures { Given (IsCallTarget target.now) (DoesCall (SysCall (call_target_in target.now).target parameter.now (call_target_in target.now).name (payload_options unstable)) (record { invocation_id_notification_handle = invocation_id.new; call_notification_handle = answer.new })) self.old result self.new }
     {
         let parameter = copied_bytes(self.alloc, parameter)?;
         let named = call_target(self.alloc, target)?;
@@ -109,7 +110,7 @@ impl Machine {
         unstable: u32,
         invocation_id: &mut u32,
     ) -> Result<Bytes, NotDone>
-        ensures { DoesCall (SysSend (call_target_in target.now).target parameter.now (moment_given execution_time_millis) (call_target_in target.now).name (payload_options unstable)) (λ _. record { invocation_id_notification_handle = invocation_id.new }) self.old result self.new }
+        ensures { Given (IsCallTarget target.now) (DoesCall (SysSend (call_target_in target.now).target parameter.now (moment_given execution_time_millis) (call_target_in target.now).name (payload_options unstable)) (record { invocation_id_notification_handle = invocation_id.new })) self.old result self.new }
     {
         let parameter = copied_bytes(self.alloc, parameter)?;
         let named = call_target(self.alloc, target)?;

@@ -51,7 +51,7 @@ impl Machine {
         fallback_random_seed: u64,
         code: &mut u32,
     ) -> Result<Machine, NotDone>
-        ensures { MakesMachine content_type.now (vm_options options fallback_random_seed) result }
+        ensures { MakesMachine content_type.now (vm_options options fallback_random_seed) code.new result }
     {
         *code = 0;
         let headers = ContentType(copied_text(alloc, content_type)?);

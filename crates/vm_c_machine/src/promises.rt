@@ -1,9 +1,10 @@
 // Promises.
-ghost use Rattle.std.specs.Prelude.{◌≡◌};
+ghost use Rattle.std.specs.Prelude.{◌≡◌, IsUtf8};
 ghost use Rattle.vm_core.specs.Calls.{SysGetPromise, SysPeekPromise, SysCompletePromise};
-ghost use Rattle.vm_c_machine.specs.Calls.{DoesCall};
+ghost use Rattle.vm_c_machine.specs.Calls.{DoesCall, Given};
 ghost use Rattle.vm_c_values.specs.Options.{payload_options};
 ghost use Rattle.vm_c_values.specs.Records.{value_in};
+ghost use Rattle.vm_c_values.specs.Arguments.{IsValue};
 
 use crate::Machine;
 use bytes::Bytes;
@@ -13,7 +14,7 @@ use vm_core::VM;
 impl Machine {
     /// Waits for a promise: the handle's notification brings its value.
     pub fn sys_get_promise(&mut self, key: &[u8], notification: &mut u32) -> Result<Bytes, NotDone>
-        ensures { DoesCall (SysGetPromise key.now) (λ _. notification.new) self.old result self.new }
+        ensures { Given (IsUtf8 key.now) (DoesCall (SysGetPromise key.now) notification.new) self.old result self.new }
     {
         let key = copied_text(self.alloc, key)?;
         match self.vm.sys_get_promise(key) {
@@ -27,7 +28,7 @@ impl Machine {
 
     /// Looks whether a promise is completed: the handle's notification says so, and with what.
     pub fn sys_peek_promise(&mut self, key: &[u8], notification: &mut u32) -> Result<Bytes, NotDone>
-        ensures { DoesCall (SysPeekPromise key.now) (λ _. notification.new) self.old result self.new }
+        ensures { Given (IsUtf8 key.now) (DoesCall (SysPeekPromise key.now) notification.new) self.old result self.new }
     {
         let key = copied_text(self.alloc, key)?;
         match self.vm.sys_peek_promise(key) {
@@ -48,7 +49,7 @@ impl Machine {
         unstable: u32,
         notification: &mut u32,
     ) -> Result<Bytes, NotDone>
-        ensures { DoesCall (SysCompletePromise key.now (value_in failed value.now) (payload_options unstable)) (λ _. notification.new) self.old result self.new }
+        ensures { Given (IsUtf8 key.now × IsValue failed value.now) (DoesCall (SysCompletePromise key.now (value_in failed value.now) (payload_options unstable)) notification.new) self.old result self.new }
     {
         let key = copied_text(self.alloc, key)?;
         let value = non_empty_value(self.alloc, value, failed)?;

@@ -1,12 +1,13 @@
 // Runs.
-ghost use Rattle.std.specs.Prelude.{◌≡◌};
+ghost use Rattle.std.specs.Prelude.{◌≡◌, IsUtf8, IsTrue};
 ghost use Rattle.vm_proposals.specs.RunCallEffects.{CallsRun};
 ghost use Rattle.vm_proposals.specs.ProposalEffects.{ProposesRun};
 ghost use Rattle.vm_refusals.specs.declared.retries.RetryPolicy.{RetryPolicy};
 ghost use Rattle.vm_refusals.specs.declared.runs.RunExitResult.{RunExitResult};
-ghost use Rattle.vm_c_machine.specs.Calls.{DoesCall, ProposesRetry};
+ghost use Rattle.vm_c_machine.specs.Calls.{DoesCall, ProposesRetry, Given};
 ghost use Rattle.vm_c_values.specs.Options.{is_set};
 ghost use Rattle.vm_c_values.specs.Records.{failure_in};
+ghost use Rattle.vm_c_values.specs.Arguments.{AnyBytes, IsFailure, is_policy};
 
 use crate::Machine;
 use crate::feeding::as_number;
@@ -28,7 +29,7 @@ impl Machine {
         replayed: &mut u32,
         notification: &mut u32,
     ) -> Result<Bytes, NotDone>
-        ensures { DoesCall (CallsRun name.now) (λ _. record { replayed = is_set replayed.new; handle = notification.new }) self.old result self.new }
+        ensures { Given (IsUtf8 name.now) (DoesCall (CallsRun name.now) (record { replayed = is_set replayed.new; handle = notification.new })) self.old result self.new }
     {
         let name = copied_text(self.alloc, name)?;
         match self.vm.sys_run(name) {
@@ -43,7 +44,7 @@ impl Machine {
 
     /// The body of a run has ended with this value.
     pub fn propose_run_success(&mut self, notification: u32, value: &[u8]) -> Result<Bytes, NotDone>
-        ensures { DoesCall (ProposesRun notification (RunExitResult.Success value.now) RetryPolicy.Infinite) (λ _. tt) self.old result self.new }
+        ensures { Given AnyBytes (DoesCall (ProposesRun notification (RunExitResult.Success value.now) RetryPolicy.Infinite) tt) self.old result self.new }
     {
         let exit = RunExitResult::Success(copied_bytes(self.alloc, value)?);
         self.propose(notification, exit, RetryPolicy::Infinite)
@@ -55,7 +56,7 @@ impl Machine {
         notification: u32,
         failure: &[u8],
     ) -> Result<Bytes, NotDone>
-        ensures { DoesCall (ProposesRun notification (RunExitResult.TerminalFailure (failure_in failure.now)) RetryPolicy.Infinite) (λ _. tt) self.old result self.new }
+        ensures { Given (IsFailure failure.now) (DoesCall (ProposesRun notification (RunExitResult.TerminalFailure (failure_in failure.now)) RetryPolicy.Infinite) tt) self.old result self.new }
     {
         let exit = RunExitResult::TerminalFailure(terminal_failure(self.alloc, failure)?);
         self.propose(notification, exit, RetryPolicy::Infinite)
@@ -70,7 +71,7 @@ impl Machine {
         message: &[u8],
         policy: &Policy,
     ) -> Result<Bytes, NotDone>
-        ensures { ProposesRetry notification attempt_millis code message.now policy.now self.old result self.new }
+        ensures { Given (IsTrue (is_policy policy.now) × IsUtf8 message.now) (ProposesRetry notification attempt_millis code message.now policy.now) self.old result self.new }
     {
         let Some(policy) = retry_policy(policy) else {
             return Err(NotDone::Unread(Unread::Malformed));
@@ -90,7 +91,7 @@ impl Machine {
         exit: RunExitResult,
         policy: RetryPolicy,
     ) -> Result<Bytes, NotDone>
-        ensures { DoesCall (ProposesRun notification exit policy) (λ _. tt) self.old result self.new }
+        ensures { DoesCall (ProposesRun notification exit policy) tt self.old result self.new }
     {
         match self
             .vm

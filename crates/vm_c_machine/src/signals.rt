@@ -1,9 +1,10 @@
 // Awakeables and signals.
-ghost use Rattle.std.specs.Prelude.{◌≡◌};
+ghost use Rattle.std.specs.Prelude.{◌≡◌, IsUtf8};
 ghost use Rattle.vm_core.specs.Calls.{SysAwakeable, SysCompleteAwakeable, CreateSignalHandle, SysCompleteSignal};
-ghost use Rattle.vm_c_machine.specs.Calls.{DoesCall};
+ghost use Rattle.vm_c_machine.specs.Calls.{DoesCall, Given, GivesAwakeable};
 ghost use Rattle.vm_c_values.specs.Options.{payload_options};
 ghost use Rattle.vm_c_values.specs.Records.{value_in};
+ghost use Rattle.vm_c_values.specs.Arguments.{IsValue};
 
 use crate::Machine;
 use bytes::Bytes;
@@ -19,7 +20,7 @@ impl Machine {
         failed: u32,
         unstable: u32,
     ) -> Result<Bytes, NotDone>
-        ensures { DoesCall (SysCompleteAwakeable id.now (value_in failed value.now) (payload_options unstable)) (λ _. tt) self.old result self.new }
+        ensures { Given (IsUtf8 id.now × IsValue failed value.now) (DoesCall (SysCompleteAwakeable id.now (value_in failed value.now) (payload_options unstable)) tt) self.old result self.new }
     {
         let id = copied_text(self.alloc, id)?;
         let value = non_empty_value(self.alloc, value, failed)?;
@@ -36,7 +37,7 @@ impl Machine {
         name: &[u8],
         notification: &mut u32,
     ) -> Result<Bytes, NotDone>
-        ensures { DoesCall (CreateSignalHandle name.now) (λ _. notification.new) self.old result self.new }
+        ensures { Given (IsUtf8 name.now) (DoesCall (CreateSignalHandle name.now) notification.new) self.old result self.new }
     {
         let name = copied_text(self.alloc, name)?;
         match self.vm.create_signal_handle(name) {
@@ -56,7 +57,7 @@ impl Machine {
         value: &[u8],
         failed: u32,
     ) -> Result<Bytes, NotDone>
-        ensures { DoesCall (SysCompleteSignal target_id.now name.now (value_in failed value.now)) (λ _. tt) self.old result self.new }
+        ensures { Given (IsUtf8 target_id.now × IsUtf8 name.now × IsValue failed value.now) (DoesCall (SysCompleteSignal target_id.now name.now (value_in failed value.now)) tt) self.old result self.new }
     {
         let target_id = copied_text(self.alloc, target_id)?;
         let name = copied_text(self.alloc, name)?;
@@ -69,7 +70,7 @@ impl Machine {
 
     /// A signal that the outside completes by the text that names it: the reply.
     pub fn sys_awakeable(&mut self, notification: &mut u32) -> Result<Bytes, NotDone>
-        ensures { DoesCall SysAwakeable (λ reply. record { id = reply; handle = notification.new }) self.old result self.new }
+        ensures { GivesAwakeable notification.new self.old result self.new }
     {
         match self.vm.sys_awakeable() {
             Ok(made) => {

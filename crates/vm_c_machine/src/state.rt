@@ -1,8 +1,8 @@
 // The object's state.
-ghost use Rattle.std.specs.Prelude.{◌≡◌, None};
+ghost use Rattle.std.specs.Prelude.{◌≡◌, None, IsUtf8};
 ghost use Rattle.vm_core.specs.Calls.{SysStateGet, SysStateGetKeys, SysStateSet, SysStateClear, SysStateClearAll};
 ghost use Rattle.vm_feeding.specs.EphemeralStateReads.{IsGot, IsReadTaken};
-ghost use Rattle.vm_c_machine.specs.Calls.{DoesCall, Takes};
+ghost use Rattle.vm_c_machine.specs.Calls.{DoesCall, Takes, Given};
 ghost use Rattle.vm_c_values.specs.Options.{payload_options};
 
 use crate::Machine;
@@ -19,7 +19,7 @@ impl Machine {
         unstable: u32,
         notification: &mut u32,
     ) -> Result<Bytes, NotDone>
-        ensures { DoesCall (SysStateGet key.now None (payload_options unstable)) (λ _. notification.new) self.old result self.new }
+        ensures { Given (IsUtf8 key.now) (DoesCall (SysStateGet key.now None (payload_options unstable)) notification.new) self.old result self.new }
     {
         let key = copied_text(self.alloc, key)?;
         let options = payload_options(unstable);
@@ -34,7 +34,7 @@ impl Machine {
 
     /// Reads the keys of the object's state.
     pub fn sys_state_get_keys(&mut self, notification: &mut u32) -> Result<Bytes, NotDone>
-        ensures { DoesCall (SysStateGetKeys None) (λ _. notification.new) self.old result self.new }
+        ensures { DoesCall (SysStateGetKeys None) notification.new self.old result self.new }
     {
         match self.vm.sys_state_get_keys(None) {
             Ok(handle) => {
@@ -52,7 +52,7 @@ impl Machine {
         value: &[u8],
         unstable: u32,
     ) -> Result<Bytes, NotDone>
-        ensures { DoesCall (SysStateSet key.now value.now None (payload_options unstable)) (λ _. tt) self.old result self.new }
+        ensures { Given (IsUtf8 key.now) (DoesCall (SysStateSet key.now value.now None (payload_options unstable)) tt) self.old result self.new }
     {
         let key = copied_text(self.alloc, key)?;
         let value = copied_bytes(self.alloc, value)?;
@@ -65,7 +65,7 @@ impl Machine {
 
     /// Clears a key of the state.
     pub fn sys_state_clear(&mut self, key: &[u8]) -> Result<Bytes, NotDone>
-        ensures { DoesCall (SysStateClear key.now None) (λ _. tt) self.old result self.new }
+        ensures { Given (IsUtf8 key.now) (DoesCall (SysStateClear key.now None) tt) self.old result self.new }
     {
         let key = copied_text(self.alloc, key)?;
         match self.vm.sys_state_clear(key, None) {
@@ -76,7 +76,7 @@ impl Machine {
 
     /// Clears the state.
     pub fn sys_state_clear_all(&mut self) -> Result<Bytes, NotDone>
-        ensures { DoesCall (SysStateClearAll None) (λ _. tt) self.old result self.new }
+        ensures { DoesCall (SysStateClearAll None) tt self.old result self.new }
     {
         match self.vm.sys_state_clear_all(None) {
             Ok(()) => Ok(Bytes::new()),
@@ -86,7 +86,7 @@ impl Machine {
 
     /// Reads a key of the object's state, and records nothing of it.
     pub fn ephemeral_state_get(&mut self, key: &[u8], id: &mut u32) -> Result<Bytes, NotDone>
-        ensures { DoesCall (IsGot key.now) (λ _. record { number = id.new }) self.old result self.new }
+        ensures { Given (IsUtf8 key.now) (DoesCall (IsGot key.now) (record { number = id.new })) self.old result self.new }
     {
         let key = copied_text(self.alloc, key)?;
         match self.vm.ephemeral_state_get(key) {

@@ -3,8 +3,8 @@ ghost use Rattle.std.specs.Prelude.{◌≡◌, ◌-ℤ◌, pos};
 ghost use Rattle.protocol_types.specs.Version.{version_content_type};
 ghost use Rattle.vm_feeding.specs.MachineQueries.{state_of_phase};
 ghost use Rattle.vm_feeding.specs.Handles.{LooksAtHandle};
-ghost use Rattle.vm_c_machine.specs.Calls.{Asks};
-ghost use Rattle.vm_c_machine.specs.Numbers.{TellsError, TellsPart, state_number};
+ghost use Rattle.vm_c_machine.specs.Calls.{Asks, AsksForBytes};
+ghost use Rattle.vm_c_machine.specs.Numbers.{TellsError, TellsPart, command_told, delay_told, state_number};
 ghost use Rattle.vm_start.specs.Failure.{behavior_number};
 ghost use Rattle.vm_c_values.specs.Options.{is_set};
 
@@ -39,7 +39,9 @@ fn behavior_number(behavior: ErrorBehavior) -> u32
     }
 }
 
-fn millis_of(delay: Option<Duration>) -> u64 {
+fn millis_of(delay: Option<Duration>) -> u64
+    ensures { result ≡ delay_told delay }
+{
     match delay {
         Some(delay) => u64::try_from(delay.as_millis()).unwrap_or(NO_DELAY),
         None => NO_DELAY,
@@ -47,7 +49,9 @@ fn millis_of(delay: Option<Duration>) -> u64 {
 }
 
 // The index of the command that an error is about, and -1 where it is about none.
-fn command_index_of(error: &Error) -> i64 {
+fn command_index_of(error: &Error) -> i64
+    ensures { result ≡ command_told error.now.related_command }
+{
     match error.related_command() {
         Some(command) => i64::from(command.index),
         None => -1,
@@ -57,7 +61,7 @@ fn command_index_of(error: &Error) -> i64 {
 impl Machine {
     /// How the response begins: its status, and as reply its content type.
     pub fn response_head(&self, status_code: &mut u32) -> Result<Bytes, NotDone>
-        ensures { Asks (λ vm reply. (status_code.new ≡ 200) × (reply ≡ version_content_type vm.version)) self.now result self.now }
+        ensures { AsksForBytes (λ machine reply. (status_code.new ≡ 200) × (reply ≡ version_content_type machine.vm.state.version)) self.now result self.now }
     {
         match self.vm.get_response_head() {
             Ok(head) => {
@@ -70,7 +74,7 @@ impl Machine {
 
     /// How far the attempt has come: 0 its start has not come, 1 replaying, 2 processing, 3 closed.
     pub fn state(&self, state: &mut u32) -> Result<Bytes, NotDone>
-        ensures { Asks (λ vm reply. state.new ≡ state_number (state_of_phase vm.phase vm.active.is_replaying)) self.now result self.now }
+        ensures { Asks (λ vm. state.new ≡ state_number (state_of_phase vm.phase vm.active.is_replaying)) self.now result self.now }
     {
         *state = state_number(self.vm.state());
         Ok(Bytes::new())
@@ -78,7 +82,7 @@ impl Machine {
 
     /// The index of the command that was asked for last, and -1 before the first.
     pub fn last_command_index(&self, index: &mut i64) -> Result<Bytes, NotDone>
-        ensures { Asks (λ vm reply. index.new ≡ pos vm.active.journal.commands -ℤ pos 1) self.now result self.now }
+        ensures { Asks (λ vm. index.new ≡ pos vm.active.journal.commands -ℤ pos 1) self.now result self.now }
     {
         *index = self.vm.last_command_index();
         Ok(Bytes::new())
@@ -86,7 +90,7 @@ impl Machine {
 
     /// Whether something that the handle stands for has come and was looked at.
     pub fn is_completed(&self, notification: u32, completed: &mut u32) -> Result<Bytes, NotDone>
-        ensures { Asks (λ vm reply. LooksAtHandle vm.phase vm.active notification (is_set completed.new)) self.now result self.now }
+        ensures { Asks (λ vm. LooksAtHandle vm.phase vm.active notification (is_set completed.new)) self.now result self.now }
     {
         let is_completed = self.vm.is_completed(NotificationHandle::new(notification));
         *completed = as_number(is_completed);
@@ -121,7 +125,7 @@ impl Machine {
         delay_millis: &mut u64,
         command_index: &mut i64,
     ) -> Result<Bytes, NotDone>
-        ensures { TellsError code.new behavior.new self.now result self.now }
+        ensures { TellsError code.new behavior.new delay_millis.new command_index.new self.now result self.now }
     {
         *code = 0;
         *behavior = 0;

@@ -1,8 +1,9 @@
 // Sleeps, awaits and takes.
-ghost use Rattle.std.specs.Prelude.{◌≡◌, ◌==◌, ◌||◌, ◌*◌, nat_le, None};
+ghost use Rattle.std.specs.Prelude.{◌≡◌, ◌+◌, ◌*◌, if◌then◌else◌, None, IsUtf8};
 ghost use Rattle.vm_core.specs.Calls.{SysSleep, TakeNotification};
-ghost use Rattle.vm_c_machine.specs.Calls.{DoesCall, Takes, Tells};
-ghost use Rattle.vm_c_machine.specs.Numbers.{AwaitsNodes, response_told};
+ghost use Rattle.vm_c_machine.specs.Calls.{DoesCall, Takes, Tells, Given};
+ghost use Rattle.vm_c_machine.specs.Numbers.{AwaitsNodes, outcome_of, detail_of};
+ghost use Rattle.vm_c_values.specs.Arguments.{IsTree};
 
 use crate::Machine;
 use bytes::Bytes;
@@ -13,8 +14,7 @@ use vm_types::AwaitResponse;
 
 // Whom the outside is waited for: 1 for more input, 2 for a run's proposal, 3 for both.
 fn waited_for(input: bool, proposal: bool) -> u32
-    ensures input { (result == 1 || result == 3) ≡ input }
-    ensures proposal { nat_le 2 result ≡ proposal }
+    ensures { result ≡ (if input then 1 else 0) + (if proposal then 2 else 0) }
 {
     match (input, proposal) {
         (false, false) => 0,
@@ -26,7 +26,8 @@ fn waited_for(input: bool, proposal: bool) -> u32
 
 // The outcome of an await, and its detail.
 fn response_numbers(response: &AwaitResponse) -> (u32, u32)
-    ensures { response_told result.0 result.1 ≡ response.now }
+    ensures outcome { result.0 ≡ outcome_of response.now }
+    ensures detail { result.1 ≡ detail_of response.now }
 {
     match response {
         AwaitResponse::AnyCompleted => (0, 0),
@@ -48,7 +49,7 @@ impl Machine {
         wake_up_millis: u64,
         notification: &mut u32,
     ) -> Result<Bytes, NotDone>
-        ensures { DoesCall (SysSleep name.now (wake_up_millis * 1_000_000) None) (λ _. notification.new) self.old result self.new }
+        ensures { Given (IsUtf8 name.now) (DoesCall (SysSleep name.now (wake_up_millis * 1_000_000) None) notification.new) self.old result self.new }
     {
         let name = copied_text(self.alloc, name)?;
         let wake_up = Moment::from_millis(wake_up_millis);
@@ -69,7 +70,7 @@ impl Machine {
         outcome: &mut u32,
         detail: &mut u32,
     ) -> Result<Bytes, NotDone>
-        ensures { DoesCall (AwaitsNodes tree.now) (λ _. response_told outcome.new detail.new) self.old result self.new }
+        ensures { Given (IsTree tree.now) (DoesCall (AwaitsNodes tree.now outcome.new detail.new) tt) self.old result self.new }
     {
         let future = future_of(self.alloc, tree)?;
         match self.vm.do_await(future) {

@@ -1,1 +1,2 @@
 pub mod Stacking
+pub mod Counting

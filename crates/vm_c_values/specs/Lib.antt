@@ -3,3 +3,5 @@ pub mod Options
 pub mod Records
 pub mod Policies
 pub mod Replies
+pub mod Arguments
+pub mod Stacks

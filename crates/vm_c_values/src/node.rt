@@ -1,7 +1,10 @@
 // Trees of handles, as arrays of nodes.
-ghost use Rattle.std.specs.Prelude.{◌≡◌, [], ◌∷◌, ◌++◌, length, IfOk, OnOk};
+ghost use Rattle.std.specs.Prelude.{◌≡◌, ◌≤◌, [], ◌∷◌, ◌++◌, length, IfOk, IfErr, IsTrue, OnOk};
 ghost use Rattle.journal_model.specs.Future.{tree_of};
+ghost use Rattle.vm_c_values.specs.Arguments.{IsTree, IsUnread, Reads};
 ghost use Rattle.vm_c_values.specs.Nodes.{nodes_from_top, nodes_in_order, nodes_of};
+ghost use Rattle.vm_c_values.specs.Stacks.{is_combinator, stands_on};
+ghost use Rattle.vm_c_values.specs.declared.not_done.Unread.TheVariants.{Memory};
 
 use crate::Unread;
 use journal_model::{NotificationHandle, UnresolvedFuture};
@@ -29,6 +32,7 @@ fn children(
 ) -> Result<Sequence<UnresolvedFuture>, Unread>
     ensures as_many { IfOk result (λ children. length children ≡ count) }
     ensures nodes { IfOk result (λ children. nodes_from_top stack.old.items ≡ nodes_in_order children ++ nodes_from_top stack.new.items) }
+    ensures unread { IfErr result (IsUnread (count ≤ length stack.old.items)) }
 {
     let mut children = Sequence::new(alloc);
     for _taken in 0..count {
@@ -47,7 +51,8 @@ fn combined(
     required: u32,
     children: Sequence<UnresolvedFuture>,
 ) -> Result<UnresolvedFuture, Unread>
-    ensures { IfOk result (λ tree. nodes_of (tree_of tree) ≡ record { kind = kind; number = length children; required = required } ∷ nodes_in_order children) }
+    ensures nodes { IfOk result (λ tree. nodes_of (tree_of tree) ≡ record { kind = kind; number = length children; required = required } ∷ nodes_in_order children) }
+    ensures unread { IfErr result (IsUnread (IsTrue (is_combinator kind required))) }
 {
     if kind == 5 {
         return Ok(UnresolvedFuture::AtLeast(required, children));
@@ -72,7 +77,8 @@ fn rooted(
     stack: &mut Vec<UnresolvedFuture>,
     node: Node,
 ) -> Result<UnresolvedFuture, Unread>
-    ensures { IfOk result (λ tree. node ∷ nodes_from_top stack.old.items ≡ nodes_of (tree_of tree) ++ nodes_from_top stack.new.items) }
+    ensures nodes { IfOk result (λ tree. node ∷ nodes_from_top stack.old.items ≡ nodes_of (tree_of tree) ++ nodes_from_top stack.new.items) }
+    ensures unread { IfErr result (IsUnread (IsTrue (stands_on node (length stack.old.items)))) }
 {
     if node.kind != 0 {
         let children = children(alloc, stack, node.number)?;
@@ -85,7 +91,8 @@ fn rooted(
 }
 
 fn put(stack: &mut Vec<UnresolvedFuture>, tree: UnresolvedFuture) -> Result<(), Unread>
-    ensures { OnOk result (stack.new.items ≡ stack.old.items ++ tree ∷ []) }
+    ensures ok { OnOk result (stack.new.items ≡ stack.old.items ++ tree ∷ []) }
+    ensures memory { IfErr result (λ why. why ≡ Memory) }
 {
     match stack.push(tree) {
         Ok(()) => Ok(()),
@@ -95,7 +102,8 @@ fn put(stack: &mut Vec<UnresolvedFuture>, tree: UnresolvedFuture) -> Result<(), 
 
 // The trees of nodes, from the last node on.
 fn stacked(alloc: Global, nodes: &[Node]) -> Result<Vec<UnresolvedFuture>, Unread>
-    ensures { IfOk result (λ stack. nodes_from_top stack.items ≡ nodes.now) }
+    ensures nodes { IfOk result (λ stack. nodes_from_top stack.items ≡ nodes.now) }
+    ensures unread { IfErr result (IsUnread (IsTree nodes.now)) }
 {
     let mut stack = Vec::new(alloc);
     let mut rest = nodes;
@@ -108,10 +116,10 @@ fn stacked(alloc: Global, nodes: &[Node]) -> Result<Vec<UnresolvedFuture>, Unrea
     Ok(stack)
 }
 
-/// The tree of these nodes, which are all of one tree.
-#[tactic(auto, using(crate::proofs::Stacking::alone))]
+/// The tree of these nodes, where they are those of one tree.
+#[tactic(auto, using(crate::proofs::Stacking::alone, crate::proofs::Counting::several))]
 pub fn future_of(alloc: Global, nodes: &[Node]) -> Result<UnresolvedFuture, Unread>
-    ensures { IfOk result (λ future. nodes_of (tree_of future) ≡ nodes.now) }
+    ensures { Reads (IsTree nodes.now) (λ future. nodes_of (tree_of future) ≡ nodes.now) result }
 {
     let mut stack = stacked(alloc, nodes)?;
     let Some(root) = stack.pop() else {

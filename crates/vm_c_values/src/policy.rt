@@ -1,5 +1,6 @@
 // When the body of a run that has failed is executed again.
-ghost use Rattle.std.specs.Prelude.{◌≡◌, ℕ, ◌*◌, IfSome};
+ghost use Rattle.std.specs.Prelude.{◌≡◌, ℕ, ◌*◌, IfSome, is_some};
+ghost use Rattle.vm_c_values.specs.Arguments.{is_policy};
 ghost use Rattle.vm_c_values.specs.Policies.{IsPolicy, IsSpan, number_given, at_bound};
 
 use std::time::Duration;
@@ -51,7 +52,8 @@ fn at_bound(pause: u32) -> OnMaxAttempts
 
 /// The policy of a run's retries; none where the numbers name none: another kind, or a factor over 0.
 pub fn retry_policy(policy: &Policy) -> Option<RetryPolicy>
-    ensures { IfSome result (IsPolicy policy.now) }
+    ensures which { is_some result ≡ is_policy policy.now }
+    ensures policy { IfSome result (IsPolicy policy.now) }
 {
     match policy.kind {
         0 => Some(RetryPolicy::Infinite),

@@ -2,6 +2,7 @@
 ghost use Rattle.std.specs.Prelude.{◌≡◌, Some, IfOk, option_map};
 ghost use Rattle.protocol_wire.specs.Fields.{fields};
 ghost use Rattle.protocol_wire.specs.declared.record.TheConstants.{LEVELS};
+ghost use Rattle.vm_c_values.specs.Arguments.{IsAttachTarget, IsCallTarget, IsFailure, IsRecord, IsValue, Reads};
 ghost use Rattle.vm_c_values.specs.Records.{attached, attach_target_in, call_target_in, failure_in, target_told, value_in};
 
 use crate::Unread;
@@ -16,9 +17,9 @@ use protocol_stream::{to_headers, to_terminal_failure};
 use protocol_wire::{DecodeError, Record, decode};
 use std::alloc::{AllocError, Global};
 
-// The record that a payload is.
+// The record that a payload is, where it is one.
 fn record<R: Record>(alloc: Global, payload: &[u8]) -> Result<R, Unread>
-    ensures { IfOk result (λ read. read ≡ R.of LEVELS (fields payload.now)) }
+    ensures { Reads (IsRecord R.record_type payload.now) (λ read. read ≡ R.of LEVELS (fields payload.now)) result }
 {
     match decode(alloc, payload) {
         Ok(read) => Ok(read),
@@ -29,14 +30,14 @@ fn record<R: Record>(alloc: Global, payload: &[u8]) -> Result<R, Unread>
 
 /// The failure that a payload of a `Failure` tells. A code of more than sixteen bits is 500.
 pub fn terminal_failure(alloc: Global, payload: &[u8]) -> Result<TerminalFailure, Unread>
-    ensures { IfOk result (λ failure. failure ≡ failure_in payload.now) }
+    ensures { Reads (IsFailure payload.now) (λ failure. failure ≡ failure_in payload.now) result }
 {
     Ok(to_terminal_failure(alloc, record(alloc, payload)?)?)
 }
 
 /// A value, or the failure that a payload tells.
 pub fn non_empty_value(alloc: Global, content: &[u8], failed: u32) -> Result<NonEmptyValue, Unread>
-    ensures { IfOk result (λ value. value ≡ value_in failed content.now) }
+    ensures { Reads (IsValue failed content.now) (λ value. value ≡ value_in failed content.now) result }
 {
     if failed == 0 {
         Ok(NonEmptyValue::Success(copied_bytes(alloc, content)?))
@@ -82,7 +83,7 @@ fn target_told(alloc: Global, read: CallCommandMessage) -> Result<NamedTarget, A
 
 /// The target that a payload of a `CallCommandMessage` tells: its parameter and its ids are not looked at.
 pub fn call_target(alloc: Global, payload: &[u8]) -> Result<NamedTarget, Unread>
-    ensures { IfOk result (λ named. named ≡ call_target_in payload.now) }
+    ensures { Reads (IsCallTarget payload.now) (λ named. named ≡ call_target_in payload.now) result }
 {
     Ok(target_told(alloc, record(alloc, payload)?)?)
 }
@@ -123,7 +124,7 @@ fn attached_to(target: InvocationTarget) -> AttachInvocationTarget
 
 /// The target that a payload of an `AttachInvocationCommandMessage` tells; one that tells none is malformed.
 pub fn attach_target(alloc: Global, payload: &[u8]) -> Result<AttachInvocationTarget, Unread>
-    ensures { IfOk result (λ target. Some target ≡ attach_target_in payload.now) }
+    ensures { Reads (IsAttachTarget payload.now) (λ target. Some target ≡ attach_target_in payload.now) result }
 {
     let AttachInvocationCommandMessage { target, .. } = record(alloc, payload)?;
     match target {

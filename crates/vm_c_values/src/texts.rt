@@ -1,5 +1,6 @@
 // Bytes and texts of a host, copied.
-ghost use Rattle.std.specs.Prelude.{◌≡◌, ◌==◌, length, IfOk, IfErr};
+ghost use Rattle.std.specs.Prelude.{◌≡◌, ◌==◌, length, IfOk, IfErr, IsUtf8};
+ghost use Rattle.vm_c_values.specs.Arguments.{Reads};
 ghost use Rattle.vm_c_values.specs.Records.{given};
 ghost use Rattle.vm_c_values.specs.declared.not_done.Unread.TheVariants.{Memory};
 
@@ -15,9 +16,9 @@ pub fn copied_bytes(alloc: Global, source: &[u8]) -> Result<Bytes, Unread>
     Ok(Bytes::copy_from_slice(alloc, source)?)
 }
 
-/// A text of a host, copied.
+/// A text of a host, copied, where it is one.
 pub fn copied_text(alloc: Global, source: &[u8]) -> Result<ByteStr, Unread>
-    ensures { IfOk result (λ text. text ≡ source.now) }
+    ensures { Reads (IsUtf8 source.now) (λ text. text ≡ source.now) result }
 {
     match ByteStr::from_utf8(copied_bytes(alloc, source)?) {
         Ok(text) => Ok(text),

@@ -10,4 +10,5 @@ loop-taken-preserved c =
       omega (arith, longer, length-append c.loop-taken.children (c.in-Some.child ∷ []), c.loop-taken.invariant.0),
       takes_one c.args.stack.now.items c.loop-taken.stack.items c.pop.new.self.items c.loop-taken.children c.push.new.self c.in-Some.child
           c.loop-taken.invariant.1 c.in-Some.ensures.items pushed,
+      omega (arith, c.loop-taken.invariant.2, ap length c.in-Some.ensures.items, length-append c.pop.new.self.items (c.in-Some.child ∷ [])),
     )
