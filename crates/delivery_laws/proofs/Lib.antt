@@ -1,0 +1,9 @@
+pub mod Texts
+pub mod Rows
+pub mod Edits
+pub mod Posted
+pub mod Messages
+pub mod Outbox
+pub mod States
+pub mod Answers
+pub mod DeliveryRows
