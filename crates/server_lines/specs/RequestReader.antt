@@ -7,7 +7,7 @@ use Rattle.script_lines.specs.LineReader.{◌>>=◌, mode_of, number_below}
 use Rattle.server_lines.specs.declared.command.Command.{Command}
 use Rattle.server_lines.specs.declared.command.Command.TheVariants as command
 use Rattle.server_lines.specs.declared.request.Request.{Request}
-use Rattle.server_lines.specs.declared.request.Request.TheVariants.{Invoke, Result, Signal, Cancel, Tick, Begin, Input, Output, Close, Stop, Forget, Due, Next, Show, State, Error, List as ListRequest, Requests}
+use Rattle.server_lines.specs.declared.request.Request.TheVariants.{Invoke, Result, Signal, Cancel, Tick, Begin, Input, Output, Close, Stop, Forget, Due, DueAfter, Next, Show, State, Error, List as ListRequest, Requests}
 use Rattle.server_lines.specs.WordReader.{word_bytes_of, digits_of, key_of, text_of, word_value_of}
 
 unfoldable pub header_read : List ℕ → List ℕ → Option Header
@@ -132,6 +132,12 @@ list_of after most = do
   after ← text_of after
   Some (ListRequest after most)
 
+unfoldable pub due_after_of : List ℕ → List ℕ → Option Request
+due_after_of after most = do
+  most ← number_below (2 ^ 32) most
+  after ← text_of after
+  Some (DueAfter after most)
+
 -- what is read from just so many words
 unfoldable pub of_none : Request → List (List ℕ) → Option Request
 of_none asked [] = Some asked
@@ -153,6 +159,12 @@ of_three read words = None
 unfoldable pub of_invoke : List (List ℕ) → Option Request
 of_invoke (a ∷ b ∷ c ∷ d ∷ e ∷ f ∷ headers) = invoke_of a b c d e f headers
 of_invoke words = None
+
+-- all; or behind an id, at most so many
+unfoldable pub of_due : List (List ℕ) → Option Request
+of_due [] = Some Due
+of_due (a ∷ b ∷ []) = due_after_of a b
+of_due words = None
 
 -- behind an id, at most so many; or from the first one on, as many as a number can say
 unfoldable pub of_list : List (List ℕ) → Option Request
@@ -201,7 +213,7 @@ arguments_of command.Output = of_three output_request
 arguments_of command.Close = of_two close_of
 arguments_of command.Stop = of_two stop_request_of
 arguments_of command.Forget = forget_of
-arguments_of command.Due = of_none Due
+arguments_of command.Due = of_due
 arguments_of command.Next = of_none Next
 arguments_of command.Show = of_one show_of
 arguments_of command.State = of_one state_of

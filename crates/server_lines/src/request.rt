@@ -4,7 +4,7 @@ ghost use Rattle.std.specs.Prelude.{◌≡◌, ◌==◌, map, IfOk};
 ghost use Rattle.std.specs.List.{slice_split};
 ghost use Rattle.script_lines.specs.LineReader.{Gives};
 ghost use Rattle.server_lines.specs.declared.request.Request.TheVariants as asked;
-ghost use Rattle.server_lines.specs.RequestReader.{begin_of, cancel_of, close_of, error_of, forget_of, header_read, headers_of, ids_of, input_of, invoke_of, list_of, of_invoke, of_list, of_none, of_one, of_three, of_two, output_request, request_spelled, request_of, requests_of, result_request_of, show_of, signal_of, state_of, stop_request_of, tick_of};
+ghost use Rattle.server_lines.specs.RequestReader.{begin_of, cancel_of, close_of, due_after_of, error_of, forget_of, header_read, headers_of, ids_of, input_of, invoke_of, list_of, of_due, of_invoke, of_list, of_none, of_one, of_three, of_two, output_request, request_spelled, request_of, requests_of, result_request_of, show_of, signal_of, state_of, stop_request_of, tick_of};
 
 use crate::command::{Command, parse_command};
 use crate::word::{parse_bytes, parse_digits, parse_key, parse_text, parse_value};
@@ -72,6 +72,11 @@ pub enum Request {
     },
     /// Asks which invocations are due.
     Due,
+    /// Asks which are due of those behind an id, at most so many.
+    DueAfter {
+        after: ByteStr,
+        most: u32,
+    },
     /// Asks when the next sleep ends.
     Next,
     /// Asks what is recorded of an invocation.
@@ -302,12 +307,22 @@ fn parse_forget(alloc: Global, arguments: &[&[u8]]) -> Result<Request, LineError
     Ok(Request::Forget { ids })
 }
 
-#[tactic(auto, unfolding(crate::specs::RequestReader::of_none))]
-fn parse_due(arguments: &[&[u8]]) -> Result<Request, LineError>
-    ensures { Gives result (of_none asked.Due (map (λ word. word.now) arguments.now)) }
+#[tactic(auto, unfolding(crate::specs::RequestReader::due_after_of, script_lines::specs::LineReader::then_read))]
+fn parse_due_page(alloc: Global, after: &[u8], most: &[u8]) -> Result<Request, LineError>
+    ensures { Gives result (due_after_of after.now most.now) }
+{
+    let most = parse_u32(most).ok_or(LineError::NotUnderstood)?;
+    let after = parse_text(alloc, after)?;
+    Ok(Request::DueAfter { after, most })
+}
+
+#[tactic(auto, unfolding(crate::specs::RequestReader::of_due))]
+fn parse_due(alloc: Global, arguments: &[&[u8]]) -> Result<Request, LineError>
+    ensures { Gives result (of_due (map (λ word. word.now) arguments.now)) }
 {
     match arguments {
         [] => Ok(Request::Due),
+        [after, most] => parse_due_page(alloc, after, most),
         _ => Err(LineError::NotUnderstood),
     }
 }
@@ -408,7 +423,7 @@ fn parse_words(alloc: Global, words: &[&[u8]]) -> Result<Request, LineError>
         Command::Close => parse_close(alloc, arguments),
         Command::Stop => parse_stop(alloc, arguments),
         Command::Forget => parse_forget(alloc, arguments),
-        Command::Due => parse_due(arguments),
+        Command::Due => parse_due(alloc, arguments),
         Command::Next => parse_next(arguments),
         Command::Show => parse_show(alloc, arguments),
         Command::State => parse_state(alloc, arguments),

@@ -1,80 +1,88 @@
--- What one look for a line feed has read.
-use Rattle.std.proofs.Common.{◌≡◌, ◌≢◌, ℕ, suc, ◌-◌, ◌==◌, Bool, true, false, List, [], ◌∷◌, ◌++◌, length, take, Option, Some, None, refl, sym, ap, subst, ◌∙◌, eqb-true, true≢false, arith}
-use Rattle.std.specs.Prelude.{IfSome, IsNone, OnOk, Result, Ok, Err, is_err, option_map, if◌then◌else◌}
-use Rattle.std.specs.List.{AllByRecursion}
-use Rattle.std.specs.Io.{StopsAt, appended_bytes}
-use Rattle.std.specs.Io.BufRead.{DropsThrough, drop_through, take_through}
-use Rattle.std.specs.Io.KnownBytes.{Consumes}
+-- What is read of a line, part by part.
+use Rattle.std.proofs.Common.{◌≡◌, ◌≢◌, ℕ, ◌+◌, ◌≤◌, ◌<◌, List, [], ◌∷◌, ◌++◌, length, take, All, Option, Some, None, Err, get_or, sym, ap, subst, ◌∙◌, append_assoc, append-nil, length-append, arith}
+use Rattle.std.proofs.lemmas.List.{take_more}
 use Rattle.std.proofs.lemmas.List.Elements.{recursion_from_All as to}
-use Rattle.store_server.specs.LineReads.{IsOpenLine, ReadsLine}
-use Rattle.store_server.specs.Dialogue.{EndOf, HasNoFeed}
+use Rattle.std.proofs.KnownBytes.{Consumes-trans}
+use Rattle.std.specs.Prelude.{option_map}
+use Rattle.std.specs.Io.KnownBytes.{Consumes}
+use Rattle.store_server.specs.declared.fault.ServerFault.{ServerFault}
+use Rattle.store_server.specs.declared.fault.ServerFault.TheVariants.{InputUnreadable, LineTooLong, LineOutOfMemory, AnswerOutOfMemory, Untold, OutputUnwritable}
+use Rattle.store_server.specs.LineReads.{EndOf, HasNoFeed, IsLineText, IsTooLong, ReadsLine, ReadsMore, ReadsPart, ReadsTooMuch, StopsReading, line_limit}
 
--- one less of a longer list
-one_less : (n : ℕ) → suc (suc n) - 1 ≡ suc (suc n - 1)
-one_less n = omega arith
+pub no_feed : (bytes : List ℕ) → All (λ byte. byte ≢ 10) bytes → HasNoFeed bytes
+no_feed bytes all = to (λ byte. byte ≢ 10) bytes all
 
--- all but the last
-first_of : (byte : ℕ) (xs : List ℕ) → take (length (xs ++ byte ∷ []) - 1) (xs ++ byte ∷ []) ≡ xs
-first_of byte [] = refl
-first_of byte (x ∷ []) = refl
-first_of byte (x ∷ y ∷ xs) =
-    ap (λ (n : ℕ). take n (x ∷ y ∷ (xs ++ byte ∷ []))) (one_less (length (xs ++ byte ∷ []))) ∙ ap (λ (l : List ℕ). x ∷ l) (first_of byte (y ∷ xs))
+joined : (xs ys : List ℕ) → HasNoFeed xs → HasNoFeed ys → HasNoFeed (xs ++ ys)
+joined [] ys p q = q
+joined (x ∷ xs) ys p q = (p.0, joined xs ys p.1 q)
 
--- a line that has its line feed has no other
-pub fed_alone : (xs : List ℕ) → StopsAt (xs ++ 10 ∷ []) 10 → HasNoFeed xs
-fed_alone xs stops = subst HasNoFeed (first_of 10 xs) (to (λ x. x ≢ 10) (take (length (xs ++ 10 ∷ []) - 1) (xs ++ 10 ∷ [])) stops)
+pub end_through : (a b c : Option (List ℕ)) (bs : List ℕ) → Consumes a b bs → EndOf b c → EndOf a c
+end_through None b c bs read end = tt
+end_through (Some x) None c bs read end = absurd read
+end_through (Some x) (Some y) c bs read end = end
 
--- a line that has none behind it has none
-open_by : (xs : List ℕ) → AllByRecursion (λ x. x ≢ 10) (take (length xs - 1) xs) → IsOpenLine xs → HasNoFeed xs
-open_by [] some is_open = tt
-open_by (x ∷ []) some is_open = (λ e. is_open [] (ap (λ (n : ℕ). n ∷ []) e), tt)
-open_by (x ∷ y ∷ xs) some is_open =
-    let both : (x ≢ 10) × AllByRecursion (λ x. x ≢ 10) (take (suc (length xs) - 1) (y ∷ xs)) = subst (λ (n : ℕ). AllByRecursion (λ x. x ≢ 10) (take n (x ∷ y ∷ xs))) (one_less (length xs)) some in
-    (both.0, open_by (y ∷ xs) both.1 (λ rest e. is_open (x ∷ rest) (ap (λ (l : List ℕ). x ∷ l) e)))
+-- so much was read of a line
+pub record HasRead (input now : Option (List ℕ)) (line : List ℕ) : Type 0 where
+  pub read : Consumes input now line
+  pub text : IsLineText line
 
-pub open_alone : (xs : List ℕ) → StopsAt xs 10 → IsOpenLine xs → HasNoFeed xs
-open_alone xs stops is_open = open_by xs (to (λ x. x ≢ 10) (take (length xs - 1) xs) stops) is_open
+module _ (input now left : Option (List ℕ)) (had : List ℕ) (so_far : HasRead input now had) where
+  read_behind : (behind has : List ℕ) (more : ReadsMore behind now left had has) → Consumes input left (has ++ behind)
+  read_behind behind has more =
+      subst (λ (bytes : List ℕ). Consumes input left bytes) (sym (append_assoc had more.part behind) ∙ ap (λ (l : List ℕ). l ++ behind) (sym more.line))
+      (Consumes-trans input now left had (more.part ++ behind) so_far.read more.read)
 
--- then all was read
-none_left : (xs : List ℕ) → IsOpenLine (take_through 10 xs) → drop_through 10 xs ≡ []
-none_left [] is_open = refl
-none_left (x ∷ xs) is_open = by (x == 10) refl (none_left xs)
-  where
-    by : (b : Bool) → (x == 10) ≡ b → (IsOpenLine (take_through 10 xs) → drop_through 10 xs ≡ []) → drop_through 10 (x ∷ xs) ≡ []
-    by true e rest_left = absurd (is_open [] (ap (λ (c : Bool). if c then x ∷ [] else x ∷ take_through 10 xs) e ∙ ap (λ (n : ℕ). n ∷ []) (eqb-true x 10 e)))
-    by false e rest_left =
-        ap (λ (c : Bool). if c then xs else drop_through 10 xs) e
-        ∙ rest_left (λ rest is. is_open (x ∷ rest) (ap (λ (c : Bool). if c then x ∷ [] else x ∷ take_through 10 xs) e ∙ ap (λ (l : List ℕ). x ∷ l) is))
+  text_so : (behind has : List ℕ) → ReadsMore behind now left had has → IsLineText has
+  text_so behind has more = record { unfed = subst HasNoFeed (sym more.line) (joined had more.part so_far.text.unfed more.unfed); small = more.small so_far.text.small }
 
-pub at_end : (input left : Option (List ℕ)) (line : List ℕ) → IfSome input (λ xs. line ≡ take_through 10 xs) → DropsThrough input left 10 → IsOpenLine line → EndOf input left
-at_end None left line bytes rest is_open = tt
-at_end (Some xs) left line bytes rest is_open =
-    subst (λ (l : Option (List ℕ)). EndOf (Some xs) l) (sym rest) (none_left xs (λ some e. is_open some (bytes ∙ e)))
+  pub more_read : (has : List ℕ) → ReadsMore [] now left had has → HasRead input left has
+  more_read has more = record { read = subst (λ (bytes : List ℕ). Consumes input left bytes) (append-nil has) (read_behind [] has more); text = text_so [] has more }
 
--- a call that did not fail did this
-pub when_ok : {T E : Type 0} (r : Result T E) (P : Type 0) → is_err r ≡ false → OnOk r P → P
-when_ok (Ok told) P none holds = holds
-when_ok (Err why) P none holds = absurd (true≢false none)
+  pub line_read : (has : List ℕ) → ReadsMore (10 ∷ []) now left had has → ReadsLine input left (Some has)
+  line_read has more = (read_behind (10 ∷ []) has more, text_so (10 ∷ []) has more)
 
--- a line was read that was empty before
-module _ {V : Type 0} (items : V → List ℕ) (input left : Option (List ℕ)) where
-  by_feed : (bytes : List ℕ) (made : Option V) → IfSome made (λ rest. bytes ≡ items rest ++ 10 ∷ []) → (IsNone made → IsOpenLine bytes) → StopsAt bytes 10 → IfSome input (λ xs. bytes ≡ take_through 10 xs)
-      → DropsThrough input left 10 → Consumes input left bytes → ReadsLine input left (option_map items made)
-  by_feed bytes (Some rest) fed is_open stops through dropped read =
-      (subst (λ (l : List ℕ). Consumes input left l) fed read, fed_alone (items rest) (subst (λ (l : List ℕ). StopsAt l 10) fed stops))
-  by_feed bytes None fed is_open stops through dropped read =
-      (bytes, read, open_alone bytes stops (is_open refl), at_end input left bytes through dropped (is_open refl))
+  pub end_read : (has : List ℕ) → ReadsMore [] now left had has × EndOf now left → ReadsLine input left None
+  end_read has it = let all = more_read has it.0 in (has, all.read, all.text.unfed, end_through input now left had so_far.read it.1)
 
-  pub read_so : {T E : Type 0} (had : List ℕ) → had ≡ [] → (bytes : List ℕ) (r : Result T E) → is_err r ≡ false → (made : Option V) → IfSome made (λ rest. bytes ≡ items rest ++ 10 ∷ [])
-      → (IsNone made → IsOpenLine bytes) → StopsAt (appended_bytes had bytes) 10 → OnOk r (IfSome input (λ xs. bytes ≡ had ++ take_through 10 xs)) → OnOk r (DropsThrough input left 10)
-      → Consumes input left (appended_bytes had bytes) → ReadsLine input left (option_map items made)
-  read_so had none bytes r done made fed is_open stops through dropped read =
-      by_feed bytes made fed is_open
-      (subst (λ (l : List ℕ). StopsAt (appended_bytes l bytes) 10) none stops)
-      (subst (λ (l : List ℕ). IfSome input (λ xs. bytes ≡ l ++ take_through 10 xs)) none (when_ok r (IfSome input (λ xs. bytes ≡ had ++ take_through 10 xs)) done through))
-      (when_ok r (DropsThrough input left 10) done dropped)
-      (subst (λ (l : List ℕ). Consumes input left (appended_bytes l bytes)) none read)
+  pub too_long : ReadsTooMuch now left had → (part : List ℕ) × Consumes input left part × IsTooLong part
+  too_long it = (had ++ it.part, Consumes-trans input now left had it.part so_far.read it.read, record { unfed = joined had it.part so_far.text.unfed it.unfed; long = it.long })
 
-  -- the line that was read
-  pub line_read : (made : Option V) (line : V) → made ≡ Some line → ReadsLine input left (option_map items made) → ReadsLine input left (Some (items line))
-  line_read made line is read = subst (λ (o : Option V). ReadsLine input left (option_map items o)) is read
+  pub stopped : Consumes now left [] → (part : List ℕ) × Consumes input left part
+  stopped it = (had ++ [], Consumes-trans input now left had [] so_far.read it)
+
+  -- why no more is read
+  pub stops_so : (has : List ℕ) (fault : ServerFault) → ReadsPart now left had has (Err fault) → StopsReading input left fault
+  stops_so has InputUnreadable it = stopped it
+  stops_so has LineTooLong it = too_long it
+  stops_so has LineOutOfMemory it = stopped it
+  stops_so has AnswerOutOfMemory it = absurd it
+  stops_so has Untold it = absurd it
+  stops_so has OutputUnwritable it = absurd it
+
+-- ---- what a reader has ready
+
+-- the bytes before the first line feed, and that one
+pub feed_taken : (ready : List ℕ) (n : ℕ) → n < length ready → get_or ready n 0 ≡ 10 → take (n + 1) ready ≡ take n ready ++ 10 ∷ []
+feed_taken ready n within is = take_more ready n 0 within ∙ ap (λ (byte : ℕ). take n ready ++ byte ∷ []) is
+
+module _ (input left : Option (List ℕ)) (had has part : List ℕ) (unfed : HasNoFeed part) (line : has ≡ had ++ part) (fits : length had + length part < line_limit) where
+  small_so : length has < line_limit
+  small_so = omega (arith, fits, length-append had part, ap length line)
+
+  pub part_more : Consumes input left part → ReadsMore [] input left had has
+  part_more read = record { part = part; read = subst (λ (bytes : List ℕ). Consumes input left bytes) (sym (append-nil part)) read; unfed = unfed; line = line; small = λ _. small_so }
+
+  pub part_fed : Consumes input left (part ++ 10 ∷ []) → ReadsMore (10 ∷ []) input left had has
+  part_fed read = record { part = part; read = read; unfed = unfed; line = line; small = λ _. small_so }
+
+-- nothing was read
+pub none_more : (input left : Option (List ℕ)) (had : List ℕ) → Consumes input left [] → ReadsMore [] input left had had
+none_more input left had read = record { part = []; read = read; unfed = tt; line = sym (append-nil had); small = λ small. small }
+
+pub much_more : (input left : Option (List ℕ)) (had part : List ℕ) → HasNoFeed part → Consumes input left part → line_limit ≤ length had + length part → ReadsTooMuch input left had
+much_more input left had part unfed read long = record { part = part; read = read; unfed = unfed; long = omega (arith, long, length-append had part) }
+
+-- the line that was read
+pub line_is_read : {V : Type 0} (items : V → List ℕ) (input left : Option (List ℕ)) (made : Option V) (line : V) → made ≡ Some line → ReadsLine input left (option_map items made)
+    → ReadsLine input left (Some (items line))
+line_is_read items input left made line is read = subst (λ o. ReadsLine input left (option_map items o)) is read

@@ -5,3 +5,4 @@ pub mod LineReads
 pub mod Rows
 pub mod Dialogue
 pub mod StoreChanges
+pub mod Lasting

@@ -10,7 +10,7 @@ use Rattle.script_lines.specs.declared.text.LineReply.TheVariants.{Done, Placed,
 use Rattle.server_lines.specs.declared.reply.TakenFrame.{TakenFrame}
 use Rattle.server_lines.specs.declared.reply.TakenFrame.TheVariants as frame
 use Rattle.server_lines.specs.declared.request.Request.{Request}
-use Rattle.server_lines.specs.declared.request.Request.TheVariants.{Invoke, Result as ResultRequest, Signal, Cancel, Tick, Begin, Input, Output, Close, Stop, Forget, Due, Next, Show, State, Error, List as ListRequest, Requests}
+use Rattle.server_lines.specs.declared.request.Request.TheVariants.{Invoke, Result as ResultRequest, Signal, Cancel, Tick, Begin, Input, Output, Close, Stop, Forget, Due, DueAfter, Next, Show, State, Error, List as ListRequest, Requests}
 use Rattle.server_lines.specs.Reply.{begun_line, due_line, error_line, input_line, next_line, no_error_text, not_understood_text, output_line}
 use Rattle.server_lines.specs.RequestReader.{request_of}
 use Rattle.shown_records.specs.ShownTexts.{Shows, TellsState}
@@ -18,6 +18,7 @@ use Rattle.store_refusals.specs.declared.refusal.Refusal.{Refusal}
 use Rattle.store_refusals.specs.Names.{refusal_name_of}
 use Rattle.store_tables.specs.declared.row.LastError.{LastError}
 use Rattle.store_model.specs.Progress.{last_error_of}
+use Rattle.store_reads.specs.DuePage.{due_after}
 use Rattle.store_reads.specs.Page.{invocations_after}
 use Rattle.store_reads.specs.OpenRequests.{open_requests}
 use Rattle.store_steps.specs.declared.frame.FrameReply.{FrameReply}
@@ -109,6 +110,7 @@ DoesRequest (Close id attempt) = Answers done_line (ClosesStoredInput id attempt
 DoesRequest (Stop id attempt) = Answers done_line (Stops id attempt)
 DoesRequest (Forget ids) = Answers done_line (Forgets ids)
 DoesRequest Due = Answers ids_line (Tells (λ events ids. ids ≡ due events))
+DoesRequest (DueAfter after most) = Answers ids_line (Tells (λ events ids. ids ≡ due_after events after most))
 DoesRequest Next = Answers moment_line (Tells IsNextMoment)
 DoesRequest (Show id) = λ text. Shown (Shows id text)
 DoesRequest (State object) = λ text. Shown (TellsState object text)

@@ -5,6 +5,7 @@ ghost use Rattle.due_laws.specs.NextMoment.{IsNextMoment};
 ghost use Rattle.server_lines.specs.Reply.{error_text};
 ghost use Rattle.shown_records.specs.ShownTexts.{HasEntries, HasRecords, RefusesShow, Shows, TellsState};
 ghost use Rattle.store_model.specs.Progress.{last_error_of};
+ghost use Rattle.store_reads.specs.DuePage.{due_after};
 ghost use Rattle.store_reads.specs.Page.{invocations_after};
 ghost use Rattle.store_reads.specs.OpenRequests.{open_requests};
 ghost use Rattle.store_server.specs.StoreChanges.{CommitsNothing, ReachesStore, Tells, TellsKnown, items_told};
@@ -34,6 +35,25 @@ pub(crate) fn due<S: Alter + Drop>(
     ensures { MakesAnswer string_bytes result (λ text. ReachesStore S.Store CommitsNothing (Answers ids_line (Tells (λ events ids. ids ≡ due events)) text) store.old store.new) }
 {
     match store.due() {
+        Ok(ids) => {
+            let text = due_line(alloc, ids.as_slice());
+            drop(ids);
+            text
+        }
+        Err(refusal) => refused(alloc, refusal),
+    }
+}
+
+/// The first so many that are due of those whose ids are above one.
+pub(crate) fn due_page<S: Alter + Drop>(
+    alloc: Global,
+    store: &mut Store<S>,
+    after: &ByteStr,
+    most: u32,
+) -> Result<String, AllocError>
+    ensures { MakesAnswer string_bytes result (λ text. ReachesStore S.Store CommitsNothing (Answers ids_line (Tells (λ events ids. ids ≡ due_after events after.now most)) text) store.old store.new) }
+{
+    match store.due_after(after, most as usize) {
         Ok(ids) => {
             let text = due_line(alloc, ids.as_slice());
             drop(ids);

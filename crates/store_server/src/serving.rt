@@ -1,12 +1,12 @@
 //! The dialogue: a line is read, done and answered before the next is read.
-ghost use Rattle.std.specs.Prelude.{◌≡◌, ◌≤◌, ℕ, length, take, IfErr, IfOk, OnErr, OnOk, string_bytes};
+ghost use Rattle.std.specs.Prelude.{◌≡◌, ◌≤◌, ℕ, length, take, IfErr, IfOk, OnOk, string_bytes};
 ghost use Rattle.std.specs.Io.KnownBytes.{Appends};
-ghost use Rattle.store_server.specs.StoreChanges.{ReachesStore};
-ghost use Rattle.store_server.specs.RequestAnswers.{CutsLine, CutsRequest, DoesLine, DoesRequest, MakesAnswer};
+ghost use Rattle.store_server.specs.RequestAnswers.{MakesAnswer};
+ghost use Rattle.store_server.specs.Lasting.{AnswersLine, AnswersRequest};
 ghost use Rattle.store_server.specs.Dialogue.{DoesGiven, GoesOn, Serves, StopsAtLine};
 
 use crate::answer::not_understood;
-use crate::asks::{due, error, list, next, requests, show, state};
+use crate::asks::{due, due_page, error, list, next, requests, show, state};
 use crate::calls::{
     begin, cancel, close, complete, forget, input, invoke, output, signal, stop, tick,
 };
@@ -25,7 +25,7 @@ fn answer_request<S: Alter + Drop>(
     store: &mut Store<S>,
     request: Request,
 ) -> Result<String, AllocError>
-    ensures { MakesAnswer string_bytes result (λ text. ReachesStore S.Store (CutsRequest request) (DoesRequest request text) store.old store.new) }
+    ensures { MakesAnswer string_bytes result (λ text. AnswersRequest S.Store request text store.old store.new) }
 {
     match request {
         Request::Invoke(new) => invoke(alloc, store, new),
@@ -44,6 +44,7 @@ fn answer_request<S: Alter + Drop>(
         Request::Stop { id, attempt } => stop(alloc, store, &id, attempt),
         Request::Forget { ids } => forget(alloc, store, ids.as_slice()),
         Request::Due => due(alloc, store),
+        Request::DueAfter { after, most } => due_page(alloc, store, &after, most),
         Request::Next => next(alloc, store),
         Request::Show { id } => show(alloc, store, &id),
         Request::State { object } => state(alloc, store, &object),
@@ -59,7 +60,7 @@ fn answer_line<S: Alter + Drop>(
     store: &mut Store<S>,
     line: &[u8],
 ) -> Result<String, ServerFault>
-    ensures ok { IfOk result (λ text. ReachesStore S.Store (CutsLine line.now) (DoesLine line.now (string_bytes text)) store.old store.new) }
+    ensures ok { IfOk result (λ text. AnswersLine S.Store line.now (string_bytes text) store.old store.new) }
     ensures err { IfErr result (λ fault. StopsAtLine S.Store line.now fault store.old store.new) }
 {
     match parse_request(alloc, line)? {
@@ -134,7 +135,7 @@ pub fn serve<R: BufRead, W: Write, S: Alter + Drop>(
     store: &mut Store<S>,
 ) -> Result<(), ServerFault>
     // What was read, done and answered, and why no more. Each line was done as the store's own contract says. What a crash leaves is what
-    // the lines before it left, or what the one at which it came commits.
+    // the lines before it left, or what the one at which it came commits; and what was answered lasts.
     ensures { Serves S.Store (R.remaining reader.old) (R.remaining reader.new) (W.contents writer.old) (W.contents writer.new) store.old store.new result }
 {
     for _ in 0..u64::MAX {

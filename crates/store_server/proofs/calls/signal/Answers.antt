@@ -3,10 +3,10 @@ use Rattle.journal_model.specs.Event.{Event}
 use Rattle.store_calls.specs.AbstractStore.{Adds}
 use Rattle.store_calls.specs.Calls.{Signals}
 use Rattle.store_server.specs.RequestAnswers.{place_line}
-use Rattle.store_server.proofs.Reaching.{answers_always}
+use Rattle.store_server.proofs.Lasting.{answers_written}
 use Rattle.store_server.proofs.calls.signal.Goals as goal
 
 pub returns : goal.returns
 returns g c =
     let asked = c.signal-told in
-    answers_always g.S.Store string_bytes c.placed.result place_line asked.result c.args.store.now asked.new.self c.placed.ensures (Signals c.args.id.now c.args.key c.args.brought) (Adds (Event.Signal c.args.id.now c.args.key c.args.brought)) asked.ensures.crash asked.ensures.does
+    answers_written g.S.Store c.args.store.now asked.new.self string_bytes c.placed.result place_line asked.result c.placed.ensures (Signals c.args.id.now c.args.key c.args.brought) (Adds (Event.Signal c.args.id.now c.args.key c.args.brought)) asked.ensures.crash asked.ensures.does asked.ensures.settled

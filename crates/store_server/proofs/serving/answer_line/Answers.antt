@@ -1,4 +1,4 @@
-use Rattle.std.proofs.Common.{Some, None, refl, sym, ◌∙◌}
+use Rattle.std.proofs.Common.{Some, None, refl, sym, ◌∙◌, inl}
 use Rattle.std.specs.Prelude.{string_bytes}
 use Rattle.server_lines.specs.Reply.{not_understood_text}
 use Rattle.store_server.specs.RequestAnswers.{DoesRead, line_of}
@@ -22,11 +22,11 @@ returns-in-None-clause-ok g c =
     let text = line_of not_understood_text in
     line_answered g.S.Store c.args.line.now c.args.store.now c.args.store.now string_bytes None (sym c.in-None.is ∙ c.in_ok-request.ensures)
     c.not_understood.result c.or-in-None.result c.or-in-None.ensures
-    (text, c.not_understood.ensures, reaches_none g.S.Store CommitsNothing (DoesRead None text) c.args.store.now (λ s. (refl, stays s)))
+    (text, c.not_understood.ensures, record { reaches = reaches_none g.S.Store CommitsNothing (DoesRead None text) c.args.store.now (λ s. (refl, stays s)); lasts = inl tt })
 
 pub returns-in-None-clause-err : goal.returns-in-None-clause-err
 returns-in-None-clause-err g c =
     let text = line_of not_understood_text in
     line_unanswered g.S.Store c.args.line.now c.args.store.now c.args.store.now string_bytes None (sym c.in-None.is ∙ c.in_ok-request.ensures)
     c.not_understood.result c.or-in-None.result c.or-in-None.ensures
-    (text, c.not_understood.ensures, reaches_none g.S.Store CommitsNothing (DoesRead None text) c.args.store.now (λ s. (refl, stays s)))
+    (text, c.not_understood.ensures, record { reaches = reaches_none g.S.Store CommitsNothing (DoesRead None text) c.args.store.now (λ s. (refl, stays s)); lasts = inl tt })

@@ -1,3 +1,6 @@
+use Rattle.std.specs.Prelude.{string_bytes}
+use Rattle.server_lines.specs.declared.request.Request.TheVariants as request
+use Rattle.store_server.proofs.Lasting.{answers_asked}
 use Rattle.store_server.proofs.serving.answer_request.Goals as goal
 
 pub returns-in-Invoke : goal.returns-in-Invoke
@@ -34,22 +37,27 @@ pub returns-in-Forget : goal.returns-in-Forget
 returns-in-Forget g c = rw c.in-Forget.is (rw c.as_slice.ensures at c.forget.ensures)
 
 pub returns-in-Due : goal.returns-in-Due
-returns-in-Due g c = rw c.in-Due.is c.due.ensures
+returns-in-Due g c = rw c.in-Due.is (answers_asked g.S.Store c.args.store.now c.due.new.store string_bytes c.due.result request.Due (λ text. tt) c.due.ensures)
+
+pub returns-in-DueAfter : goal.returns-in-DueAfter
+returns-in-DueAfter g c =
+    rw c.in-DueAfter.is
+    (answers_asked g.S.Store c.args.store.now c.due_page.new.store string_bytes c.due_page.result (request.DueAfter c.in-DueAfter.after c.in-DueAfter.most) (λ text. tt) c.due_page.ensures)
 
 pub returns-in-Next : goal.returns-in-Next
-returns-in-Next g c = rw c.in-Next.is c.next.ensures
+returns-in-Next g c = rw c.in-Next.is (answers_asked g.S.Store c.args.store.now c.next.new.store string_bytes c.next.result request.Next (λ text. tt) c.next.ensures)
 
 pub returns-in-Show : goal.returns-in-Show
-returns-in-Show g c = rw c.in-Show.is c.show.ensures
+returns-in-Show g c = rw c.in-Show.is (answers_asked g.S.Store c.args.store.now c.show.new.store string_bytes c.show.result (request.Show c.in-Show.id) (λ text. tt) c.show.ensures)
 
 pub returns-in-State : goal.returns-in-State
-returns-in-State g c = rw c.in-State.is c.state.ensures
+returns-in-State g c = rw c.in-State.is (answers_asked g.S.Store c.args.store.now c.state.new.store string_bytes c.state.result (request.State c.in-State.object) (λ text. tt) c.state.ensures)
 
 pub returns-in-Error : goal.returns-in-Error
-returns-in-Error g c = rw c.in-Error.is c.error.ensures
+returns-in-Error g c = rw c.in-Error.is (answers_asked g.S.Store c.args.store.now c.error.new.store string_bytes c.error.result (request.Error c.in-Error.id) (λ text. tt) c.error.ensures)
 
 pub returns-in-List : goal.returns-in-List
-returns-in-List g c = rw c.in-List.is c.list.ensures
+returns-in-List g c = rw c.in-List.is (answers_asked g.S.Store c.args.store.now c.list.new.store string_bytes c.list.result (request.List c.in-List.after c.in-List.most) (λ text. tt) c.list.ensures)
 
 pub returns-in-Requests : goal.returns-in-Requests
-returns-in-Requests g c = rw c.in-Requests.is c.requests.ensures
+returns-in-Requests g c = rw c.in-Requests.is (answers_asked g.S.Store c.args.store.now c.requests.new.store string_bytes c.requests.result (request.Requests c.in-Requests.id) (λ text. tt) c.requests.ensures)
