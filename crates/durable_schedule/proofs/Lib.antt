@@ -15,6 +15,7 @@ pub mod Schedules
 mod Reopening
 mod Forgetting
 mod Adding
+mod PartlyTaken
 mod Written
 pub mod Fronting
 pub mod WrongRecords

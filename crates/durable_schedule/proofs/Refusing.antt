@@ -43,7 +43,7 @@ has_cause : (causes : List Cause) (why : Refusal) → IsCertain why → IsRefuse
 has_cause causes why certain it none = some_none why (sym (first_cause causes why certain it) ∙ ap refusal_of_first_cause none)
 
 -- what lies in a frame is no circumstance
-in_frame : (why : Refusal) → lies_in_frame why ≡ true → IsTrue (is_circumstance why) → ⊥
+pub in_frame : (why : Refusal) → lies_in_frame why ≡ true → IsTrue (is_circumstance why) → ⊥
 in_frame (cause.StatementRefused error) lies it = cc
 in_frame cause.OutOfMemory lies it = cc
 in_frame _ lies it = cc
@@ -93,7 +93,7 @@ module _ (database : State) (clean : HasCleanDisk database) (id : Text) (n : ℕ
       (ap (λ (f : Frame). causes_of m.events (Event.Move id n f)) same ∙ accepted_then (Event.Move id n one.frame) m u one.leaves.events)
 
   -- where no further frame is taken, none would be but for a circumstance
-  no_more : (why : Option Refusal) (m t k u : Standing) (told : FrameReply) → AreCertain why → Rests id n why m t → StaysStanding m k → TakesFrame id n told k u → ⊥
+  pub no_more : (why : Option Refusal) (m t k u : Standing) (told : FrameReply) → AreCertain why → Rests id n why m t → StaysStanding m k → TakesFrame id n told k u → ⊥
   no_more None m t k u told certain (inl ended) stays one = over_next m k one.frame one.rest stays ended.over one.next
   no_more None m t k u told certain (inr none) stays one = none_next m k one.frame one.rest t stays none one.next
   no_more (Some why) m t k u told certain (inl room) stays one = not_memory why certain room.memory
@@ -103,7 +103,7 @@ module _ (database : State) (clean : HasCleanDisk database) (id : Text) (n : ℕ
   left_kept true m t it = stopped_kept database clean m t id n it.events
   left_kept false m t it = same_kept m t it.events
 
-  rests_kept : (why : Option Refusal) (m t : Standing) → Rests id n why m t → KeepsAsWell m t
+  pub rests_kept : (why : Option Refusal) (m t : Standing) → Rests id n why m t → KeepsAsWell m t
   rests_kept None m t (inl ended) = same_kept m t ended.stays.events
   rests_kept None m t (inr none) = same_kept m t none.stays.events
   rests_kept (Some why) m t (inl room) = same_kept m t room.stays.events

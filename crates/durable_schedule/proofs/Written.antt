@@ -18,8 +18,10 @@ use Rattle.schedule_laws.specs.Schedules.refusal
 use Rattle.schedule_laws.specs.Schedules.{Event, Reply, HeldAttempt, Scheduled, AppliesAll}
 use Rattle.scheduler.specs.declared.scheduler.Scheduler.{Scheduler}
 use Rattle.scheduler.specs.SchedulerCalls.{AppliesWith}
-use Rattle.durable_schedule.specs.Runs.{AppliesAnswered, AppliesFirst, AreCertain, EnduresUnwritten, IsCertain, IsWrittenSo, LastsBehind, LastsBy, LastsNext, NoneWritten, at_first}
+use Rattle.durable_schedule.specs.Runs.{AppliesAnswered, AppliesFirst, AreCertain, EnduresUnwritten, HasTakenOf, IsCertain, IsWrittenSo, LastsBehind, LastsBy, LastsNext, NoneWritten, at_first}
+use Rattle.durable_schedule.proofs.PartlyTaken.{so_written, taken_left, taken_or_not}
 use Rattle.durable_schedule.proofs.Running.{LeadsFirst, all_first, first_of_more}
+use Rattle.durable_schedule.proofs.Settling.{SettlesOne}
 
 -- ---- what lasts
 
@@ -59,13 +61,13 @@ module _ {H : Type 0} where
   behind_more P Q f [] replies it = f it
   behind_more P Q f (one ∷ asked) [] it = f it
 
-  -- an event was answered as written, or not
-  written_or_not : (one : Event H) (answer : Reply) → IsWrittenSo one answer ⊎ (IsWrittenSo one answer → ⊥)
-  written_or_not (event.Feed id attempt count) answer = inr (λ it. it)
-  written_or_not (event.Close id attempt) answer = inr (λ it. it)
-  written_or_not (event.Turn id attempt outcome) answer = inr (λ it. it)
-  written_or_not (event.Stop id attempt) answer = inr (λ it. it)
-  written_or_not _ answer = by_or_not answer
+  -- all of an event was answered as written, or not
+  whole_or_not : (one : Event H) (answer : Reply) → LastsNext ⊥ one answer ⊎ (LastsNext ⊥ one answer → ⊥)
+  whole_or_not (event.Feed id attempt count) answer = inr (λ it. it)
+  whole_or_not (event.Close id attempt) answer = inr (λ it. it)
+  whole_or_not (event.Turn id attempt outcome) answer = inr (λ it. it)
+  whole_or_not (event.Stop id attempt) answer = inr (λ it. it)
+  whole_or_not _ answer = by_or_not answer
 
   none_more : (events : List (Event H)) (replies : List Reply) (one : Event H) (answer : Reply) → NoneWritten events replies → (IsWrittenSo one answer → ⊥) → NoneWritten (events ++ one ∷ []) (replies ++ answer ∷ [])
   none_more [] [] one answer none not = (not, tt)
@@ -133,15 +135,15 @@ module _ {H : Type 0} (function : H → Handler) (options : VMOptions) where
     module _ (events : List (Event H)) (replies : List Reply) (one : Event H) (answer : Reply) (first : Stored S) (old new : Scheduler H S)
         (early : HasCleanDisk (state g new.store.connection) → HasCleanDisk (state g old.store.connection)) (leads : LeadsFirst function options g events replies first old)
         (now : LeadsFirst function options g (events ++ one ∷ []) (replies ++ answer ∷ []) first new) (left : LeavesAnswered events replies first old.store)
-        (second : Endures g (AppliesWith function options one old.held) old.store new.store) (clean : HasCleanDisk (state g new.store.connection)) (trees : Trees)
-        (may : (state g new.store.connection).may_leave trees) where
+        (second : Endures g (AppliesWith function options one old.held) old.store new.store) (settled : SettlesOne function options g one answer old new)
+        (clean : HasCleanDisk (state g new.store.connection)) (trees : Trees) (may : (state g new.store.connection).may_leave trees) where
       abbrev Left : Type 0
       Left =
           (NoneWritten (events ++ one ∷ []) (replies ++ answer ∷ []) × (state g first.connection).may_leave trees)
           ⊎ KeepsStanding g (AppliesAnswered function options (events ++ one ∷ []) (replies ++ answer ∷ [])) first trees
 
       -- it was written: all lasts
-      written : IsWrittenSo one answer → Left
+      written : LastsNext ⊥ one answer → Left
       written is_so = inr (λ s is.
           let First : Type 0 = Outlasts s.events (state g first.connection) in
           let before = leads (early clean) s is in
@@ -167,8 +169,33 @@ module _ {H : Type 0} (function : H → Handler) (options : VMOptions) where
             ))
       ]
 
+      -- frames of it were: they last, and the next one may have been written too
+      partly : HasTakenOf one answer → Left
+      partly some = inr (λ s is.
+          let before = leads (early clean) s is in
+          let to = settled (so_written one answer some) clean before.0 before.1 in
+          elim (taken_left function options (state g new.store.connection) clean trees may one answer before.0 to.0 some to.2 to.3) [
+            | inl kept ↦ (
+              to.0.standing,
+              all_answered (events ++ one ∷ []) (replies ++ answer ∷ []) s to.0 (schedules_grow function options events replies (at_first s) before.0 to.0 one answer before.2 to.2),
+              kept,
+            )
+            | inr late ↦ (
+              late.0,
+              last_otherwise events replies one answer late.1.0 s (record { standing = late.0; held = late.1.1 })
+                  (schedules_grow function options events replies (at_first s) before.0 (record { standing = late.0; held = late.1.1 }) one late.1.0 before.2 late.1.2),
+              late.2,
+            )
+          ])
+
       pub one_left : Left
-      one_left = elim (written_or_not one answer) [ inl is_so ↦ written is_so | inr not ↦ unwritten not ]
+      one_left = elim (whole_or_not one answer) [
+        | inl whole ↦ written whole
+        | inr not_whole ↦ elim (taken_or_not one answer) [
+          | inl some ↦ partly some
+          | inr none ↦ unwritten (λ it. elim it [ inl whole ↦ not_whole whole | inr some ↦ none some ])
+        ]
+      ]
 
     -- so a crash leaves what it could leave before, or what was answered so
     pub answered_endures : (events : List (Event H)) (replies : List Reply) (old new : Stored S) → Endures g (AppliesFirst function options events) old new → LeavesAnswered events replies old new

@@ -1,5 +1,5 @@
 -- What a schedule has recorded, in terms of accepted events, behind those that its store stood for: the statement in front of all others.
-use Rattle.std.specs.Prelude.{◌≡◌, ◌≢◌, ◌⊎◌, ℕ, ◌+◌, ◌||◌, if◌then◌else◌, List, [], ◌∷◌, ◌++◌, length, map, take, Option, Some, None, bytes_eq}
+use Rattle.std.specs.Prelude.{◌≡◌, ◌≢◌, ◌⊎◌, ℕ, ◌+◌, ◌<◌, ◌≤◌, ◌||◌, if◌then◌else◌, List, [], ◌∷◌, ◌++◌, length, map, take, Option, Some, None, bytes_eq}
 use Rattle.std.specs.List.{AllByRecursion, list_any, sum}
 use Rattle.sqlite_trees.specs.declared.store.Store.{Ghosts}
 use Rattle.sqlite_trees.specs.Tree.{Trees}
@@ -38,10 +38,10 @@ use Rattle.durable_schedule.specs.Runs.{AreButLast, LastsBehind, NoneWritten}
 -- ---- what was accepted, by the replies
 
 -- How many bytes are fed of those that are left: as many as are there, up to those that are asked for. Where the store refuses a further part,
--- one at least.
+-- one at least, of those that are there, and fewer than were asked for.
 abbrev pub AreFed : (count : ℕ) → (left : Bytes) → (bytes : ℕ) → Option Refusal → Type 0
 AreFed count left bytes None = bytes ≡ length (take count left)
-AreFed count left bytes (Some why) = bytes ≢ 0
+AreFed count left bytes (Some why) = (bytes ≢ 0) × (bytes < count) × (bytes ≤ length left)
 
 -- What is accepted of one event of a schedule behind those before, the last one first, by its reply, and which numbers the reply tells: the
 -- place that an arrival takes, how many sleeps a tick ends, which attempt begins, how much of its input it is fed. A feed is handed out in

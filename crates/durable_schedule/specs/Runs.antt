@@ -80,9 +80,14 @@ abbrev pub LastsBehind : {H : Type 0} → Type 0 → List (scheduled.Event H) �
 LastsBehind Before (one ∷ events) (answer ∷ replies) = LastsBehind (LastsNext Before one answer) events replies
 LastsBehind Before _ _ = Before
 
--- an event was answered so that all of it was written for certain, and so all before it
+-- frames of a move were taken and told, whatever was refused behind them
+abbrev pub HasTakenOf : {H : Type 0} → scheduled.Event H → Reply → Type 0
+HasTakenOf (event.Move id attempt count) (reply.Moved bytes frames why) = frames ≢ 0
+HasTakenOf one answer = ⊥
+
+-- an event was answered so that all of it was written for certain, or these frames, and so all before it
 abbrev pub IsWrittenSo : {H : Type 0} → scheduled.Event H → Reply → Type 0
-IsWrittenSo one answer = LastsNext ⊥ one answer
+IsWrittenSo one answer = LastsNext ⊥ one answer ⊎ HasTakenOf one answer
 
 -- none of these events was, each with its reply
 abbrev pub NoneWritten : {H : Type 0} → List (scheduled.Event H) → List Reply → Type 0

@@ -32,6 +32,7 @@ pub fn run_reopened_schedule<H: Handler + Drop, S: Alter + Drop>(
     ensures written { IfOk result (λ done. (before : List Accepted) → StandsFor S.Store before store → HasCleanDisk (state S.Store done.0.store.connection) → (trees : Trees) → (state S.Store done.0.store.connection).may_leave trees → KeepsWritten H.next_call options before events.items done.1.items (state S.Store store.connection).may_leave trees) }
     // Where the database refused a statement, the reply tells its own cause.
     ensures causes { IfOk result (λ done. TellsCauses S.Store H.next_call options events.items done.1.items store done.0) }
+    ensures options { IfOk result (λ done. done.0.options ≡ options) }
     ensures err { IfErr result (λ refused. refused.store ≡ store) }
 {
     invocations_stand_alone();
@@ -60,6 +61,7 @@ pub fn run_new_schedule<H: Handler + Drop, S: Alter + Drop>(
     ensures written { IfOk result (λ done. StandsFor S.Store [] store → HasCleanDisk (state S.Store done.0.store.connection) → (trees : Trees) → (state S.Store done.0.store.connection).may_leave trees → KeepsWritten H.next_call options [] events.items done.1.items (state S.Store store.connection).may_leave trees) }
     // Where the database refused a statement, the reply tells its own cause.
     ensures causes { IfOk result (λ done. TellsCauses S.Store H.next_call options events.items done.1.items store done.0) }
+    ensures options { IfOk result (λ done. done.0.options ≡ options) }
     ensures err { IfErr result (λ refused. refused.store ≡ store) }
 {
     run_reopened_schedule(alloc, store, options, events)

@@ -15,7 +15,7 @@ ghost use Rattle.durable_schedule.specs.Runs.{EnduresUnwritten, LastsBehind, Lea
 
 mod files;
 mod front;
-mod laws;
+pub mod laws;
 pub mod options;
 pub mod values;
 
@@ -28,8 +28,9 @@ pub use front::{run_new_schedule, run_reopened_schedule};
 pub use journal_store::{Closing, InvocationRow, OpenRequest, Progress, Store};
 pub use laws::{forgotten_stores_hold, reopened_stores_hold};
 pub use schedule_laws::{
-    entries_keep_places, frames_are_taken, inputs_are_handed_out, invocations_stand_alone,
-    records_of_runs, replies_alike, schedules_keep, schedules_leave, settled_once_record_the_same,
+    entries_keep_places, forgetting_keeps, frames_are_taken, inputs_are_handed_out,
+    invocations_stand_alone, records_of_runs, replies_alike, schedules_keep, schedules_leave,
+    settled_once_record_the_same,
 };
 pub use scheduler::{
     Answer, AttachInvocationTarget, AwaitedFuture, Call, Cause, Effects, EntryKind, Error, Event,
@@ -37,14 +38,10 @@ pub use scheduler::{
     NewInvocation, NonEmptyValue, NotificationHandle, NotificationResult, Outcome, PayloadOptions,
     RecordedEntry, Refusal, Reply, RetryPolicy, RunExitResult, RunOutcome, Scheduler, Sequence,
     SignalKey, StateMode, StateRow, Target, TerminalFailure, Turn, UnresolvedFuture, VMOptions,
-    Value, Waits,
+    Value, Waits, attempts_are_let_go,
 };
 pub use sqlite::Alter;
 use std::alloc::Global;
-pub use straight_line::laws::{
-    answers_are_of_kind, calls_come_in_order, calls_stay_on, never_goes_astray, takes_are_of_kind,
-    takes_bring_something, takes_stay_on,
-};
 pub use straight_line::{
     Awakeable, Called, Calls, Combinator, DurableFuture, IdAsked, KeysRead, Peeked, StateRead,
     Stop, Straight, StraightLine, Timer, Told, future_over,

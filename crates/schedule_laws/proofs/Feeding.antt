@@ -23,7 +23,7 @@ none_behind (x ∷ xs) ys e = absurd (let never : ◌≡◌ {A = Bytes} (x ∷ (
 
 module _ (id : Text) (n count : ℕ) where
   -- not more than were asked for
-  parts_within : (parts : List Bytes) (s t : Standing) → HandsOutEach id n count parts s t → length (given_in parts) ≤ count
+  pub parts_within : (parts : List Bytes) (s t : Standing) → HandsOutEach id n count parts s t → length (given_in parts) ≤ count
   parts_within [] s t it = omega arith
   parts_within (last ∷ earlier) s t it =
       let before = parts_within earlier s it.0 it.1 in

@@ -22,6 +22,8 @@ pub mod Replying
 pub mod Written
 pub mod Waiting
 pub mod Leaving
+pub mod LettingGo
+pub mod Forgetting
 pub mod Schedules
 pub mod Isolation
 pub mod EntryPlaces

@@ -1,5 +1,5 @@
 -- What schedules keep, and what they leave.
-use Rattle.std.specs.Prelude.{◌≡◌, ℕ, false, List, [], ◌∷◌, ◌++◌, length, IfSome, Some, None}
+use Rattle.std.specs.Prelude.{◌≡◌, ℕ, false, if◌then◌else◌, List, [], ◌∷◌, ◌++◌, length, IfSome, Option, Some, None}
 use Rattle.std.specs.List.{AllByRecursion}
 use Rattle.journal_model.specs.declared.invocation.NewInvocation.{NewInvocation}
 use Rattle.journal_model.specs.Notification.{Bytes, Text}
@@ -11,6 +11,7 @@ use Rattle.journal_model.specs.Headline.{Headline, NeverLate, WakesExactly}
 use Rattle.vm_types.specs.Options.{run_options}
 use Rattle.vm_types.specs.declared.options.VMOptions.{VMOptions}
 use Rattle.store_calls.specs.AbstractStore.{Standing}
+use Rattle.store_calls.specs.Forgetting.{LeavesOthers}
 use Rattle.store_refusals.specs.declared.refusal.Refusal.{Refusal}
 use Rattle.store_steps.specs.PreparedFrames.{lies_in_frame}
 use Rattle.vm_attempt_laws.specs.TurnReports.{Told}
@@ -19,7 +20,7 @@ use Rattle.schedule_laws.specs.TrackedAttempt.{Tracked}
 use Rattle.schedule_laws.specs.InvocationInRun.{ReplaysInLine, HoldsOf, given_of, ToldOf, FollowsTold, Follows}
 use Rattle.schedule_laws.specs.Schedules.event
 use Rattle.schedule_laws.specs.Schedules.reply
-use Rattle.schedule_laws.specs.Schedules.{Event, Reply, HeldAttempt, held_of, with_attempt, given_in, FeedsParts, MovesOne, Does, Scheduled, AppliesAll, Brings, FitsEvent}
+use Rattle.schedule_laws.specs.Schedules.{Event, Reply, HeldAttempt, held_of, is_among, left_of, with_attempt, given_in, FeedsParts, MovesOne, Does, Scheduled, AppliesAll, Brings, FitsEvent}
 use Rattle.schedule_laws.specs.TurnReplies.{TellsAttempt, is_of_attempt, attempt_start_of, TakesAsTold, told_start}
 use Rattle.schedule_laws.specs.WrittenFrames.{BeginsUnwritten, LeavesHeld, MovesBytes}
 
@@ -99,6 +100,16 @@ module _ {H : Type 0} (function : H → Handler) where
   NoneRefused = (next : Handler) (options : VMOptions) (old new : Standing) (held : List (HeldAttempt H)) (count bytes frames : ℕ) (why : Refusal) (one : HeldAttempt H) (changed : Attempt H)
       → ReplaysInLine options → held_of held one.invocation one.number ≡ Some one → MovesOne count one old (reply.Moved bytes frames (Some why)) new changed
       → Follows function next options one.invocation old held → lies_in_frame why ≡ false
+
+  -- letting go of attempts keeps an invocation in its run, with what was told of them
+  abbrev pub LettingGoKeeps : Type 0
+  LettingGoKeeps = (next : Handler) (options : VMOptions) (id : Text) (s : Standing) (held : List (HeldAttempt H)) (told : ToldOf) (ids : List Text) (number : Option ℕ)
+      → FollowsTold function next options id told s held → FollowsTold function next options id told s (left_of ids number held)
+
+  -- So does forgetting invocations, and letting go of their attempts: of one that is forgotten nothing was told.
+  abbrev pub ForgettingKeeps : Type 0
+  ForgettingKeeps = (next : Handler) (options : VMOptions) (id : Text) (ids : List Text) (s t : Standing) (held : List (HeldAttempt H)) (told : ToldOf) → LeavesOthers ids s t
+      → FollowsTold function next options id told s held → FollowsTold function next options id (if is_among ids id then (λ number. None) else told) t (left_of ids None held)
 
   -- ---- what a schedule leaves
 

@@ -12,7 +12,7 @@ ghost use Rattle.schedule_laws.specs.HandedInput.{HandsOutInput};
 ghost use Rattle.schedule_laws.specs.FrameSoundness.{NoneLieInFrames};
 ghost use Rattle.schedule_laws.specs.FittingLaws.{AttemptsAreFedWell, AttemptsCanStart, MessagesMayCome};
 ghost use Rattle.schedule_laws.specs.Isolation.{AllAnswerAlone, AllKeepState, AllReplyAlike, AllStandAlone};
-ghost use Rattle.schedule_laws.specs.Laws.{FollowsHolds, FramesAreTaken, HoldsClosed, HoldsFollows, HoldsHeadline, HoldsNeverLate, HoldsTold, HoldsWakesExactly, KeptByEach, LeavesHolds, NoneRefused, ToldByEach};
+ghost use Rattle.schedule_laws.specs.Laws.{FollowsHolds, ForgettingKeeps, FramesAreTaken, HoldsClosed, HoldsFollows, HoldsHeadline, HoldsNeverLate, HoldsTold, HoldsWakesExactly, KeptByEach, LeavesHolds, LettingGoKeeps, NoneRefused, ToldByEach};
 ghost use Rattle.schedule_laws.specs.SettledOnce.{SettledOnceTheSame};
 
 use journal_laws::invocations_isolated;
@@ -85,6 +85,12 @@ pub fn schedules_keep<H: Handler>()
     turns_tell::<H>();
     overs_stay::<H>();
 }
+
+/// Letting go of attempts keeps an invocation in its run, and so does forgetting others. One that is forgotten is one that was not begun yet.
+pub fn forgetting_keeps<H: Handler>()
+    ensures let_go { LettingGoKeeps H.next_call }
+    ensures forgotten { ForgettingKeeps H.next_call }
+{}
 
 /// So a schedule leaves, of each invocation whose begins all bring one function, what the next one needs.
 pub fn schedules_leave<H: Handler>()

@@ -4,3 +4,4 @@ pub mod Applying
 mod Placing
 pub mod Keeping
 pub mod Executing
+pub mod LettingGo

@@ -13,3 +13,4 @@ pub mod Places
 pub mod AttemptIndex
 pub mod Lends
 pub mod Executing
+pub mod LettingGo

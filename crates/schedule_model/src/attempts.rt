@@ -1,18 +1,21 @@
 // The attempts that are held.
-ghost use Rattle.std.specs.Prelude.{◌≡◌, ◌+◌, ◌<◌, [], ◌∷◌, ◌++◌, vec_len, vec_capacity, OnOk, OnErr, IfErr};
+ghost use Rattle.std.specs.Prelude.{◌≡◌, ◌+◌, ◌<◌, [], ◌∷◌, ◌++◌, vec_len, vec_capacity, OnOk, OnErr, IfErr, IfOk};
 ghost use Rattle.std.specs.Borrow.{sem};
 ghost use Rattle.std.specs.Option.{option_copied_mut, option_map};
 ghost use Rattle.schedule_model.specs.HeldAttempts.{held_of};
 ghost use Rattle.schedule_model.specs.Lends.{held_as, lends_attempt};
+ghost use Rattle.schedule_model.specs.LettingGo.{HasPlaces, left_of};
 
 use crate::held::HeldAttempt;
 use crate::kept::KeptAttempt;
+use crate::leaving::{PlacesLeft, keep_left, places_left};
 use crate::places::AttemptPlaces;
 use bytes::ByteStr;
-use std::alloc::{AllocFailed, Global};
+use std::alloc::{AllocError, AllocFailed, Global};
 use std::marker::Model;
+use std::mem::replace;
 
-/// The attempts that a scheduler began, in the order of their begins, each found by its invocation and number.
+/// The attempts that a scheduler began and has not let go of, in the order of their begins, each found by its invocation and number.
 ///
 /// Contracts see the list of them. Where two are of one invocation and number, the first is found.
 #[derive(Drop)]
@@ -94,5 +97,30 @@ impl<H> HeldAttempts<H> {
                 Some(&mut one.attempt)
             }
         }
+    }
+
+    /// Room for letting go of the attempts of these invocations, or, where a number is told, of those among them that have it. Nothing
+    /// is let go of yet.
+    pub fn room_without(
+        &self,
+        ids: &[ByteStr],
+        number: Option<u32>,
+    ) -> Result<PlacesLeft, AllocError>
+        ensures { IfOk result (λ room. HasPlaces room (left_of ids.now number self.now)) }
+    {
+        let places = places_left(self.alloc, self.attempts.as_slice(), ids, number)?;
+        Ok(PlacesLeft { places })
+    }
+
+    /// Lets go of them, for which there is room. The others stay in their order. It takes time by how many are held.
+    pub fn let_go(&mut self, ids: &[ByteStr], number: Option<u32>, room: PlacesLeft)
+    where
+        H: Drop,
+        requires { HasPlaces room (left_of ids.now number self.old) }
+        ensures { self.new ≡ left_of ids.now number self.old }
+    {
+        let PlacesLeft { places } = room;
+        keep_left(&mut self.attempts, ids, number);
+        drop(replace(&mut self.places, places));
     }
 }

@@ -1,4 +1,5 @@
 //! Laws of what is held, and of lists of events. The functions do nothing: their contracts are the laws.
+ghost use Rattle.schedule_model.specs.LettingGo.{AreLetGo};
 ghost use Rattle.schedule_model.specs.Laws.{ClosesReach, FeedsReach, MovesReach, NoneHeld, SchedulesGrow, TurnsReach};
 
 use journal_model::Handler;
@@ -15,4 +16,9 @@ pub fn attempts_are_held<H: Handler>()
     ensures closes { ClosesReach H }
     ensures moves { MovesReach H }
     ensures turns { TurnsReach H.next_call }
+{}
+
+/// An attempt that was let go of is not held, so each event of it is X2; and the others are held as before.
+pub fn attempts_are_let_go<H: Handler>()
+    ensures { AreLetGo H }
 {}

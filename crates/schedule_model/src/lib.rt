@@ -9,6 +9,7 @@ mod fitting;
 mod held;
 mod kept;
 mod laws;
+mod leaving;
 mod outcome;
 mod places;
 
@@ -19,7 +20,8 @@ pub use fitting::{invocation_fits, result_fits, signal_fits};
 pub use held::HeldAttempt;
 pub use journal_model::SignalKey;
 pub use kept::KeptAttempt;
-pub use laws::{attempts_are_held, schedules_grow};
+pub use laws::{attempts_are_held, attempts_are_let_go, schedules_grow};
+pub use leaving::PlacesLeft;
 pub use outcome::tells_mismatch;
 pub use store_refusals::{Cause, Refusal};
 pub use vm_attempt::{Attempt, RetryPolicy, RunExitResult, RunOutcome, Turn};

@@ -10,3 +10,4 @@ pub mod Left
 pub mod Alone
 pub mod Begun
 pub mod Turning
+pub mod LettingGo

@@ -83,7 +83,7 @@ rests_behind count one moved same s t it why rests =
     )
 
 -- the last of them ended the attempt, or no room is left for more answers
-moves_first : {H : Type 0} (count : ℕ) (one : HeldAttempt H) (moved : Bytes) → moved ≡ take (min count (length (output_of one.attempt))) (output_of one.attempt)
+pub moves_first : {H : Type 0} (count : ℕ) (one : HeldAttempt H) (moved : Bytes) → moved ≡ take (min count (length (output_of one.attempt))) (output_of one.attempt)
     → (s t : Standing) → AcceptsFirst one.invocation one.number moved s t → MovesSome count one s t
 moves_first count one moved same s t it =
     let id = one.invocation in

@@ -6,3 +6,4 @@ pub mod Loop
 pub mod DueAttempts
 pub mod Begins
 pub mod PutOff
+pub mod LettingGo

@@ -6,6 +6,7 @@ mod due;
 mod feeding;
 mod held;
 mod host;
+mod letting_go;
 mod outcome;
 mod replies;
 mod scheduler;
@@ -16,7 +17,8 @@ pub use outcome::Outcome;
 pub use protocol_errors::Error;
 pub use schedule_model::{
     Attempt, Cause, Effects, Event, EventRefusal, HeldAttempt, HeldAttempts, Refusal, Reply,
-    RetryPolicy, RunExitResult, RunOutcome, Turn, attempts_are_held, schedules_grow,
+    RetryPolicy, RunExitResult, RunOutcome, Turn, attempts_are_held, attempts_are_let_go,
+    schedules_grow,
 };
 pub use scheduler::Scheduler;
 pub use waits::Waits;

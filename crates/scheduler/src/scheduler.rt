@@ -38,7 +38,8 @@ use store_refusals::Refusal;
 use store_tables::{LastError, StateRow};
 use vm_types::VMOptions;
 
-/// A store, and the attempts that were begun: one that was stopped or overtaken can still make turns, and its bytes are refused.
+/// A store, and the attempts that were begun and not let go of: one that was stopped or overtaken can still make turns, and its bytes are
+/// refused.
 #[derive(Drop)]
 pub struct Scheduler<H, S: Alter> {
     pub alloc: Global,

@@ -32,7 +32,8 @@ loop-event-preserved g c =
       applies = subst (λ (rs : List Reply). LeadsFirst g.H.Handler.next_call c.args.options g.S.Store (yielded ++ one ∷ []) rs c.args.store new) (sym c.put.ensures.items) leads;
       written = subst (λ (rs : List Reply). LeavesAnswered g.H.Handler.next_call c.args.options g.S.Store (yielded ++ one ∷ []) rs c.args.store new.store) (sym c.put.ensures.items)
           (one_left g.H.Handler.next_call c.args.options g.S.Store yielded c.loop-event.replies.items one c.apply.result c.args.store old new (λ clean. omega (arith, c.apply.ensures.crash.clean, clean)) inv.applies leads
-          inv.written (subst (λ (o : VMOptions). Endures g.S.Store (AppliesWith g.H.Handler.next_call o one old.held) old.store new.store) inv.options c.apply.ensures.crash));
+          inv.written (subst (λ (o : VMOptions). Endures g.S.Store (AppliesWith g.H.Handler.next_call o one old.held) old.store new.store) inv.options c.apply.ensures.crash)
+          (subst (λ (o : VMOptions). SettlesOne g.H.Handler.next_call o g.S.Store one c.apply.result old new) inv.options c.apply.ensures.settled));
       causes = subst (λ (rs : List Reply). TellsCauses g.S.Store g.H.Handler.next_call c.args.options (yielded ++ one ∷ []) rs c.args.store new) (sym c.put.ensures.items)
           (causes_on g.S.Store g.H.Handler.next_call c.args.options yielded c.loop-event.replies.items one c.apply.result c.args.store old new inv.causes (record {
             does = subst (λ (o : VMOptions). AppliesOne g.H.Handler.next_call o g.S.Store one c.apply.result old new) inv.options c.apply.ensures.does;
