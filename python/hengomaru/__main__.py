@@ -8,14 +8,16 @@
     hengomaru submit DATABASE MODULE:APP ID SERVICE/HANDLER[/KEY] [JSON]
     hengomaru resolve DATABASE AWAKEABLE [JSON]
     hengomaru signal DATABASE ID NAME [JSON]
-    hengomaru cancel | pause | resume | show DATABASE ID
-    hengomaru list DATABASE
+    hengomaru cancel | pause | resume | forget | show DATABASE ID
+    hengomaru list | purge DATABASE
 
 DATABASE may be the address of a worker that runs, as http://127.0.0.1:8080, whose file nobody else can open; `submit` then has no
 MODULE:APP. ID may be `.` for one that no other job has. `hengomaru DATABASE MODULE:APP [WORD ..]` is the same, without `worker`, and with
-the database first. A worker with `--lines` goes on for good, and takes `submit`, `resolve`, `signal`, `cancel`, `pause`, `resume`, `show`
-and `list` as lines of its standard input, without a database. The module is looked for here first. It ends with 1 where what was asked for
+the database first. A worker with `--lines` goes on for good, and takes `submit`, `resolve`, `signal`, `cancel`, `pause`, `resume`,
+`forget`, `show`, `list` and `purge` as lines of its standard input, without a database. The module is looked for here first. It ends with 1 where what was asked for
 is refused, and with 2 where it cannot begin.
+
+`forget` forgets one that has ended, `purge` all: of a worker that runs what its retention no longer keeps. Their ids are free again then.
 """
 import argparse
 import asyncio
@@ -32,16 +34,16 @@ from typing import Any, Callable, Dict, Iterable, List, Optional
 
 from .client import Client, NotDone
 from .journal import Step, steps_of
-from .services import App
+from .services import App, span_of
 from .serving import serve_http
 from .store import HELD, NotOpened, Refused, StoreGone
-from .worker import NEVER, PAUSE, Busy, HostGone, Worker
+from .worker import NEVER, PAUSE, Awaited, Busy, HostGone, Worker
 
 REFUSED, CANNOT = 1, 2
-LINES = "submit", "resolve", "signal", "cancel", "pause", "resume", "show", "list"
+LINES = "submit", "resolve", "signal", "cancel", "pause", "resume", "forget", "show", "list", "purge"
 # How many words stand behind the database, at least and at most: JSON is the last one, where it may stand.
-WORDS = {"submit": (2, 3), "resolve": (1, 2), "signal": (2, 3), "cancel": (1, 1), "pause": (1, 1), "resume": (1, 1), "show": (1, 1), "list": (0, 0)}
-BEHIND = {"submit": "ID SERVICE/HANDLER[/KEY] [JSON]", "resolve": "AWAKEABLE [JSON]", "signal": "ID NAME [JSON]", "list": ""}
+WORDS = {"submit": (2, 3), "resolve": (1, 2), "signal": (2, 3), "cancel": (1, 1), "pause": (1, 1), "resume": (1, 1), "forget": (1, 1), "show": (1, 1), "list": (0, 0), "purge": (0, 0)}
+BEHIND = {"submit": "ID SERVICE/HANDLER[/KEY] [JSON]", "resolve": "AWAKEABLE [JSON]", "signal": "ID NAME [JSON]", "list": "", "purge": ""}
 CAUSES = {
     "S4": "there is no such invocation", "S5": "the invocation has ended", "S1": "the object has an open invocation", "S3": "the id was used before",
     "S20": "the store has no memory for it now",
@@ -147,7 +149,8 @@ async def work(given: argparse.Namespace) -> int:
         if not is_here_alone(given.http) and not given.token:
             raise CannotBegin(f"{given.http} is reached from other machines: `--token FILE` tells what who asks has to know")
     if given.endpoint:
-        from .remote import Remote, Signer
+        from .identity import Signer
+        from .remote import Remote
 
         signer = usable(Signer, Path(given.identity).read_bytes()) if given.identity else None
         if signer:
@@ -159,7 +162,10 @@ async def work(given: argparse.Namespace) -> int:
     else:
         raise CannotBegin("a worker has an app, or an endpoint: hengomaru worker DATABASE MODULE:APP")
     host = remote.attend if remote else None
-    worker = Worker(given.database, app, ended=print_ended, limit=given.limit, linger=given.linger, threads=given.threads, tries=given.tries, host=host)
+    retention = usable(span_of, given.retention) if given.retention else None
+    worker = Worker(
+        given.database, app, ended=print_ended, limit=given.limit, linger=given.linger, threads=given.threads, tries=given.tries, host=host, retention=retention,
+    )
     if remote:
         remote.attach(worker)
     async with worker:
@@ -222,7 +228,7 @@ async def answer_to_line(worker: Worker, line: str) -> str:
         return await told(worker, word, checked(word, words))
     except Misused:
         return f"not understood: {printed(line.strip())}"
-    except (Busy, LookupError, ValueError, Refused) as error:
+    except (Awaited, Busy, LookupError, ValueError, Refused) as error:
         return refusal(error)
 
 
@@ -272,6 +278,8 @@ async def asked(given: argparse.Namespace) -> int:
         ready = checked(given.word, words)
         await worker.store.open()
         try:
+            if given.word in ("forget", "purge"):
+                await worker.survey()
             print(await told(worker, given.word, ready, given.steps, given.again), flush=True)
         finally:
             await worker.store.close()
@@ -279,7 +287,7 @@ async def asked(given: argparse.Namespace) -> int:
     except Misused as error:
         print(f"usage: {error}", file=sys.stderr)
         return CANNOT
-    except (Busy, ValueError, Refused, NotDone, LookupError) as error:
+    except (Awaited, Busy, ValueError, Refused, NotDone, LookupError) as error:
         print(refusal(error), flush=True)
         return REFUSED
 
@@ -301,8 +309,10 @@ async def told(worker: Worker, word: str, words: List[Any], with_steps: bool = F
         await worker.signal(*words)
     elif word == "cancel":
         await worker.cancel_invocation(words[0], is_again)
-    elif word in ("pause", "resume"):
+    elif word in ("pause", "resume", "forget"):
         await getattr(worker, word)(words[0])
+    elif word == "purge":
+        return f"{await worker.purge()} forgotten"
     elif word == "show":
         return await shown(worker, words[0], with_steps)
     else:
@@ -345,8 +355,10 @@ def told_by(client: Client, word: str, words: List[Any], with_steps: bool, is_ag
         return "resolved"
     if word == "signal":
         client.signal(*words)
-    elif word in ("cancel", "pause", "resume"):
+    elif word in ("cancel", "pause", "resume", "forget"):
         client.act(word, words[0], is_again)
+    elif word == "purge":
+        return f"{client.purge()} forgotten"
     elif word == "show":
         return told_one(words[0], client.show(words[0]), with_steps)
     else:
@@ -386,6 +398,7 @@ def parser() -> argparse.ArgumentParser:
     it.add_argument("--limit", type=int, default=256, help="attempts at a time (256)")
     it.add_argument("--linger", type=float, default=0.5, metavar="SECONDS", help="an attempt that waits is suspended after so long (0.5)")
     it.add_argument("--threads", type=int, default=64, help="bodies of runs that are plain functions, at a time (64)")
+    it.add_argument("--retention", metavar="TIME", help="what has ended is forgotten so much later, as 1d or 12h, and its id is free again (never)")
     it.add_argument("--tries", type=int, default=100, help="an invocation that fails so often in a row is paused (100; 0: never)")
 
     it = words.add_parser("endpoint")
@@ -424,7 +437,7 @@ def main() -> int:
     given = parser().parse_args(words_of(sys.argv[1:]))
     logging.basicConfig(format="%(name)s: %(message)s", level=logging.WARNING)
     try:
-        return asyncio.run(given.what(given))
+        return int(asyncio.run(given.what(given)))
     except NotOpened as error:
         print(f"hengomaru: {error}" + ("; a worker that has it is asked by its address: `hengomaru WORD http://HOST:PORT ..`" if HELD in str(error) else ""), file=sys.stderr)
         return CANNOT

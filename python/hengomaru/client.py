@@ -19,11 +19,11 @@ class Client:
     def __init__(self, address: str, token: Optional[str] = None) -> None:
         self.address, self.token = address.rstrip("/"), token
 
-    def ask(self, method: str, path: str, body: Optional[bytes] = None, headers: Optional[Dict[str, str]] = None) -> Any:
+    def ask(self, method: str, path: str, body: Optional[bytes] = None, headers: Optional[Dict[str, str]] = None, seconds: float = 60) -> Any:
         told = {"content-type": "application/json", **({"authorization": f"Bearer {self.token}"} if self.token else {}), **(headers or {})}
         request = urllib.request.Request(self.address + path, body, told, method=method)
         try:
-            with urllib.request.urlopen(request, timeout=60) as answer:
+            with urllib.request.urlopen(request, timeout=seconds) as answer:
                 content = answer.read()
         except urllib.error.HTTPError as error:
             raise NotDone(said_in(error.read()) or f"{error.code} {error.reason}") from None
@@ -38,7 +38,8 @@ class Client:
         """Calls a handler, SERVICE/HANDLER or SERVICE/HANDLER/KEY, and does not wait. The call's id."""
         target: Target = target_of(handler)
         words = [target.service, *([target.key] if target.key else []), target.handler, "send"]
-        return self.post(*words, value=value, headers={"x-hengomaru-id": id} if id else None)["invocationId"]
+        told: str = self.post(*words, value=value, headers={"x-hengomaru-id": id} if id else None)["invocationId"]
+        return told
 
     def resolve(self, awakeable: str, value: Any = None) -> None:
         self.post("restate", "awakeables", awakeable, "resolve", value=value)
@@ -47,12 +48,16 @@ class Client:
         self.post("restate", "invocation", id, "signal", name, value=value)
 
     def act(self, act: str, id: str, is_again: bool = False) -> None:
-        """To `cancel`, `pause` or `resume`."""
+        """To `cancel`, `pause`, `resume` or `forget`."""
         self.ask("POST", f"/restate/invocation/{quote(id, safe='')}/{act}{'?again=true' if is_again else ''}", b"null")
+
+    def purge(self) -> int:
+        """Has all forgotten that has ended and is kept no longer; how many."""
+        return int(self.ask("POST", "/restate/purge", b"null", seconds=86_400)["forgotten"])
 
     def show(self, id: str) -> Dict[str, Any]:
         """What the page shows of one; its steps are `Step`s."""
-        told = self.ask("GET", f"/ui/api/one?{urlencode({'id': id})}")
+        told: Dict[str, Any] = self.ask("GET", f"/ui/api/one?{urlencode({'id': id})}")
         told["steps"] = [Step(**{name: it for name, it in step.items() if name in Step._fields}) for step in told["steps"]]
         return told
 

@@ -24,7 +24,7 @@ def read_value(kind: int, content: Any) -> Any:
     return from_json(content) if kind == VALUE else None
 
 
-def reader(serde: Serde) -> Read:
+def reader(serde: Serde[Any]) -> Read:
     return lambda kind, content: serde.read(content) if kind == VALUE else None
 
 
@@ -32,7 +32,7 @@ def read_told(_: int, content: Any) -> Any:
     return content
 
 
-def serde_of(told: Any) -> Serde:
+def serde_of(told: Any) -> Serde[Any]:
     """Of an annotation, or a Serde itself."""
     return told if isinstance(told, Serde) else serde_for(told)
 
@@ -83,7 +83,7 @@ class Output:
 class Promise:
     """A value of a workflow that is completed once, by any of its handlers. `await` waits for it."""
 
-    def __init__(self, context: "Context", name: str, serde: Serde) -> None:
+    def __init__(self, context: "Context", name: str, serde: Serde[Any]) -> None:
         self.context, self.name, self.serde = context, name, serde
 
     def value(self) -> "DurableFuture[Any]":
@@ -111,7 +111,7 @@ class Run(NamedTuple):
     name: str
     body: Callable[[], Any]
     policy: Policy
-    serde: Serde
+    serde: Serde[Any]
 
 
 def failure_of(message: str, code: int) -> bytes:
@@ -259,7 +259,7 @@ class Context:
         target, told = self._target_of(handler, key, idempotency_key, headers)
         return self._called(told, self._spelled(handler, target, arg), serdes_of(handler)[1])
 
-    def _called(self, told: bytes, content: bytes, answers: Serde) -> "CallFuture[Any]":
+    def _called(self, told: bytes, content: bytes, answers: Serde[Any]) -> "CallFuture[Any]":
         id, answer = self._do("call").sys_call(told, content)
         return CallFuture(self._machine, answer, reader(answers), self._future(id, read_told))
 
@@ -355,7 +355,7 @@ def awakeable_id(id: str) -> str:
     return id
 
 
-def serdes_of(handler: Any) -> Tuple[Serde, Serde]:
+def serdes_of(handler: Any) -> Tuple[Serde[Any], Serde[Any]]:
     """Of a handler's argument and answer: what is told by name alone is JSON."""
     it = getattr(handler, "handler_of_hengomaru", None)
     return (it.input, it.output) if it else (JSON, JSON)

@@ -6,17 +6,17 @@ import json
 import logging
 from collections import defaultdict
 from contextlib import asynccontextmanager
-from typing import Any, AsyncIterator, Awaitable, Callable, DefaultDict, Dict, Hashable, List, Optional, Set, Tuple
+from typing import AbstractSet, Any, AsyncIterator, Awaitable, Callable, DefaultDict, Dict, FrozenSet, Hashable, List, Optional, Set, Tuple
 
 from . import pb
 from .futures import told_of
-from .services import CALLER, OWN_HEADERS, OWN_NAME, App, Handler, Service, Target, Workflow, child_of, id_of, named, object_of, space_of
+from .promises import COMPLETE_PROMISE, GET_PROMISE, PEEK_PROMISE, Promises, brought, text_in
+from .services import CALLER, OWN_HEADERS, OWN_NAME, App, Handler, Service, Target, child_of, id_of, named, object_of, space_of
 from .store import OPEN, Arrival, OpenRequest, Recorded, Refused, Shown, Store, StoreGone, Value
 
 log = logging.getLogger("hengomaru")
 
 CALL, SEND, SIGNAL, ATTACH, GET_OUTPUT, AWAKEABLE = 0x040D, 0x040E, 0x040F, 0x0411, 0x0412, 0x0413
-GET_PROMISE, PEEK_PROMISE, COMPLETE_PROMISE = 0x0409, 0x040A, 0x040B
 # The requests that are answered by nothing, and those that others answer.
 POSTS = {SIGNAL, AWAKEABLE}
 ASKS = {CALL, SEND, ATTACH, GET_OUTPUT, GET_PROMISE, PEEK_PROMISE, COMPLETE_PROMISE}
@@ -31,23 +31,7 @@ LATER = "~later"
 # What is amiss with one request, and not with the store's process.
 AMISS = Refused, ValueError, LookupError, TypeError, AttributeError, RecursionError
 Fields = List[Tuple[int, Any]]
-
-
-def content_of(payload: bytes) -> bytes:
-    """The bytes of a Value."""
-    return dict(pb.fields(payload)).get(1, b"")
-
-
-def brought(found: Dict[int, Any], void: Optional[int], value: int, failure: int) -> Value:
-    """What a request's choice of these fields holds, as a store's value."""
-    if failure in found:
-        return pb.read_failure(found[failure])[:2]
-    return content_of(found[value]) if value in found else None
-
-
-def text_in(found: Dict[int, Any], number: int) -> str:
-    """A text, which is left out where it is empty."""
-    return found.get(number, b"").decode()
+NOBODY: FrozenSet[str] = frozenset()
 
 
 def awakeable_of(id: str) -> Tuple[str, int]:
@@ -59,42 +43,29 @@ def awakeable_of(id: str) -> Tuple[str, int]:
     return content[:-4].decode(), int.from_bytes(content[-4:], "big")
 
 
-class Promises:
-    """The promises of workflows that are completed. They are read off the journals once one is asked for."""
+def attached(fields: Fields) -> str:
+    """The id of the invocation that is attached to."""
+    found = dict(fields)
+    if 2 in found:
+        told = dict(pb.fields(found[2]))
+        return named(text_in(told, 1), text_in(told, 2))
+    if 3 in found:
+        told = dict(pb.fields(found[3]))
+        return named(*(text_in(told, number) for number in (1, 3, 2, 4)))
+    return text_in(found, 1)
 
-    def __init__(self, store: Store, app: App) -> None:
-        self.store, self.app = store, app
-        self.completed: Dict[Tuple[str, str, str], Value] = {}
-        self.read: Set[Tuple[str, str]] = set()
-        # The invocations of each workflow's key, once they were asked for.
-        self.ids: Optional[DefaultDict[Tuple[str, str], List[str]]] = None
-        # One at a time looks at a promise, or completes it.
-        self.turn = asyncio.Lock()
 
-    def note(self, id: str, object: str) -> None:
-        """There is an invocation of this object."""
-        space = space_of(object)
-        if self.ids is not None and isinstance(self.app.get(space[0]), Workflow):
-            self.ids[space].append(id)
-
-    async def find(self, service: str, key: str, name: str) -> Value:
-        """What a promise was completed with, as a store's value; None where it was not."""
-        if self.ids is None:
-            listed, self.ids = await self.store.list(), defaultdict(list)
-            for it in listed:
-                self.note(it.id, it.object)
-        if (service, key) not in self.read:
-            for id in self.ids[service, key]:
-                self.read_journal(service, key, await self.store.show(id))
-            self.read.add((service, key))
-        return self.completed.get((service, key, name))
-
-    def read_journal(self, service: str, key: str, shown: Shown) -> None:
-        done = {it.id for it in shown.arrivals if it.kind == "void"}
-        for it in shown.requests:
-            found = dict(pb.fields(it.payload)) if it.type == COMPLETE_PROMISE else {}
-            if found and f"c{found.get(11, 0)}" in done:
-                self.completed[service, key, text_in(found, 1)] = brought(found, None, 2, 3)
+def names_in(id: str, request: OpenRequest) -> Set[str]:
+    """The ids of invocations that an open request may be about, of whatever kind the handler is that it is to."""
+    fields = pb.fields(request.payload)
+    if request.type in (ATTACH, GET_OUTPUT):
+        return {attached(fields)}
+    if request.type not in (CALL, SEND):
+        return set()
+    found = dict(fields)
+    target = Target(*(text_in(found, number) for number in (1, 2, 5)))
+    told = pb.read_pairs(4, fields).get(AS_ID) if id.endswith(LATER) else None
+    return {told or child_of(id, request.place), named(target.service, target.key), *([named(*target, text_in(found, 6))] if 6 in found else [])}
 
 
 async def later(ctx: Any, told: Dict[str, Any]) -> None:
@@ -123,11 +94,15 @@ class Delivery:
     # Looks anew which handlers there are, where they are elsewhere.
     refresh: Optional[Callable[[], Awaitable[Any]]] = None
 
-    def forget(self) -> None:
-        """All that is known without the store, which is asked anew."""
+    def reset(self) -> None:
+        """Nothing is known but by the store, which is asked anew."""
         self.waiting: DefaultDict[Any, Set[str]] = defaultdict(set)
         self.busy: DefaultDict[str, Set[str]] = defaultdict(set)
         self.objects: Dict[str, str] = {}
+        # By each open invocation the ids that its open requests are about, as these stood when they were looked at last.
+        self.named: Dict[str, AbstractSet[str]] = {}
+        # The ids of those that wait to call another, or have done so.
+        self.laters: Set[str] = set()
         self.promises = Promises(self.store, self.app)
         self.locks: Dict[Hashable, Tuple[asyncio.Lock, int]] = {}
         # What was told once to be amiss.
@@ -166,7 +141,10 @@ class Delivery:
         try:
             await self.store.invoke(id, object, body, {**dict(headers), **target.headers()}, self.version, seed_of(id))
             self.objects[id] = object
+            self.named.setdefault(id, NOBODY)
             self.promises.note(id, object)
+            if id.endswith(LATER):
+                self.laters.add(id)
             self.wake(id)
             return MADE
         except Refused as refused:
@@ -210,13 +188,25 @@ class Delivery:
         async with self.turn(id):
             # The objects that were busy: who calls one of them later waits too, so that its calls come in their order.
             blocked: Set[str] = set()
-            for it in await self.store.requests(id):
+            for it in await self.look(id):
                 try:
                     await kinds.get(it.type, self.promise)(id, it, pb.fields(it.payload), is_last, blocked)
                 except AMISS as error:
                     if isinstance(error, Refused) and error.name in ("S4", "S5") and not await self.is_open(id):
                         return  # it has ended meanwhile
                     await self.fail_request(id, it, error)
+
+    async def look(self, id: str) -> List[OpenRequest]:
+        """The open requests of an invocation. Whom they are about is noted before anything is done about them."""
+        asked, names = await self.store.requests(id), set()
+        for it in asked:
+            try:
+                names |= names_in(id, it)
+            except AMISS:
+                pass  # it fails for whoever has asked
+        if id in self.objects:
+            self.named[id] = names or NOBODY
+        return asked
 
     async def is_open(self, id: str) -> bool:
         shown = await self.show(id)
@@ -327,42 +317,30 @@ class Delivery:
             self.amiss.add((id, request.place))
             log.warning("%s: %s: what was sent to it waits for a worker that has it", id, missing(target))
 
-    def attached(self, fields: Fields) -> str:
-        """The id of the invocation that is attached to."""
-        found = dict(fields)
-        if 2 in found:
-            told = dict(pb.fields(found[2]))
-            return named(text_in(told, 1), text_in(told, 2))
-        if 3 in found:
-            told = dict(pb.fields(found[3]))
-            return named(*(text_in(told, number) for number in (1, 3, 2, 4)))
-        return text_in(found, 1)
-
     async def attach(self, id: str, request: OpenRequest, fields: Fields, is_last: bool, blocked: Set[str]) -> None:
-        other = self.attached(fields)
+        other = attached(fields)
         if not await self.is_known(other) and not await self.is_known(other + LATER):
             await self.bring(id, request.first, (404, f"there is no invocation {other}"))
         else:
             await self.bring_answer(id, request.first, other)
 
     async def tell_output(self, id: str, request: OpenRequest, fields: Fields, is_last: bool, blocked: Set[str]) -> None:
-        shown = await self.show(self.attached(fields))
+        shown = await self.show(attached(fields))
         is_ready = shown is not None and not shown.is_open
         await self.bring(id, request.first, (b"" if shown.answer is None else shown.answer) if shown and is_ready else None)
 
     async def promise(self, id: str, request: OpenRequest, fields: Fields, is_last: bool, blocked: Set[str]) -> None:
         found = dict(fields)
-        name = text_in(found, 1)
-        promise = (*space_of(await self.object(id)), name)
+        space, name = space_of(await self.object(id)), text_in(found, 1)
         async with self.promises.turn:
-            came = await self.promises.find(*promise)
+            came = await self.promises.find(space, name)
             if request.type == COMPLETE_PROMISE:
                 await self.bring(id, request.first, None if came is None else (409, f"the promise {name} is completed"))
                 if came is None:
-                    self.promises.completed[promise] = brought(found, None, 2, 3)
-                    self.awaken(self.waiting.pop(promise, set()))
+                    self.promises.complete(space, name, brought(found, None, 2, 3))
+                    self.awaken(self.waiting.pop((*space, name), set()))
             elif came is None and request.type == GET_PROMISE:
-                self.waiting[promise].add(id)
+                self.waiting[(*space, name)].add(id)
             else:
                 await self.bring(id, request.first, came)
 

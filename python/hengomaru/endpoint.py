@@ -16,8 +16,8 @@ from typing import Any, Awaitable, Callable, Dict, List, NamedTuple, Optional, S
 from . import identity
 from . import machine as machines
 from .attempt import Attempt
-from .services import App, Handler, Service, Target, VirtualObject, Workflow
 from .machine import MachineFailed
+from .services import MILLISECOND, App, Handler, Service, Target, VirtualObject, Workflow
 
 log = logging.getLogger("hengomaru")
 Scope = Dict[str, Any]
@@ -48,8 +48,9 @@ class HttpChannel:
             if message["type"] == "http.disconnect":
                 raise Gone
             self.is_closed = not message.get("more_body", False)
-            if message.get("body"):
-                return message["body"]
+            body: bytes = message.get("body", b"")
+            if body:
+                return body
         return None
 
     async def begin(self) -> None:
@@ -166,6 +167,9 @@ def handler_of(handler: Handler, kind: str, version: int) -> Dict[str, Any]:
     for where, serde in (("input", handler.input), ("output", handler.output)):
         if version >= 2 and serde.schema:
             told[where]["jsonSchema"] = serde.schema
+    if version >= 3 and handler.retention is not None:
+        again = "workflowCompletionRetention" if told.get("ty") == "WORKFLOW" else "idempotencyRetention"
+        told["journalRetention"] = told[again] = handler.retention // MILLISECOND
     return told
 
 

@@ -83,7 +83,8 @@ class DurableFuture(Generic[T]):
         if kind == FAILURE:
             code, message, metadata = content
             raise TerminalError(message, min(code, 65535), metadata)
-        return self.read(kind, content)
+        value: T = self.read(kind, content)
+        return value
 
     def __await__(self) -> Generator[Any, None, T]:
         yield from until_completed(self)
@@ -247,7 +248,8 @@ async def first_succeeded(*futures: DurableFuture[T]) -> T:
     together = Together(FIRST_SUCCEEDED, futures)
     await Waits(together)
     for it in together.succeeded():
-        return it.result()
+        value: T = it.result()
+        return value
     first_failure(together)
     raise AssertionError("an await of which neither one has succeeded nor all have failed")
 

@@ -82,7 +82,7 @@ class Connection(asyncio.Protocol):
         self.free = asyncio.Event()
         self.free.set()
 
-    def connection_made(self, transport) -> None:
+    def connection_made(self, transport: Any) -> None:
         self.transport = transport
         self.h2.initiate_connection()
         self.h2.update_settings({h2.settings.SettingCodes.INITIAL_WINDOW_SIZE: WINDOW, h2.settings.SettingCodes.ENABLE_PUSH: 0})
@@ -121,7 +121,7 @@ class Connection(asyncio.Protocol):
             return self.lose(f"the host does not speak HTTP/2 as it should: {error}")
         self.flush()
 
-    def take(self, event) -> None:
+    def take(self, event: Any) -> None:
         stream = self.streams.get(getattr(event, "stream_id", 0))
         if isinstance(event, h2.events.DataReceived):
             self.h2.acknowledge_received_data(event.flow_controlled_length, event.stream_id)

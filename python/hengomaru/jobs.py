@@ -3,7 +3,9 @@ once all the same, as what is recorded tells."""
 import asyncio
 import itertools
 import time
-from typing import Any, Awaitable, Callable, Dict, List, NamedTuple, Optional, Tuple, TypeVar
+from collections import Counter
+from contextlib import contextmanager
+from typing import Any, Awaitable, Callable, Counter as CounterOf, Dict, Iterator, List, NamedTuple, Optional, Tuple, TypeVar
 
 from .attempt import cut
 from .context import serdes_of
@@ -33,6 +35,8 @@ class Jobs(Delivery):
     """The side of a worker that is asked from outside."""
 
     asked: "Dict[str, List[asyncio.Future[None]]]"
+    # How many go by what is recorded of an invocation, which is not forgotten under them.
+    readers: CounterOf[str]
 
     async def reopen(self) -> None:
         """Begins the store's process anew, where it has ended."""
@@ -46,8 +50,9 @@ class Jobs(Delivery):
 
     async def submit_bytes(self, id: Optional[str], handler: Any, body: bytes, key: Optional[str] = None, idempotency_key: Optional[str] = None, headers: Any = ()) -> str:
         target, found, id = await self.call_of(handler, key, idempotency_key, id)
-        if await self.retried(self.invoke, id, target, body, check_headers(headers)) == BUSY:
-            raise Busy(f"{object_of(found, target, id)} has an open invocation")
+        with self.reading(id):
+            if await self.retried(self.invoke, id, target, body, check_headers(headers)) == BUSY:
+                raise Busy(f"{object_of(found, target, id)} has an open invocation")
         return id
 
     async def call_of(self, handler: Any, key: Optional[str], idempotency_key: Optional[str], id: Optional[str]) -> Tuple[Target, Handler, str]:
@@ -64,13 +69,18 @@ class Jobs(Delivery):
     ) -> Tuple[str, bool]:
         """As `submit`, of bytes, after so many milliseconds; where the object is busy, the call waits for it. The id, and whether it is new."""
         target, _, id = await self.call_of(handler, key, idempotency_key, id)
+        return id, await self.take_on(id, target, body, headers, delay)
+
+    async def take_on(self, id: str, target: Target, body: bytes, headers: Any, delay: int) -> bool:
+        """The same, of an id that a call has (`call_of`); whether it is new."""
         told, at, is_again = check_headers(headers), self.clock() + delay if delay else 0, False
-        while True:
-            try:
-                return id, await self.take(id, target, body, told, at) or is_again
-            except StoreGone:
-                is_again = True
-                await self.reopen()
+        with self.reading(id):
+            while True:
+                try:
+                    return await self.take(id, target, body, told, at) or is_again
+                except StoreGone:
+                    is_again = True
+                    await self.reopen()
 
     async def take(self, id: str, target: Target, body: bytes, headers: Dict[str, str], at: int) -> bool:
         """Makes an invocation now or later; False where it is there."""
@@ -101,20 +111,32 @@ class Jobs(Delivery):
 
     async def outcome(self, id: str) -> Shown:
         """What is recorded of an invocation, once it has ended."""
-        while True:
-            waits = asyncio.get_running_loop().create_future()
-            self.asked.setdefault(id, []).append(waits)
-            try:
-                shown = await self.shown(id)
-                if not shown.is_open:
-                    return shown
-                await waits
-            finally:
-                left = self.asked.get(id, [])
-                if waits in left:
-                    left.remove(waits)
-                if not left:
-                    self.asked.pop(id, None)
+        with self.reading(id):
+            while True:
+                waits = asyncio.get_running_loop().create_future()
+                self.asked.setdefault(id, []).append(waits)
+                try:
+                    shown = await self.shown(id)
+                    if not shown.is_open:
+                        return shown
+                    await waits
+                finally:
+                    left = self.asked.get(id, [])
+                    if waits in left:
+                        left.remove(waits)
+                    if not left:
+                        self.asked.pop(id, None)
+
+    @contextmanager
+    def reading(self, id: str) -> Iterator[None]:
+        """As long as this is entered the invocation is not forgotten."""
+        self.readers[id] += 1
+        try:
+            yield
+        finally:
+            self.readers[id] -= 1
+            if not self.readers[id]:
+                del self.readers[id]
 
     async def resolve_awakeable(self, id: str, value: Any = None) -> bool:
         """Whether its invocation waits, and had no value for it."""
@@ -172,7 +194,7 @@ class Jobs(Delivery):
                 it.set_result(None)
 
 
-def of_caller(serde: Optional[Serde], value: Any, what: str) -> bytes:
+def of_caller(serde: Optional[Serde[Any]], value: Any, what: str) -> bytes:
     """The bytes of what comes from outside; ValueError where it has none, or too many."""
     try:
         return spelled(serde or JSON, value, what)

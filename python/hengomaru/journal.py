@@ -52,8 +52,12 @@ def told(arrival: Optional[Arrival]) -> Optional[str]:
 
 
 def about(type: int, found: Dict[int, Any]) -> str:
-    text = lambda number: text_of(found.get(number, b""))
-    inner = lambda number: text_of(dict(pb.fields(found[number])).get(1, b"")) if number in found else ""
+    def text(number: int) -> str:
+        return text_of(found.get(number, b""))
+
+    def inner(number: int) -> str:
+        return text_of(dict(pb.fields(found[number])).get(1, b"")) if number in found else ""
+
     if type in (CALL, SEND):
         return "/".join(it for it in (text(1), text(5), text(2)) if it) + (f" {text(3)}" if text(3) else "")
     if type == SIGNAL:

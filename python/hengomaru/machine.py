@@ -174,7 +174,7 @@ class Machine:
         for it in given:
             it = it.encode() if isinstance(it, str) else it
             handed += [bytes(it), len(it)] if isinstance(it, (bytes, bytearray)) else [it]
-        return getattr(self.library, f"hengomaru_vm_{name}")(c.byref(self.handle), *handed)
+        return int(getattr(self.library, f"hengomaru_vm_{name}")(c.byref(self.handle), *handed))
 
     def call(self, name: str, *given: Any) -> None:
         """Makes a call that is to be done; Suspended, MachineFailed, MemoryError or ValueError where it is not."""
@@ -232,7 +232,7 @@ class Machine:
         return STATES[self.told("state")]
 
     def last_command_index(self) -> int:
-        return self.told("last_command_index", kinds=(c.c_int64,))
+        return int(self.told("last_command_index", kinds=(c.c_int64,)))
 
     # ---- waiting
     def do_await(self, tree: Any) -> Any:
@@ -274,10 +274,10 @@ class Machine:
         return found
 
     def sys_state_get(self, key: str) -> int:
-        return self.told("sys_state_get", key, 0)
+        return int(self.told("sys_state_get", key, 0))
 
     def sys_state_get_keys(self) -> int:
-        return self.told("sys_state_get_keys")
+        return int(self.told("sys_state_get_keys"))
 
     def sys_state_set(self, key: str, value: bytes) -> None:
         self.call("sys_state_set", key, value, 0)
@@ -289,26 +289,26 @@ class Machine:
         self.call("sys_state_clear_all")
 
     def ephemeral_state_get(self, key: str) -> int:
-        return self.told("ephemeral_state_get", key)
+        return int(self.told("ephemeral_state_get", key))
 
     def sys_sleep(self, millis: int, name: str = "") -> int:
-        return self.told("sys_sleep", name, millis)
+        return int(self.told("sys_sleep", name, millis))
 
     def sys_call(self, target: bytes, parameter: bytes) -> Any:
         """Two handles: of the id of what is called, and of its answer."""
         return self.told("sys_call", target, parameter, 0, kinds=(c.c_uint32, c.c_uint32))
 
     def sys_send(self, target: bytes, parameter: bytes, millis: int = 0) -> int:
-        return self.told("sys_send", target, parameter, millis, 0)
+        return int(self.told("sys_send", target, parameter, millis, 0))
 
     def sys_cancel_invocation(self, target: str) -> None:
         self.call("sys_cancel_invocation", target)
 
     def sys_attach_invocation(self, target: bytes) -> int:
-        return self.told("sys_attach_invocation", target)
+        return int(self.told("sys_attach_invocation", target))
 
     def sys_get_invocation_output(self, target: bytes) -> int:
-        return self.told("sys_get_invocation_output", target)
+        return int(self.told("sys_get_invocation_output", target))
 
     def sys_awakeable(self) -> Tuple[int, str]:
         """A handle, and the text by which it is completed."""
@@ -319,19 +319,19 @@ class Machine:
         self.call("sys_complete_awakeable", id, value, failed, 0)
 
     def create_signal_handle(self, name: str) -> int:
-        return self.told("create_signal_handle", name)
+        return int(self.told("create_signal_handle", name))
 
     def sys_complete_signal(self, target: str, name: str, value: bytes, failed: bool = False) -> None:
         self.call("sys_complete_signal", target, name, value, failed)
 
     def sys_get_promise(self, key: str) -> int:
-        return self.told("sys_get_promise", key)
+        return int(self.told("sys_get_promise", key))
 
     def sys_peek_promise(self, key: str) -> int:
-        return self.told("sys_peek_promise", key)
+        return int(self.told("sys_peek_promise", key))
 
     def sys_complete_promise(self, key: str, value: bytes, failed: bool = False) -> int:
-        return self.told("sys_complete_promise", key, value, failed, 0)
+        return int(self.told("sys_complete_promise", key, value, failed, 0))
 
     def sys_run(self, name: str) -> Tuple[bool, int]:
         """Whether its outcome is recorded, and a handle."""

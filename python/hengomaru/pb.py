@@ -17,8 +17,8 @@ def field(number: int, content: Any) -> bytes:
         return b""
     if isinstance(content, int):
         return varint(number << 3) + varint(content)
-    content = content.encode() if isinstance(content, str) else bytes(content)
-    return varint(number << 3 | 2) + varint(len(content)) + content
+    told = content.encode() if isinstance(content, str) else bytes(content)
+    return varint(number << 3 | 2) + varint(len(told)) + told
 
 
 def record(*fields: Tuple[int, Any]) -> bytes:

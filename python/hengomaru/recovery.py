@@ -6,6 +6,7 @@ from collections import deque
 from typing import Any, Awaitable, Callable, Deque, Dict, Iterable, Optional, Set
 
 from . import pb
+from .delivery import LATER
 from .futures import told_of
 from .jobs import Jobs
 from .services import Handler
@@ -37,6 +38,8 @@ class Recovery(Jobs):
     faults: Dict[str, int]
     not_before: Dict[str, float]
     told: Dict[str, Set[str]]
+    # When each that has ended may be forgotten, where its handler has a retention.
+    ended: Dict[str, float]
     is_closed: bool
     # When the store's process was begun, and how many seconds it was waited for.
     opened_at: float
@@ -48,17 +51,30 @@ class Recovery(Jobs):
     async def recover(self) -> None:
         """Asks the store for all: who waits for whom, and what was recorded and not delivered. What cannot be read of one invocation keeps
         that one alone from going on."""
-        self.forget()
+        self.reset()
         self.backlog.clear()
         self.dirty.clear()
-        found = {it.id: it for it in await self.store.list() if it.status in OPEN}
-        self.objects.update((id, it.object) for id, it in found.items())
+        await self.survey()
+        found = set(self.objects)
         for id in sorted(found):
             await self.guarded(id, self.recover_posts(id))
         await together((self.guarded(it, self.recover_one(it)) for it in sorted(found)), 64)
         for id in [it for it in self.asked if it not in found]:
             self.tell_asked(id)
         self.pulse.set()
+
+    async def survey(self) -> None:
+        """Lists all: which are open, and which wait to call. When others have ended is known of those alone that are still there."""
+        gone = set(self.ended)
+        async for it in self.store.rows():
+            if it.status in OPEN:
+                self.objects[it.id] = it.object
+            else:
+                gone.discard(it.id)
+            if it.id.endswith(LATER):
+                self.laters.add(it.id)
+        for id in gone:
+            del self.ended[id]
 
     async def guarded(self, id: str, work: Awaitable[None]) -> None:
         """Does one's part of a beginning. One that is amiss is told, and put aside until a worker begins anew, or `resume`."""

@@ -5,6 +5,7 @@ import itertools
 import json
 import logging
 import time
+from datetime import timedelta
 from typing import Any, Dict, List, Optional, Sequence, Tuple
 from urllib.parse import quote
 
@@ -12,7 +13,7 @@ from .endpoint import MANIFEST, VERSIONS
 from .http2 import Client, Lost, Stream
 from .identity import Signer
 from .serdes import BYTES, JSON
-from .services import App, Handler, Service, VirtualObject, Workflow
+from .services import MILLISECOND, App, Handler, Service, VirtualObject, Workflow
 from .session import Session
 from .worker import HostGone
 
@@ -34,6 +35,10 @@ def serde_of(told: Any) -> Any:
     return JSON if kind in ("application/json", "*/*") else BYTES
 
 
+def retention_of(millis: Optional[int]) -> Optional[timedelta]:
+    return None if millis is None else timedelta(milliseconds=min(millis, timedelta.max // MILLISECOND))
+
+
 def app_of(manifest: Dict[str, Any]) -> App:
     """The services that an endpoint tells of. They are called there."""
     app = App([])
@@ -41,7 +46,8 @@ def app_of(manifest: Dict[str, Any]) -> App:
         service = app[told["name"]] = KINDS[told["ty"]](told["name"])
         for it in told["handlers"]:
             has_key = told["ty"] == "VIRTUAL_OBJECT" and it.get("ty") != "SHARED" or it.get("ty") == "WORKFLOW"
-            service.handlers[it["name"]] = Handler(service, it["name"], elsewhere, has_key, serde_of(it.get("input")), serde_of(it.get("output")))
+            lasts = retention_of(it.get("journalRetention"))
+            service.handlers[it["name"]] = Handler(service, it["name"], elsewhere, has_key, serde_of(it.get("input")), serde_of(it.get("output")), lasts)
     return app
 
 
@@ -103,7 +109,7 @@ class Remote:
         status, _, body = await client.get("/discover", [("accept", accept), *self.headers("/discover")])
         if status != 200:
             raise HostGone(f"/discover is answered {status} {body[:200].decode(errors='replace')}")
-        manifest = json.loads(body)
+        manifest: Dict[str, Any] = json.loads(body)
         least, most = manifest["minProtocolVersion"], manifest["maxProtocolVersion"]
         if most < VERSIONS[0] or least > VERSIONS[1]:
             raise HostGone(f"it speaks versions {least} to {most} of the protocol, and a worker {VERSIONS[0]} to {VERSIONS[1]}")
@@ -162,7 +168,8 @@ class Remote:
     async def attend(self, session: Session) -> None:
         """Drives an attempt: what has come goes there, and what is put out is recorded, whole frames at a time."""
         if session.target.service == "hengomaru":
-            return await self.worker.here(session)
+            await self.worker.here(session)
+            return
         stream = await self.begin(session)
         sending = asyncio.ensure_future(self.send(session, stream))
         try:

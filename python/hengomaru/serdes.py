@@ -3,7 +3,7 @@ import dataclasses
 import json
 import types
 import typing
-from typing import Any, Callable, Generic, Optional, Type, TypeVar
+from typing import Any, Callable, Dict, Generic, Optional, Type, TypeVar
 
 from . import store as stores
 from .futures import TerminalError, told_of
@@ -16,7 +16,7 @@ UNIONS = typing.Union, getattr(types, "UnionType", typing.Union)
 class Serde(Generic[T]):
     """Two functions, and what the bytes are called in HTTP."""
 
-    def __init__(self, write: Callable[[T], bytes], read: Callable[[bytes], T], content_type: str, schema: Optional[dict] = None) -> None:
+    def __init__(self, write: Callable[[T], bytes], read: Callable[[bytes], T], content_type: str, schema: Optional[Dict[str, Any]] = None) -> None:
         self.write, self.read, self.content_type, self.schema = write, read, content_type, schema
 
 
@@ -56,7 +56,11 @@ def of_dataclass(kind: Type[T]) -> "Serde[T]":
             raise TypeError(f"{kind.__name__} is wanted, and not {type(value).__name__}")
         return to_json(value)
 
-    return Serde(write, lambda content: made(kind, from_json(content)), "application/json")
+    def read(content: bytes) -> T:
+        value: T = made(kind, from_json(content))
+        return value
+
+    return Serde(write, read, "application/json")
 
 
 def made(kind: Any, value: Any) -> Any:
@@ -90,7 +94,8 @@ def of_pydantic(kind: Any) -> "Serde[Any]":
     def write(value: Any) -> bytes:
         if not isinstance(value, kind):
             raise TypeError(f"{kind.__name__} is wanted, and not {type(value).__name__}")
-        return (value.model_dump_json() if hasattr(value, "model_dump_json") else value.json()).encode()
+        text: str = value.model_dump_json() if hasattr(value, "model_dump_json") else value.json()
+        return text.encode()
 
     return Serde(write, read, "application/json", schema)
 

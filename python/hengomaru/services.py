@@ -1,6 +1,8 @@
 """Handlers by their names, and how invocations of them are named."""
 import inspect
+import re
 import typing
+from datetime import timedelta
 from typing import Any, Awaitable, Callable, Dict, Iterable, NamedTuple, Optional, TypeVar, cast
 from urllib.parse import quote, unquote
 
@@ -11,6 +13,9 @@ F = TypeVar("F", bound=Callable[..., Awaitable[Any]])
 # The headers by which an invocation tells what it is of, and who has called it. A handler is not shown them.
 OWN_HEADERS = "hengomaru-"
 OWN_NAME = "hengomaru"
+MILLISECOND = timedelta(milliseconds=1)
+SPAN = re.compile(r"(\d+(?:\.\d+)?)(ms|s|m|h|d)")
+UNITS = {"ms": MILLISECOND, "s": timedelta(seconds=1), "m": timedelta(minutes=1), "h": timedelta(hours=1), "d": timedelta(days=1)}
 HANDLER, KEY, CALLER = (OWN_HEADERS + it for it in ("handler", "key", "caller"))
 
 
@@ -32,8 +37,10 @@ class Handler(NamedTuple):
     function: Callable[..., Awaitable[Any]]
     # One invocation at a time for each key, which has the key's state.
     has_key: bool
-    input: Serde = JSON
-    output: Serde = JSON
+    input: Serde[Any] = JSON
+    output: Serde[Any] = JSON
+    # How long its invocations are kept that have ended; None is as long as the worker keeps any.
+    retention: Optional[timedelta] = None
 
     @property
     def wants_key(self) -> bool:
@@ -54,18 +61,19 @@ class Service:
 
     has_keys = False
 
-    def __init__(self, name: str) -> None:
+    def __init__(self, name: str, retention: Optional[timedelta] = None) -> None:
         check_name("service", name)
-        self.name = name
+        self.name, self.retention = name, check_retention(retention)
         self.handlers: Dict[str, Handler] = {}
 
-    def handler(self, name: Optional[str] = None) -> Callable[[F], F]:
+    def handler(self, name: Optional[str] = None, retention: Optional[timedelta] = None) -> Callable[[F], F]:
         """Makes a function a handler: `async def handler(ctx, argument)`, or without an argument. Its annotations tell how what it takes
-        and answers becomes bytes (`serdes.py`)."""
+        and answers becomes bytes (`serdes.py`). What has ended of it is forgotten after its `retention`, else after the service's, else
+        after the worker's; `timedelta.max` is for good."""
         check_brackets(name)
-        return lambda function: self.add(function, name, self.has_keys)
+        return lambda function: self.add(function, name, self.has_keys, retention)
 
-    def add(self, function: F, name: Optional[str], has_key: bool) -> F:
+    def add(self, function: F, name: Optional[str], has_key: bool, retention: Optional[timedelta] = None) -> F:
         told = name or told_name(function)
         if not inspect.iscoroutinefunction(cast(Any, function)):
             raise TypeError(f"{self.name}/{told} is no handler: a handler is an `async def` without `yield`")
@@ -79,7 +87,8 @@ class Service:
         goes: Callable[..., Awaitable[Any]] = function
         if not takes_argument:
             goes = lambda ctx, argument: function(ctx)
-        it = Handler(self, told, goes, has_key, serde_for(argument), serde_for(answers))
+        lasts = check_retention(self.retention if retention is None else retention)
+        it = Handler(self, told, goes, has_key, serde_for(argument), serde_for(answers), lasts)
         self.handlers[it.name] = it
         cast(Any, function).handler_of_hengomaru = it
         return function
@@ -88,6 +97,23 @@ class Service:
 def check_name(what: str, name: str) -> None:
     if not isinstance(name, str) or not name or not is_text(name):
         raise ValueError(f"a {what} has a name, and {name!r} is none")
+
+
+def span_of(told: str) -> timedelta:
+    """The time that a text such as 10s or 1h30m tells; ValueError where it tells none."""
+    parts = SPAN.findall(told)
+    if not parts or "".join(a + b for a, b in parts) != told:
+        raise ValueError(f"{told} is no time, such as 10s or 1h30m")
+    return sum((float(many) * UNITS[unit] for many, unit in parts), timedelta(0))
+
+
+def check_retention(retention: Any) -> Optional[timedelta]:
+    """A time that is not below zero, or None; TypeError or ValueError for what is neither."""
+    if retention is not None and not isinstance(retention, timedelta):
+        raise TypeError(f"a retention is a timedelta, and {retention!r} is none")
+    if retention is not None and retention < timedelta(0):
+        raise ValueError(f"a retention is not below zero, and {retention!r} is")
+    return retention
 
 
 def check_brackets(name: Any) -> None:
@@ -113,10 +139,10 @@ class VirtualObject(Service):
 class Workflow(Service):
     """A main handler that runs once for each key, and others that go beside it, which may complete its promises. The state is main's alone."""
 
-    def main(self, name: Optional[str] = None) -> Callable[[F], F]:
+    def main(self, name: Optional[str] = None, retention: Optional[timedelta] = None) -> Callable[[F], F]:
         """Makes a function the main handler."""
         check_brackets(name)
-        return lambda function: self.add(function, name, True)
+        return lambda function: self.add(function, name, True, retention)
 
 
 class App(Dict[str, Service]):
@@ -167,9 +193,10 @@ def target_of(told: Any, key: Optional[str] = None) -> Target:
         told, key = words[:2], (words[2] if len(words) > 2 else key)
     if isinstance(told, (tuple, list)):
         return Target(told[0], told[1], key or "")
-    if not isinstance(getattr(told, "handler_of_hengomaru", None), Handler):
+    found = getattr(told, "handler_of_hengomaru", None)
+    if not isinstance(found, Handler):
         raise TypeError(f"{told_name(told)} is no handler: `@service.handler()` makes a function one")
-    return told.handler_of_hengomaru.target(key)
+    return found.target(key)
 
 
 def target_in(headers: Dict[str, str]) -> Target:
@@ -220,7 +247,16 @@ def object_of(handler: Handler, target: Target, id: str) -> str:
     """The object of an invocation: for each there is one open invocation at a time, and a state."""
     if handler.has_key:
         return named(target.service, target.key)
-    return f"{named(target.service, target.key)}/~{named(id)}" if target.key else id
+    return f"{named(target.service, target.key)}{BESIDE}{named(id)}" if target.key else id
+
+
+# What stands between a workflow's id and the rest of the object of an invocation beside it.
+BESIDE = "/~"
+
+
+def is_main(id: str) -> bool:
+    """Whether an id is that of a workflow's main handler, SERVICE/KEY: no user's id has a `/`, and no other of the package has one alone."""
+    return id.count("/") == 1 and "~" not in id
 
 
 def space_of(object: str) -> "tuple[str, str]":

@@ -6,7 +6,8 @@ from typing import TYPE_CHECKING, Dict, List, Optional, Set
 
 from . import pb
 from . import store as stores
-from .delivery import ASKS, POSTS, brought
+from .delivery import ASKS, POSTS
+from .promises import brought
 from .services import CALLER, Target, target_in
 from .store import Refused, Value
 

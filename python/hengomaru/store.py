@@ -4,9 +4,10 @@ import asyncio
 import os
 import time
 from collections import deque
-from typing import Any, Awaitable, Callable, Dict, List, NamedTuple, Optional, Sequence, Tuple, Union
+from typing import Any, AsyncIterator, Awaitable, Callable, Deque, Dict, Iterable, List, NamedTuple, Optional, Sequence, Tuple, Union
 from urllib.parse import quote_from_bytes, unquote_to_bytes
 
+from .causes import CAUSES
 from .places import find_program
 
 # Bytes that stand for themselves in a word.
@@ -21,11 +22,11 @@ OPEN = "live", "due", "suspended"
 
 
 class Refused(Exception):
-    """The store refuses what was asked: `name` is the cause, as `S1` (docs/FORMATS.md)."""
+    """The store refuses what was asked: `name` is the cause, as `S1`, and `says` what that means (docs/FORMATS.md)."""
 
     def __init__(self, name: str, line: str) -> None:
-        super().__init__(f"{name}: {line}")
-        self.name = name
+        self.name, self.says = name, CAUSES.get(name, "")
+        super().__init__(f"{name}, {self.says}: {line}" if self.says else f"{name}: {line}")
 
 
 class StoreGone(Exception):
@@ -37,6 +38,10 @@ class TooLong(ValueError):
 
     def __init__(self, length: int) -> None:
         super().__init__(f"a request of {length:,} bytes is too long for the store, which reads {LONGEST:,}")
+
+
+class NotUnderstood(ValueError):
+    """The store's process does not know what it was asked, as an older one does not: nothing was done."""
 
 
 class NotOpened(Exception):
@@ -166,7 +171,7 @@ class Pipe(asyncio.SubprocessProtocol):
 
     def __init__(self, tell_gone: Optional[Callable[[], None]] = None) -> None:
         self.loop, self.tell_gone = asyncio.get_running_loop(), tell_gone
-        self.waiting: deque = deque()
+        self.waiting: "Deque[Tuple[asyncio.Future[List[Words]], Sequence[str], str]]" = deque()
         self.lines: List[Words] = []
         self.asked: List[bytes] = []
         self.part: List[bytes] = []
@@ -175,7 +180,7 @@ class Pipe(asyncio.SubprocessProtocol):
         self.ended = self.loop.create_future()
 
     def ask(self, line: str, last: Sequence[str]) -> Awaitable[List[Words]]:
-        answer = self.loop.create_future()
+        answer: "asyncio.Future[List[Words]]" = self.loop.create_future()
         if self.is_gone:
             answer.set_exception(StoreGone())
             answer.exception()  # it may be one of several, of which the first is awaited
@@ -226,7 +231,7 @@ class Pipe(asyncio.SubprocessProtocol):
         if told == "refused":
             answer.set_exception(Refused(lines[-1][1], asked[:200]))
         elif line == "not understood":
-            answer.set_exception(ValueError(f"not understood: {asked[:200]}"))
+            answer.set_exception(NotUnderstood(f"not understood: {asked[:200]}"))
         else:
             answer.set_result(lines)
 
@@ -327,6 +332,11 @@ class Store:
     async def cancel(self, id: str) -> None:
         await self.ask("cancel", word(id))
 
+    async def forget(self, ids: Iterable[str]) -> None:
+        """Forgets invocations that have ended, all of these or none: their ids are free again, and what they made of their objects' states
+        stays. Refused: S1 where one is open, S4 where one is not there. NotUnderstood by an older process."""
+        await self.ask("forget", *map(word, ids))
+
     async def tick(self, now: int) -> int:
         """The sleeps that are over at this moment end; how many."""
         return int((await self.ask("tick", now))[0][1])
@@ -390,9 +400,14 @@ class Store:
         rows = (await self.ask("list", word(after), most, last=("end",)))[:-1]
         return [Listed(unescaped(id).decode(), unescaped(object).decode(), status, int(attempts), int(entries)) for _, id, object, status, attempts, entries in rows]
 
+    async def rows(self) -> AsyncIterator[Listed]:
+        """All invocations, by id, a page at a time."""
+        last = ""
+        while rows := await self.page(last):
+            last = rows[-1].id
+            for it in rows:
+                yield it
+
     async def list(self) -> "List[Listed]":
-        """All invocations, by id."""
-        found: List[Listed] = []
-        while rows := await self.page(found[-1].id if found else ""):
-            found += rows
-        return found
+        """The same, at once."""
+        return [it async for it in self.rows()]

@@ -9,6 +9,7 @@
     POST /restate/awakeables/ID/resolve, /reject         with a JSON value; with a text
     POST /restate/invocation/ID/signal/NAME              with a JSON value
     POST /restate/invocation/ID/cancel, /pause, /resume  a cancellation behind another counts with ?again=true alone
+    POST /restate/invocation/ID/forget, /restate/purge   one that has ended; all that have: {"forgotten": ..}
 
 The header x-hengomaru-id of a call is its id. It takes no request that a page of another site makes, and answers to its own names alone:
 whoever opens a page somewhere should not start jobs here. Where it has a token, it does what is asked with `authorization: Bearer TOKEN`
@@ -19,21 +20,18 @@ import hmac
 import json
 import logging
 import pkgutil
-import re
 from typing import Any, Awaitable, Callable, Dict, List, Optional, Sequence, Tuple
 from urllib.parse import parse_qs, unquote
 
 from .endpoint import Receive, Scope, Send
 from .journal import steps_of
-from .services import OWN_HEADERS, Target, named
+from .services import MILLISECOND, OWN_HEADERS, Target, named, span_of
 from .store import Listed, Refused, Shown, StoreGone, TooLong
-from .worker import NEVER, Busy, Worker
+from .worker import NEVER, Awaited, Busy, Worker
 
 log = logging.getLogger("hengomaru")
 MOST = 2**24
 SHORTEST_TOKEN = 16
-DELAY = re.compile(r"(\d+(?:\.\d+)?)(ms|s|m|h|d)")
-UNITS = {"ms": 1, "s": 1000, "m": 60_000, "h": 3_600_000, "d": 86_400_000}
 FILES = {"": ("page.html", "text/html"), "page.js": ("page.js", "text/javascript"), "page.css": ("page.css", "text/css")}
 SAFE = [
     (b"content-security-policy", b"default-src 'none'; script-src 'self'; style-src 'self'; connect-src 'self'; base-uri 'none'; form-action 'none'; frame-ancestors 'none'"),
@@ -101,12 +99,10 @@ def of_json(value: Any, status: int = 200, headers: Sequence[Tuple[str, str]] = 
 
 def delay_in(told: Optional[str]) -> int:
     """Milliseconds of a text such as 10s, or 1h30m."""
-    if not told:
-        return 0
-    parts = DELAY.findall(told)
-    if not parts or "".join(a + b for a, b in parts) != told:
-        raise Told(400, f"{told} is no delay, such as 10s or 1h30m")
-    return int(sum(float(number) * UNITS[unit] for number, unit in parts))
+    try:
+        return span_of(told) // MILLISECOND if told else 0
+    except ValueError as error:
+        raise Told(400, str(error)) from None
 
 
 def read_token(file: Optional[str]) -> Optional[str]:
@@ -151,8 +147,8 @@ class Web:
             answer = of_json({"message": str(error)}, 413)
         except StoreGone:
             answer = of_json({"message": "the worker is closed, or its store does not answer"}, 503)
-        except Busy as busy:
-            answer = of_json({"message": str(busy)}, 409)
+        except (Awaited, Busy) as kept:
+            answer = of_json({"message": str(kept)}, 409)
         except LookupError as error:
             answer = of_json({"message": str(error.args[0])}, 404)
         except ValueError as error:
@@ -214,10 +210,12 @@ class Web:
         headers = {name: value for name, value in request.headers.items() if name not in UNSHOWN and not name.startswith((OWN_HEADERS, "sec-"))}
         delay = delay_in(request.query.get("delay")) if is_send else 0
         own, again = request.headers.get(OWN_ID), request.headers.get("idempotency-key")
-        id, is_new = await self.worker.request((service, handler), body, key, again, headers, delay, own)
-        if is_send:
-            return of_json({"invocationId": id, "status": "Accepted" if is_new else "PreviouslyAccepted"}, 202, [("x-restate-id", word_of(id))])
-        return told_answer(await self.outcome(request, id), id, it.output.content_type)
+        target, _, id = await self.worker.call_of((service, handler), key, again, own)
+        with self.worker.reading(id):
+            is_new = await self.worker.take_on(id, target, body, headers, delay)
+            if is_send:
+                return of_json({"invocationId": id, "status": "Accepted" if is_new else "PreviouslyAccepted"}, 202, [("x-restate-id", word_of(id))])
+            return told_answer(await self.outcome(request, id), id, it.output.content_type)
 
     async def outcome(self, request: Request, id: str) -> Shown:
         """What an invocation has come to, once it has ended, as long as somebody waits for it. It goes on also where nobody does."""
@@ -237,6 +235,8 @@ class Web:
         what, *rest = words or [""]
         if (what, rest) == ("health", []):
             return of_json({})
+        if (what, rest, request.method) == ("purge", [], "POST"):
+            return of_json({"forgotten": await self.worker.purge()})
         if what == "awakeables" and len(rest) == 2 and request.method == "POST" and rest[1] in ("resolve", "reject"):
             return await self.awakeable(request, *rest)
         if what == "workflow" and len(rest) == 3:
@@ -256,7 +256,7 @@ class Web:
             raise Told(405, "that is a POST")
         if act == "signal" and len(names) == 1:
             await self.worker.signal(id, names[0], await request.json())
-        elif act in ("cancel", "pause", "resume") and not names:
+        elif act in ("cancel", "pause", "resume", "forget") and not names:
             await self.act(act, id, request.query.get("again") == "true")
         else:
             raise Told(404, "nothing is there")
@@ -275,7 +275,7 @@ class Web:
         if act == "cancel":
             await self.worker.cancel_invocation(id, again=again)
         else:
-            await {"pause": self.worker.pause, "resume": self.worker.resume}[act](id)
+            await {"pause": self.worker.pause, "resume": self.worker.resume, "forget": self.worker.forget}[act](id)
 
     # ---- the page
     async def page(self, request: Request, words: List[str]) -> Answer:
@@ -304,7 +304,7 @@ class Web:
 
     async def listed(self, after: str, only: str, most: int) -> Dict[str, Any]:
         """The first invocations behind an id: all, those that are open, or those that have not gone well."""
-        wanted = {"open": lambda it: it["status"] not in ("ended", "failed"), "amiss": lambda it: it["status"] in ("again", "paused", "failed")}.get(only, lambda it: True)
+        statuses = {"open": {"live", "due", "suspended", "again", "paused"}, "amiss": {"again", "paused", "failed"}}.get(only)
         found: List[Dict[str, Any]] = []
         scanned, last = 0, after
         while len(found) < most and scanned < 20_000:
@@ -314,7 +314,7 @@ class Web:
             for it in page:
                 last, scanned = it.id, scanned + 1
                 row = self.row(it)
-                if wanted(row):
+                if statuses is None or row["status"] in statuses:
                     found.append(row)
                     if len(found) == most:
                         break

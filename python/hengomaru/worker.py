@@ -1,9 +1,10 @@
 """A worker: it goes on with what is due, many attempts side by side, delivers what was asked of others, and wakes itself at the next
 moment. What is amiss with one invocation is told, and tried again later; it ends no other."""
 import asyncio
+import functools
 import logging
 import time
-from collections import deque
+from collections import Counter, deque
 from concurrent.futures import ThreadPoolExecutor
 from datetime import timedelta
 from typing import Any, Awaitable, Callable, Coroutine, Deque, Dict, List, Optional, Set, Union
@@ -11,14 +12,15 @@ from typing import Any, Awaitable, Callable, Coroutine, Deque, Dict, List, Optio
 from . import machine as machines
 from .attempt import Attempt, cut
 from .delivery import LATER, OWN, TRANSIENT
+from .forgetting import Awaited, Forgetting
 from .futures import told_of
 from .jobs import Busy, Status, answer_in
-from .recovery import FIRST_INTERVAL, LAST_INTERVAL, NEVER, PAUSE, Recovery
-from .services import OWN_NAME, App, Handler, Service
+from .recovery import FIRST_INTERVAL, LAST_INTERVAL, NEVER, PAUSE
+from .services import OWN_NAME, App, Handler, Service, check_retention
 from .session import Session, woken
 from .store import Refused, Store, StoreGone, Value
 
-__all__ = ["Busy", "FIRST_INTERVAL", "HostGone", "LAST_INTERVAL", "NEVER", "PAUSE", "Status", "Worker", "now_in_millis"]
+__all__ = ["Awaited", "Busy", "FIRST_INTERVAL", "HostGone", "LAST_INTERVAL", "NEVER", "PAUSE", "Status", "Worker", "now_in_millis"]
 log = logging.getLogger("hengomaru")
 MISMATCH = 570
 # So many different things are told of one invocation until it gets further.
@@ -36,7 +38,7 @@ class HostGone(Exception):
 Host = Callable[[Session], Awaitable[None]]
 
 
-class Worker(Recovery):
+class Worker(Forgetting):
     """Goes on with the invocations of a database, whose handlers are an app's or a list of services.
 
     At most `limit` attempts are live at a time. One that waits stays so for `linger` seconds, unless its place is wanted, and then is
@@ -44,17 +46,22 @@ class Worker(Recovery):
     Plain functions as bodies of runs go in so many `threads`. Where handlers are elsewhere, `host` takes a session there (`remote.py`). It
     tells by `ended(id, value, failure)` of each invocation that ends, and that no other has called. Where the store's process is gone, it
     is begun anew. A worker belongs to the loop, and the thread, that have opened it.
+
+    What has ended is forgotten a `retention` later: its id is unknown then, and free, so it answers a second submit no longer. A handler may
+    have its own; where nobody has one, nothing is forgotten but by `purge` and `forget`. No store keeps when something has ended: where the
+    worker has not seen it, it counts from its own beginning.
     """
 
     def __init__(
         self, database: Any, app: Union[App, List[Service]], program: Optional[str] = None, clock: Callable[[], int] = now_in_millis,
         ended: Optional[Callable[[str, Any, Any], None]] = None, limit: int = 256, linger: float = 0.5, threads: int = 64, host: Optional[Host] = None,
-        tries: int = 100,
+        tries: int = 100, retention: Optional[timedelta] = None,
     ) -> None:
         self.app = app if isinstance(app, App) else App(app)
         self.app[OWN_NAME] = OWN
         self.store, self.clock, self.tell_ended = Store(database, program), clock, ended
         self.limit, self.linger, self.tries, self.host = limit, linger, tries, host or self.here
+        self.retention, self.ended, self.completes, self.touched, self.forgotten, self.took = check_retention(retention), {}, {}, set(), 0, 0.0
         self.pool = ThreadPoolExecutor(threads, "hengomaru-run")
         self.live: Dict[str, Session] = {}
         # Those whose store's process has ended under them.
@@ -64,6 +71,7 @@ class Worker(Recovery):
         self.tasks: "Set[asyncio.Task[Any]]" = set()
         self.dirty: Set[str] = set()
         self.asked: "Dict[str, List[asyncio.Future[None]]]" = {}
+        self.readers = Counter()
         # How often each has failed in a row, and of these how often its handler; when it is tried again; what was told of it.
         self.failures: Dict[str, int] = {}
         self.faults: Dict[str, int] = {}
@@ -71,7 +79,7 @@ class Worker(Recovery):
         self.told: Dict[str, Set[str]] = {}
         # The protocol's version of what is made.
         self.version = 9
-        self.is_stopping = self.is_watching = self.is_closed = False
+        self.is_stopping = self.is_watching = self.is_closed = self.is_unable = False
         self.began = self.done = 0
         # When the store's process was begun, and how many seconds it was waited for.
         self.opened_at, self.rest = 0.0, 0.0
@@ -95,9 +103,11 @@ class Worker(Recovery):
 
     def prepare(self) -> None:
         """Makes what belongs to the running loop."""
-        self.pulse, self.opening = asyncio.Event(), asyncio.Lock()
+        self.pulse, self.opening, self.purging = asyncio.Event(), asyncio.Lock(), asyncio.Lock()
         self.store.tell_gone = self.pulse.set
-        self.forget()
+        self.began_at = self.clock()
+        self.purges_again()
+        self.reset()
 
     async def close(self, grace: float = 10.0) -> None:
         """Suspends what waits, waits so many seconds for what does not, stops the rest, and ends the store's process."""
@@ -168,6 +178,9 @@ class Worker(Recovery):
         """Begins what is due, as far as there is room; when there is more to do."""
         self.pulse.clear()
         await self.tick()
+        if self.clock() >= self.purges_at:
+            self.purges_at = NEVER
+            self.spawn(self.purge_by_itself()).add_done_callback(self.purges_again)
         waiting = [it for it in self.idle.values() if it.idle_since is not None]
         is_asked = not self.backlog and (len(self.live) < self.limit or bool(waiting))
         if is_asked:
@@ -176,8 +189,10 @@ class Worker(Recovery):
         while self.backlog and len(self.live) < self.limit and not self.is_stopping:
             id = self.backlog.popleft()
             if id not in self.live and self.not_before.get(id, 0) <= now:
-                self.live[id] = Session(self, id)
-                self.live[id].task = self.spawn(self.attend(self.live[id]))
+                self.live[id] = session = Session(self, id)
+                session.task = self.spawn(self.attend(session))
+                # also where it is cancelled before it has begun
+                session.task.add_done_callback(functools.partial(self.leave, session))
         for it in waiting[: len(self.backlog)]:
             it.leave()  # its place is wanted
         if is_asked and not self.backlog:  # what is over, and was not due, waits for something else
@@ -214,7 +229,7 @@ class Worker(Recovery):
                 continue
             if moment is None and not self.tasks and not self.pulse.is_set() and not self.is_watching:
                 return
-            left = NEVER if moment is None else max(0.0, moment - self.clock()) / 1000 + 0.001
+            left = max(0.0, min(NEVER if moment is None else moment, self.purges_at) - self.clock()) / 1000 + 0.001
             left = min(left, ends - time.monotonic())
             await woken(self.pulse, None if left == NEVER else left)
 
@@ -233,7 +248,11 @@ class Worker(Recovery):
         try:
             await self.attend_to_end(session)
         finally:
-            self.live.pop(session.id, None)
+            self.leave(session)
+
+    def leave(self, session: Session, _: Any = None) -> None:
+        if self.live.get(session.id) is session:
+            del self.live[session.id]
 
     async def attend_to_end(self, session: Session) -> None:
         id = session.id
@@ -308,6 +327,7 @@ class Worker(Recovery):
         self.done += 1
         self.clear(id)
         self.not_before.pop(id, None)
+        self.note_end(id, handler)
         self.awaken(self.waiting.pop(id, set()) | self.busy.pop(self.objects.pop(id, ""), set()))
         self.tell_asked(id)
         if self.tell_ended and not caller and not id.endswith(LATER):

@@ -14,6 +14,7 @@ from hengomaru import pb
 from hengomaru.services import CALLER
 from hengomaru.store import LONGEST, TooLong, find_program
 from tests.cutting import Cut
+from tests.needs import entered
 
 HOUR, LONGEST_TEST = timedelta(hours=1), int(os.environ.get("HENGOMARU_LONGEST", "300"))
 svc, obj, flow = hg.Service("svc"), hg.VirtualObject("obj"), hg.Workflow("flow")
@@ -145,7 +146,7 @@ class Beside(unittest.IsolatedAsyncioTestCase):
         folder = tempfile.TemporaryDirectory(dir="/dev/shm" if os.access("/dev/shm", os.W_OK) else None)
         self.addCleanup(folder.cleanup)
         self.folder, self.database, self.further = folder.name, folder.name + "/jobs.db", {}
-        self.records = self.enterContext(self.logs())
+        self.records = entered(self, self.logs())
 
     def logs(self):
         return self.assertLogs("hengomaru", logging.INFO)

@@ -124,6 +124,13 @@ class Commands(unittest.TestCase):
         self.assertEqual(self.asked("signal", it, "absent", "go", status=1), "refused S4: there is no such invocation")
         self.assertEqual(self.asked("cancel", it, "j1", status=1), "refused S5: the invocation has ended")
         self.assertEqual(self.asked("resolve", it, "x"), "nothing waits for it")
+        self.assertEqual(self.asked("submit", it, app_name, "j5", "jobs/waits"), "j5: there")
+        self.assertEqual(self.asked("forget", it, "j1"), "done")
+        self.assertEqual(self.asked("show", it, "j1", status=1), "refused: there is no invocation j1")
+        self.assertEqual(self.asked("forget", it, "j1", status=1), "refused S4: there is no such invocation")
+        self.assertEqual(self.asked("forget", it, "j5", status=1), "refused S1: the object has an open invocation")
+        self.assertEqual(self.asked("purge", it), "2 forgotten")
+        self.assertEqual([row.split()[0] for row in self.asked("list", it).splitlines()], ["j5"])
 
     def test_what_cannot_begin(self):
         self.assertIn("names no app", self.asked("worker", self.database, "tests.test_command:absent", status=2))
@@ -176,6 +183,7 @@ class Commands(unittest.TestCase):
         self.assertEqual([asked("pause", "j2"), asked("resume", "j2"), asked("signal", "j2", "go", "[7]")], ["done"] * 3)
         self.is_so(lambda: asked("show", "j2", "--steps").splitlines()[-1] == "j2: [7]")
         self.assertEqual(asked("cancel", "absent", status=1).split(":")[0], "refused")
+        self.assertEqual([asked("forget", "j1"), asked("purge"), asked("list")], ["done", "1 forgotten", "none"])
         self.assertIn("a worker that has it is asked by its address", self.asked("list", self.database, status=2))
 
 

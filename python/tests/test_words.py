@@ -1,15 +1,29 @@
 """Records, words of the store's process, names of invocations, and what futures together come to: none needs a program."""
+import pathlib
+import re
 import unittest
 from datetime import timedelta
 
 from hengomaru import pb
+from hengomaru.causes import CAUSES
 from hengomaru.context import RunOptions
-from hengomaru.delivery import awakeable_of, brought, seed_of
+from hengomaru.delivery import awakeable_of, seed_of
 from hengomaru.futures import Together
 from hengomaru.machine import ALL_COMPLETED, ALL_SUCCEEDED, AT_LEAST, FAILURE, FIRST_COMPLETED, FIRST_SUCCEEDED, VALUE, nodes_of
+from hengomaru.promises import brought
 from hengomaru.serdes import from_json, to_json
 from hengomaru.services import Service, Target, VirtualObject, Workflow, app, id_of, object_of, target_in, target_of
-from hengomaru.store import digits, escaped, read_answer, read_arrival, unescaped, value_word, word
+from hengomaru.store import Refused, digits, escaped, read_answer, read_arrival, unescaped, value_word, word
+
+
+class Refusals(unittest.TestCase):
+    def test_each_says_what_the_formats_say(self):
+        formats = pathlib.Path(__file__).parents[2] / "docs" / "FORMATS.md"
+        self.assertEqual(CAUSES, dict(re.findall(r"^    ([A-Z]\d+) +(.+)$", formats.read_text(), re.MULTILINE)))
+
+    def test_one_is_told_with_its_words(self):
+        refused = Refused("S3", "invoke i1 o ..")
+        self.assertEqual((refused.name, refused.says, str(refused)), ("S3", "id used before", "S3, id used before: invoke i1 o .."))
 
 
 class Records(unittest.TestCase):
