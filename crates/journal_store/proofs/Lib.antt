@@ -16,6 +16,9 @@ pub mod Calls
 pub mod Answering
 pub mod Outcomes
 pub mod FrameAcceptance
+pub mod JoinedWrites
+pub mod JoinedFrames
+pub mod JoinedCommit
 pub mod OutputAcceptance
 pub mod Opening
 pub mod Reading

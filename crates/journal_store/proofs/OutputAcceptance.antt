@@ -16,6 +16,8 @@ use Rattle.store_calls.specs.Calls.{Pushes, PutsBehind}
 use Rattle.store_calls.specs.Frames.{Accepts, AcceptsFirst, StepsAttempt, TakesEach, TakesFirstFrames, TakesFrames, TakesOne}
 use Rattle.store_calls.proofs.Taking.{goes_on, none_behind, same_stays, takes_first, takes_more}
 use Rattle.journal_store.specs.declared.accept.Accepted.{Accepted}
+use Rattle.journal_store.specs.declared.joined.TakenFrames.{TakenFrames}
+use Rattle.journal_store.specs.JoinedFrames.{TakesJoined}
 use Rattle.journal_store.specs.StoreView.{Stored}
 use Rattle.journal_store.specs.StoreStanding.{Leads, Endures, IsQuiet, Settles}
 use Rattle.journal_store.specs.OutputAcceptance.{HasTaken, OutlastsFrames, SettlesFrames, SettlesNext, TakesNext}
@@ -184,10 +186,19 @@ module _ {S : Type 0} (g : Ghosts S) (id : Text) (n : ℕ) where
   pub next_unroomed : (before after : List FrameReply) → after ≡ before → (store : Stored S) → Leads g (TakesNext id n (Err OutOfMemory) before after) store store
   next_unroomed before after same store clean s is = (s, is, (same, λ live. inl (record { live = live; memory = refl; stays = same_stays s })))
 
-  -- at first none was taken
-  pub none_taken : (replies : List FrameReply) → replies ≡ [] → (store : Stored S) → Leads g (GoesOn id n replies) store store
-  none_taken replies none store clean s is =
-      (s, is, record { taken = subst (λ (all : List FrameReply). TakesEach id n all s s) (sym none) (same_stays s); live = λ live. live })
+-- at first some were taken in one transaction
+module _ {S : Type 0} (g : Ghosts S) (id : Text) (n : ℕ) (old new : Stored S) (taken : TakenFrames) where
+  pub joined_on : taken.does_end ≡ false → Leads g (TakesJoined id n taken.replies.items taken.does_end) old new → Leads g (GoesOn id n taken.replies.items) old new
+  joined_on going does clean s is = let t = does clean s is in (t.0, t.1, record { taken = t.2.taken; live = t.2.live going })
+
+  -- up to one that has ended the attempt
+  pub joined_over : taken.does_end ≡ true → Leads g (TakesJoined id n taken.replies.items taken.does_end) old new → Leads g (TakesLive id n taken.replies.items None) old new
+  joined_over ends does clean s is =
+      let t = does clean s is in
+      (t.0, t.1, λ live. record { between = t.0; taken = t.2.taken; rests = inl (record { over = t.2.over ends; stays = same_stays t.0 }) })
+
+  pub joined_lasts : (taken.replies.items ≢ [] → Settles g (TakesEach id n taken.replies.items) old new) → SettlesFrames g (λ s m. m ≡ s) id n taken.replies.items None old new
+  joined_lasts settled some clean s is = let t = settled some clean s is in (s, refl, (t.0, t.2, t.3))
 
 module _ {S : Type 0} (g : Ghosts S) (id : Text) (n : ℕ) (bytes : Bytes) (old pushed new : Stored S) (pushes : Leads g (Pushes id n bytes (Ok tt)) old pushed) where
   -- bytes were put behind, and the frames are taken

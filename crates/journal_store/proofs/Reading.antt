@@ -1,6 +1,7 @@
 -- The next row of a live attempt's input is read.
-use Rattle.std.proofs.Common.{◌≡◌, ℕ, ◌<◌, ◌^◌, ◌==◌, arith, refl, sym, ap, subst, ◌∙◌, inl, inr, Bool, true, false, true≢false, if◌then◌else◌, List, [], ◌∷◌, length, Option, Some, None, option_map, Result, Ok, Err, IsErrAnd, bytes_eq}
-use Rattle.std.proofs.lemmas.Bool.{eqb-true}
+use Rattle.std.proofs.Common.{◌≡◌, ℕ, zero, suc, ◌+◌, ◌-◌, ◌≤◌, ◌<◌, ◌^◌, ◌==◌, ◌++◌, arith, refl, sym, ap, subst, ◌∙◌, inl, inr, Bool, true, false, true≢false, if◌then◌else◌, List, [], ◌∷◌, length, Option, Some, None, option_map, Result, Ok, Err, IsErrAnd, bytes_eq}
+use Rattle.std.specs.Prelude.{slice_get}
+use Rattle.std.proofs.lemmas.Bool.{eqb-true, ltb-true}
 use Rattle.std.proofs.lemmas.Slice.Eq.{bytes_eq-Decides}
 use Rattle.sqlite_trees.specs.declared.store.Store.{Ghosts}
 use Rattle.sqlite.specs.Held.{Held, state}
@@ -10,10 +11,13 @@ use Rattle.protocol_types.specs.declared.message_type.MessageType.TheVariants.{P
 use Rattle.journal_model.specs.Notification.{Bytes, Text}
 use Rattle.journal_model.specs.Spelling.{acknowledgement_payload, frame_bytes}
 use Rattle.journal_model.specs.Event.{Event}
+use Rattle.journal_model.specs.Journal.{Arrived, Entry, Recorded, arrivals_in, entries_of, recorded_arrivals}
 use Rattle.journal_model.specs.Cause.{IsAccepted}
 use Rattle.store_tables.specs.Looks.{OnlyAsks}
 use Rattle.store_tables.specs.declared.row.EntryRow.{EntryRow}
-use Rattle.store_invocations.specs.Rows.{IsStoreOf}
+use Rattle.store_tables.specs.declared.row.InvocationRow.{InvocationRow}
+use Rattle.store_model.specs.Lookups.{arrival_rows, rows_of_arrivals}
+use Rattle.store_invocations.specs.Rows.{IsRowOf, IsStoreOf}
 use Rattle.store_refusals.specs.declared.refusal.Refusal.{Refusal}
 use Rattle.store_refusals.specs.Preparations.{TellsOrRefuses}
 use Rattle.store_refusals.specs.RefusalConditions.{IsRefused}
@@ -28,8 +32,8 @@ use Rattle.store_live_laws.proofs.Steps.{is_read}
 use Rattle.store_live_laws.specs.Memory.{InputCounts, arrival_read, frame_read, plain_read, row_asked, told_read}
 use Rattle.store_live_laws.proofs.Reading.{inputs_count}
 use Rattle.journal_store.specs.StoreView.{stored}
-use Rattle.journal_store.specs.StoreStanding.{KeepsOutputs, Stands}
-use Rattle.journal_store.specs.Attempts.{FitsNext, HasRead, HasRoomFor, IsWanted, IsWantedBy, ReadsNext, after_wanted, has_closed, rest_kept}
+use Rattle.journal_store.specs.StoreStanding.{HasRow, KeepsOutputs, Stands}
+use Rattle.journal_store.specs.Attempts.{FitsNext, HasRead, HasRoomFor, IsWanted, IsWantedBy, ReadsNext, after_wanted, has_closed, has_none_left, lacks_next, rest_kept}
 use Rattle.journal_store.proofs.Fitting.{entries_fit}
 use Rattle.journal_store.proofs.Rows.{rows_changed}
 use Rattle.journal_store.proofs.Standing.{stands_asked, true_or_false}
@@ -113,6 +117,38 @@ pub wanted_full : (events : List Event) (id : Text) (o : Option LiveAttempt) (on
 wanted_full events id o one is left =
     subst (λ (live : Option LiveAttempt). IsWanted events id live None) (sym is) (subst (λ (b : Bool). IsWantedBy events id one b None) (sym left) refl)
 
+-- no more arrivals are recorded than the row says
+many_arrivals : (id : Text) (before : List Entry) (place : ℕ) (entries : List Entry) → length (rows_of_arrivals id before place entries) ≡ length (arrivals_in entries)
+many_arrivals id before place [] = refl
+many_arrivals id before place (Recorded request ∷ entries) = many_arrivals id (before ++ Recorded request ∷ []) (place + 1) entries
+many_arrivals id before place (Arrived arrival ∷ entries) = ap (λ (n : ℕ). suc n) (many_arrivals id (before ++ Arrived arrival ∷ []) (place + 1) entries)
+
+past_end : {A : Type 0} (xs : List A) (k : ℕ) → length xs ≤ k → slice_get xs k ≡ None
+past_end [] k le = refl
+past_end (x ∷ xs) zero le = absurd (omega (arith, le))
+past_end (x ∷ xs) (suc k) le = past_end xs k (omega (arith, le))
+
+none_asked : (events : List Event) (id : Text) (one : LiveAttempt) → IsRowOf events id one.row → has_none_left one ≡ true → row_asked events id (next_row one.input) ≡ None
+none_asked events id one of none = by_next (next_row one.input) none
+  where
+    arrived : one.row.progress.arrivals ≡ length (arrival_rows events id)
+    arrived =
+        ap (λ (row : InvocationRow). row.progress.arrivals) of.is ∙ ap (λ (named : Text). length (recorded_arrivals events named)) of.named
+        ∙ sym (many_arrivals id [] 1 (entries_of events id))
+
+    by_next : (next : NextRow) → lacks_next one.row.progress.arrivals next ≡ true → row_asked events id next ≡ None
+    by_next (NextRow.Entry place) e = cc
+    by_next (NextRow.Arrival ordinal) e =
+        let more = ltb-true one.row.progress.arrivals ordinal e in
+        past_end (arrival_rows events id) (ordinal - 1) (omega (arith, more, arrived))
+
+pub wanted_past : (events : List Event) (id : Text) (o : Option LiveAttempt) (one : LiveAttempt) → o ≡ Some one → (length one.input.rest == 0) ≡ true → HasRow events id o → has_none_left one ≡ true
+    → IsWanted events id o None
+wanted_past events id o one is out has none =
+    subst (λ (live : Option LiveAttempt). IsWanted events id live None) (sym is)
+    (subst (λ (b : Bool). IsWantedBy events id one b None) (sym out)
+    (sym (ap (option_map (frame_read one.input.unread (next_row one.input))) (none_asked events id one (subst (HasRow events id) is has) none))))
+
 pub wanted_next : (events : List Event) (id : Text) (o : Option LiveAttempt) (one : LiveAttempt) (r : Result (Option FrameRead) Refusal) → o ≡ Some one → (length one.input.rest == 0) ≡ true
     → FitsNext o
     → (next_ordinal one.input < 2 ^ 32 → TellsOrRefuses (λ (frame : Option FrameRead). frame ≡ option_map (frame_read one.input.unread (next_row one.input)) (row_asked events id (next_row one.input))) r)
@@ -158,14 +194,14 @@ stands_on events database old new id found stands has changes = record {
 
 module _ {S : Type 0} (g : Ghosts S) (a b : Held S) (before : Attempts) (id : Text) (looks : OnlyAsks g a b) where
   pub reads_on : (after : Attempts) (found : Option FrameRead)
-      → (HasCleanDisk (state g b) → (events : List Event) → IsStoreOf events (state g a) → FitsNext (attempt_of before.attempts id) → IsWanted events id (attempt_of before.attempts id) found)
+      → (HasCleanDisk (state g b) → (events : List Event) → IsStoreOf events (state g a) → HasRow events id (attempt_of before.attempts id) → FitsNext (attempt_of before.attempts id) → IsWanted events id (attempt_of before.attempts id) found)
       → (HasRoomFor found (attempt_of before.attempts id) → ChangesLive id (after_wanted found) before.attempts after.attempts)
       → KeepsOutputs before.attempts after.attempts → ReadsNext g id (Ok tt) (stored a before) (stored b after)
   reads_on after found told changed waits clean s is =
       let store = is.stands.kept in
       let agrees = is.stands.live id in
       let has = read_on s.events id (attempt_of before.attempts id) found store.accepted agrees
-      (told clean s.events store (can_ask s.events id (attempt_of before.attempts id) store.accepted agrees)) in
+      (told clean s.events store (is.stands.rows id) (can_ask s.events id (attempt_of before.attempts id) store.accepted agrees)) in
       let change = changed has.room in record {
         standing = record {
           stands = stands_on s.events (state g b) before.attempts after.attempts id found (stands_asked s.events (state g a) (state g b) before.attempts looks.crash looks.kept is.stands) has change;
@@ -178,8 +214,8 @@ module _ {S : Type 0} (g : Ghosts S) (a b : Held S) (before : Attempts) (id : Te
 
   -- it is not read
   pub reads_none : (after : Attempts) (result : Result (Unit {0}) Refusal) {Q : Refusal → Type 0} → IsErrAnd result Q
-      → ((why : Refusal) → Q why → HasCleanDisk (state g b) → (events : List Event) → IsStoreOf events (state g a) → FitsNext (attempt_of before.attempts id) → IsRefused [] why)
+      → ((why : Refusal) → Q why → HasCleanDisk (state g b) → (events : List Event) → IsStoreOf events (state g a) → HasRow events id (attempt_of before.attempts id) → FitsNext (attempt_of before.attempts id) → IsRefused [] why)
       → ReadsNext g id result (stored a before) (stored b after)
   reads_none after (Ok done) it told clean s is = absurd it
   reads_none after (Err why) it told clean s is =
-      told why it clean s.events is.stands.kept (can_ask s.events id (attempt_of before.attempts id) is.stands.kept.accepted (is.stands.live id))
+      told why it clean s.events is.stands.kept (is.stands.rows id) (can_ask s.events id (attempt_of before.attempts id) is.stands.kept.accepted (is.stands.live id))

@@ -48,7 +48,7 @@ some_kept (event ∷ events) accepted =
 
 -- ---- the row among them
 
-turned : (x y : Text) → bytes_eq x y ≡ bytes_eq y x
+pub turned : (x y : Text) → bytes_eq x y ≡ bytes_eq y x
 turned x y = by_test (bytes_eq x y) refl (bytes_eq y x) refl
   where
     by_test : (a : Bool) → bytes_eq x y ≡ a → (b : Bool) → bytes_eq y x ≡ b → a ≡ b

@@ -91,7 +91,7 @@ unwritten events event s store read accepted none =
 -- ---- attempts
 
 -- of one invocation the attempt is as the event leaves it, and of the others it is as before
-live_after : (events : List Event) (event : Event) (id : Text) (after : Option LiveAttempt) (old new : ByInvocation)
+pub live_after : (events : List Event) (event : Event) (id : Text) (after : Option LiveAttempt) (old new : ByInvocation)
     → invocation_of event ≡ Some id → is_tick event ≡ false → IsAccepted (event ∷ events) → Agrees (event ∷ events) id after → IsNow id after old new
     → ((other : Text) → Agrees events other (attempt_of old other)) → (other : Text) → Agrees (event ∷ events) other (attempt_of new other)
 live_after events event id after old new of_it no_tick accepted agrees now live other = elim (true_or_false (bytes_eq id other)) [

@@ -1,5 +1,5 @@
 -- What is seen of a live attempt in memory, what is kept there of its input, and how one is begun.
-use Rattle.std.specs.Prelude.{◌≡◌, ◌⊎◌, ℕ, ◌<◌, ◌^◌, length, not, ◌==◌, Bool, true, false, List, [], ◌∷◌, ◌++◌, Option, Some, None, option_map, Result, Ok, Err, IsTrue}
+use Rattle.std.specs.Prelude.{◌≡◌, ◌⊎◌, ℕ, ◌<◌, ◌^◌, length, nat_lt, not, ◌==◌, Bool, true, false, List, [], ◌∷◌, ◌++◌, Option, Some, None, option_map, Result, Ok, Err, IsTrue}
 use Rattle.std.specs.Option.{ForSome}
 use Rattle.sqlite_trees.specs.declared.store.Store.{Ghosts}
 use Rattle.sqlite.specs.Held.{state}
@@ -15,6 +15,7 @@ use Rattle.store_refusals.specs.Preparations.{TellsOrRefuses}
 use Rattle.store_invocations.specs.declared.attempt.PreparedAttempt.{PreparedAttempt}
 use Rattle.store_live.specs.declared.attempt.LiveAttempt.{LiveAttempt}
 use Rattle.store_live.specs.declared.input.FrameRead.{FrameRead}
+use Rattle.store_live.specs.declared.input.NextRow.{NextRow}
 use Rattle.store_live.specs.Input.{at_begin, next_ordinal, next_row}
 use Rattle.store_live.specs.Attempts.{ByInvocation, CountsFrame, IsNow, live_after_frame, attempt_of}
 use Rattle.store_live.specs.Rows.{AreNoted}
@@ -56,6 +57,14 @@ IsWantedBy events id attempt false found = found ≡ None
 abbrev pub IsWanted : List Event → Text → Option LiveAttempt → Option FrameRead → Type 0
 IsWanted events id None found = found ≡ None
 IsWanted events id (Some attempt) found = IsWantedBy events id attempt (length attempt.input.rest == 0) found
+
+-- the row of the invocation says that the next arrival was not recorded yet
+abbrev pub lacks_next : (arrivals : ℕ) → NextRow → Bool
+lacks_next arrivals (NextRow.Entry place) = false
+lacks_next arrivals (NextRow.Arrival ordinal) = nat_lt arrivals ordinal
+
+abbrev pub has_none_left : LiveAttempt → Bool
+has_none_left attempt = lacks_next attempt.row.progress.arrivals (next_row attempt.input)
 
 -- it is taken in
 abbrev pub after_wanted : Option FrameRead → LiveAttempt → LiveAttempt

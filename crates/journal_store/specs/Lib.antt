@@ -3,6 +3,7 @@ pub mod StoreStanding
 pub mod Attempts
 pub mod FrameAcceptance
 pub mod StoreTransaction
+pub mod JoinedFrames
 pub mod OutputAcceptance
 pub mod Causes
 pub mod OpeningConditions

@@ -9,6 +9,7 @@ ghost use Rattle.journal_store.specs.StoreStanding.{Endures, Leads};
 ghost use Rattle.journal_store.specs.Words.{state, AreTablesKept, attempt_of, has_number};
 ghost use Rattle.journal_store.specs.Causes.{TellsWhy, TellsWhyUnwritten, TriesFrame, TriesFrameBehind, TriesFrameOf};
 
+use crate::joined::TakenFrames;
 use crate::store::Store;
 use bytes::ByteStr;
 use sqlite::Alter;
@@ -51,7 +52,8 @@ fn take_next<S: Alter + Drop>(
     }
 }
 
-/// Takes the frames of a live attempt: up to one that ends it, or one that is refused, or until none waits whole.
+/// Takes the frames of a live attempt: up to one that ends it, or one that is refused, or until none waits whole. The first of them are
+/// taken in one transaction, as far as they can be.
 fn take_all<S: Alter + Drop>(store: &mut Store<S>, id: &ByteStr, attempt: u32) -> Accepted
     ensures does { Leads S.Store (λ s t. is_live s.events id.now attempt ≡ true → TakesFrames id.now attempt result.replies.items result.refusal s t) store.old store.new }
     ensures settled { SettlesFrames S.Store (λ s m. m ≡ s) id.now attempt result.replies.items result.refusal store.old store.new }
@@ -59,7 +61,16 @@ fn take_all<S: Alter + Drop>(store: &mut Store<S>, id: &ByteStr, attempt: u32) -
     ensures cause { IfSome result.refusal (TellsWhyUnwritten S.Store store.old store.new (TriesFrameBehind id.now attempt result.replies.items)) }
     ensures crash { Endures S.Store (TakesFirstFrames id.now attempt) store.old store.new }
 {
-    let mut replies = Vec::new(store.alloc());
+    let TakenFrames {
+        mut replies,
+        does_end,
+    } = store.take_joined(id, attempt);
+    if does_end {
+        return Accepted {
+            replies,
+            refusal: None,
+        };
+    }
     loop {
         match take_next(store, id, attempt, &mut replies) {
             Ok(true) => {}

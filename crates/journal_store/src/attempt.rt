@@ -1,5 +1,5 @@
 // What is done to a live attempt. The database is asked for the next frame of its input, and to tell why an attempt is not live.
-ghost use Rattle.std.specs.Prelude.{◌≡◌, ◌≤◌, true, length, List, [], Ok, None, IfErr, IfOk, OnErr};
+ghost use Rattle.std.specs.Prelude.{◌≡◌, ◌≤◌, ◌<◌, ◌^◌, true, length, List, [], Ok, None, IfErr, IfOk, OnErr};
 ghost use Rattle.journal_model.specs.Event.{Event};
 ghost use Rattle.store_tables.specs.Looks.{OnlyAsks};
 ghost use Rattle.store_invocations.specs.Rows.{IsStoreOf};
@@ -7,8 +7,9 @@ ghost use Rattle.store_refusals.specs.declared.refusal.Refusal.TheVariants.{OutO
 ghost use Rattle.store_calls.specs.Calls.{ClosesStoredInput, Pushes, HandsOut, Stops};
 ghost use Rattle.store_refusals.specs.Preparations.{TellsOrRefuses};
 ghost use Rattle.store_live.specs.Attempts.{ChangesLive};
-ghost use Rattle.journal_store.specs.Attempts.{FitsNext, GivesOneFrame, HasRoomFor, IsStale, IsWanted, ReadsNext, after_wanted, has_closed, has_rest};
-ghost use Rattle.journal_store.specs.StoreStanding.{IsQuiet, KeepsOutputs, Leads, WaitsAfter};
+ghost use Rattle.store_live.specs.Input.{next_ordinal};
+ghost use Rattle.journal_store.specs.Attempts.{FitsNext, GivesOneFrame, HasRoomFor, IsStale, IsWanted, ReadsNext, after_wanted, has_closed, has_none_left, has_rest};
+ghost use Rattle.journal_store.specs.StoreStanding.{HasRow, IsQuiet, KeepsOutputs, Leads, WaitsAfter};
 ghost use Rattle.journal_store.specs.StoreView.{stored};
 ghost use Rattle.journal_store.specs.Words.{state, HasCleanDisk, AreTablesKept, attempt_of, has_number};
 ghost use Rattle.store_refusals.specs.Causes.{TellsCause};
@@ -18,7 +19,7 @@ use crate::store::Store;
 use bytes::{ByteStr, Bytes};
 use sqlite::Alter;
 use store_invocations::open_row;
-use store_live::{FrameRead, LiveAttempts};
+use store_live::{FrameRead, LiveAttempt, LiveAttempts, NextRow};
 use store_reads::next_frame;
 use store_refusals::{Cause, Refusal};
 use store_tables::StoreTables;
@@ -53,13 +54,24 @@ fn is_rest_left(live: &LiveAttempts, id: &ByteStr) -> bool
     }
 }
 
-/// The next frame of the live attempt's input, from its row, once all before it was handed out.
+/// Whether the row of the invocation says that the next frame of the input was not recorded yet.
+fn has_none_left(one: &LiveAttempt) -> bool
+    ensures { next_ordinal one.now.input < 2 ^ 32 → result ≡ has_none_left one.now }
+{
+    match one.input.next_row() {
+        NextRow::Entry(_) => false,
+        NextRow::Arrival(ordinal) => one.row.progress.arrivals < ordinal,
+    }
+}
+
+/// The next frame of the live attempt's input, from its row, once all before it was handed out. No row is read where that of the invocation
+/// says that there is none.
 fn frame_wanted<S: Alter>(
     tables: &mut StoreTables<S>,
     live: &LiveAttempts,
     id: &ByteStr,
 ) -> Result<Option<FrameRead>, Refusal>
-    ensures told { HasCleanDisk (state S.Store tables.new) → (events : List Event) → IsStoreOf events (state S.Store tables.old) → FitsNext (attempt_of live.now.attempts id.now)
+    ensures told { HasCleanDisk (state S.Store tables.new) → (events : List Event) → IsStoreOf events (state S.Store tables.old) → HasRow events id.now (attempt_of live.now.attempts id.now) → FitsNext (attempt_of live.now.attempts id.now)
         → TellsOrRefuses (IsWanted events id.now (attempt_of live.now.attempts id.now)) result }
     ensures looks { OnlyAsks S.Store tables.old tables.new }
     ensures cause { IfErr result (TellsCause (state S.Store tables.old) (state S.Store tables.new)) }
@@ -67,11 +79,13 @@ fn frame_wanted<S: Alter>(
     let Some(one) = live.get(id) else {
         return Ok(None);
     };
-    if one.input.is_read_out() {
-        next_frame(tables, id, &one.input)
-    } else {
-        Ok(None)
+    if !one.input.is_read_out() {
+        return Ok(None);
     }
+    if has_none_left(one) {
+        return Ok(None);
+    }
+    next_frame(tables, id, &one.input)
 }
 
 /// Takes in the frame that was read.

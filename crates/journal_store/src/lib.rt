@@ -8,6 +8,7 @@ mod accept;
 mod attempt;
 mod due;
 mod events;
+mod joined;
 mod laws;
 mod open;
 pub mod parts;

@@ -25,14 +25,14 @@ use store_tables::{InvocationRow, Write};
 
 /// A whole frame that stands first.
 #[derive(Debug, Drop)]
-struct SeenFrame {
-    frame: AttemptFrame,
+pub(crate) struct SeenFrame {
+    pub(crate) frame: AttemptFrame,
     /// How many bytes it is.
-    len: usize,
+    pub(crate) len: usize,
     /// What is known of its attempt.
-    facts: LiveFacts,
+    pub(crate) facts: LiveFacts,
     /// The row of its invocation.
-    row: InvocationRow,
+    pub(crate) row: InvocationRow,
 }
 
 /// What stands first of the bytes that an attempt wrote.
@@ -86,16 +86,24 @@ fn first_of(alloc: Global, live: &LiveAttempts, id: &ByteStr) -> Result<FirstSee
     }
 }
 
-/// Passes a frame of so many bytes that was taken and answered so: its attempt goes on behind it, or is over.
-fn pass_frame(live: &mut LiveAttempts, id: &ByteStr, len: usize, reply: FrameReply)
+/// Passes so many bytes of an attempt, of which all frames were taken: it goes on behind them, or is over.
+pub(crate) fn pass_bytes(live: &mut LiveAttempts, id: &ByteStr, len: usize, does_end: bool)
     requires { ForSome (attempt_of live.old.attempts id.now) (λ attempt. len ≤ length attempt.output) }
-    ensures { IsNow id.now (passed (does_end reply) len (attempt_of live.old.attempts id.now)) live.old.attempts live.new.attempts }
+    ensures { IsNow id.now (passed does_end len (attempt_of live.old.attempts id.now)) live.old.attempts live.new.attempts }
 {
-    if reply.ends_attempt() {
+    if does_end {
         live.remove(id);
     } else {
         live.advance_output(id, len);
     }
+}
+
+/// Passes a frame of so many bytes that was taken and answered so.
+fn pass_frame(live: &mut LiveAttempts, id: &ByteStr, len: usize, reply: FrameReply)
+    requires { ForSome (attempt_of live.old.attempts id.now) (λ attempt. len ≤ length attempt.output) }
+    ensures { IsNow id.now (passed (does_end reply) len (attempt_of live.old.attempts id.now)) live.old.attempts live.new.attempts }
+{
+    pass_bytes(live, id, len, reply.ends_attempt());
 }
 
 /// Makes room for the outcome of a run that is to be acknowledged, if there is one.

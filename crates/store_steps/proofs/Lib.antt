@@ -1,5 +1,6 @@
 pub mod Causes
 pub mod Commands
+pub mod Joining
 pub mod LazyReads
 pub mod Answered
 pub mod Lists

@@ -5,10 +5,12 @@ ghost use Rattle.sqlite.specs.State.{HasCleanDisk};
 ghost use Rattle.protocol_types.specs.Version.{version_number};
 ghost use Rattle.store_tables.specs.Looks.{OnlyAsks};
 ghost use Rattle.journal_model.specs.Event.{Event};
+ghost use Rattle.journal_model.specs.Cause.{IsAccepted};
 ghost use Rattle.journal_model.specs.Journal.{object_state};
 ghost use Rattle.store_invocations.specs.Rows.{Decides, IsRowOf, IsStoreOf};
 ghost use Rattle.store_steps.specs.Reads.{answer_told};
 ghost use Rattle.store_steps.specs.FrameAnswers.{tests_of_told};
+ghost use Rattle.store_steps.specs.JoinedFrames.{HasArrivalsOf};
 ghost use Rattle.store_steps.specs.PreparedFrames.{IsFrameMade, IsOtherFrame, IsWhy, TakesAttemptFrame, WakesAtOnce, is_written};
 ghost use Rattle.store_refusals.specs.Causes.{TellsCause};
 
@@ -61,7 +63,7 @@ fn decide(
     }
 }
 
-fn decide_by_row(
+pub(crate) fn decide_by_row(
     alloc: Global,
     id: &ByteStr,
     row: InvocationRow,
@@ -128,15 +130,17 @@ fn command_by_row<S: Alter>(
     }
 }
 
-/// Whether an attempt that suspends so is awake at once, under what has come and was not handed to it.
-fn wakes_at_once<S: Alter>(
+/// Whether an attempt that suspends so is awake at once, under what has come and was not handed to it. Its row may be that behind frames
+/// that are not written yet.
+pub(crate) fn wakes_at_once<S: Alter>(
     tables: &mut StoreTables<S>,
     id: &ByteStr,
     row: &InvocationRow,
     attempt: LiveFacts,
     frame: &AttemptFrame,
 ) -> Result<bool, Refusal>
-    ensures told { HasCleanDisk (state S.Store tables.new) → (events : List Event) → IsStoreOf events (state S.Store tables.old) → IsRowOf events id.now row.now → WakesAtOnce events id.now attempt frame.now result }
+    ensures told { HasCleanDisk (state S.Store tables.new) → (events later : List Event) → IsStoreOf events (state S.Store tables.old) → IsAccepted later → HasArrivalsOf events later id.now → IsRowOf later id.now row.now
+        → WakesAtOnce later id.now attempt frame.now result }
     ensures looks { OnlyAsks S.Store tables.old tables.new }
     ensures cause { IfErr result (TellsCause (state S.Store tables.old) (state S.Store tables.new)) }
 {

@@ -13,7 +13,7 @@ use store_tables::Progress;
 const LAST_PLACE: u32 = 0xFFFF_FFFE;
 
 /// How many answers the store gives to a command at once.
-fn answers_to(state: &StateUse) -> u32
+pub(crate) fn answers_to(state: &StateUse) -> u32
     ensures { result ≡ answers_told state.now }
 {
     match state {

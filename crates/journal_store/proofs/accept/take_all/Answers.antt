@@ -1,16 +1,20 @@
-use Rattle.std.proofs.Common.{rules, refl, Ok, Err}
-use Rattle.store_calls.specs.Frames.{TakesFirstFrames}
-use Rattle.journal_store.proofs.Enduring.{same_endures}
-use Rattle.journal_store.proofs.OutputAcceptance.{first_endures, goes_further, kept_on, none_taken, refused_settled, refused_so, refused_tried, rests_settled, rests_so, settled_on}
+use Rattle.std.proofs.Common.{rules, Ok, Err}
+use Rattle.journal_store.proofs.OutputAcceptance.{first_endures, goes_further, joined_lasts, joined_on, joined_over, kept_on, refused_settled, refused_so, refused_tried, rests_settled, rests_so, settled_on}
 use Rattle.journal_store.proofs.accept.take_all.Goals as goal
 
 pub loop-replies-init : goal.loop-replies-init
 loop-replies-init g c = record {
-  taken = none_taken g.S.Store c.args.id.now c.args.attempt _ (search rules) c.args.store.now;
-  settled = λ some. absurd (some (search rules));
-  kept = λ none clean is_open. (is_open, refl);
-  crash = same_endures g.S.Store (TakesFirstFrames c.args.id.now c.args.attempt) c.args.store.now;
+  taken = joined_on g.S.Store c.args.id.now c.args.attempt c.args.store.now c.take_joined-replies.new.self c.take_joined-replies.result (search rules) c.take_joined-replies.ensures.does;
+  settled = c.take_joined-replies.ensures.settled;
+  kept = c.take_joined-replies.ensures.kept;
+  crash = c.take_joined-replies.ensures.crash;
 }
+
+pub returns-then-does_end-clause-does : goal.returns-then-does_end-clause-does
+returns-then-does_end-clause-does g c = joined_over g.S.Store c.args.id.now c.args.attempt c.args.store.now c.take_joined-replies.new.self c.take_joined-replies.result (search rules) c.take_joined-replies.ensures.does
+
+pub returns-then-does_end-clause-settled : goal.returns-then-does_end-clause-settled
+returns-then-does_end-clause-settled g c = joined_lasts g.S.Store c.args.id.now c.args.attempt c.args.store.now c.take_joined-replies.new.self c.take_joined-replies.result c.take_joined-replies.ensures.settled
 
 pub loop-replies-preserved : goal.loop-replies-preserved
 loop-replies-preserved g c =

@@ -10,10 +10,10 @@ use Rattle.journal_store.proofs.accept.take_all.Given as goal
 
 abbrev pub invariant-loop-replies : goal.invariant-loop-replies
 invariant-loop-replies g l = record {
-  taken : Leads g.S.Store (GoesOn l.id l.attempt l.replies.items) l.initial.store l.store;
-  settled : l.replies.items ≢ [] → Settles g.S.Store (TakesEach l.id l.attempt l.replies.items) l.initial.store l.store;
-  kept : l.replies.items ≡ [] → AreTablesKept (state g.S.Store l.initial.store.connection) (state g.S.Store l.store.connection);
-  crash : Endures g.S.Store (TakesFirstFrames l.id l.attempt) l.initial.store l.store;
+  taken : Leads g.S.Store (GoesOn l.id l.attempt l.replies.items) l.fn.store l.store;
+  settled : l.replies.items ≢ [] → Settles g.S.Store (TakesEach l.id l.attempt l.replies.items) l.fn.store l.store;
+  kept : l.replies.items ≡ [] → AreTablesKept (state g.S.Store l.fn.store.connection) (state g.S.Store l.store.connection);
+  crash : Endures g.S.Store (TakesFirstFrames l.id l.attempt) l.fn.store l.store;
 }
 
 abbrev pub decreases-loop-replies : goal.decreases-loop-replies

@@ -13,7 +13,7 @@ returns-clause-reads g c =
 pub returns-in_err-found-clause-reads : goal.returns-in_err-found-clause-reads
 returns-in_err-found-clause-reads g c =
     reads_none g.S.Store c.args.tables.now c.frame_wanted.new.tables c.args.live.now c.args.id.now c.frame_wanted.ensures.looks c.args.live.now c.from_residual.result c.from_residual.ensures.1
-    (λ why gives clean events store fits. subst (IsRefused []) (sym gives) (c.in_err-found.ensures.told clean events store fits))
+    (λ why gives clean events store has fits. subst (IsRefused []) (sym gives) (c.in_err-found.ensures.told clean events store has fits))
 
 pub returns-in_err-found-clause-cause : goal.returns-in_err-found-clause-cause
 returns-in_err-found-clause-cause g c =
