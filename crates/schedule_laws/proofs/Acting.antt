@@ -43,7 +43,7 @@ use Rattle.schedule_laws.proofs.TrackedAttempt.{with_told}
 use Rattle.schedule_laws.proofs.Outcomes.{fly_on, notes_follow, others_fly, told_none}
 use Rattle.schedule_laws.proofs.InvocationInRun.{IsFlown, flown, flown_still}
 use Rattle.schedule_laws.proofs.Serving.{ServingLaws}
-use Rattle.vm_attempt_laws.proofs.OverAttempts.{over_of, fed_going, fed_failed, fed_over, closed_going, closed_failed, closed_over, early_code, early_tells}
+use Rattle.vm_attempt_laws.proofs.OverAttempts.{over_of, fed_going, fed_failed, fed_over, closed_going, closed_failed, closed_over, early_tells}
 use Rattle.vm_attempt_laws.proofs.Telling.{meant_append, told_more}
 use Rattle.schedule_laws.proofs.Unfailed.{frames_early, frames_further}
 
@@ -129,6 +129,7 @@ module _ {H : Type 0} (function : H → Handler) (next : Handler) (options : VMO
                     (ap (λ (bytes : Bytes). bytes ++ given) s.serves.started) r.parts r.held r.bodies.lives;
                 serves = subst (λ (b : Bool). Serves function next f.version options (after_reading (handed_bytes s.live given) r.some r.still r.kept) b changed) (sym closed_then) r.serves;
                 is_told = record {
+                  version = s.is_told.version;
                   bytes = told_more t.told.bytes s.live.start.frame s.live.held given r.kept s.live.read r.some s.is_told.bytes r.held;
                   closed = s.is_told.closed ∙ sym closed_then;
                   answered = s.is_told.answered ∙ sym (ap (λ (input : Option Input). turns_answered input s.live.calls) going.1);
@@ -165,7 +166,7 @@ module _ {H : Type 0} (function : H → Handler) (next : Handler) (options : VMO
           (subst (λ (run : Invocation). FollowsSo next run id (handing ∷ events) (map (frame_meant f.version) f.coming)) given_then
           (one_event next (given_of options id events new) id handing events (map (frame_meant f.version) f.coming) (map (frame_meant f.version) f.coming) accepted.0 refl f.follows))
           (fly_on next (given_of options id events new) id handing events (map (frame_meant f.version) f.coming) (map (frame_meant f.version) f.coming) n accepted refl refl refl f.follows live (f.outcomes n live))
-          output_is (frames_further t.told fed_told.told (record { proposed = λ x among. among; over = inr refl; closed = λ e. e }) (map (frame_meant f.version) f.coming) (f.told_frames n t live is_told)) (still changed wrote) attends)
+          output_is (frames_further t.told fed_told.told (record { version = refl; proposed = λ x among. among; over = inr refl; closed = λ e. e }) (map (frame_meant f.version) f.coming) (f.told_frames n t live is_told)) (still changed wrote) attends)
 
     -- ---- its input is closed
 
@@ -196,7 +197,7 @@ module _ {H : Type 0} (function : H → Handler) (next : Handler) (options : VMO
 
       told_still : AllByRecursion (IsFrameTold closed_told.told) (map (frame_meant f.version) f.coming)
       told_still =
-          frames_further t.told closed_told.told (record { proposed = λ x among. among; over = inr refl; closed = λ e. refl }) (map (frame_meant f.version) f.coming) (f.told_frames n t live is_told)
+          frames_further t.told closed_told.told (record { version = refl; proposed = λ x among. among; over = inr refl; closed = λ e. refl }) (map (frame_meant f.version) f.coming) (f.told_frames n t live is_told)
 
       abbrev Closed : Type 0
       Closed = IsFlown function next options id told (closing ∷ events) held new n output waits closed_told (record one { attempt = changed })
@@ -226,6 +227,7 @@ module _ {H : Type 0} (function : H → Handler) (next : Handler) (options : VMO
                 (laws.events f.version s.live true changed some.0 s.live.coming c.serves
                 (may_come next (run_options options) options.fallback_random_seed id closing events after s.live.unread some.0 refl accepted (tt, f.typed) some.2.is_live some.1));
             is_told = record {
+              version = s.is_told.version;
               bytes = s.is_told.bytes;
               closed = sym closed_now_too;
               answered = s.is_told.answered ∙ sym (ap (λ (input : Option Input). turns_answered input s.live.calls) (closed_going one.attempt changed s.serves.going closes).1);
@@ -260,7 +262,7 @@ module _ {H : Type 0} (function : H → Handler) (next : Handler) (options : VMO
           output_is = output_is;
           told_frames = subst (AllByRecursion (IsFrameTold closed_told.told)) (sym (meant_append f.version f.coming early.sent))
               (all_append (IsFrameTold closed_told.told) (map (frame_meant f.version) f.coming) (map (frame_meant f.version) early.sent) told_still
-              (frames_early closed_told.told f.version early.error early.sent refl (early_code early.error (early_tells one.attempt.vm.state.active.output early.error early.told)) early.tells early.unfailed));
+              (frames_early closed_told.told f.version early.error early.sent refl (s.is_told.version ∙ s.serves.of_run.version_is) (early_tells one.attempt.vm.state.active.output early.error early.told) early.tells early.unfailed));
           flies = record {
             version_is = flight.version_is;
             bytes = written_behind f.version waits (output_of one.attempt) (output_of changed) f.coming early.sent flight.bytes early.output;

@@ -55,7 +55,7 @@ module _ {H : Type 0} (function : H → Handler) (next : Handler) (options : VMO
           bodies = went;
           lives = (laws.lives next (run_options options) options.fallback_random_seed id events s.live s.proposed s.bodies.executor accepted s.lives).again went.executor went.lives;
           serves = serves;
-          is_told = record { bytes = s.is_told.bytes; closed = s.is_told.closed; answered = s.is_told.answered ∙ moved_input s.live.calls; outcomes = s.is_told.outcomes };
+          is_told = record { version = s.is_told.version; bytes = s.is_told.bytes; closed = s.is_told.closed; answered = s.is_told.answered ∙ moved_input s.live.calls; outcomes = s.is_told.outcomes };
         }
 
     moved_left : (t : Tracked) → IsAttemptLeft function next options id t before → IsAttemptLeft function next options id t changed
@@ -71,7 +71,7 @@ module _ {H : Type 0} (function : H → Handler) (next : Handler) (options : VMO
             start_is = g.start_is;
             bodies = bodies g.live g.proposed g.bodies;
             serves = serves;
-            is_told = record { bytes = g.is_told.bytes; closed = g.is_told.closed; answered = g.is_told.answered ∙ moved_input g.live.calls; outcomes = g.is_told.outcomes };
+            is_told = record { version = g.is_told.version; bytes = g.is_told.bytes; closed = g.is_told.closed; answered = g.is_told.answered ∙ moved_input g.live.calls; outcomes = g.is_told.outcomes };
           };
         }
 

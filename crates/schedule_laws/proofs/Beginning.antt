@@ -274,6 +274,7 @@ module _ {H : Type 0} (function : H → Handler) (next : Handler) (options : VMO
               (bodies_first serves.1).executor (bodies_first serves.1).lives;
           serves = subst (λ (b : Bool). Serves function next answer.version options (attempt_started start) b h.attempt) (sym opened_now) serves.0;
           is_told = record {
+            version = refl;
             bytes = sym (append-nil start.frame);
             closed = sym opened_now;
             answered = sym (ap (λ (input : Option Input). turns_answered input 0) (unread_input serves.0.stands));

@@ -71,7 +71,7 @@ module _ {H : Type 0} (function : H → Handler) (next : Handler) (options : VMO
         serves = subst (λ (b : Bool). Serves function next version options (record s.live { unread = s.live.unread ++ some.0; coming = map (frame_meant version) left }) b attempt) (sym closed_same)
             (laws.events version s.live (is_input_closed events id) attempt some.0 (map (frame_meant version) left) s.serves
             (may_come next (run_options options) options.fallback_random_seed id event events (record s.live { unread = s.live.unread ++ some.0; coming = map (frame_meant version) left }) s.live.unread some.0 refl (causes, accepted) (fits, typed) some.2.is_live some.1));
-        is_told = record { bytes = s.is_told.bytes; closed = s.is_told.closed ∙ sym closed_same; answered = s.is_told.answered; outcomes = s.is_told.outcomes };
+        is_told = record { version = s.is_told.version; bytes = s.is_told.bytes; closed = s.is_told.closed ∙ sym closed_same; answered = s.is_told.answered; outcomes = s.is_told.outcomes };
       }
 
   -- each that is held stands as it did, while none ends

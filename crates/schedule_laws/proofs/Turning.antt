@@ -181,8 +181,9 @@ module _ {H : Type 0} (function : H → Handler) (next : Handler) (options : VMO
       -- ---- what its frames say
 
       -- an attempt that is not over has proposed the same
-      further_by : {same : Told} (now : Told) → now ≡ same → same.proposed ≡ t.told.proposed → same.is_closed ≡ t.told.is_closed → IsFurther t.told now
-      further_by now is proposed closed = record {
+      further_by : {same : Told} (now : Told) → now ≡ same → same.version ≡ t.told.version → same.proposed ≡ t.told.proposed → same.is_closed ≡ t.told.is_closed → IsFurther t.told now
+      further_by now is version proposed closed = record {
+        version = sym (ap (λ (k : Told). k.version) is ∙ version);
         proposed = λ x among. subst (Among x) (sym (ap (λ (k : Told). k.proposed) is ∙ proposed)) among;
         over = inl so;
         closed = λ e. ap (λ (k : Told). k.is_closed) is ∙ closed ∙ e;
@@ -191,15 +192,16 @@ module _ {H : Type 0} (function : H → Handler) (next : Handler) (options : VMO
       -- what was told before is told still
       told_further : (turned : Turn) (now : Told) → TurnTells next s.live.start t.told ran turned now → IsFurther t.told now
       told_further Turn.RanBody now tells = record {
+        version = sym (ap (λ (k : Told). k.version) tells.3);
         proposed = λ x among. subst (Among x) (sym (ap (λ (k : Told). k.proposed) tells.3)) (among_first x t.told.proposed ((tells.0.completion, tells.1) ∷ []) among);
         over = inl so;
         closed = λ e. ap (λ (k : Told). k.is_closed) tells.3 ∙ e;
       }
-      told_further Turn.Answered now tells = further_by now tells.0 refl refl
-      told_further Turn.Waiting now tells = further_by now tells.0 refl refl
-      told_further Turn.Suspended now tells = further_by now tells.0 refl refl
-      told_further Turn.Ended now tells = further_by now tells.0 refl refl
-      told_further (Turn.Failed error) now tells = further_by now tells.0 refl refl
+      told_further Turn.Answered now tells = further_by now tells.0 refl refl refl
+      told_further Turn.Waiting now tells = further_by now tells.0 refl refl refl
+      told_further Turn.Suspended now tells = further_by now tells.0 refl refl refl
+      told_further Turn.Ended now tells = further_by now tells.0 refl refl refl
+      told_further (Turn.Failed error) now tells = further_by now tells.0 refl refl refl
 
       -- an outcome that it sends is the one of the body that it has executed, and an error the one that it has failed by
       sends_told : (turned : Turn) (k : TurnKeeps function next f.version options (is_input_closed events id) s.live one.attempt s.proposed ran turned changed) (tells : Tells k.sent turned k.behind)
@@ -211,7 +213,7 @@ module _ {H : Type 0} (function : H → Handler) (next : Handler) (options : VMO
       sends_told Turn.Waiting k tells = frames_calm tells.now (map (frame_meant f.version) k.sent) k.proposes k.errors
       sends_told Turn.Suspended k tells = frames_calm tells.now (map (frame_meant f.version) k.sent) k.proposes k.errors
       sends_told Turn.Ended k tells = frames_calm tells.now (map (frame_meant f.version) k.sent) k.proposes k.errors
-      sends_told (Turn.Failed error) k tells = frames_failed tells.now error tells.is_told (map (frame_meant f.version) k.sent) k.proposes (k.unfailed may) k.errors
+      sends_told (Turn.Failed error) k tells = frames_failed tells.now (version_number f.version) error (ap (λ (t : Told). t.version) tells.tells.0 ∙ s.is_told.version ∙ s.serves.of_run.version_is) tells.is_told (map (frame_meant f.version) k.sent) k.proposes (k.unfailed may) k.errors
 
       frames_told : AllByRecursion (IsFrameTold tells_turn.now) (map (frame_meant f.version) (f.coming ++ kept_turn.sent))
       frames_told =
@@ -314,7 +316,7 @@ module _ {H : Type 0} (function : H → Handler) (next : Handler) (options : VMO
     failed_now : (kept error : Error) → t.told.over ≡ None → one.attempt.over ≡ None → one.attempt.vm.state.phase ≡ phases.Failed kept → IsCopy kept error → turn ≡ Turn.Failed error → changed ≡ one.attempt
         → TurnTellsNow next t.start t.told t.told.over ran turn (record t.told { over = Some (Turn.Failed error) }) → TurnedBegun
     failed_now kept error so going failed copies is same tells =
-        quiet (record t.told { over = Some (Turn.Failed error) }) (record { proposed = λ x among. among; over = inl so; closed = λ e. e }) same tells
+        quiet (record t.told { over = Some (Turn.Failed error) }) (record { version = refl; proposed = λ x among. among; over = inl so; closed = λ e. e }) same tells
         (is_over (Turn.Failed error) refl
         (by_error kept error (ap (λ (a : Attempt H). a.over) same ∙ going) (ap (λ (a : Attempt H). a.vm.state.phase) same ∙ failed) copies refl))
 

@@ -1,5 +1,5 @@
 -- No error closes an invocation in its run: so it is closed by its end alone. And what was told of an attempt is told of its frames on their way.
-use Rattle.std.proofs.Common.{◌≡◌, ◌⊎◌, inl, inr, ℕ, Bool, true, false, true≢false, if◌then◌else◌, List, [], ◌∷◌, ◌++◌, filter, filter_map, map, Option, Some, None, IfSome, option_and_then, bytes_eq, refl, sym, subst, ◌∙◌}
+use Rattle.std.proofs.Common.{◌≡◌, ◌⊎◌, inl, inr, ℕ, Bool, true, false, true≢false, if◌then◌else◌, List, [], ◌∷◌, ◌++◌, filter, filter_map, map, Option, Some, None, IfSome, option_and_then, bytes_eq, refl, sym, ap, subst, ◌∙◌}
 use Rattle.std.specs.List.{AllByRecursion, find}
 use Rattle.std.proofs.lemmas.Slice.Eq.{bytes_eq-Decides}
 use Rattle.journal_model.specs.declared.value.NonEmptyValue.{NonEmptyValue}
@@ -10,14 +10,14 @@ use Rattle.journal_model.specs.Journal.{answer_at_close, ByEnd, ByFailure, Closi
 use Rattle.journal_model.specs.Cause.{causes_of, IsAccepted}
 use Rattle.journal_laws.proofs.ObjectState.{begun_before, open_when_accepted}
 use Rattle.input_laws.proofs.Events.{unborn_open}
-use Rattle.protocol_errors.specs.Code.{internal}
 use Rattle.protocol_errors.specs.declared.error.Error.{Error}
+use Rattle.protocol_types.specs.Version.{version_number}
 use Rattle.protocol_types.specs.declared.version.Version.{Version}
-use Rattle.vm_attempt_laws.specs.AttemptInvariants.{early_error, IsNoError, IsNoFailure, TellsBy, TellsErrorOf}
+use Rattle.vm_attempt_laws.specs.AttemptInvariants.{error_told, IsNoError, IsNoFailure, TellsBy, TellsErrorOf}
 use Rattle.vm_attempt_laws.specs.Attempts.{Turn}
 use Rattle.vm_attempt_laws.specs.OutputOfAttempt.{frame_meant, Sent}
 use Rattle.vm_attempt_laws.specs.Bodies.{Among, outcomes_in}
-use Rattle.vm_attempt_laws.specs.TurnReports.{IsEarly, IsFrameTold, TellsErrorAt, Told}
+use Rattle.vm_attempt_laws.specs.TurnReports.{FailsEarly, IsEarly, IsFrameTold, TellsErrorAt, Told}
 use Rattle.schedule_laws.specs.InvocationInRun.{FailsNot}
 use Rattle.schedule_laws.specs.Laws.{HoldsClosed, IsClosedByEnd}
 use Rattle.schedule_laws.proofs.Fits.{apart}
@@ -32,25 +32,33 @@ told_unfailed told frame is = tt
 -- More was told: outcomes that were proposed were proposed still, the turn by which the attempt is over is the first one that told so, and its
 -- input stays closed.
 pub record IsFurther (a b : Told) : Type 0 where
+  pub version : a.version ≡ b.version
   pub proposed : (x : ℕ × NonEmptyValue) → Among x a.proposed → Among x b.proposed
   pub over : (a.over ≡ None) ⊎ (a.over ≡ b.over)
   pub closed : a.is_closed ≡ true → b.is_closed ≡ true
 
 pub same_further : (told : Told) → IsFurther told told
-same_further told = record { proposed = λ x among. among; over = inr refl; closed = λ e. e }
+same_further told = record { version = refl; proposed = λ x among. among; over = inr refl; closed = λ e. e }
 
 module _ (a b : Told) (further : IsFurther a b) where
   one_further : (frame : Frame) → IsFrameTold a frame → IsFrameTold b frame
   one_further (Frame.RunOutcome n value is_acknowledged) is = further.proposed (n, value) is
   one_further (Frame.Error code message behavior delay) is = (is.0, error_further is.1)
     where
-      at_further : (a.over ≡ None) ⊎ (a.over ≡ b.over) → TellsErrorAt a.over (Frame.Error code message behavior delay) → TellsErrorAt b.over (Frame.Error code message behavior delay)
-      at_further (inl none) tells = absurd (subst (λ (o : Option Turn). TellsErrorAt o (Frame.Error code message behavior delay)) none tells)
-      at_further (inr same) tells = subst (λ (o : Option Turn). TellsErrorAt o (Frame.Error code message behavior delay)) same tells
+      frame : Frame
+      frame = Frame.Error code message behavior delay
 
-      error_further : TellsErrorAt a.over (Frame.Error code message behavior delay) ⊎ IsEarly a code → TellsErrorAt b.over (Frame.Error code message behavior delay) ⊎ IsEarly b code
+      at_further : (a.over ≡ None) ⊎ (a.over ≡ b.over) → TellsErrorAt a.version a.over frame → TellsErrorAt b.version b.over frame
+      at_further (inl none) tells = absurd (subst (λ (o : Option Turn). TellsErrorAt a.version o frame) none tells)
+      at_further (inr same) tells =
+          subst (λ (version : ℕ). TellsErrorAt version b.over frame) further.version (subst (λ (o : Option Turn). TellsErrorAt a.version o frame) same tells)
+
+      error_further : TellsErrorAt a.version a.over frame ⊎ IsEarly a frame → TellsErrorAt b.version b.over frame ⊎ IsEarly b frame
       error_further (inl tells) = inl (at_further further.over tells)
-      error_further (inr early) = inr (further.closed early.0, early.1)
+      error_further (inr early) = inr (
+        further.closed early.0,
+        (early.1.0, early.1.1, early.1.2 ∙ ap (λ (version : ℕ). error_told version early.1.0) further.version),
+      )
   one_further frame is = tt
 
   pub frames_further : (frames : List Frame) → AllByRecursion (IsFrameTold a) frames → AllByRecursion (IsFrameTold b) frames
@@ -65,24 +73,28 @@ frames_calm told (Frame.Error code message behavior delay ∷ frames) none all =
 frames_calm told (frame ∷ frames) none all = (tt, frames_calm told frames none all.1)
 
 -- nor do those that tell the error by which a turn has failed
-pub frames_failed : (told : Told) (error : Error) → told.over ≡ Some (Turn.Failed error) → (frames : List Frame) → outcomes_in frames ≡ [] → AllByRecursion IsNoFailure frames
-    → AllByRecursion (TellsErrorOf error) frames → AllByRecursion (IsFrameTold told) frames
-frames_failed told error over [] none all tells = tt
-frames_failed told error over (Frame.RunOutcome n value is_acknowledged ∷ frames) none all tells = cc
-frames_failed told error over (Frame.Error code message behavior delay ∷ frames) none all tells = (
-  (all.0, inl (subst (λ (o : Option Turn). TellsErrorAt o (Frame.Error code message behavior delay)) (sym over) tells.0)),
-  frames_failed told error over frames none all.1 tells.1,
+pub frames_failed : (told : Told) (version : ℕ) (error : Error) → told.version ≡ version → told.over ≡ Some (Turn.Failed error) → (frames : List Frame) → outcomes_in frames ≡ [] → AllByRecursion IsNoFailure frames
+    → AllByRecursion (TellsErrorOf version error) frames → AllByRecursion (IsFrameTold told) frames
+frames_failed told version error speaks over [] none all tells = tt
+frames_failed told version error speaks over (Frame.RunOutcome n value is_acknowledged ∷ frames) none all tells = cc
+frames_failed told version error speaks over (Frame.Error code message behavior delay ∷ frames) none all tells = (
+  (
+    all.0,
+    inl (subst (λ (v : ℕ). TellsErrorAt v told.over (Frame.Error code message behavior delay)) (sym speaks)
+        (subst (λ (o : Option Turn). TellsErrorAt version o (Frame.Error code message behavior delay)) (sym over) tells.0)),
+  ),
+  frames_failed told version error speaks over frames none all.1 tells.1,
 )
-frames_failed told error over (frame ∷ frames) none all tells = (tt, frames_failed told error over frames none all.1 tells.1)
+frames_failed told version error speaks over (frame ∷ frames) none all tells = (tt, frames_failed told version error speaks over frames none all.1 tells.1)
 
 -- and those of an attempt whose input was closed too early
-pub frames_early : (told : Told) (version : Version) (error : Error) (sent : List Sent) → told.is_closed ≡ true → (error.code.0 ≡ early_error.code.0) ⊎ (error.code.0 ≡ internal) → TellsBy error sent
+pub frames_early : (told : Told) (version : Version) (error : Error) (sent : List Sent) → told.is_closed ≡ true → told.version ≡ version_number version → FailsEarly error → TellsBy error sent
     → AllByRecursion IsNoFailure (map (frame_meant version) sent) → AllByRecursion (IsFrameTold told) (map (frame_meant version) sent)
-frames_early told version error sent closed code (inr none) all =
+frames_early told version error sent closed speaks fails (inr none) all =
     subst (λ (some : List Sent). AllByRecursion (IsFrameTold told) (map (frame_meant version) some)) (sym none.1) tt
-frames_early told version error sent closed code (inl one) all =
+frames_early told version error sent closed speaks fails (inl one) all =
     subst (λ (some : List Sent). AllByRecursion (IsFrameTold told) (map (frame_meant version) some)) (sym one)
-    (((subst (λ (some : List Sent). AllByRecursion IsNoFailure (map (frame_meant version) some)) one all).0, inr (closed, code)), tt)
+    (((subst (λ (some : List Sent). AllByRecursion IsNoFailure (map (frame_meant version) some)) one all).0, inr (closed, (error, fails, ap (λ (v : ℕ). error_told v error) (sym speaks)))), tt)
 
 pub among_first : {A : Type 0} (x : A) (xs ys : List A) → Among x xs → Among x (xs ++ ys)
 among_first x [] ys never = absurd never

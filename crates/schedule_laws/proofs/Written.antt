@@ -22,7 +22,7 @@ use Rattle.vm_output_laws.proofs.FrameMeanings.{frames_are_read}
 use Rattle.vm_start.specs.FailureReport.{out_of_memory}
 use Rattle.vm_types.specs.declared.options.VMOptions.{VMOptions}
 use Rattle.vm_attempt_laws.specs.Attempts.{ClosesInput, output_of, Turns, Attempt, Turn}
-use Rattle.vm_attempt_laws.specs.AttemptInvariants.{ClosesEarly, TellsBy}
+use Rattle.vm_attempt_laws.specs.AttemptInvariants.{ClosesEarly, TellsBy, error_told}
 use Rattle.vm_attempt_laws.specs.AttemptSimulation.{HasBodies, HasNotRead, HasRead, Serves, machine_failed}
 use Rattle.vm_attempt_laws.specs.Bodies.{Body, by_policy, Executor, IsReplayed, NonEmptyValue, outcome_frame, requests_asked_by, RunOutcome}
 use Rattle.vm_attempt_laws.specs.BodyExecution.{BodyCause, BodyToldAs, ExecutesFirst, LacksMemory, tried_by}
@@ -39,7 +39,7 @@ use Rattle.schedule_laws.specs.TrackedAttempt.{Tracked, Attends, is_over, lacks_
 use Rattle.schedule_laws.specs.WrittenFrames.{AreFrames, CloseLeaves, requests_written, TurnLeaves, TurnWrites, TurnWritesBy, TurnWritesOver, WritesError, WritesFrames}
 use Rattle.schedule_laws.proofs.FrameSoundness.{meant_command}
 use Rattle.schedule_laws.proofs.Serving.{ServingLaws}
-use Rattle.vm_attempt_laws.proofs.OverAttempts.{over_of, turned_failed, turned_over}
+use Rattle.vm_attempt_laws.proofs.OverAttempts.{early_tells, over_of, turned_failed, turned_over}
 
 -- ---- frames in bytes
 
@@ -161,9 +161,8 @@ module _ {H : Type 0} (function : H → Handler) (next : Handler) (version : Ver
   error_last : (error : Error) (asked : List Request) (sent : List Sent) → AllByRecursion IsOfStore sent → sent ≡ map Asks asked ++ Fails (told_error error) ∷ [] → Fails_so error sent
   error_last error asked sent all is = inr (inr (
     asked,
-    frame_meant version (Fails (told_error error)),
-    (refl, refl),
-    ap (λ (some : List Sent). map (frame_meant version) some) is ∙ asked_meant version asked (Fails (told_error error) ∷ []) (subst (AllByRecursion IsOfStore) is all),
+    ap (λ (some : List Sent). map (frame_meant version) some) is ∙ asked_meant version asked (Fails (told_error error) ∷ []) (subst (AllByRecursion IsOfStore) is all)
+        ∙ ap (λ (v : ℕ). map Frame.Command asked ++ error_told v error ∷ []) (sym s.of_run.version_is),
   ))
 
   failed_writes : (error : Error) (sent : List Sent) (after : Attempt H) → AllByRecursion IsOfStore sent → FailsFor function next version options is_closed live before error sent after
@@ -270,9 +269,10 @@ module _ {H : Type 0} (function : H → Handler) (next : Handler) (options : VMO
       by_tells : TellsBy early.error early.sent → CloseLeaves t.start (output_of a) (output_of changed)
       by_tells (inl is) = inr (
         early.error,
-        frame_meant one (Fails (told_error early.error)),
-        (refl, refl),
-        subst (λ (frames : List Frame). WritesFrames t.start.new.version frames (output_of a) (output_of changed)) (ap (λ (some : List Sent). map (frame_meant one) some) is) (writes_sent one t.start.new.version early.sent (output_of a) (output_of changed) speaks early.fit early.output),
+        early_tells a.vm.state.active.output early.error early.told,
+        subst (λ (frames : List Frame). WritesFrames t.start.new.version frames (output_of a) (output_of changed))
+            (ap (λ (some : List Sent). map (frame_meant one) some) is ∙ ap (λ (v : ℕ). error_told v early.error ∷ []) (sym speaks))
+            (writes_sent one t.start.new.version early.sent (output_of a) (output_of changed) speaks early.fit early.output),
       )
       by_tells (inr none) = inl (early.output ∙ ap (λ (some : List Sent). output_of a ++ sent_stream one some) none.1 ∙ append-nil (output_of a))
 

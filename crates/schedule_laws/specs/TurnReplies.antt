@@ -58,7 +58,7 @@ attempt_start_of options id earlier now new = start_after (run_options options) 
 
 -- of an attempt that has begun so it was told that it was handed its start frame
 abbrev pub told_start : AttemptStart → Told
-told_start start = record told_nothing { bytes = start.frame }
+told_start start = record (told_nothing start.new.version) { bytes = start.frame }
 
 -- What the replies behind a begin tell of the attempt that it has begun, behind these accepted events. Nothing of it waits then to be moved.
 abbrev pub BegunTells : {H : Type 0} → Handler → VMOptions → Text → Event H → Reply → (bytes : Bytes) → (events : List (Event H)) → List Reply → (added : List (List model.Event)) → (handed moved : List Bytes)

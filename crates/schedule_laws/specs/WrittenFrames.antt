@@ -11,9 +11,10 @@ use Rattle.protocol_errors.specs.declared.error.Error.{Error}
 use Rattle.protocol_stream.specs.Item.{Item, item_at}
 use Rattle.store_calls.specs.Frames.{frame_in}
 use Rattle.vm_start.specs.FailureReport.{out_of_memory}
+use Rattle.vm_attempt_laws.specs.AttemptInvariants.{error_told}
 use Rattle.vm_attempt_laws.specs.Bodies.{Body, NonEmptyValue, RunOutcome, outcome_frame}
 use Rattle.vm_attempt_laws.specs.ArrivalsCome.{HasJournal}
-use Rattle.vm_attempt_laws.specs.TurnReports.{Told, arrivals_told, ProposesOutcomeOf}
+use Rattle.vm_attempt_laws.specs.TurnReports.{FailsEarly, Told, arrivals_told, ProposesOutcomeOf}
 use Rattle.vm_attempt_laws.specs.TurnsInRun.{TellsAwaited}
 use Rattle.schedule_laws.specs.Attempts.{output_of, Turn}
 use Rattle.schedule_laws.specs.Schedules.event
@@ -36,11 +37,6 @@ pub record WritesFrames (version : ℕ) (frames : List Frame) (waits behind : By
 
 -- ---- the frames that a turn writes
 
--- the frame tells this error
-abbrev pub IsErrorFrame : Error → Frame → Type 0
-IsErrorFrame error (Frame.Error code message behavior delay) = (code ≡ error.code.0) × (message ≡ error.message)
-IsErrorFrame error frame = ⊥
-
 -- by these arrivals, which have come whole to an attempt that was begun so
 module _ (next : Handler) (start : AttemptStart) (told : Told) (arrivals : List Arrival) where
   -- What the run has asked for over these arrivals, with as many calls as this many answered turns have answered, behind the requests of its
@@ -48,12 +44,12 @@ module _ (next : Handler) (start : AttemptStart) (told : Told) (arrivals : List 
   abbrev pub requests_written : (answered : ℕ) → List Request
   requests_written answered = drop (length (requests_carried start.journal)) (run_requests next start.given arrivals (pred answered))
 
-  -- a turn that fails writes the error that it tells, behind the requests by which a cancellation was passed on by then, and nothing else; none
+  -- a turn that fails writes the frame of the error that it tells, behind the requests by which a cancellation was passed on by then, and nothing else; none
   -- where there was no memory, or where that was written as the input was closed before the journal had come
   abbrev pub WritesError : Error → List Frame → Type 0
   WritesError error frames =
       (error ≡ out_of_memory)
-      ⊎ (((told.is_closed ≡ true) × (HasJournal start told.bytes → ⊥)) ⊎ ((more : List Request) × (last : Frame) × IsErrorFrame error last × (frames ≡ map Frame.Command more ++ last ∷ [])))
+      ⊎ (((told.is_closed ≡ true) × (HasJournal start told.bytes → ⊥)) ⊎ ((more : List Request) × (frames ≡ map Frame.Command more ++ error_told start.new.version error ∷ [])))
 
   -- By what is answered it writes these frames, and no other: the requests by which the run goes on; the outcome of the body that was executed;
   -- nothing, or what is awaited; the suspension; the end; or the error.
@@ -86,9 +82,9 @@ TurnLeaves next start told None ran turn waits behind =
     ((turn ≡ Turn.Failed out_of_memory) × (behind ≡ waits))
     ⊎ ((frames : List Frame) × WritesFrames start.new.version frames waits behind × TurnWrites next start told ran turn frames)
 
--- where its input is closed it writes nothing, or an error
+-- where its input is closed it writes nothing, or the frame of the error by which it fails so
 abbrev pub CloseLeaves : AttemptStart → (waits behind : Bytes) → Type 0
-CloseLeaves start waits behind = (behind ≡ waits) ⊎ ((error : Error) × (last : Frame) × IsErrorFrame error last × WritesFrames start.new.version (last ∷ []) waits behind)
+CloseLeaves start waits behind = (behind ≡ waits) ⊎ ((error : Error) × FailsEarly error × WritesFrames start.new.version (error_told start.new.version error ∷ []) waits behind)
 
 -- What waits of an attempt behind one more event, by its reply, which moves these bytes of it: a turn and the end of its input write frames behind
 -- it; and a move takes the first bytes of it, as many as were asked for, or all there are. Whether the event is its own is said by a number of

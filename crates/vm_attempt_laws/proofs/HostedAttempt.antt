@@ -103,7 +103,7 @@ module _ {H : Type 0} (function : H → Handler) (next : Handler) (version : Ver
         bodies = (comes (live_now s) s.proposed a s.bodies).brings more s.live.coming
             (subst (λ (some : List (ℕ × NonEmptyValue)). AllByRecursion (IsBehind start.given.version some) more) s.is_told.outcomes may.behind) come;
         serves = events (live_now s) host.told.is_closed a more s.live.coming s.serves may.may;
-        is_told = record { bytes = s.is_told.bytes; closed = s.is_told.closed; answered = s.is_told.answered; outcomes = s.is_told.outcomes };
+        is_told = record { version = s.is_told.version; bytes = s.is_told.bytes; closed = s.is_told.closed; answered = s.is_told.answered; outcomes = s.is_told.outcomes };
       }
         where
           all_more : s.live.read ++ (s.live.unread ++ more) ≡ CarriesInput start.new ∷ (start.journal ++ (host.brought ++ more))
@@ -158,6 +158,7 @@ module _ {H : Type 0} (function : H → Handler) (next : Handler) (version : Ver
             bodies = r.bodies;
             serves = r.serves;
             is_told = record {
+              version = s.is_told.version;
               bytes = told_more host.told.bytes start.frame s.live.held bytes r.kept s.live.read r.some s.is_told.bytes r.held;
               closed = s.is_told.closed;
               answered = s.is_told.answered ∙ sym (ap (λ (input : Option Input). turns_answered input s.live.calls) same);
@@ -195,6 +196,7 @@ module _ {H : Type 0} (function : H → Handler) (next : Handler) (version : Ver
         bodies = c.bodies (live_now s) s.proposed s.bodies;
         serves = c.serves;
         is_told = record {
+          version = s.is_told.version;
           bytes = s.is_told.bytes;
           closed = refl;
           answered = s.is_told.answered ∙ sym (ap (λ (input : Option Input). turns_answered input s.live.calls) (closed_going a after s.serves.going closes).1);
@@ -247,6 +249,7 @@ module _ {H : Type 0} (function : H → Handler) (next : Handler) (version : Ver
             bodies = it.1 (live_now s) s.proposed s.bodies;
             serves = it.0;
             is_told = record {
+              version = s.is_told.version;
               bytes = s.is_told.bytes;
               closed = s.is_told.closed;
               answered = s.is_told.answered ∙ sym (ap (λ (input : Option Input). turns_answered input s.live.calls) (moved_going a after moves).1);
@@ -376,7 +379,7 @@ module _ {H : Type 0} (function : H → Handler) (next : Handler) (version : Ver
           written_is = b.written ∙ ap (λ (written : List Request). written ++ requests_sent (map (frame_meant version) sends)) s.written_is ∙ sym (written_more version host.written sends);
           bodies = b.bodies;
           serves = subst (λ (closed : Bool). Serves function next version options (after_turn (live_now s) (map (frame_meant version) sends) calls machine) closed after) (sym t.closed) b.serves;
-          is_told = record { bytes = t.bytes; closed = refl; answered = t.answered; outcomes = t.outcomes };
+          is_told = record { version = t.version; bytes = t.bytes; closed = refl; answered = t.answered; outcomes = t.outcomes };
         })
 
         ends_so : (sends : List Sent) (one : Turn) (now : Told) → turn ≡ one → IsOver after → AnswersKept one after → IsLast one → now.over ≡ Some one → Stands (turned_host sends now) after
@@ -456,6 +459,7 @@ module _ {H : Type 0} (function : H → Handler) (next : Handler) (version : Ver
               bodies = bodies replays;
               serves = serves;
               is_told = record {
+                version = refl;
                 bytes = sym (append-nil start.frame);
                 closed = refl;
                 answered = sym (ap (λ (input : Option Input). turns_answered input 0) (unread_input serves.stands));

@@ -9,9 +9,9 @@ use Rattle.vm_attempt_laws.specs.Machine.outcomes
 use Rattle.vm_attempt_laws.specs.Machine.phases
 use Rattle.vm_attempt_laws.specs.Machine.{CallOutcome, CoreVM, IsCopy, IsFed, out_of_memory, Written, TellsReady, MachineState, Phase, is_waiting, input_closed, with_input, ClosesWhere, ClosesInput as ClosesMachine}
 use Rattle.vm_attempt_laws.specs.AttemptSimulation.{AnswersKept, IsOver, finished, machine_failed}
-use Rattle.vm_attempt_laws.specs.Words.{Bytes, Error, Handler, Input, internal}
+use Rattle.vm_attempt_laws.specs.Words.{Bytes, Error, Handler, Input}
 use Rattle.vm_attempt_laws.specs.OverAttempts.{IsOverBy, by_finish, by_error}
-use Rattle.vm_attempt_laws.specs.TurnReports.{AnswersError, IsAgain}
+use Rattle.vm_attempt_laws.specs.TurnReports.{FailsEarly, IsAgain}
 
 same_finish : (a b : Finish) → Some a ≡ Some b → a ≡ b
 same_finish a b e = cc
@@ -186,11 +186,6 @@ module _ {H : Type 0} where
 
 -- what an attempt fails with whose input is closed too early: that error, or, where its frame would be too long or there is no memory, an
 -- internal one
-pub early_tells : (old : Written) (error : Error) → FailsWith early_error old error ⊎ (error ≡ out_of_memory) → AnswersError early_error error ⊎ (error ≡ out_of_memory)
+pub early_tells : (old : Written) (error : Error) → FailsWith early_error old error ⊎ (error ≡ out_of_memory) → FailsEarly error
 early_tells old error (inl fails) = inl (old, fails)
 early_tells old error (inr lacks) = inr lacks
-
-pub early_code : (error : Error) → AnswersError early_error error ⊎ (error ≡ out_of_memory) → (error.code.0 ≡ early_error.code.0) ⊎ (error.code.0 ≡ internal)
-early_code error (inl (output, inl same)) = inl (ap (λ (e : Error). e.code.0) same)
-early_code error (inl (output, inr long)) = inr (ap (λ (e : Error). e.code.0) long.1)
-early_code error (inr is) = inr (ap (λ (e : Error). e.code.0) is)

@@ -63,6 +63,7 @@ module _ {H : Type 0} (function : H → Handler) (next : Handler) (version : Ver
     is_told = (
       ap (λ (now : Told). now.over) one.tells.0,
       record {
+        version = ap (λ (now : Told). now.version) one.tells.0 ∙ t.version;
         bytes = ap (λ (now : Told). now.bytes) one.tells.0 ∙ t.bytes;
         closed = ap (λ (now : Told). now.is_closed) one.tells.0 ∙ t.closed;
         answered = ap (λ (now : Told). now.answered) one.tells.0 ∙ ap suc t.answered ∙ sym b.2;
@@ -76,6 +77,7 @@ module _ {H : Type 0} (function : H → Handler) (next : Handler) (version : Ver
     is_told = (
       refl,
       record {
+        version = t.version;
         bytes = t.bytes;
         closed = t.closed;
         answered = t.answered ∙ sym (ap (λ (input : Option Input). turns_answered input live.calls) b.input);
@@ -89,6 +91,7 @@ module _ {H : Type 0} (function : H → Handler) (next : Handler) (version : Ver
     is_told = (
       ap (λ (now : Told). now.over) one.tells.0,
       record {
+        version = ap (λ (now : Told). now.version) one.tells.0 ∙ t.version;
         bytes = ap (λ (now : Told). now.bytes) one.tells.0 ∙ t.bytes;
         closed = ap (λ (now : Told). now.is_closed) one.tells.0 ∙ t.closed;
         answered = ap (λ (now : Told). now.answered) one.tells.0 ∙ t.answered ∙ sym (ap (λ (input : Option Input). turns_answered input live.calls) b.1.2);

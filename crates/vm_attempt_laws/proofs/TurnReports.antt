@@ -258,7 +258,7 @@ module _ {H : Type 0} (function : H → Handler) (next : Handler) (version : Ver
       start_is = refl;
       bodies = b.3.bodies;
       serves = b.3.serves;
-      is_told = record { bytes = t.bytes; closed = t.closed; answered = ap suc t.answered ∙ sym b.2; outcomes = t.outcomes };
+      is_told = record { version = t.version; bytes = t.bytes; closed = t.closed; answered = ap suc t.answered ∙ sym b.2; outcomes = t.outcomes };
     });
   }
   by_turn sent Turn.RanBody after b = record {
@@ -271,6 +271,7 @@ module _ {H : Type 0} (function : H → Handler) (next : Handler) (version : Ver
       bodies = b.goes_on.bodies;
       serves = b.goes_on.serves;
       is_told = record {
+        version = t.version;
         bytes = t.bytes;
         closed = t.closed;
         answered = t.answered ∙ sym (ap (λ (input : Option Input). turns_answered input live.calls) b.input);
@@ -287,7 +288,7 @@ module _ {H : Type 0} (function : H → Handler) (next : Handler) (version : Ver
       start_is = refl;
       bodies = b.1.1.bodies;
       serves = b.1.1.serves;
-      is_told = record { bytes = t.bytes; closed = t.closed; answered = t.answered ∙ sym (ap (λ (input : Option Input). turns_answered input live.calls) b.1.2); outcomes = t.outcomes };
+      is_told = record { version = t.version; bytes = t.bytes; closed = t.closed; answered = t.answered ∙ sym (ap (λ (input : Option Input). turns_answered input live.calls) b.1.2); outcomes = t.outcomes };
     });
   }
     where

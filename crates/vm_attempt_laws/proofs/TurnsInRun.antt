@@ -26,7 +26,7 @@ use Rattle.vm_attempt_laws.specs.Attempts.{output_of, FinishesBy, TakesAnswer, A
 use Rattle.vm_attempt_laws.specs.Machine.{MachineState, Written, out_of_memory, CoreVM, Answers, Waits, Suspends, Ends, Fails, NoMemory, IsDriven}
 use Rattle.vm_attempt_laws.specs.InputOfAttempt.{Kind}
 use Rattle.vm_attempt_laws.specs.OutputOfAttempt.{Sent, sent_stream, frame_meant}
-use Rattle.vm_attempt_laws.specs.Words.{are_by_text, Error, Version, Answer, Answered, Input, NotificationId, Frame, answers_of, Request, Handler, Progress, run, arrivals_carried, requests_carried, Machine, Reply, AttemptInRun, after_turn, VMOptions, slot_of, AnswersNext, RepliesAsRun, SendsReply, goes_on}
+use Rattle.vm_attempt_laws.specs.Words.{are_by_text, Error, Version, version_number, Answer, Answered, Input, NotificationId, Frame, answers_of, Request, Handler, Progress, run, arrivals_carried, requests_carried, Machine, Reply, AttemptInRun, after_turn, VMOptions, slot_of, AnswersNext, RepliesAsRun, SendsReply, goes_on}
 use Rattle.vm_attempt_laws.specs.TurnsInRun.{turns_answered, GoesOnBehind, FailsBy, FailsFor, SuspendsWith, ProposesAs, TurnsBehind, TurnKeeps}
 use Rattle.vm_attempt_laws.proofs.Failing.{fails_so}
 use Rattle.vm_attempt_laws.proofs.Now.{Now, call_of, reply_at}
@@ -61,7 +61,7 @@ module _ {H : Type 0} (function : H → Handler) (next : Handler) (version : Ver
     sent_more : output_of after ≡ output_of before ++ sent_stream version sends.coming
     sent_more = waits_more version sends.coming before after front (ap (λ (m : MachineState). m.active.output.bytes) state_is ∙ sends.bytes)
 
-    keeps_turn : (turn : Turn) → ProposesAs turn (map (frame_meant version) sends.coming) → AllByRecursion (TellsErrorBy turn) (map (frame_meant version) sends.coming) → AllByRecursion IsNoError (map (frame_meant version) sends.coming) → TurnsBehind function next version options is_closed live before proposed ran sends.coming turn after → Keeps turn after
+    keeps_turn : (turn : Turn) → ProposesAs turn (map (frame_meant version) sends.coming) → AllByRecursion (TellsErrorBy (version_number version) turn) (map (frame_meant version) sends.coming) → AllByRecursion IsNoError (map (frame_meant version) sends.coming) → TurnsBehind function next version options is_closed live before proposed ran sends.coming turn after → Keeps turn after
     keeps_turn turn quiet errors calm behind = record {
       sent = sends.coming;
       fit = sends.fit;
@@ -143,7 +143,7 @@ module _ {H : Type 0} (function : H → Handler) (next : Handler) (version : Ver
         taken (inr over) =
             let is = over.1 in
             subst (λ (t : Turn). Keeps t after) (sym over.0)
-            (keeps_turn vm after (ap (λ (a : Attempt H). a.front ++ a.behind) is) (ap (λ (a : Attempt H). a.vm.state) is) so.sends (Turn.Failed out_of_memory) quiet (memory_told (map (frame_meant version) so.sends.coming)) calm
+            (keeps_turn vm after (ap (λ (a : Attempt H). a.front ++ a.behind) is) (ap (λ (a : Attempt H). a.vm.state) is) so.sends (Turn.Failed out_of_memory) quiet (memory_told (version_number version) (map (frame_meant version) so.sends.coming)) calm
             (inl (no_memory so.sends.coming after), finished finishes.OutOfMemory (ap (λ (a : Attempt H). a.over) is), λ kept none. inr refl))
 
     -- what is written where it is suspended

@@ -1,15 +1,16 @@
 -- What an attempt keeps as it begins, as it is fed and closed, as what it has written is taken, and behind its end.
-use Rattle.std.specs.Prelude.{◌≡◌, ◌⊎◌, ◌≤◌, ℕ, Bool, true, false, List, [], ◌∷◌, ◌++◌, map, Result, Ok}
+use Rattle.std.specs.Prelude.{◌≡◌, ◌⊎◌, ◌≤◌, ℕ, Bool, true, false, List, [], ◌∷◌, ◌++◌, map, option_map, Result, Ok}
 use Rattle.std.specs.List.{AllByRecursion}
 use Rattle.std.specs.declared.alloc.AllocError.{AllocError}
 use Rattle.journal_model.specs.Event.{Fail}
 use Rattle.protocol_errors.specs.FixedErrors.{fixed_code, fixed_text}
 use Rattle.protocol_errors.specs.declared.fixed.FixedError.TheVariants.{InputClosedWhileWaitingEntries}
+use Rattle.store_frames.specs.Requests.{behavior_in}
 use Rattle.vm_attempt.specs.Attempt.{ClosesInput}
 use Rattle.vm_attempt_laws.specs.Attempts.{IsBegun, Feeds, output_of, Shows, LetsGo, TakesOutput, Turns, Attempt, Turn}
 use Rattle.vm_attempt_laws.specs.Bodies.{requests_asked_by, ComesAsAsked, IsBehind, NonEmptyValue, executor_over, count_proposed, IsReplayed, RunOutcome}
 use Rattle.vm_attempt_laws.specs.Machine.phases
-use Rattle.vm_attempt_laws.specs.Machine.{Written, IsErrorTooLong, out_of_memory, told_error}
+use Rattle.vm_attempt_laws.specs.Machine.{Written, IsErrorTooLong, behavior_number, out_of_memory, told_delay, told_error}
 use Rattle.vm_attempt_laws.specs.InputOfAttempt.{CanBegin, IsRunOf}
 use Rattle.vm_attempt_laws.specs.OutputOfAttempt.{Sent, Fails, sent_stream, AllFit, frame_meant}
 use Rattle.vm_attempt_laws.specs.AttemptSimulation.{IsFedBy, Serves, HasBodies, IsOver}
@@ -38,15 +39,20 @@ abbrev pub IsNoError : Frame → Type 0
 IsNoError (Frame.Error code message behavior delay) = ⊥
 IsNoError frame = Unit {0}
 
+-- The frame that tells an error in this version: its code and its text, whether the invocation is tried again or paused (before the version that
+-- tells that it is tried again), and in how many milliseconds.
+abbrev pub error_told : (version : ℕ) → Error → Frame
+error_told version error = Frame.Error error.code.0 error.message (behavior_in version (behavior_number error.behavior)) (option_map told_delay error.next_retry_delay)
+
 -- an error frame tells the error that was answered, or one for a copy of which there was no memory
-abbrev pub TellsErrorOf : Error → Frame → Type 0
-TellsErrorOf error (Frame.Error code message behavior delay) = (error ≡ out_of_memory) ⊎ ((code ≡ error.code.0) × (message ≡ error.message))
-TellsErrorOf error frame = Unit {0}
+abbrev pub TellsErrorOf : (version : ℕ) → Error → Frame → Type 0
+TellsErrorOf version error (Frame.Error code message behavior delay) = (error ≡ out_of_memory) ⊎ (Frame.Error code message behavior delay ≡ error_told version error)
+TellsErrorOf version error frame = Unit {0}
 
 -- the errors among the frames of a turn are the one that it has failed by
-abbrev pub TellsErrorBy : Turn → Frame → Type 0
-TellsErrorBy (Turn.Failed error) = TellsErrorOf error
-TellsErrorBy turn = IsNoError
+abbrev pub TellsErrorBy : (version : ℕ) → Turn → Frame → Type 0
+TellsErrorBy version (Turn.Failed error) = TellsErrorOf version error
+TellsErrorBy version turn = IsNoError
 
 -- what it fails with whose input is closed before its journal was read
 abbrev pub early_error : Error

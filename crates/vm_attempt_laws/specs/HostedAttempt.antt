@@ -34,7 +34,7 @@ pub record Hosted : Type 0 where
 
 -- it was fed its start frame
 abbrev pub hosted_begun : AttemptStart → Hosted
-hosted_begun start = record { told = record told_nothing { bytes = start.frame }; brought = []; written = [] }
+hosted_begun start = record { told = record (told_nothing start.new.version) { bytes = start.frame }; brought = []; written = [] }
 
 -- Signals wait in line, and its journal is one that its handler has written, with arrivals as they were asked for, all as the protocol can carry
 -- it. A new invocation has none.
@@ -98,7 +98,7 @@ module _ (version : Version) (start : AttemptStart) (host : Hosted) where
     pub of_run : SendsOfRun next start.given (arrivals_told start host.told) host.told.is_closed requests_asked (map (frame_meant version) more)
     pub writes : WritesWhere host.told.over turn more now
     -- an error among its frames is the one that it has failed by
-    pub errors : AllByRecursion (TellsErrorBy turn) (map (frame_meant version) more)
+    pub errors : AllByRecursion (TellsErrorBy (version_number version) turn) (map (frame_meant version) more)
 
 module _ {H : Type 0} (function : H → Handler) (next : Handler) (version : Version) (start : AttemptStart) where
   -- it has written this, behind what it had written

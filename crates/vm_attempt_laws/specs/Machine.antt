@@ -7,7 +7,7 @@ pub use Rattle.vm_calls.specs.Active.{Sees, RequestFits, are_any, writes_frames}
 pub use Rattle.vm_calls.specs.declared.active.Active.{Active}
 pub use Rattle.vm_context.specs.Output.{Written, with_frame}
 pub use Rattle.vm_start.specs.FailureReport.{FailsNow, FailsAs, TellsFailureCause, TellsError, IsCopy, IsErrorTooLong, WritesError, out_of_memory}
-pub use Rattle.vm_start.specs.Failure.{told_error}
+pub use Rattle.vm_start.specs.Failure.{behavior_number, told_delay, told_error}
 pub use Rattle.vm_start.specs.declared.phase.Phase.TheVariants as phases
 pub use Rattle.vm_start.specs.declared.phase.Phase.{Phase}
 pub use Rattle.vm_machine.specs.Calls.{checks_off}

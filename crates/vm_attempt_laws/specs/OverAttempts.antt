@@ -1,11 +1,10 @@
 -- How an attempt is over, by the turn that has told it, and one that has failed before a turn tells it.
-use Rattle.std.specs.Prelude.{◌≡◌, ◌⊎◌, true, Some, None}
+use Rattle.std.specs.Prelude.{◌≡◌, true, Some, None}
 use Rattle.vm_attempt_laws.specs.ArrivalsCome.{HasJournal}
-use Rattle.vm_attempt_laws.specs.AttemptInvariants.{early_error}
 use Rattle.vm_attempt_laws.specs.Attempts.{again, Attempt, Finish, Turn}
 use Rattle.vm_attempt_laws.specs.Machine.phases
-use Rattle.vm_attempt_laws.specs.Machine.{IsCopy, out_of_memory}
-use Rattle.vm_attempt_laws.specs.TurnReports.{AnswersError, Told}
+use Rattle.vm_attempt_laws.specs.Machine.{IsCopy}
+use Rattle.vm_attempt_laws.specs.TurnReports.{FailsEarly, Told}
 use Rattle.vm_attempt_laws.specs.Words.{AttemptStart, Error}
 
 module _ {H : Type 0} where
@@ -20,4 +19,4 @@ module _ {H : Type 0} where
     pub closed : told.is_closed ≡ true
     pub error : Error
     pub failed : a.vm.state.phase ≡ phases.Failed error
-    pub tells : AnswersError early_error error ⊎ (error ≡ out_of_memory)
+    pub tells : FailsEarly error

@@ -13,23 +13,24 @@ use Rattle.vm_attempt_laws.specs.Attempts.{Attempt, Turn, Turns}
 use Rattle.vm_attempt_laws.specs.Machine.{IsCopy, out_of_memory, Written}
 use Rattle.vm_attempt_laws.specs.Bodies.{Among, Body, by_policy, NonEmptyValue, RunOutcome}
 use Rattle.vm_attempt_laws.specs.ArrivalsCome.{arrivals_come, HasJournal}
-use Rattle.vm_attempt_laws.specs.AttemptInvariants.{early_error, FailsWith, IsNoError, IsNoFailure, TellsErrorBy}
+use Rattle.vm_attempt_laws.specs.AttemptInvariants.{early_error, error_told, FailsWith, IsNoError, IsNoFailure, TellsErrorBy}
 use Rattle.vm_attempt_laws.specs.BodyExecution.{BodyCause, BodyFailsWhen, BodySays, RunWaitsFor, WaitsForOthers, ExecutesFirst, OutcomeIs, tried_of}
 use Rattle.vm_attempt_laws.specs.AttemptSimulation.{HasBodies, IsOver, Serves}
 use Rattle.vm_attempt_laws.specs.TurnsInRun.{turns_answered}
 use Rattle.vm_attempt_laws.specs.Words.{answers_of, Arrival, AttemptStart, Bytes, Call, Error, Frame, Handler, input_bytes, internal, AttemptInRun, piece_of, Queued, Refusal, Request, requests_carried, ShowsStart, Version, version_number, VMOptions}
 
--- What was told of one attempt by the replies so far: the bytes that it was handed, whether its input was closed, how many of its turns have
+-- What was told of one attempt by the replies so far: the version by which it was begun, the bytes that it was handed, whether its input was closed, how many of its turns have
 -- answered, the first of which reads the input, which outcomes it has proposed, and the turn by which it is over.
 pub record Told : Type 0 where
+  pub version : ℕ
   pub bytes : Bytes
   pub is_closed : Bool
   pub answered : ℕ
   pub proposed : List (ℕ × NonEmptyValue)
   pub over : Option Turn
 
-abbrev pub told_nothing : Told
-told_nothing = record { bytes = []; is_closed = false; answered = 0; proposed = []; over = None }
+abbrev pub told_nothing : (version : ℕ) → Told
+told_nothing version = record { version = version; bytes = []; is_closed = false; answered = 0; proposed = []; over = None }
 
 -- an attempt that is to fail with an error answers it, or, where its frame would be too long, one that says so
 abbrev pub AnswersError : (told error : Error) → Type 0
@@ -47,20 +48,25 @@ pub record TellsRefusal (version : Version) (call : Call) (refusal : Refusal) (t
   pub says : TellsPlainError (refusal_code refused) (Some (text_of_refusal refused version (moment_event call))) told
 
 -- while no turn has told that it is over, it has written no error
-abbrev pub TellsErrorAt : Option Turn → Frame → Type 0
-TellsErrorAt None = IsNoError
-TellsErrorAt (Some turn) = TellsErrorBy turn
+abbrev pub TellsErrorAt : (version : ℕ) → Option Turn → Frame → Type 0
+TellsErrorAt version None = IsNoError
+TellsErrorAt version (Some turn) = TellsErrorBy version turn
 
--- an error that its input was closed too early, or an internal one for that
-abbrev pub IsEarly : Told → (code : ℕ) → Type 0
-IsEarly told code = (told.is_closed ≡ true) × ((code ≡ early_error.code.0) ⊎ (code ≡ internal))
+-- an attempt whose input is closed too early fails with this error, or for want of memory
+abbrev pub FailsEarly : Error → Type 0
+FailsEarly error = AnswersError early_error error ⊎ (error ≡ out_of_memory)
+
+-- its input was closed too early, which the frame tells
+abbrev pub IsEarly : Told → Frame → Type 0
+IsEarly told frame = (told.is_closed ≡ true) × ((error : Error) × FailsEarly error × (frame ≡ error_told told.version error))
 
 -- A frame that it has written says what was told: an outcome is one that it has proposed; an error ends no invocation, and is the one by which a
--- turn has failed, or it tells that its input was closed before its journal had come.
+-- turn has failed, with what is to be done of it, or it tells that its input was closed before its journal had come.
 abbrev pub IsFrameTold : Told → Frame → Type 0
 IsFrameTold told (Frame.RunOutcome completion value is_acknowledged) = Among (completion, value) told.proposed
 IsFrameTold told (Frame.Error code message behavior delay) =
-    IsNoFailure (Frame.Error code message behavior delay) × (TellsErrorAt told.over (Frame.Error code message behavior delay) ⊎ IsEarly told code)
+    IsNoFailure (Frame.Error code message behavior delay)
+    × (TellsErrorAt told.version told.over (Frame.Error code message behavior delay) ⊎ IsEarly told (Frame.Error code message behavior delay))
 IsFrameTold told frame = Unit {0}
 
 -- By these arrivals, which have come whole to it.
@@ -179,6 +185,7 @@ TurnTellsNow next start told None ran turn now = TellsNoMemory told turn now ⊎
 
 -- what was told of an attempt is so: it was handed its start frame, and the messages that it has read and the bytes that it holds
 pub record IsAttemptTold {H : Type 0} (live : AttemptInRun) (a : Attempt H) (is_closed : Bool) (proposed : List (ℕ × NonEmptyValue)) (told : Told) : Type 0 where
+  pub version : told.version ≡ live.start.new.version
   pub bytes : told.bytes ≡ live.start.frame ++ (input_bytes (map piece_of live.read) ++ live.held)
   pub closed : told.is_closed ≡ is_closed
   pub answered : told.answered ≡ turns_answered a.input live.calls

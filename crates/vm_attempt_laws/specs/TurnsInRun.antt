@@ -141,7 +141,7 @@ module _ {H : Type 0} (function : H → Handler) (next : Handler) (version : Ver
         pub makes : IsTurnOf next is_closed live (map (frame_meant version) sent)
         pub proposes : ProposesAs turn (map (frame_meant version) sent)
         -- an error among them is the one that it has failed by
-        pub errors : AllByRecursion (TellsErrorBy turn) (map (frame_meant version) sent)
+        pub errors : AllByRecursion (TellsErrorBy (version_number version) turn) (map (frame_meant version) sent)
         -- no error among them ends the invocation, but where its body has failed as a journal that does not match, and the options ask for that
         pub unfailed : MayNotEnd options ran → AllByRecursion IsNoFailure (map (frame_meant version) sent)
         pub behind : TurnsBehind sent turn after
