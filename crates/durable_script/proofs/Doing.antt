@@ -1,5 +1,5 @@
 -- One line more, and each way to come to an end.
-use Rattle.std.proofs.Common.{◌≡◌, ℕ, ◌<◌, List, [], ◌∷◌, ◌++◌, length, take, Option, Result, Ok, Err, refl, sym, ap, subst, ◌∙◌, append_assoc, inl, inr}
+use Rattle.std.proofs.Common.{◌≡◌, ℕ, ◌<◌, List, [], ◌∷◌, ◌++◌, length, take, Option, Result, Ok, Err, refl, sym, ap, subst, ◌∙◌, append_assoc}
 use Rattle.std.specs.Io.KnownBytes.{Appends}
 use Rattle.std.proofs.KnownBytes.{Appends-trans}
 use Rattle.sqlite_trees.specs.declared.store.Store.{Ghosts}
@@ -9,16 +9,14 @@ use Rattle.script_lines.specs.Line.{spelled}
 use Rattle.script_lines.specs.declared.fault.ScriptFault.{ScriptFault}
 use Rattle.script_lines.specs.declared.fault.ScriptFault.TheVariants.{LineNotUnderstood, ScriptUnreadable, LineOutOfMemory, TextOutOfMemory, OutputUnwritable}
 use Rattle.durable_script.specs.declared.runner.Runner.{Runner}
-use Rattle.durable_script.specs.Line.{DoesLine, DoesSomeLine}
-use Rattle.durable_script.specs.SchedulerChanges.{Reaches}
 use Rattle.durable_script.specs.Runner.{DoesNext, StopsAtLine}
-use Rattle.durable_script.specs.Run.{DoneLine, lines_of, texts_of, AreUnderstood, DoesAll, DoesFirst, HasDone, DoesLines, ComesSoFar}
-use Rattle.durable_script.proofs.SchedulerChanges.{reaches_then}
+use Rattle.durable_script.specs.Run.{DoneLine, lines_of, texts_of, AreUnderstood, HasDone, HasRun, DoesLines, ComesSoFar}
+use Rattle.durable_script.proofs.Lasting.{run_more}
 
 module _ {S : Type 0} (g : Ghosts S) (lines : List (ℕ × List ℕ)) (start : Scheduler BuiltIn S) where
   -- a scheduler that came from the start by these lines
   abbrev pub Did : Scheduler BuiltIn S → List DoneLine → Type 0
-  Did now done = Reaches g (DoesFirst done) (DoesAll done) start now
+  Did now done = HasRun g done start now
 
   module _ (done : List DoneLine) where
     -- the line that was done next
@@ -34,8 +32,7 @@ module _ {S : Type 0} (g : Ghosts S) (lines : List (ℕ × List ℕ)) (start : S
           ∙ ap (λ (ls : List (ℕ × List ℕ)). lines_of done ++ ls) (e ∙ ap (λ (bs : List ℕ). (number, bs) ∷ after) d.understood.spelling)
           ∙ sym (append_assoc (lines_of done) ((number, spelled d.line) ∷ []) after);
       understood = (h.understood, d.understood.is_line);
-      does = reaches_then g (DoesFirst done) (DoesSomeLine d.line) (DoesFirst (next_line number bytes text old new d ∷ done)) (DoesAll done) (DoesLine d.line text)
-          (DoesAll (next_line number bytes text old new d ∷ done)) start old.scheduler new.scheduler (λ x y earlier. inl earlier) (λ x y z p q. inr (y, p, q)) (λ x y z p q. (y, p, q)) h.does d.does;
+      does = run_more g done (next_line number bytes text old new d) start old.scheduler new.scheduler h.does d.prints;
     }
 
     -- the line was not read, or there is no memory for its text

@@ -1,5 +1,5 @@
 -- What a script leaves of the store that was handed in.
-use Rattle.std.proofs.Common.{◌≡◌, List, [], sym, subst}
+use Rattle.std.proofs.Common.{◌≡◌, List, [], sym, subst, inl, inr}
 use Rattle.sqlite_trees.specs.declared.store.Store.{Ghosts}
 use Rattle.sqlite.specs.State.{HasCleanDisk, Survives}
 use Rattle.sqlite.specs.Held.{state}
@@ -16,8 +16,8 @@ use Rattle.schedule_laws.specs.Isolation.{AllAnswerAlone, AllKeepState, AllStand
 use Rattle.scheduler.specs.declared.scheduler.Scheduler.{Scheduler}
 use Rattle.durable_schedule.specs.Runs.{at_first}
 use Rattle.durable_schedule.specs.Schedules.{Scheduled}
-use Rattle.durable_script.specs.SchedulerChanges.{IsAt, KeepsCut, Reaches}
-use Rattle.durable_script.specs.Run.{DoneLine, DoesAll, DoesFirst, AreSchedule, AreCut, AreDone}
+use Rattle.durable_script.specs.SchedulerChanges.{IsAt, KeepsCut}
+use Rattle.durable_script.specs.Run.{DoneLine, DoesAll, DoesFirst, AreSchedule, AreCut, AreDone, HasRun}
 use Rattle.durable_script.proofs.Following.{lines_are, cut_of}
 
 -- what schedules leave, and what that gives, as `schedule_laws` has it
@@ -36,7 +36,7 @@ module _ (law : laws.LeavesHolds function_of) (headline : laws.HoldsHeadline) (c
       }
 
   module _ {S : Type 0} (g : Ghosts S) (store after : Stored S) (start end : Scheduler BuiltIn S) (store_is : start.store ≡ store) (options_are : start.options ≡ default_options)
-      (none_held : start.held ≡ []) (after_is : after ≡ end.store) (done : List DoneLine) (reached : Reaches g (DoesFirst done) (DoesAll done) start end) where
+      (none_held : start.held ≡ []) (after_is : after ≡ end.store) (done : List DoneLine) (reached : HasRun g done start end) where
     at_start : (s : Standing) → IsStanding g s store → IsAt g (at_first s) start
     at_start s standing = record {
       options = options_are;
@@ -46,7 +46,7 @@ module _ (law : laws.LeavesHolds function_of) (headline : laws.HoldsHeadline) (c
     pub are_done : AreDone g store after done
     are_done = record {
       leads = λ clean s standing.
-          let it = reached.reaches (subst (λ (x : Stored S). HasCleanDisk (state g x.connection)) after_is clean) (at_first s) (at_start s standing) in (
+          let it = reached.reaches.reaches (subst (λ (x : Stored S). HasCleanDisk (state g x.connection)) after_is clean) (at_first s) (at_start s standing) in (
             it.0,
             subst (λ (x : Stored S). IsStanding g it.0.standing x) (sym after_is) it.1.scheduled.standing,
             it.2,
@@ -62,5 +62,10 @@ module _ (law : laws.LeavesHolds function_of) (headline : laws.HoldsHeadline) (c
             record { first = cut.first; are_first = cut.are_first; brings = cut.brings; held = kept.0.held; does = cut.does; schedule = schedule_left cut.first s kept.0 cut.does },
             kept.2,
           ))
-          reached.leaves));
+          reached.reaches.leaves));
+      lasts = λ clean trees may.
+          elim (reached.lasts (subst (λ (x : Stored S). HasCleanDisk (state g x.connection)) after_is clean) trees (subst (λ (x : Stored S). (state g x.connection).may_leave trees) after_is may)) [
+            | inl none ↦ inl (none.0, subst (λ (x : Stored S). (state g x.connection).may_leave trees) store_is none.1)
+            | inr keeps ↦ inr (λ s standing. let it = keeps (at_first s) (at_start s standing) in (it.0.standing, (it.0.held, it.1), it.2))
+          ];
     }

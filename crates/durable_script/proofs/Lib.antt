@@ -9,3 +9,4 @@ pub mod States
 pub mod Dues
 pub mod Doing
 pub mod Turning
+mod Lasting

@@ -1,5 +1,5 @@
 -- The text of what was done, also where there is no memory for it.
-use Rattle.std.proofs.Common.{◌≡◌, ℕ, List, [], ◌∷◌, ◌++◌, Option, Result, refl, subst, sym}
+use Rattle.std.proofs.Common.{◌≡◌, ℕ, List, [], ◌∷◌, ◌++◌, Option, Result, refl, subst, sym, inl, inr}
 use Rattle.sqlite_trees.specs.declared.store.Store.{Ghosts}
 use Rattle.built_in_handlers.specs.declared.built_in.BuiltIn.{BuiltIn}
 use Rattle.journal_model.specs.Notification.{Text}
@@ -10,9 +10,12 @@ use Rattle.script_lines.specs.declared.line.Line.{Line}
 use Rattle.script_lines.specs.declared.line.Line.TheVariants as line
 use Rattle.script_lines.specs.declared.outcome.LineOutcome.{LineOutcome}
 use Rattle.script_lines.specs.declared.word.HandlerName.{HandlerName}
+use Rattle.durable_script.specs.Lasting.{IsUnwritten, KeepsEvent}
 use Rattle.durable_script.specs.Line.{AppliesOne, IsBegin, DoesEvent, DoesSomeEvent, TookTurns, TakesTurns, DoesLine, DoesSomeLine}
 use Rattle.durable_script.specs.ReplyTexts.{printed, MakesText}
+use Rattle.durable_script.specs.Runner.{PrintsEvent, PrintsLine}
 use Rattle.durable_script.specs.SchedulerChanges.{Reaches, Nowhere}
+use Rattle.durable_script.proofs.Lasting.{leaves_so}
 use Rattle.durable_script.proofs.SchedulerChanges.{Applied, reaches_so}
 
 module _ {S : Type 0} (g : Ghosts S) (old new : Scheduler BuiltIn S) where
@@ -30,26 +33,34 @@ module _ {S : Type 0} (g : Ghosts S) (old new : Scheduler BuiltIn S) where
 
 -- what is told of a text is told in another way
 module _ {T E : Type 0} (bytes_of : T → List ℕ) (r : Result T E) where
-  pub makes_so : (P Q : List ℕ → Type 0) → ((text : List ℕ) → P text → Q text) → MakesText bytes_of r P → MakesText bytes_of r Q
-  makes_so P Q so made = (made.0, made.1, so made.0 made.2)
-
   module _ {S : Type 0} (g : Ghosts S) (old new : Scheduler BuiltIn S) where
     -- a line that begins an attempt
-    pub makes_begun : (id : Text) (name : HandlerName) (now : ℕ) (one : Event BuiltIn) → IsBegin id name now one → MakesText bytes_of r (λ text. Reaches g (DoesSomeEvent one) (DoesEvent one text) old new)
-        → MakesText bytes_of r (λ text. Reaches g (DoesSomeLine (line.Begin id name now)) (DoesLine (line.Begin id name now) text) old new)
+    pub makes_begun : (id : Text) (name : HandlerName) (now : ℕ) (one : Event BuiltIn) → IsBegin id name now one → MakesText bytes_of r (λ text. PrintsEvent g one text old new)
+        → MakesText bytes_of r (λ text. PrintsLine g (line.Begin id name now) text old new)
     makes_begun id name now one is made =
         let it = event.Begin id is.0 now in
-        let does = subst (λ (e : Event BuiltIn). Reaches g (DoesSomeEvent e) (DoesEvent e made.0) old new) is.2 made.2 in (
+        let prints = subst (λ (e : Event BuiltIn). PrintsEvent g e made.0 old new) is.2 made.2 in (
           made.0,
           made.1,
-          reaches_so g (DoesSomeEvent it) (DoesSomeLine (line.Begin id name now)) (DoesEvent it made.0) (DoesLine (line.Begin id name now) made.0) old new
-              (λ x y p. (p.0, (is.0, is.1, p.1))) (λ x y p. (is.0, is.1, p)) does,
+          record {
+            does = reaches_so g (DoesSomeEvent it) (DoesSomeLine (line.Begin id name now)) (DoesEvent it made.0) (DoesLine (line.Begin id name now) made.0) old new
+                (λ x y p. (p.0, (is.0, is.1, p.1))) (λ x y p. (is.0, is.1, p)) prints.does;
+            lasts = elim prints.lasts [
+              | inl none ↦ inl none
+              | inr lasts ↦ inr (leaves_so g old new ⊥ (KeepsEvent it made.0) (DoesLine (line.Begin id name now) made.0) (λ x y p. (is.0, is.1, p)) lasts)
+            ];
+          },
         )
 
     -- a line that commits nothing leaves nothing more in a crash
-    pub makes_quiet : (asked it : Line) → asked ≡ it → MakesText bytes_of r (λ text. Reaches g Nowhere (DoesLine it text) old new)
-        → MakesText bytes_of r (λ text. Reaches g (DoesSomeLine asked) (DoesLine asked text) old new)
-    makes_quiet asked it is made =
-        subst (λ (line : Line). MakesText bytes_of r (λ text. Reaches g (DoesSomeLine line) (DoesLine line text) old new)) (sym is)
-        (makes_so (λ text. Reaches g Nowhere (DoesLine it text) old new) (λ text. Reaches g (DoesSomeLine it) (DoesLine it text) old new)
-        (λ text does. reaches_so g Nowhere (DoesSomeLine it) (DoesLine it text) (DoesLine it text) old new (λ x y none. absurd none) (λ x y p. p) does) made)
+    pub makes_quiet : (asked it : Line) → asked ≡ it → ((text : List ℕ) → IsUnwritten it text) → MakesText bytes_of r (λ text. Reaches g Nowhere (DoesLine it text) old new)
+        → MakesText bytes_of r (λ text. PrintsLine g asked text old new)
+    makes_quiet asked it is none made =
+        subst (λ (line : Line). MakesText bytes_of r (λ text. PrintsLine g line text old new)) (sym is) (
+          made.0,
+          made.1,
+          record {
+            does = reaches_so g Nowhere (DoesSomeLine it) (DoesLine it made.0) (DoesLine it made.0) old new (λ x y never. absurd never) (λ x y p. p) made.2;
+            lasts = inl (none made.0);
+          },
+        )

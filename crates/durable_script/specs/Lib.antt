@@ -6,3 +6,4 @@ pub mod Outcome
 pub mod Line
 pub mod Runner
 pub mod Run
+pub mod Lasting

@@ -3,6 +3,7 @@ use Rattle.std.specs.Prelude.{◌≡◌, ◌⊎◌, ℕ, ◌<◌, ◌≤◌, Lis
 use Rattle.std.specs.List.{AllByRecursion}
 use Rattle.std.specs.Io.KnownBytes.{Appends, Keeps, IsAtEnd}
 use Rattle.sqlite_trees.specs.declared.store.Store.{Ghosts}
+use Rattle.sqlite_trees.specs.Tree.{Trees}
 use Rattle.sqlite.specs.State.{HasCleanDisk}
 use Rattle.sqlite.specs.Held.{state}
 use Rattle.built_in_handlers.specs.declared.built_in.BuiltIn.{BuiltIn}
@@ -10,7 +11,7 @@ use Rattle.journal_model.specs.Notification.{Text}
 use Rattle.journal_model.specs.Run.{Handler}
 use Rattle.vm_types.specs.Options.{default_options}
 use Rattle.journal_store.specs.StoreView.{Stored}
-use Rattle.journal_store.specs.StoreStanding.{Endures, IsStanding}
+use Rattle.journal_store.specs.StoreStanding.{Endures, IsStanding, KeepsStanding}
 use Rattle.store_calls.specs.AbstractStore.{Standing}
 use Rattle.schedule_laws.specs.InvocationInRun.{HoldsOf}
 use Rattle.durable_schedule.specs.Runs.{Leaves, at_first}
@@ -27,6 +28,9 @@ use Rattle.script_lines.specs.declared.fault.ScriptFault.TheVariants.{LineNotUnd
 use Rattle.script_lines.specs.Output.{EndsWith}
 use Rattle.durable_script.specs.Line.{IsNamed, AreOfLine, DoesLine, DoesSomeLine, BringsFunction}
 use Rattle.durable_script.specs.Runner.{IsNotUnderstood}
+use Rattle.durable_script.specs.Lasting.{IsUnwritten, KeepsLine}
+use Rattle.durable_script.specs.SchedulerChanges.{LeavesKept, Reaches}
+use Rattle.scheduler.specs.declared.scheduler.Scheduler.{Scheduler}
 
 -- a line that was done, with its text
 pub record DoneLine : Type 0 where
@@ -53,10 +57,27 @@ abbrev pub DoesAll : List DoneLine → Scheduled BuiltIn → Scheduled BuiltIn �
 DoesAll [] old new = new ≡ old
 DoesAll (one ∷ before) old new = (between : Scheduled BuiltIn) × DoesAll before old between × DoesLine one.line one.text between new
 
+-- a line was done with some text, behind these
+abbrev pub DoesBehind : List DoneLine → DoneLine → Scheduled BuiltIn → Scheduled BuiltIn → Type 0
+DoesBehind before one old new = (between : Scheduled BuiltIn) × DoesAll before old between × DoesSomeLine one.line between new
+
 -- the first of these lines were done, the last of them with some text
 abbrev pub DoesFirst : List DoneLine → Scheduled BuiltIn → Scheduled BuiltIn → Type 0
 DoesFirst [] old new = ⊥
-DoesFirst (one ∷ before) old new = DoesFirst before old new ⊎ ((between : Scheduled BuiltIn) × DoesAll before old between × DoesSomeLine one.line between new)
+DoesFirst (one ∷ before) old new = DoesFirst before old new ⊎ DoesBehind before one old new
+
+-- by their texts nothing of any was written
+abbrev pub NoneWritten : List DoneLine → Type 0
+NoneWritten [] = Unit {0}
+NoneWritten (one ∷ before) = NoneWritten before × IsUnwritten one.line one.text
+
+-- What tables keep of these lines: all up to the last of which, by its text, something was written. Of one that was refused behind it they may
+-- keep what it commits.
+abbrev pub KeepsDone : List DoneLine → Scheduled BuiltIn → Scheduled BuiltIn → Type 0
+KeepsDone [] old new = ⊥
+KeepsDone (one ∷ before) old new =
+    ((between : Scheduled BuiltIn) × DoesAll before old between × KeepsLine one.line one.text between new)
+    ⊎ (IsUnwritten one.line one.text × (KeepsDone before old new ⊎ DoesBehind before one old new))
 
 -- all of them that begin an attempt of an invocation name handlers of this function
 abbrev pub AllBring : Text → Handler → List DoneLine → Type 0
@@ -94,6 +115,10 @@ pub record AreCut (done : List DoneLine) (s t : Standing) : Type 0 where
   pub held : List (HeldAttempt BuiltIn)
   pub does : DoesAll first (at_first s) (record { standing = t; held = held })
   pub schedule : AreSchedule first (at_first s) (record { standing = t; held = held })
+
+-- so it was on a scheduler that held nothing at first
+abbrev pub AreKept : List DoneLine → Standing → Standing → Type 0
+AreKept done s t = (held : List (HeldAttempt BuiltIn)) × KeepsDone done (at_first s) (record { standing = t; held = held })
 
 -- What was done is all that `Does` tells of.
 module _ (lines : List (ℕ × List ℕ)) (Does : List DoneLine → Type 0) where
@@ -159,6 +184,11 @@ module _ (lines : List (ℕ × List ℕ)) (Does : List DoneLine → Type 0) wher
     pub comes_to : ComesSoFar output result
 
 module _ {S : Type 0} (g : Ghosts S) where
+  -- these lines were done on a scheduler, and what they print lasts
+  pub record HasRun (done : List DoneLine) (old new : Scheduler BuiltIn S) : Type 0 where
+    pub reaches : Reaches g (DoesFirst done) (DoesAll done) old new
+    pub lasts : LeavesKept g (NoneWritten done) (KeepsDone done) old new
+
   -- these lines were done on a store, of which this is left
   pub record AreDone (store after : Stored S) (done : List DoneLine) : Type 0 where
     -- Whatever the store stood for, unless the disk failed: the lines were done on it by a new scheduler, and what they came to is what the
@@ -168,6 +198,9 @@ module _ {S : Type 0} (g : Ghosts S) where
         → (end : Scheduled BuiltIn) × IsStanding g end.standing after × DoesAll done (at_first s) end × AreSchedule done (at_first s) end
     -- a crash leaves what it could leave before, or what the first of the lines came to, of which the same is said
     pub crash : Endures g (AreCut done) store after
+    -- What the lines print lasts: whatever a crash leaves from then on keeps it.
+    pub lasts : HasCleanDisk (state g after.connection) → (trees : Trees) → (state g after.connection).may_leave trees
+        → (NoneWritten done × (state g store.connection).may_leave trees) ⊎ KeepsStanding g (AreKept done) store trees
 
   -- the script was read whole, and its lines were done
   pub record RunsLines (input left had has : Option (List ℕ)) (store after : Stored S) (result : Result (Unit {0}) ScriptFault) : Type 0 where

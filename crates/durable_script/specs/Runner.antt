@@ -6,8 +6,12 @@ use Rattle.script_lines.specs.Line.{spelled, IsLine}
 use Rattle.script_lines.specs.declared.fault.ScriptFault.{ScriptFault}
 use Rattle.script_lines.specs.declared.fault.ScriptFault.TheVariants.{LineNotUnderstood, ScriptUnreadable, LineOutOfMemory, TextOutOfMemory, OutputUnwritable}
 use Rattle.durable_script.specs.declared.runner.Runner.{Runner}
-use Rattle.durable_script.specs.SchedulerChanges.{Reaches}
-use Rattle.durable_script.specs.Line.{DoesLine, DoesSomeLine}
+use Rattle.scheduler.specs.declared.scheduler.Scheduler.{Scheduler}
+use Rattle.built_in_handlers.specs.declared.built_in.BuiltIn.{BuiltIn}
+use Rattle.durable_schedule.specs.Schedules.{Event}
+use Rattle.durable_script.specs.SchedulerChanges.{ReachesFor}
+use Rattle.durable_script.specs.Line.{DoesEvent, DoesLine, DoesSomeEvent, DoesSomeLine}
+use Rattle.durable_script.specs.Lasting.{IsUnwritten, IsUnwrittenEvent, KeepsEvent, KeepsLine}
 
 -- the bytes spell this line
 pub record IsUnderstood (bytes : List ℕ) (line : Line) : Type 0 where
@@ -19,11 +23,19 @@ abbrev pub IsNotUnderstood : List ℕ → Type 0
 IsNotUnderstood bytes = (line : Line) → IsLine line → bytes ≢ spelled line
 
 module _ {S : Type 0} (g : Ghosts S) where
+  -- an event is applied, and its reply printed; and what it prints lasts
+  abbrev pub PrintsEvent : Event BuiltIn → List ℕ → Scheduler BuiltIn S → Scheduler BuiltIn S → Type 0
+  PrintsEvent one text = ReachesFor g (DoesSomeEvent one) (DoesEvent one text) (IsUnwrittenEvent one text) (KeepsEvent one text)
+
+  -- the same of a line
+  abbrev pub PrintsLine : Line → List ℕ → Scheduler BuiltIn S → Scheduler BuiltIn S → Type 0
+  PrintsLine line text = ReachesFor g (DoesSomeLine line) (DoesLine line text) (IsUnwritten line text) (KeepsLine line text)
+
   -- the line is understood and done
   pub record DoesNext (bytes text : List ℕ) (old new : Runner S) : Type 0 where
     pub line : Line
     pub understood : IsUnderstood bytes line
-    pub does : Reaches g (DoesSomeLine line) (DoesLine line text) old.scheduler new.scheduler
+    pub prints : PrintsLine line text old.scheduler new.scheduler
 
   -- the line is not understood, or memory to read it was refused, and nothing was done; or it was done, and memory for its text was refused
   abbrev pub StopsAtLine : ℕ → List ℕ → ScriptFault → Runner S → Runner S → Type 0

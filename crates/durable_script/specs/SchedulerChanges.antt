@@ -1,5 +1,5 @@
 -- What becomes of a scheduler, said of what it stands for.
-use Rattle.std.specs.Prelude.{◌≡◌}
+use Rattle.std.specs.Prelude.{◌≡◌, ◌⊎◌}
 use Rattle.sqlite_trees.specs.declared.store.Store.{Ghosts}
 use Rattle.sqlite_trees.specs.Tree.{Trees}
 use Rattle.sqlite.specs.State.{HasCleanDisk, Survives}
@@ -30,6 +30,18 @@ module _ {S : Type 0} (g : Ghosts S) where
   pub record Reaches (Cut Relation : Scheduled BuiltIn → Scheduled BuiltIn → Type 0) (old new : Scheduler BuiltIn S) : Type 0 where
     pub leaves : LeavesCut Cut old new
     pub reaches : HasCleanDisk (state g new.store.connection) → (before : Scheduled BuiltIn) → IsAt before old → (after : Scheduled BuiltIn) × IsAt after new × Relation before after
+
+  -- Whatever a crash leaves from now on: what it could leave before, if this holds; or tables that keep the events of something in this
+  -- relation to what it stood for, whatever that was.
+  abbrev pub LeavesKept : Type 0 → (Scheduled BuiltIn → Scheduled BuiltIn → Type 0) → Scheduler BuiltIn S → Scheduler BuiltIn S → Type 0
+  LeavesKept IsUnwritten Kept old new =
+      HasCleanDisk (state g new.store.connection) → (trees : Trees) → (state g new.store.connection).may_leave trees
+      → (IsUnwritten × (state g old.store.connection).may_leave trees) ⊎ KeepsCut Kept old trees
+
+  -- Something is reached, and lasts, unless by its text nothing of it was written.
+  pub record ReachesFor (Cut Relation : Scheduled BuiltIn → Scheduled BuiltIn → Type 0) (IsUnwritten : Type 0) (Kept : Scheduled BuiltIn → Scheduled BuiltIn → Type 0) (old new : Scheduler BuiltIn S) : Type 0 where
+    pub does : Reaches Cut Relation old new
+    pub lasts : IsUnwritten ⊎ LeavesKept ⊥ Kept old new
 
 -- nothing was committed
 abbrev pub Nowhere : Scheduled BuiltIn → Scheduled BuiltIn → Type 0

@@ -1,8 +1,7 @@
 //! A whole script, from a reader to a writer.
 ghost use Rattle.std.specs.Prelude.{◌≡◌, Err};
 ghost use Rattle.script_lines.specs.Script.{numbered_lines};
-ghost use Rattle.durable_script.specs.SchedulerChanges.{Reaches};
-ghost use Rattle.durable_script.specs.Run.{DoesAll, DoesFirst, DoesLines, RunsScript};
+ghost use Rattle.durable_script.specs.Run.{DoesLines, HasRun, RunsScript};
 
 use crate::runner::Runner;
 use built_in_handlers::BuiltIn;
@@ -35,7 +34,7 @@ fn do_lines<W: Write, S: Alter + Drop>(
     script: &[u8],
     writer: &mut W,
 ) -> Result<(), ScriptFault>
-    ensures { DoesLines (numbered_lines script.now) (λ done. Reaches S.Store (DoesFirst done) (DoesAll done) runner.old.scheduler runner.new.scheduler) (W.contents writer.old) (W.contents writer.new) result }
+    ensures { DoesLines (numbered_lines script.now) (λ done. HasRun S.Store done runner.old.scheduler runner.new.scheduler) (W.contents writer.old) (W.contents writer.new) result }
 {
     for line in ScriptLines::new(script) {
         let text = runner.do_line(line.number, line.bytes)?;

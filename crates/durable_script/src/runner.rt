@@ -4,8 +4,8 @@ ghost use Rattle.script_lines.specs.Line.{IsLine};
 ghost use Rattle.vm_types.specs.Options.{default_options};
 ghost use Rattle.durable_script.specs.SchedulerChanges.{Nowhere, Reaches};
 ghost use Rattle.durable_script.specs.ReplyTexts.{MakesText};
-ghost use Rattle.durable_script.specs.Line.{brought, new_invocation, goes_on, IsBegin, DoesEvent, DoesSomeEvent, TakesTurn, TakesTurns, TookTurns, DoesLine, DoesSomeLine};
-ghost use Rattle.durable_script.specs.Runner.{DoesNext, StopsAtLine};
+ghost use Rattle.durable_script.specs.Line.{brought, new_invocation, goes_on, IsBegin, TakesTurn, TakesTurns, TookTurns};
+ghost use Rattle.durable_script.specs.Runner.{DoesNext, PrintsEvent, PrintsLine, StopsAtLine};
 
 use crate::due::show_due;
 use crate::outcome::run_outcome;
@@ -90,7 +90,7 @@ fn do_event<S: Alter + Drop>(
     scheduler: &mut Scheduler<BuiltIn, S>,
     event: Event<BuiltIn>,
 ) -> Result<String, AllocError>
-    ensures { MakesText string_bytes result (λ text. Reaches S.Store (DoesSomeEvent event) (DoesEvent event text) scheduler.old scheduler.new) }
+    ensures { MakesText string_bytes result (λ text. PrintsEvent S.Store event text scheduler.old scheduler.new) }
 {
     let reply = scheduler.apply(event);
     let text = reply_line(scheduler.alloc, line_reply(1, &reply));
@@ -166,7 +166,7 @@ fn carry_out<S: Alter + Drop>(
     line: Line,
 ) -> Result<String, AllocError>
     requires { IsLine line }
-    ensures { MakesText string_bytes result (λ text. Reaches S.Store (DoesSomeLine line) (DoesLine line text) scheduler.old scheduler.new) }
+    ensures { MakesText string_bytes result (λ text. PrintsLine S.Store line text scheduler.old scheduler.new) }
 {
     let alloc = scheduler.alloc;
     match line {

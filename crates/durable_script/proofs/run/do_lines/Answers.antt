@@ -1,4 +1,4 @@
-use Rattle.std.proofs.Common.{◌≡◌, ℕ, ◌<◌, length, take, List, [], ◌∷◌, refl, subst, rules}
+use Rattle.std.proofs.Common.{◌≡◌, ℕ, ◌<◌, length, take, List, [], ◌∷◌, subst, rules}
 use Rattle.std.proofs.lemmas.Result.{err_from_is_err_and}
 use Rattle.std.proofs.KnownBytes.{Appends-trans}
 use Rattle.std.specs.Io.KnownBytes.{Appends}
@@ -6,8 +6,8 @@ use Rattle.std.specs.Prelude.{string_bytes}
 use Rattle.script_lines.specs.Script.{numbered_lines}
 use Rattle.script_lines.specs.ScriptLines.{lines_left}
 use Rattle.durable_script.specs.Runner.{DoesNext}
-use Rattle.durable_script.specs.Run.{texts_of, DoesAll, DoesFirst}
-use Rattle.durable_script.proofs.SchedulerChanges.{reaches_none}
+use Rattle.durable_script.specs.Run.{texts_of}
+use Rattle.durable_script.proofs.Lasting.{none_run}
 use Rattle.durable_script.proofs.Doing.{next_line, one_more, stops, breaks}
 use Rattle.durable_script.proofs.run.do_lines.Goals as goal
 
@@ -16,7 +16,7 @@ loop-line-init g c = record {
   can = tt;
   finite = tt;
   done = [];
-  has_done = record { lines_are = search rules; understood = tt; does = reaches_none g.S.Store (DoesFirst []) (DoesAll []) c.args.runner.now.scheduler (λ s. refl) };
+  has_done = record { lines_are = search rules; understood = tt; does = none_run g.S.Store c.args.runner.now.scheduler };
   written = search rules;
 }
 
