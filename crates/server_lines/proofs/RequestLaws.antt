@@ -27,7 +27,7 @@ unfolding key_of number_key_of then_read
 key_again (ByIndex number) h = rw (number_32.again number h) refl
 key_again (ByName name) h = named name (text_word name) refl h
 
-headers_again : (headers : List Header) → AllByRecursion IsHeader headers → headers_of (header_words headers) ≡ Some headers
+pub headers_again : (headers : List Header) → AllByRecursion IsHeader headers → headers_of (header_words headers) ≡ Some headers
 unfolding headers_of header_read then_read
 headers_again [] h = refl
 headers_again (header ∷ headers) h = rw (text_again header.key h.0.0, text_again header.value h.0.1, headers_again headers h.1) refl
@@ -61,7 +61,7 @@ words_again (Error id) h = rw (text_again id h) refl
 words_again (ListRequest after most) h = rw (number_32.again most h.1, text_again after h.0) refl
 words_again (Requests id) h = rw (text_again id h) refl
 
-split : (request : Request) → IsRequest request → slice_split (λ byte. eqb byte 32) (request_spelling request) ≡ words_of request
+pub split : (request : Request) → IsRequest request → slice_split (λ byte. eqb byte 32) (request_spelling request) ≡ words_of request
 split (Invoke new) h = split_again _ _ (words-no_space (Invoke new) h)
 split (Result id completion value) h = split_again _ _ (words-no_space (Result id completion value) h)
 split (Signal id key value) h = split_again _ _ (words-no_space (Signal id key value) h)

@@ -44,28 +44,28 @@ digits-no_space (digit ∷ digits) h =
     let range = digit_from_value digit h.0 in
     (ne_eqb digit 32 (λ e. let low = range.0 in omega arith), digits-no_space digits h.1)
 
-decimal-no_space : (number : ℕ) → number < 2 ^ 64 → NoSpace (decimal number)
+pub decimal-no_space : (number : ℕ) → number < 2 ^ 64 → NoSpace (decimal number)
 decimal-no_space number below = digits-no_space (decimal number) (decimal_is_IsNumeral number below).0.1
 
 printable-no_space : (bytes : List ℕ) → AllByRecursion IsWordByte bytes → NoSpace bytes
 printable-no_space [] h = tt
 printable-no_space (byte ∷ bytes) h = (ne_eqb byte 32 (λ e. let low = h.0.0 in omega arith), printable-no_space bytes h.1)
 
-letters : (word : List ℕ) → list_all (λ byte. nat_lt 32 byte) word ≡ true → NoSpace word
+pub letters : (word : List ℕ) → list_all (λ byte. nat_lt 32 byte) word ≡ true → NoSpace word
 letters [] e = tt
 letters (byte ∷ word) e =
     let tests = and_parts (nat_lt 32 byte) (list_all (λ b. nat_lt 32 b) word) e in
     let above : 32 < byte = ltb-true 32 byte tests.0 in
     (ne_eqb byte 32 (λ same. omega arith), letters word tests.1)
 
-joined-no_space : (front back : List ℕ) → NoSpace front → NoSpace back → NoSpace (front ++ back)
+pub joined-no_space : (front back : List ℕ) → NoSpace front → NoSpace back → NoSpace (front ++ back)
 joined-no_space [] back f b = b
 joined-no_space (byte ∷ front) back f b = (f.0, joined-no_space front back f.1 b)
 
-escaped-no_space : (bytes : List ℕ) → NoSpace (escaped bytes)
+pub escaped-no_space : (bytes : List ℕ) → NoSpace (escaped bytes)
 escaped-no_space bytes = printable-no_space (escaped bytes) (recursion_from_All IsWordByte (escaped bytes) (escaped-AreWordBytes bytes))
 
-text-no_space : (text : List ℕ) → NoSpace (text_word text)
+pub text-no_space : (text : List ℕ) → NoSpace (text_word text)
 text-no_space [] = letters (codes "-") refl
 text-no_space (byte ∷ bytes) =
     elim (cases_Bool (bytes_eq (byte ∷ bytes) (codes "-"))) [
@@ -81,7 +81,7 @@ mode-no_space : (state : StateMode) → NoSpace (mode_word state)
 mode-no_space mode.Whole = letters (codes "whole") refl
 mode-no_space mode.None = letters (codes "none") refl
 
-number-no_space : (number : ℕ) → number < 2 ^ 32 → NoSpace (decimal number)
+pub number-no_space : (number : ℕ) → number < 2 ^ 32 → NoSpace (decimal number)
 number-no_space number small = decimal-no_space number (omega arith)
 
 value-no_space : (value : NotificationResult) → IsValue value → NoSpace (value_word value)
@@ -97,7 +97,7 @@ key-no_space : (key : SignalKey) → IsKey key → NoSpace (key_word key)
 key-no_space (ByIndex number) h = (refl, number-no_space number h)
 key-no_space (ByName name) h = text-no_space name
 
-headers-no_space : (headers : List Header) → AllByRecursion NoSpace (header_words headers)
+pub headers-no_space : (headers : List Header) → AllByRecursion NoSpace (header_words headers)
 headers-no_space [] = tt
 headers-no_space (header ∷ headers) = (text-no_space header.key, (text-no_space header.value, headers-no_space headers))
 

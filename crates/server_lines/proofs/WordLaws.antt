@@ -21,11 +21,11 @@ pub text_again : (text : List ℕ) → IsText text → text_of (text_word text) 
 unfolding text_of then_read text_in
 text_again text h = rw (bytes_again text h.bytes, is_utf8-from_IsUtf8 text h.utf8) refl
 
-tail_again : (text : List ℕ) → IsText text → tail_of (escaped text) ≡ Some text
+pub tail_again : (text : List ℕ) → IsText text → tail_of (escaped text) ≡ Some text
 unfolding tail_of then_read text_in
 tail_again text h = rw (unescaped_again text h.bytes, is_utf8-from_IsUtf8 text h.utf8) refl
 
-digits-no_colon : (digits : List ℕ) → AllDigits 10 digits → AllByRecursion (λ byte. eqb byte 58 ≡ false) digits
+pub digits-no_colon : (digits : List ℕ) → AllDigits 10 digits → AllByRecursion (λ byte. eqb byte 58 ≡ false) digits
 digits-no_colon [] h = tt
 digits-no_colon (digit ∷ digits) h =
     let range = digit_from_value digit h.0 in

@@ -119,7 +119,7 @@ impl fmt::Display for OutputReply<'_> {
 
 /// Texts, each behind a space.
 #[derive(Clone, Copy)]
-struct FurtherWords<'a>(&'a [ByteStr]);
+pub struct FurtherWords<'a>(pub &'a [ByteStr]);
 
 impl fmt::Display for FurtherWords<'_> {
     ghost output = { λ words. Some (words_text words.0.now) };

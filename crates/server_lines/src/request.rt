@@ -113,7 +113,7 @@ fn parse_header(alloc: Global, key: &[u8], value: &[u8]) -> Result<Header, LineE
 }
 
 /// The headers that words spell, each by its name and its value.
-fn parse_headers(alloc: Global, words: &[&[u8]]) -> Result<Sequence<Header>, LineError>
+pub fn parse_headers(alloc: Global, words: &[&[u8]]) -> Result<Sequence<Header>, LineError>
     ensures { Gives result (headers_of (map (λ word. word.now) words.now)) }
 {
     let mut headers = Sequence::new(alloc);
@@ -434,7 +434,7 @@ fn parse_words(alloc: Global, words: &[&[u8]]) -> Result<Request, LineError>
 }
 
 /// The words between single spaces.
-fn words_between<'a>(alloc: Global, bytes: &'a [u8]) -> Result<Vec<&'a [u8]>, AllocError>
+pub fn words_between<'a>(alloc: Global, bytes: &'a [u8]) -> Result<Vec<&'a [u8]>, AllocError>
     ensures { IfOk result (λ words. map (λ word. word.now) words.items ≡ slice_split (λ byte. byte == 32) bytes.now) }
 {
     bytes.split(|byte| *byte == b' ').collect(alloc)

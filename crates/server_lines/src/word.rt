@@ -68,7 +68,7 @@ pub fn parse_text(alloc: Global, word: &[u8]) -> Result<ByteStr, LineError>
 
 /// The text that stands behind a colon.
 #[tactic(auto, unfolding(crate::specs::WordReader::tail_of, script_lines::specs::LineReader::then_read))]
-fn parse_tail(alloc: Global, bytes: &[u8]) -> Result<ByteStr, LineError>
+pub fn parse_tail(alloc: Global, bytes: &[u8]) -> Result<ByteStr, LineError>
     ensures { Gives result (tail_of bytes.now) }
 {
     let bytes = parse_escaped(alloc, bytes)?;
@@ -105,7 +105,7 @@ fn place_of_colon(bytes: &[u8]) -> Option<usize>
 }
 
 /// What stands before the first colon, and behind it.
-fn split_at_colon(bytes: &[u8]) -> Option<(&[u8], &[u8])>
+pub fn split_at_colon(bytes: &[u8]) -> Option<(&[u8], &[u8])>
     ensures { MatchOption result (at_colon bytes.now ≡ None) (λ parts. at_colon bytes.now ≡ Some (parts.0.now, parts.1.now)) }
 {
     let Some(place) = place_of_colon(bytes) else {

@@ -5,6 +5,8 @@
 #[cfg(test)]
 mod answers;
 #[cfg(test)]
+mod client_lines;
+#[cfg(test)]
 mod handlers;
 #[cfg(test)]
 mod live;

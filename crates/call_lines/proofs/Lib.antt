@@ -1,0 +1,10 @@
+pub mod Pairs
+pub mod WordLaws
+pub mod OutcomeLaws
+pub mod TreeLaws
+pub mod Stacking
+pub mod TargetLaws
+pub mod PayloadLaws
+pub mod CallLaws
+pub mod Spaces
+pub mod LineLaws

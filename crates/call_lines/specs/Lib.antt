@@ -1,0 +1,14 @@
+pub mod WordReader
+pub mod TargetReader
+pub mod TreeReader
+pub mod OutcomeReader
+pub mod CommandReader
+pub mod PayloadReader
+pub mod CallReader
+pub mod LineReader
+pub mod Word
+pub mod Tree
+pub mod Outcome
+pub mod Call
+pub mod Line
+pub mod Reply
