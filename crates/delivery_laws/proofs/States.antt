@@ -31,7 +31,7 @@ use Rattle.delivery_laws.proofs.Texts.{key_is_above, keys_ascend, same_cmp}
 
 -- ---- keys
 
-key_tied : (n m : ℕ) → n < 2 ^ 64 → m < 2 ^ 64 → eq_by_cmp bytes_cmp (row_key n) (row_key m) ≡ (m == n)
+pub key_tied : (n m : ℕ) → n < 2 ^ 64 → m < 2 ^ 64 → eq_by_cmp bytes_cmp (row_key n) (row_key m) ≡ (m == n)
 key_tied n m l k = by_tests (m == n) refl (nat_lt m n) refl (nat_lt n m) refl
   where
     by_tests : (a : Bool) → (m == n) ≡ a → (b : Bool) → nat_lt m n ≡ b → (c : Bool) → nat_lt n m ≡ c → is_eq (bytes_cmp (row_key n) (row_key m)) ≡ a
@@ -46,7 +46,7 @@ key_tied n m l k = by_tests (m == n) refl (nat_lt m n) refl (nat_lt n m) refl
         let same : m ≡ n = omega (arith, below, above) in
         absurd (true≢false (sym (eq-eqb m n same) ∙ e))
 
-given_below : (n : ℕ) → bytes_cmp given_key (row_key n) ≡ Less
+pub given_below : (n : ℕ) → bytes_cmp given_key (row_key n) ≡ Less
 given_below n = nat_list_cmp_total.antisymm given_key (row_key n) ∙ ap ordering_reverse (key_is_above n)
 
 -- ---- a row is put

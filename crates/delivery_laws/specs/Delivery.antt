@@ -1,5 +1,5 @@
 -- What a delivery brings, and what steps leave: events that are asked for, deliveries that are tried, and invocations that are to be forgotten.
-use Rattle.std.specs.Prelude.{ℕ, Bool, true, false, not, ◌&&◌, if◌then◌else◌, List, [], ◌∷◌, ◌++◌, Option, Some, None, option_and_then, bytes_eq}
+use Rattle.std.specs.Prelude.{ℕ, Bool, true, false, not, ◌&&◌, if◌then◌else◌, List, [], ◌∷◌, ◌++◌, Option, Some, None, is_some, option_and_then, bytes_eq}
 use Rattle.std.specs.List.{find, list_all, list_any}
 use Rattle.journal_model.specs.Notification.{Text}
 use Rattle.journal_model.specs.declared.notification.NotificationResult.{NotificationResult}
@@ -9,7 +9,7 @@ use Rattle.journal_model.specs.declared.invocation.NewInvocation.{NewInvocation}
 use Rattle.journal_model.specs.declared.invocation.StateMode.{StateMode}
 use Rattle.journal_model.specs.Event.{Event}
 use Rattle.journal_model.specs.Forgetting.{forget_tests}
-use Rattle.journal_model.specs.Journal.{version_of, completes, recorded_arrivals}
+use Rattle.journal_model.specs.Journal.{version_of, completes, invocation_begun, recorded_arrivals}
 use Rattle.journal_model.specs.declared.cause.Cause.{Cause}
 use Rattle.journal_model.specs.Cause.{causes_of, those_that_hold, added_by, is_empty}
 use Rattle.delivery_laws.specs.Targets.{object_for, origin_headers}
@@ -61,13 +61,15 @@ abbrev pub may_name : Option Text → Text → Bool
 may_name None id = true
 may_name (Some told) id = bytes_eq told id
 
--- whether an invocation is to be made yet: its id was told to the sender of a call that is owed
+-- whether an invocation is to be made yet: it was not begun, and its id was told to the sender of a call that is owed
 abbrev pub calls_so : List Event → Text → Option Message → OwedRow → Bool
 calls_so events id (Some (Makes call time m)) row = is_named_so id (id_told events row.sender m)
 calls_so events id message row = false
 
 abbrev pub is_to_be_made : Kept → Text → Bool
-is_to_be_made kept id = list_any (λ row. calls_so kept.events id (message_at kept.events row.sender row.place) row) kept.outbox.rows
+is_to_be_made kept id =
+    not (is_some (invocation_begun kept.events id))
+    && list_any (λ row. calls_so kept.events id (message_at kept.events row.sender row.place) row) kept.outbox.rows
 
 abbrev pub signal_brought : List Event → Text → SignalKey → NotificationResult → List Event
 signal_brought events target key result = if_accepted (Event.Signal target key result) (causes_of events (Event.Signal target key result))
