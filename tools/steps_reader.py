@@ -9,6 +9,9 @@ TOKEN = re.compile(
 RANKS = {"||": 1, "&&": 2, "==": 3, "!=": 3, "<": 3, "<=": 3, ">": 3, ">=": 3, "+": 4, "-": 4, "*": 5}
 
 
+OF_VALUES = "put it into a function of values, with a definition"
+
+
 class Unread(Exception):
     """What is not read, and the line where it stands, if that is known."""
 
@@ -123,6 +126,8 @@ class Reader:
             if self.takes(")"):
                 return ("name", "()")
             it = self.expression()
+            if self.peek() == ",":
+                raise Unread(f"a tuple is not read: {OF_VALUES}")
             self.next(")")
             return it
         if token == "[":
@@ -155,12 +160,14 @@ class Reader:
             return ("num", plain, plain != token)
         if token.lstrip("b")[:1] == '"':
             return ("text", token.lstrip("b"))
+        if self.peek() == "{" and token[0].isupper() and re.fullmatch(r"[a-z]\w*", self.peek(1)) and self.peek(2) == ":":
+            raise Unread(f"a struct's value is not read, as of `{token}`: {OF_VALUES}")
         if re.fullmatch(r"[A-Za-z_][\w:<>]*", token):
             return ("call", None, token, self.items("(", ")")) if self.peek() == "(" else ("name", token)
         self.at -= 1
         if token in ("|", "||", "move"):
-            raise Unread("a closure is not read: put it into a function of values, with a definition")
-        raise Unread(f"`{token}` is not read")
+            raise Unread(f"a closure is not read: {OF_VALUES}")
+        raise Unread(f"`{token}` is not read" + (f": {OF_VALUES}" if token in "/%<>^|-" else ""))
 
     @placed
     def match(self):
@@ -199,6 +206,8 @@ class Reader:
                 kind += self.next()
             self.next()
             of = self.expression()
+            if of[0] == "call" and (of[1] == ("name", "calls") and of[2] != "alloc" or ("name", "calls") in of[3]):
+                raise Unread(f"`{of[2]}` has no `?` behind it, by which a stop leaves the code: only a `match` may catch one", of)
             self.next(";")
             return ("let", name, kind.lstrip(":"), of)
         if self.takes("for"):
@@ -207,6 +216,8 @@ class Reader:
             low = self.unary()
             if not self.takes(".."):
                 raise Unread(f"the loop over `{name}` goes over no numbers `a..b`")
+            if self.peek() == "=":
+                raise Unread("`..=` is not read: write `a..b`")
             return ("for", name, low, self.unary(), self.block())
         if self.takes("continue"):
             self.takes(";")

@@ -58,6 +58,18 @@ UNREAD = {
     "a loop that is none over numbers": ("while true { }", "`while` is not read: write `for x in a..b`"),
     "a loop over a list": ("for key in keys { }", "the loop over `key` goes over no numbers `a..b`"),
     "a statement that does nothing": ("input.check();", "a statement is a call with `?`: not `input.check()`"),
+    "a statement without a `?`": ("calls.sleep_until(later(&input.input, 1));", "a statement is a call with `?`: not `calls.sleep_until"),
+    "a call that has a name, without a `?`": ('let before = calls.get(ByteStr::from_static("k"));', "`get` has no `?` behind it"),
+    "a stop that is swallowed": ('let _ = calls.run(ByteStr::from_static("pay"));', "`run` has no `?` behind it"),
+    "an else of a let": ("let Some(value) = before else { return Ok(Bytes::new()); };", "a `let` gives a name to one value: of a pattern make a `match`"),
+    "a quotient": ("calls.sleep_until(later(&input.input, 10 / 2))?;", "`/` is not read: put it into a function of values"),
+    "a shift": ("calls.sleep_until(later(&input.input, 1 << 3))?;", "`<` is not read: put it into a function of values"),
+    "a tuple": ("let both = (1, 2);", "a tuple is not read: put it into a function of values"),
+    "a struct": ("let both = Pair { one: 1 };", "a struct's value is not read, as of `Pair`"),
+    "a loop up to its last number": ("for round in 0..=3u64 { calls.sleep_until(later(&input.input, round))?; }", "`..=` is not read: write `a..b`"),
+    "a loop without an end": ("loop { }", "`loop` is not read: write `for x in a..b`"),
+    "a loop that is left": ("for round in 0..3u64 { break; }", "`break` is not read: write `for x in a..b`, and leave it by `return`"),
+    "two branches that go on": ('if input.is_for("a") { calls.run(input.key)?; }\n        Ok(Bytes::new())', "two branches go on: put the choice into a function of its own"),
 }
 
 # What is read, and the lines of its steps.
