@@ -27,6 +27,8 @@
  *         { HENGOMARU_AT_LEAST, 3, 2 }, { HENGOMARU_HANDLE, a }, { HENGOMARU_HANDLE, b }, { HENGOMARU_HANDLE, c } };
  *     hengomaru_vm_do_await(&vm, two_of_three, 4, &outcome, &detail);
  *
+ * Of a tree 256 combinators at most stand one in another; else it is none. The machine fails (573) where more than 99 do.
+ *
  * Whatever these calls are called with, in any order, none crashes, hangs or reads past its arguments: that is proved. It needs what this
  * page asks of the caller, which nothing checks: handles as above; pointers that are valid for so many bytes, numbers or nodes, and
  * unchanged during the call; and `malloc`, `realloc` and `free` of one C library.

@@ -2,6 +2,7 @@
 use Rattle.std.proofs.Common.{◌≡◌, refl, sym, ap, ap₂, ◌∙◌, ℕ, ◌+◌, ◌-◌, ◌≤◌, ◌⊎◌, inl, inr, arith, Bool, true, false, not, if◌then◌else◌, List, [], ◌∷◌}
 use Rattle.std.specs.Prelude.{nat_le, nat_lt}
 use Rattle.std.proofs.lemmas.Bool.Decides.{nat_tests}
+use Rattle.journal_model.specs.PrunedTrees.{asked_of}
 use Rattle.journal_model.specs.AwaitTree.{AwaitState, Pending, Succeeded, Failed, is_completed, is_succeeded, is_failed, many, at_least, at_least_state}
 
 -- what children have come to before, and later, and what those have come to later that were pending before
@@ -62,17 +63,27 @@ successes-hope (Pending ∷ states) = omega (arith, successes-hope states)
 successes-hope (Succeeded ∷ states) = omega (arith, successes-hope states)
 successes-hope (Failed ∷ states) = successes-hope states
 
--- with more successes and less hope a node keeps its state, unless that was pending
-pub at_least-stays : (k s h t g : ℕ) → s ≤ t → g ≤ h → t ≤ g → (at_least k s h ≡ Pending) ⊎ (at_least k t g ≡ at_least k s h)
-at_least-stays k s h t g more less hope = by_tests (nat_le k s) refl (nat_lt h k) refl
+-- what is asked for once some children are left out: at most what was, and less by no more than are left out
+pub asked-most : (k count left : ℕ) → asked_of k count left ≤ k
+asked-most k count left = grind (arith)
+
+pub asked-least : (k count left : ℕ) → k - (count - left) ≤ asked_of k count left
+asked-least k count left = grind (arith)
+
+pub asked-same : (k count : ℕ) → asked_of k count count ≡ k
+asked-same k count = grind (arith)
+
+-- with more successes, less hope, and a number that is lowered by no more than the hope, a node keeps its state, unless that was pending
+pub asked-stays : (k asked out s h t g : ℕ) → asked ≤ k → k - out ≤ asked → s ≤ t → g + out ≤ h → t ≤ g → (at_least k s h ≡ Pending) ⊎ (at_least asked t g ≡ at_least k s h)
+asked-stays k asked out s h t g most least more less hope = by_tests (nat_le k s) refl (nat_lt h k) refl
   where
     by_tests : (a : Bool) → nat_le k s ≡ a → (b : Bool) → nat_lt h k ≡ b
-        → ((if a then Succeeded else (if b then Failed else Pending)) ≡ Pending) ⊎ (at_least k t g ≡ (if a then Succeeded else (if b then Failed else Pending)))
+        → ((if a then Succeeded else (if b then Failed else Pending)) ≡ Pending) ⊎ (at_least asked t g ≡ (if a then Succeeded else (if b then Failed else Pending)))
     by_tests true e b f =
-        let there : nat_le k t ≡ true = grind (arith, nat_tests) in
-        inr (ap (λ (x : Bool). if x then Succeeded else (if nat_lt g k then Failed else Pending)) there)
+        let there : nat_le asked t ≡ true = grind (arith, nat_tests) in
+        inr (ap (λ (x : Bool). if x then Succeeded else (if nat_lt g asked then Failed else Pending)) there)
     by_tests false e true f =
-        let few : nat_le k t ≡ false = grind (arith, nat_tests) in
-        let lost : nat_lt g k ≡ true = grind (arith, nat_tests) in
+        let few : nat_le asked t ≡ false = grind (arith, nat_tests) in
+        let lost : nat_lt g asked ≡ true = grind (arith, nat_tests) in
         inr (ap₂ (λ (x y : Bool). if x then Succeeded else (if y then Failed else Pending)) few lost)
     by_tests false e false f = inl refl

@@ -8,15 +8,15 @@ use Rattle.std.specs.List.{find, list_any}
 use Rattle.journal_model.specs.declared.notification.NotificationId.{NotificationId}
 use Rattle.journal_model.specs.Notification.{Arrival, same_id, cancel_id}
 use Rattle.journal_model.specs.Request.{Request}
-use Rattle.journal_model.specs.AwaitTree.{AwaitTree, Single, Combined, AwaitTrees, no_trees, and_trees, AwaitState, Pending, is_completed, is_awake, await_state, child_states, some_has_ended_node, combined_state, has_ended}
+use Rattle.journal_model.specs.AwaitTree.{AwaitTree, Combinator, Single, Combined, AwaitTrees, no_trees, and_trees, AwaitState, Pending, is_completed, is_awake, await_state, child_states, some_has_ended_node, combined_state, has_ended}
 use Rattle.journal_model.specs.Delivery.{state_of_result}
-use Rattle.journal_model.specs.PrunedTrees.{pruned, pruned_children, only_leaves, only_children, state_of_some}
+use Rattle.journal_model.specs.PrunedTrees.{pruned, pruned_children, only_leaves, only_children, asking_of, state_of_some, tree_count}
 use Rattle.journal_model.specs.Run.{Handler, Invocation, Progress, Ending, GoesOn, Waits, RefusedCall, Ended, run, is_going}
 use Rattle.journal_model.specs.Event.{Suspension, ForTree, ForAny}
 use Rattle.journal_model.specs.Attempt.{result_of, is_woken}
 use Rattle.journal_model.specs.Headline.{IsWaiting, GoesPast, all_stand, all_children_stand}
 use Rattle.journal_model.proofs.Extension.{run-within}
-use Rattle.journal_laws.proofs.Leaving.{only_leaves-awake, and-true}
+use Rattle.journal_laws.proofs.Leaving.{only_leaves-awake, and-true, asking_all}
 use Rattle.run_laws.specs.WakingLaws.{WokenWherePast, PastWhereWoken}
 use Rattle.run_laws.specs.SuspensionContent.{TellsAwaitedTree, left_of, WaitsAll}
 use Rattle.run_laws.proofs.Tallies.{run_sound}
@@ -25,12 +25,23 @@ use Rattle.run_laws.proofs.Waking.{states_by, over_awake, awake_over}
 
 -- ---- leaves that stand for ids
 
+-- none is left out, so that as much is asked for
+stand_count : (trees : AwaitTrees (Option NotificationId)) → all_children_stand trees ≡ true → tree_count (only_children (λ leaf. leaf) trees) ≡ tree_count trees
+stand_count no_trees e = refl
+stand_count (and_trees (Single None) trees) e = absurd (true≢false (sym e))
+stand_count (and_trees (Single (Some id)) trees) e = ap suc (stand_count trees e)
+stand_count (and_trees (Combined combinator children) trees) e = ap suc (stand_count trees (and-true (all_children_stand children) (all_children_stand trees) e).1)
+
+stand_asks : (combinator : Combinator) (children : AwaitTrees (Option NotificationId)) → all_children_stand children ≡ true
+    → asking_of combinator (tree_count children) (tree_count (only_children (λ leaf. leaf) children)) ≡ combinator
+stand_asks combinator children e = ap (asking_of combinator (tree_count children)) (stand_count children e) ∙ asking_all combinator (tree_count children)
+
 module _ (states : NotificationId → AwaitState) where
   mutual
     stand_state : (tree : AwaitTree (Option NotificationId)) → all_stand tree ≡ true → await_state (only_leaves (λ leaf. leaf) tree) states ≡ await_state tree (state_of_some states)
     stand_state (Single None) e = absurd (true≢false (sym e))
     stand_state (Single (Some id)) e = refl
-    stand_state (Combined combinator children) e = ap (combined_state combinator) (stand_states children e)
+    stand_state (Combined combinator children) e = ap₂ combined_state (stand_asks combinator children e) (stand_states children e)
 
     stand_states : (trees : AwaitTrees (Option NotificationId)) → all_children_stand trees ≡ true → child_states (only_children (λ leaf. leaf) trees) states ≡ child_states trees (state_of_some states)
     stand_states no_trees e = refl
@@ -38,7 +49,7 @@ module _ (states : NotificationId → AwaitState) where
     stand_states (and_trees (Single (Some id)) trees) e = ap (λ (rest : List AwaitState). states id ∷ rest) (stand_states trees e)
     stand_states (and_trees (Combined combinator children) trees) e =
         let (own, others) = and-true (all_children_stand children) (all_children_stand trees) e in
-        ap₂ (λ (x : AwaitState) (rest : List AwaitState). x ∷ rest) (ap (combined_state combinator) (stand_states children own)) (stand_states trees others)
+        ap₂ (λ (x : AwaitState) (rest : List AwaitState). x ∷ rest) (ap₂ combined_state (stand_asks combinator children own) (stand_states children own)) (stand_states trees others)
 
   stand_ended : (trees : AwaitTrees (Option NotificationId)) → all_children_stand trees ≡ true
       → some_has_ended_node (only_children (λ leaf. leaf) trees) states ≡ some_has_ended_node trees (state_of_some states)
@@ -48,14 +59,14 @@ module _ (states : NotificationId → AwaitState) where
   stand_ended (and_trees (Combined combinator children) trees) e =
       let (own, others) = and-true (all_children_stand children) (all_children_stand trees) e in
       ap₂ (λ (a b : Bool). a || b)
-      (ap₂ (λ (a b : Bool). a || b) (ap (has_ended combinator) (stand_states children own)) (stand_ended children own)) (stand_ended trees others)
+      (ap₂ (λ (a b : Bool). a || b) (ap₂ has_ended (stand_asks combinator children own) (stand_states children own)) (stand_ended children own)) (stand_ended trees others)
 
   stand_awake : (tree : AwaitTree (Option NotificationId)) → all_stand tree ≡ true → is_awake (only_leaves (λ leaf. leaf) tree) states ≡ is_awake tree (state_of_some states)
   stand_awake (Single None) e = absurd (true≢false (sym e))
   stand_awake (Single (Some id)) e = refl
   stand_awake (Combined combinator children) e =
       ap₂ (λ (a b : Bool). a || b) (ap (λ (state : AwaitState). is_completed state) (stand_state (Combined combinator children) e))
-      (ap₂ (λ (a b : Bool). a || b) (ap (has_ended combinator) (stand_states children e)) (stand_ended children e))
+      (ap₂ (λ (a b : Bool). a || b) (ap₂ has_ended (stand_asks combinator children e) (stand_states children e)) (stand_ended children e))
 
 pub both_true : (a b : Bool) → a ≡ true → b ≡ true → (a && b) ≡ true
 both_true true b e f = f

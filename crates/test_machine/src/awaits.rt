@@ -1,6 +1,6 @@
 //! Awaits: `await WORD ..` with the tree's nodes behind their children: a number is a handle, and `F2`, `A2`, `S2`, `R2` and `U2`
 //! are nodes over the two trees before them, the first completed, all completed, the first succeeded or all failed, all succeeded
-//! or the first failed, and unknown; `K2/3` is one over three that asks for two successes. `completed HANDLE`, `take HANDLE`, `input`.
+//! or the first failed, and unknown; `K2/3` is one over three that asks for two successes. `^9` puts nine nodes over the tree before it. `completed HANDLE`, `take HANDLE`, `input`.
 use crate::answers::{debug, failed, taken};
 use invocation_vm::{Input, NotificationHandle, Sequence, UnresolvedFuture, VM};
 use std::alloc::Global;
@@ -57,7 +57,19 @@ fn over_last(
     node(kind, last(alloc, trees, count)?)
 }
 
+// So many nodes, one over another, over the tree before them.
+fn put_nested(alloc: Global, trees: &mut Vec<UnresolvedFuture>, levels: u32) -> Option<()> {
+    for _level in 0..levels {
+        let made = UnresolvedFuture::AllCompleted(last(alloc, trees, 1)?);
+        trees.push(made).ok()?;
+    }
+    Some(())
+}
+
 fn put(alloc: Global, trees: &mut Vec<UnresolvedFuture>, word: &str, behind: u32) -> Option<()> {
+    if let Some(levels) = word.strip_prefix('^') {
+        return put_nested(alloc, trees, number(levels)?);
+    }
     let made = match number(word) {
         Some(number) => UnresolvedFuture::Single(number.wrapping_add(behind).into()),
         None => over_last(alloc, trees, word)?,

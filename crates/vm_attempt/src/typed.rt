@@ -1,14 +1,16 @@
 // What a call, and the end of a run's body, is by its types: functions that look at each text and number in it, and change nothing.
-ghost use Rattle.std.specs.Prelude.{◌<◌, ◌^◌, IsUtf8, IfSome};
+ghost use Rattle.std.specs.Prelude.{◌<◌, ◌≤◌, ◌^◌, IsUtf8, IfSome};
 ghost use Rattle.std.specs.List.{AllByRecursion};
 ghost use Rattle.vm_request_laws.specs.Calls.{IsTypedPair, IsTypedFailure, IsTypedValue, IsTypedHeader, IsTypedTarget, IsTypedAttach, NumbersFit, IsTypedCall};
+ghost use Rattle.journal_model.specs.AwaitTree.{levels_of};
 ghost use Rattle.journal_model.specs.Future.{tree_of};
 ghost use Rattle.vm_attempt.specs.ExitTypes.{IsTypedCommand, IsTypedError, IsTypedExit, IsTypedOutcome};
 
 use crate::run_outcome::RunOutcome;
 use bytes::ByteStr;
 use journal_model::{
-    AttachInvocationTarget, Call, Header, NonEmptyValue, Target, TerminalFailure, UnresolvedFuture,
+    AWAIT_LEVELS, AttachInvocationTarget, Call, Header, NonEmptyValue, Target, TerminalFailure,
+    UnresolvedFuture,
 };
 use protocol_errors::{CommandMetadata, Error};
 use sequence::Sequence;
@@ -143,31 +145,39 @@ fn keyed_value_is_typed(key: &ByteStr, value: &NonEmptyValue)
     value_is_typed(value);
 }
 
+// It looks no deeper than so many levels.
 #[cycle(futures_typed)]
 #[tactic(auto, using(journal_model::proofs::TreeLemmas::future_trees))]
-fn future_is_typed(future: &UnresolvedFuture)
-    ensures { NumbersFit (tree_of future.now) }
+fn future_is_typed(future: &UnresolvedFuture, levels: u32)
+    ensures { levels_of (tree_of future.now) ≤ levels → NumbersFit (tree_of future.now) }
 {
     match future {
         UnresolvedFuture::Single(_) => (),
-        UnresolvedFuture::FirstCompleted(children) => futures_are_typed(children),
-        UnresolvedFuture::AllCompleted(children) => futures_are_typed(children),
-        UnresolvedFuture::FirstSucceededOrAllFailed(children) => futures_are_typed(children),
-        UnresolvedFuture::AllSucceededOrFirstFailed(children) => futures_are_typed(children),
-        UnresolvedFuture::Unknown(children) => futures_are_typed(children),
+        UnresolvedFuture::FirstCompleted(children) => futures_are_typed(children, levels),
+        UnresolvedFuture::AllCompleted(children) => futures_are_typed(children, levels),
+        UnresolvedFuture::FirstSucceededOrAllFailed(children) => {
+            futures_are_typed(children, levels)
+        }
+        UnresolvedFuture::AllSucceededOrFirstFailed(children) => {
+            futures_are_typed(children, levels)
+        }
+        UnresolvedFuture::Unknown(children) => futures_are_typed(children, levels),
         UnresolvedFuture::AtLeast(required, children) => {
             number_is_typed(*required);
-            futures_are_typed(children);
+            futures_are_typed(children, levels);
         }
     }
 }
 
 #[cycle(futures_typed)]
-fn futures_are_typed(children: &Sequence<UnresolvedFuture>)
-    ensures { AllByRecursion (λ child. NumbersFit (tree_of child)) children.now }
+fn futures_are_typed(children: &Sequence<UnresolvedFuture>, levels: u32)
+    ensures { AllByRecursion (λ child. levels_of (tree_of child) < levels → NumbersFit (tree_of child)) children.now }
 {
+    if levels == 0 {
+        return;
+    }
     for child in children.as_slice() {
-        future_is_typed(child);
+        future_is_typed(child, levels - 1);
     }
 }
 
@@ -199,7 +209,7 @@ pub(crate) fn call_is_typed(call: &Call)
         Call::Cancel { target_id } => text_is_typed(target_id),
         Call::Attach(target) | Call::GetOutput(target) => attach_is_typed(target),
         Call::Output { value, .. } => value_is_typed(value),
-        Call::Await(awaited) => future_is_typed(awaited.future()),
+        Call::Await(awaited) => future_is_typed(awaited.future(), AWAIT_LEVELS),
         Call::Awakeable | Call::IsCompleted(_) | Call::Take(_) | Call::End => (),
     }
 }

@@ -97,6 +97,7 @@ refused_code CallRefusal.UnsupportedScope = inr refl
 refused_code CallRefusal.UnsupportedLimitKey = inr refl
 refused_code CallRefusal.UnsupportedFailureMetadata = inr refl
 refused_code CallRefusal.UnsupportedAtLeast = inr refl
+refused_code CallRefusal.AwaitTooDeep = inr refl
 refused_code CallRefusal.OutOfBoundsDuration = inl refl
 
 own_open : (version : ℕ) (asked : JournalMismatchRetryBehavior) (error : Error) → AsksNoEnd error → (error.code.0 ≡ internal) ⊎ (error.code.0 ≡ unsupported_feature) → AsksNoEnd (failed_with version asked error)

@@ -6,7 +6,7 @@ use Rattle.journal_model.specs.AwaitTree.{AwaitTree, Single}
 use Rattle.journal_model.specs.Future.{node}
 use Rattle.journal_model.specs.PrunedTrees.{only_leaves}
 use Rattle.protocol_records.specs.declared.future.CombinatorType.{CombinatorType}
-use Rattle.protocol_records.specs.declared.future.CombinatorType.TheVariants.{Unknown, FirstCompleted, AllCompleted, FirstSucceededOrAllFailed, AllSucceededOrFirstFailed}
+use Rattle.protocol_records.specs.declared.future.CombinatorType.TheVariants.{Unknown, FirstCompleted, AllCompleted, FirstSucceededOrAllFailed, AllSucceededOrFirstFailed, AtLeastSucceeded}
 use Rattle.protocol_records.specs.declared.future.Future.{Future}
 use Rattle.protocol_stream.specs.Records.{future_node, future_record}
 use Rattle.attempt_model.specs.Results.{Slots, slot_of}
@@ -42,6 +42,9 @@ tells tree combinator completions signals names nested = record { tree = tree; t
 abbrev over : CombinatorType → List ℕ → List Future → Future
 over combinator completions nested = future_node completions [] [] nested combinator 0
 
+abbrev asks : ℕ → List (AwaitTree ℕ) → List ℕ → ℕ → Row
+asks required children completions told = record { tree = node (Trees.AtLeast required) children; told = future_node completions [] [] [] AtLeastSucceeded told }
+
 abbrev table : List Row
 table =
     tells (c 1) FirstCompleted (1 ∷ []) [] [] [] ∷
@@ -61,6 +64,13 @@ table =
     -- a handle that stands for nothing is left out; the handle of cancellations stands for signal 1
     tells taken FirstCompleted [] [] [] [] ∷
     tells (node Trees.FirstCompleted (node Trees.AllCompleted (taken ∷ foo ∷ []) ∷ Single 1 ∷ [])) FirstCompleted [] (1 ∷ []) [] (future_node [] [] (codes "foo" ∷ []) [] AllCompleted 0 ∷ []) ∷
+    -- of a node that asks for a number of successes that is lowered to as many as are left; one that no children could reach stays out of reach
+    asks 2 (c 1 ∷ c 2 ∷ []) (1 ∷ 2 ∷ []) 2 ∷
+    asks 2 (c 1 ∷ taken ∷ []) (1 ∷ []) 1 ∷
+    asks 1 (c 1 ∷ taken ∷ []) (1 ∷ []) 1 ∷
+    asks 3 (taken ∷ c 1 ∷ taken ∷ []) (1 ∷ []) 1 ∷
+    asks 3 (c 1 ∷ taken ∷ []) (1 ∷ []) 2 ∷
+    asks 0 (taken ∷ []) [] 0 ∷
     []
 
 rows_stand : map (λ row. future_record (only_leaves (slot_of slots) row.tree)) table ≡ map (λ row. row.told) table

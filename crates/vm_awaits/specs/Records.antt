@@ -1,5 +1,5 @@
 -- What stands in a node of the record of a future.
-use Rattle.std.specs.Prelude.{[], ◌∷◌, ◌++◌, Option, Some, None}
+use Rattle.std.specs.Prelude.{ℕ, ◌+◌, length, [], ◌∷◌, ◌++◌, Option, Some, None}
 use Rattle.journal_model.specs.declared.notification.NotificationId.{NotificationId}
 use Rattle.journal_model.specs.declared.notification.NotificationId.TheVariants.{CompletionId, SignalId, SignalName}
 use Rattle.protocol_records.specs.declared.future.Future.{Future}
@@ -22,3 +22,7 @@ with_leaf (Some id) parts = with_id id parts
 -- one node more
 abbrev pub with_nested : Future → NodeParts → NodeParts
 with_nested future parts = record parts { nested = parts.nested ++ future ∷ [] }
+
+-- how many leaves and nodes stand in it
+abbrev pub count_of : NodeParts → ℕ
+count_of parts = length parts.completions + length parts.signals + length parts.names + length parts.nested

@@ -86,7 +86,7 @@ not_put true m not_true = absurd (not_true refl)
 not_put false m not_true = refl
 
 other_count : (nodes : List Node) (counted : Option ℕ) → trees_in nodes ≡ counted → (counted ≡ Some 1 → ⊥) → IsTree nodes → ⊥
-other_count nodes counted counts other tree = other (sym counts ∙ ap trees_in (sym tree.1) ∙ one_counted tree.0)
+other_count nodes counted counts other tree = other (sym counts ∙ ap trees_in (sym tree.1.0) ∙ one_counted tree.0)
 
 -- the node in front of the stack does not stand on it
 pub unread_behind : (nodes rest before : List Node) (node : Node) (stack : List UnresolvedFuture) (why : Unread) → rest ++ nodes_from_top stack ≡ nodes → rest ≡ before ++ node ∷ []

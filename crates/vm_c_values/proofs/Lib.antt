@@ -1,2 +1,3 @@
 pub mod Stacking
 pub mod Counting
+pub mod Nesting

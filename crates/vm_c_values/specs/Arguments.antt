@@ -1,6 +1,6 @@
 -- What arguments of a host have to be, and what is said where one is not read.
-use Rattle.std.specs.Prelude.{◌≡◌, ℕ, ◌==◌, ◌||◌, ◌&&◌, not, Bool, true, List, None, IsSome, Result, Ok, Err}
-use Rattle.journal_model.specs.AwaitTree.{AwaitTree}
+use Rattle.std.specs.Prelude.{◌≡◌, ◌≤◌, ℕ, ◌==◌, ◌||◌, ◌&&◌, not, Bool, true, List, None, IsSome, Result, Ok, Err}
+use Rattle.journal_model.specs.AwaitTree.{AwaitTree, levels_of}
 use Rattle.journal_model.specs.Notification.{Bytes}
 use Rattle.protocol_table.specs.declared.table.RecordType.{RecordType}
 use Rattle.protocol_table.specs.declared.table.RecordType.TheVariants as types
@@ -9,6 +9,7 @@ use Rattle.protocol_wire.specs.declared.record.TheConstants.{LEVELS}
 use Rattle.vm_c_values.specs.Nodes.{nodes_of}
 use Rattle.vm_c_values.specs.Options.{is_set}
 use Rattle.vm_c_values.specs.Records.{attach_target_in}
+use Rattle.vm_c_values.specs.declared.levels.TheConstants.{NODE_LEVELS}
 use Rattle.vm_c_values.specs.declared.node.Node.{Node}
 use Rattle.vm_c_values.specs.declared.not_done.Unread.{Unread}
 use Rattle.vm_c_values.specs.declared.not_done.Unread.TheVariants.{Memory, Malformed}
@@ -50,9 +51,9 @@ IsAttachTarget payload = IsRecord types.AttachInvocationCommand payload × IsSom
 
 -- ---- trees and policies
 
--- the nodes are those of some tree, of one alone
+-- the nodes are those of some tree, of one alone, which is not nested too deep
 abbrev pub IsTree : List Node → Type 0
-IsTree nodes = (tree : AwaitTree ℕ) × (nodes_of tree ≡ nodes)
+IsTree nodes = (tree : AwaitTree ℕ) × ((nodes_of tree ≡ nodes) × (levels_of tree ≤ NODE_LEVELS))
 
 -- the kind is one of the four, and no factor is over 0
 abbrev pub is_policy : Policy → Bool

@@ -5,3 +5,4 @@ pub mod Policies
 pub mod Replies
 pub mod Arguments
 pub mod Stacks
+pub mod Levels

@@ -3,6 +3,7 @@
 //! Composite values cross as payloads of the protocol's own records, which every language can read and write. Nothing here knows the machine.
 #![tactic(auto)]
 
+mod levels;
 mod node;
 mod not_done;
 mod options;
@@ -11,6 +12,7 @@ mod records;
 mod replies;
 mod texts;
 
+pub use levels::NODE_LEVELS;
 pub use node::{Node, future_of};
 pub use not_done::{NotDone, Unread};
 pub use options::{payload_options, vm_options};

@@ -7,6 +7,7 @@ ghost use Rattle.vm_c_values.specs.Stacks.{is_combinator, stands_on};
 ghost use Rattle.vm_c_values.specs.declared.not_done.Unread.TheVariants.{Memory};
 
 use crate::Unread;
+use crate::levels::is_within;
 use journal_model::{NotificationHandle, UnresolvedFuture};
 use sequence::Sequence;
 use std::alloc::{AllocError, Global};
@@ -116,11 +117,14 @@ fn stacked(alloc: Global, nodes: &[Node]) -> Result<Vec<UnresolvedFuture>, Unrea
     Ok(stack)
 }
 
-/// The tree of these nodes, where they are those of one tree.
-#[tactic(auto, using(crate::proofs::Stacking::alone, crate::proofs::Counting::several))]
+/// The tree of these nodes, where they are those of one tree that is not nested deeper than `NODE_LEVELS`. Of a deeper one none is made.
+#[tactic(auto, using(crate::proofs::Stacking::alone, crate::proofs::Counting::several, crate::proofs::Nesting::few_levels, crate::proofs::Nesting::too_deep))]
 pub fn future_of(alloc: Global, nodes: &[Node]) -> Result<UnresolvedFuture, Unread>
     ensures { Reads (IsTree nodes.now) (λ future. nodes_of (tree_of future) ≡ nodes.now) result }
 {
+    if !is_within(alloc, nodes)? {
+        return Err(Unread::Malformed);
+    }
     let mut stack = stacked(alloc, nodes)?;
     let Some(root) = stack.pop() else {
         return Err(Unread::Malformed);

@@ -6,7 +6,8 @@ use std::alloc::AllocError;
 pub enum Unread {
     /// Memory was refused.
     Memory,
-    /// What has to be a text is not UTF-8, or what has to be a record, a tree or a policy is none.
+    /// What has to be a text is not UTF-8, or what has to be a record, a tree or a policy is none; a tree that is nested deeper than
+    /// `NODE_LEVELS` is none.
     Malformed,
 }
 

@@ -105,6 +105,7 @@ refusal_apart CallRefusal.UnsupportedScope = refl
 refusal_apart CallRefusal.UnsupportedLimitKey = refl
 refusal_apart CallRefusal.UnsupportedFailureMetadata = refl
 refusal_apart CallRefusal.UnsupportedAtLeast = refl
+refusal_apart CallRefusal.AwaitTooDeep = refl
 refusal_apart CallRefusal.OutOfBoundsDuration = refl
 
 refused_apart : (refused : CallRefusal) (text : Option Bytes) (told : Result Error AllocError) → IfOk told (TellsPlainError (refusal_code refused) text) → Apart told

@@ -5,7 +5,7 @@ ghost use Rattle.vm_progress.specs.AwaitEffects.{ready_read, AwaitsUnread, GoesO
 
 use crate::asleep::{fail_for_memory, sleep_with};
 use crate::uncompleted::fail_uncompleted;
-use journal_model::UnresolvedFuture;
+use journal_model::{UnresolvedFuture, let_go_of_future};
 use protocol_errors::Error;
 use vm_machine::{Admission, CallError, MachineState, checks_off, child_not_id, refusal_error};
 use vm_refusals::refuse_await;
@@ -74,11 +74,11 @@ fn await_unread(vm: &mut MachineState, future: UnresolvedFuture) -> Result<Await
     match vm.admit(refusal) {
         Admission::Admitted => await_admitted(vm, future),
         Admission::Elsewhere => {
-            drop(future);
+            let_go_of_future(future);
             Err(vm.fail_unexpected("await"))
         }
         Admission::Stopped(error) => {
-            drop(future);
+            let_go_of_future(future);
             Err(error)
         }
     }
@@ -88,7 +88,7 @@ fn await_unread(vm: &mut MachineState, future: UnresolvedFuture) -> Result<Await
 ///
 /// Where the answer of an ephemeral read can be taken that is told first, and nothing is looked at. An attempt that is suspended
 /// answers `SUSPENDED`, and is closed: it has not failed. An await that asks for a number of successes is refused in a version in which none
-/// does.
+/// does, and one of which more than ninety-nine nodes stand one in another in each.
 ///
 /// Where a cancellation ends it, each invocation that was called, and is tracked, is cancelled by a command before that is answered. The
 /// first of which the invocation id is unknown is waited for alone, in the same way. Where one of the commands is not what is recorded,
@@ -98,7 +98,7 @@ pub fn do_await(vm: &mut MachineState, future: UnresolvedFuture) -> Result<Await
 {
     match ready_read(vm) {
         Some(id) => {
-            drop(future);
+            let_go_of_future(future);
             Ok(AwaitResponse::EphemeralNotificationReady(id))
         }
         None => await_unread(vm, future),

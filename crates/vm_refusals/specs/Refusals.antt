@@ -21,6 +21,8 @@ refusal_meant CallRefusal.UnsupportedScope = Refusal.UnsupportedScope
 refusal_meant CallRefusal.UnsupportedLimitKey = Refusal.UnsupportedLimitKey
 refusal_meant CallRefusal.UnsupportedFailureMetadata = Refusal.UnsupportedFailureMetadata
 refusal_meant CallRefusal.UnsupportedAtLeast = Refusal.UnsupportedAtLeast
+-- what a suspension cannot tell
+refusal_meant CallRefusal.AwaitTooDeep = Refusal.AwaitTooDeep
 -- what the arguments pass
 refusal_meant CallRefusal.OutOfBoundsDuration = Refusal.OutOfBoundsDuration
 
@@ -34,6 +36,7 @@ refusal_code CallRefusal.UnsupportedScope = unsupported_feature
 refusal_code CallRefusal.UnsupportedLimitKey = unsupported_feature
 refusal_code CallRefusal.UnsupportedFailureMetadata = unsupported_feature
 refusal_code CallRefusal.UnsupportedAtLeast = unsupported_feature
+refusal_code CallRefusal.AwaitTooDeep = unsupported_feature
 -- what the arguments pass
 refusal_code CallRefusal.OutOfBoundsDuration = internal
 
@@ -47,6 +50,7 @@ text_of_refusal CallRefusal.UnsupportedScope version event = feature_text (codes
 text_of_refusal CallRefusal.UnsupportedLimitKey version event = feature_text (codes "limit key") version (first_version features.Scope)
 text_of_refusal CallRefusal.UnsupportedFailureMetadata version event = feature_text (codes "terminal error metadata") version (first_version features.FailureMetadata)
 text_of_refusal CallRefusal.UnsupportedAtLeast version event = feature_text (codes "at least") version (first_version features.AtLeast)
+text_of_refusal CallRefusal.AwaitTooDeep version event = codes "what is awaited is nested too deep to be told"
 text_of_refusal CallRefusal.OutOfBoundsDuration version event = out_of_bounds_text event
 
 abbrev pub refusal_text : RefusalError → List ℕ

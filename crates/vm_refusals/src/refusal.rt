@@ -20,6 +20,8 @@ pub enum CallRefusal {
     UnsupportedLimitKey,
     /// A number of successes is awaited in a version in which none is.
     UnsupportedAtLeast,
+    /// What is awaited is nested deeper than a suspension can tell.
+    AwaitTooDeep,
 }
 
 /// Where a later version is needed the feature is not supported, anything else is internal.
@@ -33,7 +35,8 @@ impl WithInvocationErrorCode for CallRefusal {
             CallRefusal::UnsupportedScope
             | CallRefusal::UnsupportedLimitKey
             | CallRefusal::UnsupportedFailureMetadata
-            | CallRefusal::UnsupportedAtLeast => codes::UNSUPPORTED_FEATURE,
+            | CallRefusal::UnsupportedAtLeast
+            | CallRefusal::AwaitTooDeep => codes::UNSUPPORTED_FEATURE,
             CallRefusal::EmptyIdempotencyKey
             | CallRefusal::EmptyScope
             | CallRefusal::EmptyLimitKey

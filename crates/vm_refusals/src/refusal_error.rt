@@ -68,6 +68,7 @@ fn write_refusal<W: fmt::Write>(
             f,
         ),
         CallRefusal::UnsupportedAtLeast => write_lack("at least", version, Feature::AtLeast, f),
+        CallRefusal::AwaitTooDeep => f.write_str("what is awaited is nested too deep to be told"),
         CallRefusal::OutOfBoundsDuration => write_out_of_bounds(event, f),
     }
 }

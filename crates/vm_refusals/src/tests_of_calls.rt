@@ -10,8 +10,8 @@ ghost use Rattle.vm_refusals.specs.declared.refusal.CallRefusal.TheVariants.{Out
 use crate::CallRefusal;
 use bytes::ByteStr;
 use journal_model::{
-    AttachInvocationTarget, Moment, NonEmptyValue, Target, TerminalFailure, UnresolvedFuture,
-    has_number,
+    AWAIT_LEVELS, AttachInvocationTarget, Moment, NonEmptyValue, Target, TerminalFailure,
+    UnresolvedFuture, has_number, is_deeper_than,
 };
 use protocol_types::Feature;
 
@@ -115,6 +115,9 @@ pub fn refuse_attach(version: u32, target: &AttachInvocationTarget) -> Option<Ca
 pub fn refuse_await(version: u32, future: &UnresolvedFuture) -> Option<CallRefusal>
     ensures { option_map refusal_meant result ≡ first_refusal (await_tests version (tree_of future.now)) }
 {
+    if is_deeper_than(future, AWAIT_LEVELS) {
+        return Some(CallRefusal::AwaitTooDeep);
+    }
     if Feature::AtLeast.is_later_than(version) {
         if has_number(future) {
             return Some(CallRefusal::UnsupportedAtLeast);

@@ -1,21 +1,24 @@
 -- Trees over handles, over what these stand for, and what is left of them.
-use Rattle.std.proofs.Common.{◌≡◌, ◌-◌, ◌==◌, ◌<◌, ◌^◌, nat_lt, ◌||◌, ◌&&◌, ap₂, ℕ, zero, suc, arith, Bool, true, false, List, [], ◌∷◌, Option, Some, None, refl, sym, ap, ◌∙◌, subst}
+use Rattle.std.proofs.Common.{◌≡◌, ◌-◌, ◌==◌, ◌<◌, ◌≤◌, ◌^◌, nat_lt, ◌||◌, ◌&&◌, ℕ, zero, suc, arith, Bool, true, false, List, [], ◌∷◌, Option, Some, None, refl, sym, ap, ◌∙◌, subst}
 use Rattle.std.specs.Prelude.{if◌then◌else◌, IfSome, slice_get}
 use Rattle.std.proofs.Math.Path.{fun_ext}
+use Rattle.std.proofs.lemmas.Bool.Decides.{nat_tests}
 use Rattle.journal_model.specs.declared.notification.NotificationId.{NotificationId}
 use Rattle.journal_model.specs.declared.call.Call.{Call}
 use Rattle.journal_model.specs.declared.options.SignalDelivery.{SignalDelivery}
 use Rattle.journal_model.specs.Notification.{Arrival, cancel_id}
-use Rattle.journal_model.specs.AwaitTree.{AwaitTree, AwaitState, Pending, Succeeded, Failed, is_completed, is_succeeded, Combinator, Unknown, FirstCompleted, AllCompleted, FirstSucceededOrAllFailed, AllSucceededOrFirstFailed, AtLeast, asks_number, Single, Combined, AwaitTrees, no_trees, and_trees, many, await_state, child_states, is_awake, has_number, some_has_number}
+use Rattle.journal_model.specs.AwaitTree.{AwaitTree, levels_of, AwaitState, Pending, Succeeded, Failed, is_completed, is_succeeded, Combinator, Unknown, FirstCompleted, AllCompleted, FirstSucceededOrAllFailed, AllSucceededOrFirstFailed, AtLeast, asks_number, Single, Combined, AwaitTrees, no_trees, and_trees, many, await_state, child_states, is_awake, has_number, some_has_number}
 use Rattle.journal_model.specs.Await.{awaited_tree, with_cancellation}
 use Rattle.journal_model.specs.declared.options.ImplicitCancellationOption.{ImplicitCancellationOption}
 use Rattle.journal_model.specs.declared.options.ImplicitCancellationOption.TheVariants.{Disabled, Enabled}
 use Rattle.journal_model.specs.Spelling.{required_by}
 use Rattle.journal_model.specs.History.{cancel_handle}
 use Rattle.journal_model.specs.Request.{Request}
-use Rattle.journal_model.specs.Refusal.{Refusal, UnsupportedAtLeast, first_refusal, refusal_of}
+use Rattle.journal_model.specs.Refusal.{Refusal, AwaitTooDeep, UnsupportedAtLeast, first_refusal, refusal_of}
+use Rattle.journal_model.specs.declared.future.TheConstants.{AWAIT_LEVELS}
 use Rattle.journal_model.specs.Run.{Invocation}
-use Rattle.journal_model.specs.PrunedTrees.{lowered, pruned, pruned_children, earlier_or_later, leaf_or_nothing, and_leaf, only_leaves, only_children}
+use Rattle.journal_model.specs.PrunedTrees.{lowered, pruned, pruned_children, earlier_or_later, leaf_or_nothing, and_leaf, asking_of, only_leaves, only_children, tree_count}
+use Rattle.journal_laws.proofs.AtLeast.{asked-most}
 use Rattle.journal_laws.proofs.Leaving.{or-true_right}
 use Rattle.journal_laws.proofs.Pruning.{pruned-awake}
 use Rattle.protocol_types.specs.declared.feature.Feature.TheVariants as features
@@ -51,6 +54,15 @@ slot_fits slots h handle =
     chosen_fits (handle == cancel_handle) (Some cancel_id) (if nat_lt handle 17 then None else slot_in (slice_get slots (handle - 17))) cancel_fits
     (chosen_fits (nat_lt handle 17) None (slot_in (slice_get slots (handle - 17))) tt (found_fits slots (handle - 17) h))
 
+-- a number that is lowered fits still
+asked_fits : (combinator : Combinator) (count left : ℕ) → required_by combinator < 2 ^ 32 → required_by (asking_of combinator count left) < 2 ^ 32
+asked_fits Unknown count left h = h
+asked_fits FirstCompleted count left h = h
+asked_fits AllCompleted count left h = h
+asked_fits FirstSucceededOrAllFailed count left h = h
+asked_fits AllSucceededOrFirstFailed count left h = h
+asked_fits (AtLeast required) count left h = let most = asked-most required count left in omega (arith, most, h)
+
 module _ {Leaf : Type 0} (stands : Leaf → Option NotificationId) (fits : (leaf : Leaf) → FitsIfSome (stands leaf)) where
   leaf_fits : (o : Option NotificationId) → FitsIfSome o → LeavesFit (leaf_or_nothing o)
   leaf_fits None h = (omega arith, tt)
@@ -63,16 +75,25 @@ module _ {Leaf : Type 0} (stands : Leaf → Option NotificationId) (fits : (leaf
   children_fit : (trees : AwaitTrees Leaf) → AllNumbersFit trees → AllLeavesFit (only_children stands trees)
   children_fit no_trees h = tt
   children_fit (and_trees (Single leaf) trees) h = before_fits (stands leaf) (only_children stands trees) (fits leaf) (children_fit trees h.1)
-  children_fit (and_trees (Combined combinator children) trees) h = ((h.0.0, children_fit children h.0.1), children_fit trees h.1)
+  children_fit (and_trees (Combined combinator children) trees) h = ((asked_fits combinator (tree_count children) (tree_count (only_children stands children)) h.0.0, children_fit children h.0.1), children_fit trees h.1)
 
   tree_fits : (tree : AwaitTree Leaf) → NumbersFit tree → LeavesFit (only_leaves stands tree)
   tree_fits (Single leaf) h = leaf_fits (stands leaf) (fits leaf)
-  tree_fits (Combined combinator children) h = (h.0, children_fit children h.1)
+  tree_fits (Combined combinator children) h = (asked_fits combinator (tree_count children) (tree_count (only_children stands children)) h.0, children_fit children h.1)
 
 pub handles_fit : HandlesFit
 handles_fit slots tree h numbers = tree_fits (slot_of slots) (slot_fits slots h) tree numbers
 
 -- ---- the numbers of successes that are asked for
+
+-- whether a node asks for one
+asking_number : (combinator : Combinator) (count left : ℕ) → asks_number (asking_of combinator count left) ≡ asks_number combinator
+asking_number Unknown count left = refl
+asking_number FirstCompleted count left = refl
+asking_number AllCompleted count left = refl
+asking_number FirstSucceededOrAllFailed count left = refl
+asking_number AllSucceededOrFirstFailed count left = refl
+asking_number (AtLeast required) count left = refl
 
 module _ {A B : Type 0} (stands : A → Option B) where
   leaf_number : (o : Option B) (trees : AwaitTrees B) → some_has_number (and_leaf o trees) ≡ some_has_number trees
@@ -83,7 +104,7 @@ module _ {A B : Type 0} (stands : A → Option B) where
   children_number no_trees = refl
   children_number (and_trees (Single leaf) trees) = leaf_number (stands leaf) (only_children stands trees) ∙ children_number trees
   children_number (and_trees (Combined combinator children) trees) =
-      ap₂ (λ (a b : Bool). (asks_number combinator || a) || b) (children_number children) (children_number trees)
+      (λ i. (asking_number combinator (tree_count children) (tree_count (only_children stands children)) i || children_number children i) || children_number trees i)
 
   nothing_number : (o : Option B) → has_number (leaf_or_nothing o) ≡ false
   nothing_number None = refl
@@ -91,7 +112,7 @@ module _ {A B : Type 0} (stands : A → Option B) where
 
   only_number : (tree : AwaitTree A) → has_number (only_leaves stands tree) ≡ has_number tree
   only_number (Single leaf) = nothing_number (stands leaf)
-  only_number (Combined combinator children) = ap (λ (b : Bool). asks_number combinator || b) (children_number children)
+  only_number (Combined combinator children) = (λ i. asking_number combinator (tree_count children) (tree_count (only_children stands children)) i || children_number children i)
 
 -- where this holds of the one, it holds of the other
 abbrev Implies : Bool → Bool → Type 0
@@ -264,11 +285,21 @@ asleep_is tree left m after (command ∷ commands) e = absurd cc
 
 -- an await that is not refused asks for no number in a version in which none does
 pub spoken : (version : ℕ) (tree : AwaitTree ℕ) → refusal_of version (Call.Await tree) ≡ None → IsSpoken version tree
-spoken version tree = by_test (has_number tree && lacks_feature version features.AtLeast)
+spoken version tree = by_tests (nat_lt AWAIT_LEVELS (levels_of tree)) (has_number tree && lacks_feature version features.AtLeast)
   where
-    by_test : (b : Bool) → first_refusal ((b, UnsupportedAtLeast) ∷ []) ≡ None → b ≡ false
-    by_test true e = absurd cc
-    by_test false e = refl
+    by_tests : (deep b : Bool) → first_refusal ((deep, AwaitTooDeep) ∷ (b, UnsupportedAtLeast) ∷ []) ≡ None → b ≡ false
+    by_tests true b e = absurd cc
+    by_tests false true e = absurd cc
+    by_tests false false e = refl
+
+-- and is nested no deeper than what is awaited may be
+shallow : (version : ℕ) (tree : AwaitTree ℕ) → refusal_of version (Call.Await tree) ≡ None → levels_of tree ≤ AWAIT_LEVELS
+shallow version tree = by_test (nat_lt AWAIT_LEVELS (levels_of tree)) refl
+  where
+    by_test : (deep : Bool) → nat_lt AWAIT_LEVELS (levels_of tree) ≡ deep
+        → first_refusal ((deep, AwaitTooDeep) ∷ (has_number tree && lacks_feature version features.AtLeast, UnsupportedAtLeast) ∷ []) ≡ None → levels_of tree ≤ AWAIT_LEVELS
+    by_test true is e = absurd cc
+    by_test false is e = grind (arith, nat_tests)
 
 spoken_below : (a b lacks : Bool) → Implies a b → (b && lacks) ≡ false → (a && lacks) ≡ false
 spoken_below true b lacks f e = ap (λ (x : Bool). x && lacks) (sym (f refl)) ∙ e
@@ -277,18 +308,18 @@ spoken_below false b lacks f e = refl
 pub awaits_leave : AwaitsLeave
 awaits_leave same_header given m after tree left e = by_refusal (refusal_of given.version (Call.Await tree)) refl e
   where
-    by_resolution : IsSpoken given.version tree → (resolution : Resolution)
+    by_resolution : IsSpoken given.version tree → levels_of tree ≤ AWAIT_LEVELS → (resolution : Resolution)
         → resolution_of given.options.signal_delivery m.slots (awaited_tree given.options.implicit_cancellation tree) m.queue m.ready ≡ resolution
         → reply_to_await (same_header (Call.Await tree)) given m resolution ≡ AwaitsTree left after → IsLeft given.version tree m after left
-    by_resolution allowed (Awake queue ready) is e =
+    by_resolution allowed few (Awake queue ready) is e =
         absurd (awake_never (same_header (Call.Await tree)) given (record m { queue = queue; ready = ready }) after left (is_cancelled given (record m { queue = queue; ready = ready })) e)
-    by_resolution allowed (Asleep some ready) is e =
+    by_resolution allowed few (Asleep some ready) is e =
         let both = asleep_is some left (record m { queue = []; ready = ready }) after m.left e in
         let rest = resolved given.options.signal_delivery m.slots (awaited_tree given.options.implicit_cancellation tree) left m.queue m.ready ready (is ∙ ap (λ (t : AwaitTree ℕ). Asleep t ready) both.0) in
         record {
           slots = sym (ap (λ (machine : Machine). machine.slots) both.1);
           asleep = awake-map (slot_of after.slots) (λ leaf. Pending) left ∙ rest.asleep;
-          numbers = λ h. rest.fits (awaited_fits given.options.implicit_cancellation tree h);
+          numbers = λ typed. rest.fits (awaited_fits given.options.implicit_cancellation tree (typed few));
           spoken = spoken_below (has_number (only_leaves (slot_of after.slots) left)) (has_number tree) (lacks_feature given.version features.AtLeast)
               (λ some_asks. sym (awaited_number given.options.implicit_cancellation tree) ∙ rest.number (sym (only_number (slot_of after.slots) left) ∙ some_asks)) allowed;
         }
@@ -296,5 +327,5 @@ awaits_leave same_header given m after tree left e = by_refusal (refusal_of give
     by_refusal : (o : Option Refusal) → refusal_of given.version (Call.Await tree) ≡ o → reply_unless_refused (same_header (Call.Await tree)) given m (Call.Await tree) o ≡ AwaitsTree left after
         → IsLeft given.version tree m after left
     by_refusal None is e =
-        by_resolution (spoken given.version tree is) (resolution_of given.options.signal_delivery m.slots (awaited_tree given.options.implicit_cancellation tree) m.queue m.ready) refl e
+        by_resolution (spoken given.version tree is) (shallow given.version tree is) (resolution_of given.options.signal_delivery m.slots (awaited_tree given.options.implicit_cancellation tree) m.queue m.ready) refl e
     by_refusal (Some refusal) is e = absurd cc

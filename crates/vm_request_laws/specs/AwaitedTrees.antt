@@ -12,7 +12,7 @@ use Rattle.attempt_model.specs.Machine.{Machine, AwaitsTree, AwaitsChild, reply_
 use Rattle.protocol_records.specs.Future.{FutureFits}
 use Rattle.protocol_stream.specs.Records.{future_record}
 use Rattle.vm_awaits.specs.Children.{AreMade}
-use Rattle.vm_request_laws.specs.Calls.{NumbersFit}
+use Rattle.vm_request_laws.specs.Calls.{NumbersFit, IsTypedCall}
 use Rattle.vm_request_laws.specs.Trees.{IsSpoken, LeavesFit, IsWithin, SlotsFit}
 
 -- a tree whose ids fit has a record that fits, if it has no more levels
@@ -27,7 +27,7 @@ HandlesFit = (slots : Slots) (tree : AwaitTree ℕ) → SlotsFit slots → Numbe
 -- tree's do, and it asks for none in a version in which none does
 pub record IsLeft (version : ℕ) (tree : AwaitTree ℕ) (m after : Machine) (left : AwaitTree ℕ) : Type 0 where
   pub slots : after.slots ≡ m.slots
-  pub numbers : NumbersFit tree → NumbersFit left
+  pub numbers : IsTypedCall (Call.Await tree) → NumbersFit left
   pub spoken : IsSpoken version (only_leaves (slot_of after.slots) left)
   pub asleep : is_awake (map_leaves (slot_of after.slots) left) (λ leaf. Pending) ≡ false
 

@@ -1,9 +1,9 @@
 -- What the types of the code say of a call: each text in it is UTF-8, each code of a failure has sixteen bits, and each number of
--- successes that an awaited tree asks for has 32.
-use Rattle.std.specs.Prelude.{ℕ, ◌<◌, ◌^◌, IsUtf8, IfSome}
+-- successes that an awaited tree asks for has 32, where the tree is nested no deeper than what is awaited may be.
+use Rattle.std.specs.Prelude.{ℕ, ◌<◌, ◌≤◌, ◌^◌, IsUtf8, IfSome}
 use Rattle.std.specs.List.{AllByRecursion}
 use Rattle.journal_model.specs.Notification.{Text}
-use Rattle.journal_model.specs.AwaitTree.{AwaitTree, Single, Combined, AwaitTrees, no_trees, and_trees}
+use Rattle.journal_model.specs.AwaitTree.{AwaitTree, Single, Combined, AwaitTrees, no_trees, and_trees, levels_of}
 use Rattle.journal_model.specs.Spelling.{required_by}
 use Rattle.journal_model.specs.declared.value.NonEmptyValue.{NonEmptyValue}
 use Rattle.journal_model.specs.declared.value.TerminalFailure.{TerminalFailure}
@@ -11,6 +11,7 @@ use Rattle.journal_model.specs.declared.call.Call.{Call}
 use Rattle.journal_model.specs.declared.call.Header.{Header}
 use Rattle.journal_model.specs.declared.call.Target.{Target}
 use Rattle.journal_model.specs.declared.call.AttachInvocationTarget.{AttachInvocationTarget}
+use Rattle.journal_model.specs.declared.future.TheConstants.{AWAIT_LEVELS}
 
 abbrev pub IsTypedPair : Text × Text → Type 0
 IsTypedPair pair = IsUtf8 pair.0 × IsUtf8 pair.1
@@ -71,5 +72,5 @@ IsTypedCall (Call.Cancel target) = IsUtf8 target
 IsTypedCall (Call.Attach target) = IsTypedAttach target
 IsTypedCall (Call.GetOutput target) = IsTypedAttach target
 IsTypedCall (Call.Output value options) = IsTypedValue value
-IsTypedCall (Call.Await tree) = NumbersFit tree
+IsTypedCall (Call.Await tree) = levels_of tree ≤ AWAIT_LEVELS → NumbersFit tree
 IsTypedCall _ = Unit {0}
