@@ -138,7 +138,7 @@ pub still_adds : (start : StateMap) (entries : List Entry) (event : Event) → i
 still_adds start entries (Event.Feed id attempt most) e = refl
 still_adds start entries (Event.Close id attempt) e = refl
 still_adds start entries (Event.Stop id attempt) e = refl
-still_adds start entries (Event.Move id attempt Frame.AwaitingOn) e = refl
+still_adds start entries (Event.Move id attempt (Frame.AwaitingOn awaited)) e = refl
 still_adds start entries (Event.Move id attempt Frame.Broken) e = refl
 still_adds start entries (Event.Move id attempt Frame.TooDeep) e = refl
 still_adds start entries (Event.Move id attempt Frame.NotAccepted) e = refl
@@ -149,7 +149,7 @@ still_opened : (o : Option NewInvocation) (event : Event) (frames : List Frame) 
 still_opened o (Event.Feed id attempt most) frames e = refl
 still_opened o (Event.Close id attempt) frames e = refl
 still_opened o (Event.Stop id attempt) frames e = refl
-still_opened o (Event.Move id attempt Frame.AwaitingOn) frames e = refl
+still_opened o (Event.Move id attempt (Frame.AwaitingOn awaited)) frames e = refl
 still_opened o (Event.Move id attempt Frame.Broken) frames e = refl
 still_opened o (Event.Move id attempt Frame.TooDeep) frames e = refl
 still_opened o (Event.Move id attempt Frame.NotAccepted) frames e = refl
@@ -409,7 +409,7 @@ module _ (events : List Event) (id : Text) (other : Text) (attempt : ℕ) (own :
   frame_noted (Frame.Suspend suspension) accepted = suspension_noted suspension accepted
   frame_noted (Frame.Error code message behavior delay) accepted = error_noted code message behavior delay accepted
   frame_noted Frame.End accepted = end_noted accepted
-  frame_noted Frame.AwaitingOn accepted = noted_still events (Event.Move other attempt Frame.AwaitingOn) id refl
+  frame_noted (Frame.AwaitingOn awaited) accepted = noted_still events (Event.Move other attempt (Frame.AwaitingOn awaited)) id refl
   frame_noted Frame.Broken accepted = noted_still events (Event.Move other attempt Frame.Broken) id refl
   frame_noted Frame.TooDeep accepted = noted_still events (Event.Move other attempt Frame.TooDeep) id refl
   frame_noted Frame.NotAccepted accepted = noted_still events (Event.Move other attempt Frame.NotAccepted) id refl

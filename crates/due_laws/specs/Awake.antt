@@ -67,7 +67,7 @@ after_event events id _ p = p
 
 -- events by which nothing is told of an invocation
 abbrev pub is_quiet : Frame → Bool
-is_quiet Frame.AwaitingOn = true
+is_quiet (Frame.AwaitingOn awaited) = true
 is_quiet Frame.Broken = true
 is_quiet Frame.TooDeep = true
 is_quiet Frame.NotAccepted = true

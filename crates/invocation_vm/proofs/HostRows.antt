@@ -29,10 +29,10 @@ module _ (version : Version) (start : AttemptStart) (host : Hosted) (next : Hand
   -- a turn that has answered a call has not ended the invocation
   pub answers_no_end : TurnsSo version start host next ran Turn.Answered more now → map (frame_meant version) more ≡ Frame.End ∷ [] → ⊥
   answers_no_end so ends =
-      let writes : WritesWhere version start host None Turn.Answered more now = subst (λ (o : Option Turn). WritesWhere version start host o Turn.Answered more now) going so.writes in
+      let writes : WritesWhere version start host next None Turn.Answered more now = subst (λ (o : Option Turn). WritesWhere version start host next o Turn.Answered more now) going so.writes in
       no_end writes.0 (sym ends ∙ writes.1)
 
 module _ (version : Version) (start : AttemptStart) (host : Hosted) (next : Handler) (ran : RunOutcome) (turn last : Turn) (more : List Sent) (now : Told) where
   -- one that is over writes nothing more
   pub over_is_silent : host.told.over ≡ Some last → TurnsSo version start host next ran turn more now → more ≡ []
-  over_is_silent over so = subst (λ (o : Option Turn). WritesWhere version start host o turn more now) over so.writes
+  over_is_silent over so = subst (λ (o : Option Turn). WritesWhere version start host next o turn more now) over so.writes

@@ -134,7 +134,7 @@ arrivals_stay events id n frame by_row =
 
 -- the invocation is changed
 joins_changes : (id : Text) (frame : Frame) (read : AttemptFrame) → can_join read ≡ true → IsFrame frame read → ids_of_frame id frame ≡ id ∷ []
-joins_changes id Frame.AwaitingOn answers.AwaitingOn joins is = cc
+joins_changes id (Frame.AwaitingOn awaited) answers.AwaitingOn joins is = cc
 joins_changes id Frame.Broken answers.Broken joins is = cc
 joins_changes id Frame.TooDeep answers.TooDeep joins is = cc
 joins_changes id Frame.NotAccepted answers.NotAccepted joins is = cc

@@ -203,7 +203,7 @@ some_own events event id ids (inr one) =
     subst (λ (all : List Text). AreOwn id (flat_map (invocation_writes events event) all)) (sym one) (all-append (IsOwn id) (invocation_writes events event id) [] (invocation_own events event id) tt)
 
 one_or_none : (id : Text) (frame : Frame) → (ids_of_frame id frame ≡ []) ⊎ (ids_of_frame id frame ≡ id ∷ [])
-one_or_none id Frame.AwaitingOn = inl refl
+one_or_none id (Frame.AwaitingOn awaited) = inl refl
 one_or_none id Frame.Broken = inl refl
 one_or_none id Frame.TooDeep = inl refl
 one_or_none id Frame.NotAccepted = inl refl

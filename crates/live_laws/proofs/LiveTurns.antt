@@ -10,7 +10,7 @@ use Rattle.journal_model.specs.Attempt.{Piece, begins_attempt, input_left, input
 use Rattle.journal_model.specs.Headline.{arrivals_handed}
 use Rattle.live_laws.specs.RequestsInFlight.{request_sent, requests_sent, SendsOfRun, FollowsSo, PassesOn}
 use Rattle.run_laws.specs.SuspensionContent.{WaitsAll}
-use Rattle.live_laws.specs.TurnWrites.{WritesOfRun, nothing, answers, notes, fails, suspends, ends}
+use Rattle.live_laws.specs.TurnWrites.{WritesOfRun, nothing, answers, notes, fails, awaits, suspends, ends}
 use Rattle.input_laws.specs.Message.{InputMessage, piece_of, arrivals_carried, requests_carried, IsInput, HasReadMessages}
 use Rattle.live_laws.specs.Live.{IsPosition, IsLive, TurnsOfRun}
 use Rattle.live_laws.specs.TurnLaws.{TurnsKeep, PositionsAreAtCalls}
@@ -81,6 +81,7 @@ turn_sends next given id events held read unread asked written reads whole write
         unclosed some (writes_send next given (arrivals_read events id read) false asked some (notes some all))
     by_written frames (fails some more begins all) whole =
         unclosed (map Frame.Command some ++ more) (writes_send next given (arrivals_read events id read) false asked (map Frame.Command some ++ more) (fails some more begins all))
+    by_written frames (awaits awaited waits) whole = (tt, tt)
     by_written frames (suspends suspension closed waits) whole =
         ((closed, subst (λ (arrivals : List Arrival). WaitsAll next given arrivals asked suspension) (sym (read_all events id held read unread reads (whole suspension refl))) waits), tt)
     by_written frames (ends over) whole =

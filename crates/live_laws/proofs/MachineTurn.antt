@@ -13,14 +13,14 @@ use Rattle.journal_model.specs.Refusal.{Refusal, refusal_of}
 use Rattle.journal_model.specs.History.{requests_of, stands_for}
 use Rattle.journal_model.specs.Await.{awaited_tree}
 use Rattle.journal_model.specs.Run.{Handler, Invocation, Progress, run, run_requests, IsBeginning, BeginsRun}
-use Rattle.journal_model.specs.Event.{Suspension, Frame}
+use Rattle.journal_model.specs.Event.{Suspension, ForTree, Frame}
 use Rattle.journal_model.specs.Attempt.{arrivals_within}
 use Rattle.run_laws.specs.SuspensionContent.{TellsAwaitedTree, WaitsAll}
 use Rattle.run_laws.proofs.Awaits.{awaits_tell, children_tell}
 use Rattle.input_laws.specs.Message.{InputMessage, piece_of, arrivals_carried, requests_carried}
 use Rattle.input_laws.proofs.News.{requests_carried-append}
 use Rattle.live_laws.specs.RequestsInFlight.{requests_sent}
-use Rattle.live_laws.specs.TurnWrites.{IsNote, WritesOfRun, answers, notes, fails, suspends, ends}
+use Rattle.live_laws.specs.TurnWrites.{IsNote, WritesOfRun, answers, notes, fails, awaits, suspends, ends}
 use Rattle.live_laws.specs.Live.{TurnsOfRun}
 use Rattle.attempt_model.specs.Machine.{StopsMidway, Machine, Reply, Answered, AwaitsTree, AwaitsChild, Finished, FailedBy, Work, ToAwait, ToEnd, ToTake, ToLook, ToMake, work_of, reply_to_make, reply_where_taken, reply_to_take, is_cancelled, reply_where_unknown, reply_where_asleep, reply_to_end, reply_where_cancelled, reply_to_children, reply_where_awake, reply_to_await, reply_to_work, reply_unless_refused}
 use Rattle.attempt_model.specs.Children.{cancel_requests_for, ChildrenOutcome, AllKnown, FirstUnknown, OneIsNoId, children_outcome}
@@ -117,8 +117,8 @@ module _ (next : Handler) (given : Invocation) (is_closed : Bool) (read unread :
       → ((suspension : Suspension) → TellsAwaitedTree given.version tree (Some suspension) → WaitsAll next given (arrivals_carried read) (requests_carried read ++ m.written) (Some suspension))
       → SendsWaiting given.version b tree sent → WritesOfRun next given (arrivals_carried read) b (requests_carried read ++ m.written) sent
   waiting_writes false tree sent waits (inl e) = subst (λ (frames : List Frame). WritesOfRun next given (arrivals_carried read) false (requests_carried read ++ m.written) frames) (sym e) (notes [] tt)
-  waiting_writes false tree sent waits (inr e) =
-      subst (λ (frames : List Frame). WritesOfRun next given (arrivals_carried read) false (requests_carried read ++ m.written) frames) (sym e) (notes (Frame.AwaitingOn ∷ []) (tt, tt))
+  waiting_writes false tree sent waits (inr (awaited, e, tells)) =
+      subst (λ (frames : List Frame). WritesOfRun next given (arrivals_carried read) false (requests_carried read ++ m.written) frames) (sym e) (awaits awaited (waits (ForTree awaited) tells))
   waiting_writes true tree sent waits (suspension, e, tells) =
       subst (λ (frames : List Frame). WritesOfRun next given (arrivals_carried read) true (requests_carried read ++ m.written) frames) (sym e) (suspends (Some suspension) refl (waits suspension tells))
 
@@ -179,7 +179,7 @@ module _ (next : Handler) (given : Invocation) (is_closed : Bool) (read unread :
 
 waiting_sends : (version : ℕ) (b : Bool) (tree : AwaitTree (Option NotificationId)) (sent : List Frame) → SendsWaiting version b tree sent → requests_sent sent ≡ []
 waiting_sends version false tree sent (inl e) = ap requests_sent e
-waiting_sends version false tree sent (inr e) = ap requests_sent e
+waiting_sends version false tree sent (inr (awaited, e, tells)) = ap requests_sent e
 waiting_sends version true tree sent (suspension, e, tells) = ap requests_sent e
 
 module _ (same_header : Call → Request → Request → Bool) (next : Handler) (given : Invocation) (is_closed : Bool) (held : Bytes) (read unread : List InputMessage) (calls : ℕ) (m : Machine)

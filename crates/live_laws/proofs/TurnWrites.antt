@@ -7,7 +7,7 @@ use Rattle.journal_model.specs.Run.{Handler, Invocation, run_requests, BeginsRun
 use Rattle.journal_model.specs.Event.{Frame}
 use Rattle.run_laws.specs.Position.{IsAtCall}
 use Rattle.live_laws.specs.RequestsInFlight.{requests_sent, SendsOfRun}
-use Rattle.live_laws.specs.TurnWrites.{IsNote, WritesOfRun, nothing, answers, notes, fails, suspends, ends}
+use Rattle.live_laws.specs.TurnWrites.{IsNote, WritesOfRun, nothing, answers, notes, fails, awaits, suspends, ends}
 use Rattle.run_laws.proofs.Extending.{begins-less}
 use Rattle.live_laws.proofs.RequestsInFlight.{sends-append}
 
@@ -22,7 +22,6 @@ module _ (next : Handler) (given : Invocation) (arrivals : List Arrival) where
 
     notes_send : (frames : List Frame) (asked : List Request) → AllByRecursion IsNote frames → SendsOfRun next given arrivals is_closed asked frames
     notes_send [] asked all = tt
-    notes_send (Frame.AwaitingOn ∷ frames) asked all = (tt, notes_send frames (asked ++ []) all.1)
     notes_send (Frame.RunOutcome completion value told ∷ frames) asked all = (tt, notes_send frames (asked ++ []) all.1)
     notes_send (Frame.Error code message behavior delay ∷ frames) asked all = (tt, notes_send frames (asked ++ []) all.1)
     notes_send (frame ∷ frames) asked all = absurd all.0
@@ -44,5 +43,6 @@ module _ (next : Handler) (given : Invocation) (arrivals : List Arrival) where
     writes_send asked frames (fails written some begins all) =
         sends-append next given arrivals is_closed asked (map Frame.Command written) some (commands_send written asked begins)
         (notes_send some (asked ++ requests_sent (map Frame.Command written)) all)
+    writes_send asked frames (awaits awaited waits) = (tt, tt)
     writes_send asked frames (suspends suspension closed waits) = ((closed, waits), tt)
     writes_send asked frames (ends whole) = (whole, tt)

@@ -6,7 +6,7 @@ use Rattle.journal_model.specs.declared.notification.NotificationId.TheVariants.
 use Rattle.journal_model.specs.AwaitTree.{AwaitTree, Single, map_leaves}
 use Rattle.journal_model.specs.Request.{Request}
 use Rattle.journal_model.specs.Run.{Handler, Invocation}
-use Rattle.journal_model.specs.Event.{Suspension, Frame}
+use Rattle.journal_model.specs.Event.{Suspension, ForTree, Frame}
 use Rattle.run_laws.specs.SuspensionContent.{TellsAwaitedTree}
 use Rattle.input_laws.specs.Message.{InputMessage}
 use Rattle.live_laws.specs.RequestsInFlight.{requests_sent}
@@ -15,9 +15,9 @@ use Rattle.attempt_model.specs.Machine.{Machine, Reply, Answered, AwaitsTree, Aw
 use Rattle.attempt_model.specs.Results.{slot_of}
 use Rattle.live_laws.specs.MachinePosition.{IsInRun}
 
--- where this is waited for: nothing, or what is awaited, while the input is open; and a suspension that tells it where the input is closed
+-- where this is waited for: nothing, or a frame that tells it, while the input is open; and a suspension that tells it where the input is closed
 abbrev pub SendsWaiting : ℕ → (is_closed : Bool) → AwaitTree (Option NotificationId) → List Frame → Type 0
-SendsWaiting version false tree sent = (sent ≡ []) ⊎ (sent ≡ Frame.AwaitingOn ∷ [])
+SendsWaiting version false tree sent = (sent ≡ []) ⊎ ((awaited : AwaitTree NotificationId) × (sent ≡ Frame.AwaitingOn (Some awaited) ∷ []) × TellsAwaitedTree version tree (Some (ForTree awaited)))
 SendsWaiting version true tree sent = (suspension : Suspension) × (sent ≡ Frame.Suspend (Some suspension) ∷ []) × TellsAwaitedTree version tree (Some suspension)
 
 -- a turn of a machine sends the requests that the reply has written behind those before; where it waits it tells so, where it has finished it

@@ -34,7 +34,7 @@ proposals-none : (frames : List Frame) → outcomes_in frames ≡ [] → proposa
 proposals-none [] e = refl
 proposals-none (Frame.RunOutcome number value told ∷ frames) e = cc
 proposals-none (Frame.Command request ∷ frames) e = proposals-none frames e
-proposals-none (Frame.AwaitingOn ∷ frames) e = proposals-none frames e
+proposals-none (Frame.AwaitingOn awaited ∷ frames) e = proposals-none frames e
 proposals-none (Frame.Suspend suspension ∷ frames) e = proposals-none frames e
 proposals-none (Frame.Error code message behavior delay ∷ frames) e = proposals-none frames e
 proposals-none (Frame.End ∷ frames) e = proposals-none frames e

@@ -70,7 +70,7 @@ causes_none next given arrivals version (Proposes n value) id events h number =
     none_of (tests_of events (Event.Move id number (frame_meant version (Proposes n value))))
     (inr refl, (inr refl, (inr refl, (inl (not_true (is_run (open_request (entries_of events id) n)) h.opened), (inr refl, (inr refl, tt))))))
 causes_none next given arrivals version (Awaits tree) id events h number =
-    none_of (tests_of events (Event.Move id number Frame.AwaitingOn)) (inr refl, (inr refl, (inr refl, (inr refl, (inr refl, tt)))))
+    none_of (tests_of events (Event.Move id number (frame_meant version (Awaits tree)))) (inr refl, (inr refl, (inr refl, (inr refl, (inr refl, tt)))))
 causes_none next given arrivals version (Suspends tree) id events h number =
     none_of (tests_of events (Event.Move id number (frame_meant version (Suspends tree))))
     (inr refl, (inr refl, (inr refl, (inl refl, (inl (not_true (is_input_closed events id) h.of_run.0), (inr refl, (inr refl, tt)))))))

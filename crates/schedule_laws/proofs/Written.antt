@@ -29,7 +29,7 @@ use Rattle.vm_attempt_laws.specs.BodyExecution.{BodyCause, BodyToldAs, ExecutesF
 use Rattle.vm_attempt_laws.specs.Machine.{Cause, NoMemory, told_error}
 use Rattle.vm_attempt_laws.specs.OutputOfAttempt.{Sent, Asks, Fails, AllFit, frame_meant, IsOfStore, sent_message, sent_stream}
 use Rattle.vm_attempt_laws.specs.TurnReports.{Told, IsAttemptTold, ProposesOutcomeOf}
-use Rattle.vm_attempt_laws.specs.TurnsInRun.{turns_answered, AsksAlone, IsToldAs, IsTurnOf, FailsFor, FailsForBody, GoesOnBehind, RunsOne, TurnKeeps, TurnsBehind}
+use Rattle.vm_attempt_laws.specs.TurnsInRun.{turns_answered, AsksAlone, IsToldAs, IsTurnOf, FailsFor, FailsForBody, GoesOnBehind, RunsOne, TellsAwaited, TurnKeeps, TurnsBehind}
 use Rattle.vm_attempt_laws.specs.Words.{after_turn, Arrival, AttemptInRun, arrivals_carried, Input, InputMessage, Machine, Request, requests_carried}
 use Rattle.vm_attempt_laws.specs.InputOfAttempt.{MessageFits}
 use Rattle.vm_attempt_laws.proofs.Beginning.{none_more}
@@ -207,7 +207,8 @@ module _ {H : Type 0} (function : H → Handler) (next : Handler) (version : Ver
     outcome_told sent after b,
     b.sends ∙ ap (λ (v : ℕ). outcome_frame v b.body.completion b.value ∷ []) (sym s.of_run.version_is),
   )
-  turn_writes sent Turn.Waiting after all b = b.2
+  turn_writes sent Turn.Waiting after all b =
+      subst (λ (asked : List Request). TellsAwaited next live.start.given arrivals asked (map (frame_meant version) sent)) asked_now b.2
   turn_writes sent Turn.Suspended after all b = (b.3.suspension, b.3.frames_are)
   turn_writes sent Turn.Ended after all b = b.2
   turn_writes sent (Turn.Failed error) after all b = failed_writes error sent after all b.0

@@ -52,13 +52,13 @@ module _ (next : Handler) (start : AttemptStart) (told : Told) (arrivals : List 
       ⊎ (((told.is_closed ≡ true) × (HasJournal start told.bytes → ⊥)) ⊎ ((more : List Request) × (frames ≡ map Frame.Command more ++ error_told start.new.version error ∷ [])))
 
   -- By what is answered it writes these frames, and no other: the requests by which the run goes on; the outcome of the body that was executed;
-  -- nothing, or what is awaited; the suspension; the end; or the error.
+  -- nothing, or what the run waits for; the suspension; the end; or the error.
   abbrev pub TurnWritesOver : RunOutcome → Turn → List Frame → Type 0
   TurnWritesOver ran Turn.Answered frames =
       (more : List Request) × (requests_written told.answered ++ more ≡ requests_written (suc told.answered)) × (frames ≡ map Frame.Command more)
   TurnWritesOver ran Turn.RanBody frames =
       (body : Body) × (value : NonEmptyValue) × ProposesOutcomeOf next start told arrivals ran body value × (frames ≡ outcome_frame start.new.version body.completion value ∷ [])
-  TurnWritesOver ran Turn.Waiting frames = TellsAwaited frames
+  TurnWritesOver ran Turn.Waiting frames = TellsAwaited next start.given arrivals (requests_carried start.journal ++ requests_written told.answered) frames
   TurnWritesOver ran Turn.Suspended frames = (suspension : Suspension) × (frames ≡ Frame.Suspend (Some suspension) ∷ [])
   TurnWritesOver ran Turn.Ended frames = frames ≡ Frame.End ∷ []
   TurnWritesOver ran (Turn.Failed error) frames = WritesError error frames

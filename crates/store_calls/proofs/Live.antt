@@ -42,7 +42,7 @@ still_live events id n frame goes live =
 pub told_end : (events : List Event) (id : Text) (frame : Frame) (reply : FrameReply) → IsReply events id frame reply → does_end reply ≡ ends_attempt frame
 told_end events id (Frame.Command request) (replies.Recorded place) is = refl
 told_end events id (Frame.RunOutcome n value is_acknowledged) (replies.Recorded place) is = refl
-told_end events id Frame.AwaitingOn replies.Noted is = refl
+told_end events id (Frame.AwaitingOn awaited) replies.Noted is = refl
 told_end events id (Frame.Suspend suspension) replies.Suspended is = refl
 told_end events id (Frame.Error code said behavior delay) replies.Failed is = refl
 told_end events id Frame.End replies.Ended is = refl

@@ -20,9 +20,9 @@ taken_alike id events others same (Frame.RunOutcome n value is_acknowledged) (re
     recorded_alike (length (entries_of events id)) (length (entries_of others id)) place at it also (ap (λ (entries : List Entry). length entries) same)
 taken_alike id events others same (Frame.RunOutcome n value is_acknowledged) (replies.Recorded place) _ it also = absurd also
 taken_alike id events others same (Frame.RunOutcome n value is_acknowledged) _ _ it also = absurd it
-taken_alike id events others same Frame.AwaitingOn replies.Noted replies.Noted it also = refl
-taken_alike id events others same Frame.AwaitingOn replies.Noted _ it also = absurd also
-taken_alike id events others same Frame.AwaitingOn _ _ it also = absurd it
+taken_alike id events others same (Frame.AwaitingOn awaited) replies.Noted replies.Noted it also = refl
+taken_alike id events others same (Frame.AwaitingOn awaited) replies.Noted _ it also = absurd also
+taken_alike id events others same (Frame.AwaitingOn awaited) _ _ it also = absurd it
 taken_alike id events others same (Frame.Suspend suspension) replies.Suspended replies.Suspended it also = refl
 taken_alike id events others same (Frame.Suspend suspension) replies.Suspended _ it also = absurd also
 taken_alike id events others same (Frame.Suspend suspension) _ _ it also = absurd it

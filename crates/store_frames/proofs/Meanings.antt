@@ -1,6 +1,6 @@
 -- What is kept of a message says which frame it is.
 use Rattle.std.proofs.Common.{◌≡◌, ℕ, ◌==◌, Bool, true, false, ◌&&◌, List, Option, Some, None, Result, Ok, Err, refl, sym, subst, ◌∙◌}
-use Rattle.std.specs.Prelude.{if◌then◌else◌, IfOk}
+use Rattle.std.specs.Prelude.{if◌then◌else◌, IfOk, option_map}
 use Rattle.protocol_table.specs.declared.table.RecordType.{RecordType}
 use Rattle.protocol_table.specs.declared.table.RecordType.TheVariants as records
 use Rattle.protocol_wire.specs.Wire.{Field}
@@ -34,7 +34,7 @@ use Rattle.store_frames.specs.declared.frame.ErrorBehavior.TheVariants as behavi
 use Rattle.store_frames.specs.declared.frame.AttemptFrame.{AttemptFrame}
 use Rattle.store_frames.specs.declared.frame.AttemptFrame.TheVariants as answers
 use Rattle.store_frames.specs.Kind.{frame_kind, record_of}
-use Rattle.store_frames.specs.Requests.{suspension_of_tree, suspension_of_lists, behavior_numbered, proposal_told}
+use Rattle.store_frames.specs.Requests.{awaited_tree, suspension_of_tree, suspension_of_lists, behavior_numbered, proposal_told}
 use Rattle.store_frames.specs.Commands.{request_in}
 use Rattle.store_frames.specs.FrameMeanings.{unless_faulty, read_as, read_if_record, command_or_broken, error_frame, outcome_or_broken, unless_numbered, suspension_frame, frame_by, asks_ack, frame_of}
 use Rattle.store_frames.specs.RecordFrames.{told_unless_faulty, told_as, told_if_record, told_request, told_waiting, told_tree, told_staying, told_awaiting, told_lists, told_number, told_error, told_suspension, told_outcome, told_proposal, told_by}
@@ -57,11 +57,11 @@ tree_is lacks (Some future) = by_test (lacks && has_number (future_tree future))
     by_test true = tt
     by_test false = refl
 
-staying_is : (lacks : Bool) (awaited : Option Future) → IsFrame (unless_numbered lacks awaited Frame.AwaitingOn) (told_staying lacks awaited)
+staying_is : (lacks : Bool) (awaited : Option Future) → IsFrame (unless_numbered lacks awaited (Frame.AwaitingOn (option_map future_tree awaited))) (told_staying lacks awaited)
 staying_is lacks None = tt
 staying_is lacks (Some future) = by_test (lacks && has_number (future_tree future))
   where
-    by_test : (b : Bool) → IsFrame (if b then Frame.Broken else Frame.AwaitingOn) (if b then answers.Broken else answers.AwaitingOn)
+    by_test : (b : Bool) → IsFrame (if b then Frame.Broken else Frame.AwaitingOn (Some (future_tree future))) (if b then answers.Broken else answers.AwaitingOn)
     by_test true = tt
     by_test false = tt
 
@@ -113,7 +113,7 @@ told_is version kinds.Command ty asks payload =
     if_record_is (record_of ty) payload (λ fs. command_or_broken (request_in ty fs)) (λ fs. told_request (request_in ty fs)) (λ fs. request_is (request_in ty fs))
 told_is version kinds.AwaitingOn ty asks payload =
     let lacks = lacks_feature version features.AtLeast in
-    read_is records.AwaitingOn payload (λ fs. unless_numbered lacks (awaiting_on_of LEVELS fs).awaiting_on Frame.AwaitingOn) (λ fs. told_awaiting version (awaiting_on_of LEVELS fs)) (λ fs. staying_is lacks (awaiting_on_of LEVELS fs).awaiting_on)
+    read_is records.AwaitingOn payload (λ fs. unless_numbered lacks (awaiting_on_of LEVELS fs).awaiting_on (Frame.AwaitingOn (awaited_tree (awaiting_on_of LEVELS fs)))) (λ fs. told_awaiting version (awaiting_on_of LEVELS fs)) (λ fs. staying_is lacks (awaiting_on_of LEVELS fs).awaiting_on)
 told_is version kinds.Suspension ty asks payload = suspension_is (lacks_feature version features.AwaitTree) version payload
 told_is version kinds.Error ty asks payload =
     read_is records.Error payload (λ fs. error_frame version (error_of LEVELS fs)) (λ fs. told_error version (error_of LEVELS fs)) (λ fs. error_is version (error_of LEVELS fs))

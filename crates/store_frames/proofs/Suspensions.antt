@@ -6,6 +6,7 @@ use Rattle.journal_model.specs.Notification.{Bytes, Text}
 use Rattle.journal_model.specs.declared.notification.NotificationId.{NotificationId}
 use Rattle.journal_model.specs.declared.notification.NotificationId.TheVariants.{CompletionId, SignalId, SignalName}
 use Rattle.journal_model.specs.declared.value.NonEmptyValue.{NonEmptyValue}
+use Rattle.journal_model.specs.AwaitTree as Trees
 use Rattle.journal_model.specs.Event.{Frame, Suspension, ForTree, ForAny}
 use Rattle.journal_model.specs.Request.{Request}
 use Rattle.journal_model.specs.Spelling.{suspension_payload}
@@ -41,7 +42,7 @@ use Rattle.store_frames.specs.declared.kind.FrameKind.TheVariants as kinds
 use Rattle.store_frames.specs.Kind.{frame_kind, record_of}
 use Rattle.store_frames.specs.Commands.{request_in}
 use Rattle.store_frames.specs.FrameMeanings.{asks_ack, command_or_broken, error_frame, frame_by, outcome_or_broken, read_if_record, suspension_frame, unless_faulty, unless_numbered}
-use Rattle.store_frames.specs.Requests.{proposal_told, suspension_of_lists, suspension_of_tree}
+use Rattle.store_frames.specs.Requests.{awaited_tree, proposal_told, suspension_of_lists, suspension_of_tree}
 use Rattle.store_frames.specs.Answer.{KeepsLists, KeepsSuspension}
 use Rattle.store_frames.specs.ReadFrames.{IsFrameRead}
 use Rattle.store_frames.proofs.Numbered.{numbered_or_not}
@@ -142,11 +143,11 @@ module _ (suspension : Suspension) where
       by_cases (inl is) = of_tree o fits (sym is ∙ e)
       by_cases (inr is) = let broken : IsIt Frame.Broken = sym is ∙ e in cc
 
-  no_staying : (lacks : Bool) (o : Option Future) → IsIt (unless_numbered lacks o Frame.AwaitingOn) → ⊥
-  no_staying lacks o e = by_cases (numbered_or_not lacks o Frame.AwaitingOn)
+  no_staying : (lacks : Bool) (o : Option Future) (awaited : Option (Trees.AwaitTree NotificationId)) → IsIt (unless_numbered lacks o (Frame.AwaitingOn awaited)) → ⊥
+  no_staying lacks o awaited e = by_cases (numbered_or_not lacks o (Frame.AwaitingOn awaited))
     where
-      by_cases : (unless_numbered lacks o Frame.AwaitingOn ≡ Frame.AwaitingOn) ⊎ (unless_numbered lacks o Frame.AwaitingOn ≡ Frame.Broken) → ⊥
-      by_cases (inl is) = let stays : IsIt Frame.AwaitingOn = sym is ∙ e in cc
+      by_cases : (unless_numbered lacks o (Frame.AwaitingOn awaited) ≡ Frame.AwaitingOn awaited) ⊎ (unless_numbered lacks o (Frame.AwaitingOn awaited) ≡ Frame.Broken) → ⊥
+      by_cases (inl is) = let stays : IsIt (Frame.AwaitingOn awaited) = sym is ∙ e in cc
       by_cases (inr is) = let broken : IsIt Frame.Broken = sym is ∙ e in cc
 
   by_form : (has_lists lacks : Bool) (payload : Bytes) → IsIt (suspension_frame has_lists lacks payload) → IsTold has_lists suspension
@@ -171,8 +172,9 @@ module _ (suspension : Suspension) where
       of_record None e = cc
       of_record (Some t) e = never t payload (command_or_broken (request_in ty (fields payload))) (no_command (request_in ty (fields payload))) e
   by_kind version kinds.AwaitingOn ty asks payload e =
-      let awaited = (awaiting_on_of LEVELS (fields payload)).awaiting_on in
-      absurd (never records.AwaitingOn payload (unless_numbered (lacks_feature version AtLeast) awaited Frame.AwaitingOn) (no_staying (lacks_feature version AtLeast) awaited) e)
+      let one = awaiting_on_of LEVELS (fields payload) in
+      let lacks = lacks_feature version AtLeast in
+      absurd (never records.AwaitingOn payload (unless_numbered lacks one.awaiting_on (Frame.AwaitingOn (awaited_tree one))) (no_staying lacks one.awaiting_on (awaited_tree one)) e)
   by_kind version kinds.Suspension ty asks payload e = by_form (lacks_feature version AwaitTree) (lacks_feature version AtLeast) payload e
   by_kind version kinds.Error ty asks payload e = absurd (never records.Error payload (error_frame version (error_of LEVELS (fields payload))) (λ is. cc) e)
   by_kind version kinds.End ty asks payload e = absurd (never records.End payload Frame.End (λ is. cc) e)

@@ -65,7 +65,7 @@ pub record IsOutcome (n : ℕ) (value : NonEmptyValue) (is_acknowledged : Bool) 
 -- A suspension that waits for nothing is told as broken: that is the first cause against either, whatever else holds.
 abbrev pub IsFrame : Frame → AttemptFrame → Type 0
 IsFrame (Frame.Command request) (answers.Command command) = IsCommand request command
-IsFrame Frame.AwaitingOn answers.AwaitingOn = Unit {0}
+IsFrame (Frame.AwaitingOn awaited) answers.AwaitingOn = Unit {0}
 IsFrame (Frame.Suspend None) answers.Broken = Unit {0}
 IsFrame (Frame.Suspend (Some suspension)) (answers.Suspension payload) = KeepsSuspension suspension payload
 IsFrame (Frame.Error code message behavior delay) (answers.Error told_code told_message told_behavior told_delay) =

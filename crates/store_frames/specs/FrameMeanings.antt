@@ -30,7 +30,7 @@ use Rattle.store_frames.specs.declared.kind.FrameKind.{FrameKind}
 use Rattle.store_frames.specs.declared.kind.FrameKind.TheVariants as kinds
 use Rattle.store_frames.specs.Kind.{frame_kind, record_of}
 use Rattle.store_frames.specs.Commands.{request_in}
-use Rattle.store_frames.specs.Requests.{suspension_of_tree, suspension_of_lists, behavior_in, proposal_told}
+use Rattle.store_frames.specs.Requests.{awaited_tree, suspension_of_tree, suspension_of_lists, behavior_in, proposal_told}
 
 -- a payload with which something is wrong is no more than that
 abbrev pub unless_faulty : Option Fault → Frame → Frame
@@ -62,7 +62,7 @@ suspension_frame false lacks =
     read_as records.Suspension (λ fs. unless_numbered lacks (suspension_of LEVELS fs).awaiting_on (Frame.Suspend (suspension_of_tree (suspension_of LEVELS fs))))
 
 abbrev pub awaiting_frame : (lacks_numbers : Bool) → List ℕ → Frame
-awaiting_frame lacks = read_as records.AwaitingOn (λ fs. unless_numbered lacks (awaiting_on_of LEVELS fs).awaiting_on Frame.AwaitingOn)
+awaiting_frame lacks = read_as records.AwaitingOn (λ fs. unless_numbered lacks (awaiting_on_of LEVELS fs).awaiting_on (Frame.AwaitingOn (awaited_tree (awaiting_on_of LEVELS fs))))
 
 -- a proposal without an outcome is broken
 abbrev pub outcome_or_broken : Bool → Option (ℕ × NonEmptyValue) → Frame

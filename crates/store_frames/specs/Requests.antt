@@ -1,7 +1,10 @@
 -- What is waited for, what becomes of an attempt, and what a run has come to, that records stand for.
 use Rattle.std.specs.Prelude.{ℕ, ◌==◌, if◌then◌else◌, Option, option_map}
+use Rattle.journal_model.specs.declared.notification.NotificationId.{NotificationId}
 use Rattle.journal_model.specs.declared.value.NonEmptyValue.{NonEmptyValue}
+use Rattle.journal_model.specs.AwaitTree as Trees
 use Rattle.journal_model.specs.Event.{Behavior, Retry, Pause, Fail, Suspension, ForTree, ForAny}
+use Rattle.protocol_records.specs.declared.awaiting_on.AwaitingOnMessage.{AwaitingOnMessage}
 use Rattle.protocol_records.specs.declared.suspension.SuspensionMessage.{SuspensionMessage}
 use Rattle.protocol_records.specs.declared.suspension_v6.SuspensionMessageV6.{SuspensionMessageV6}
 use Rattle.protocol_types.specs.declared.feature.Feature.TheVariants.{ErrorBehavior}
@@ -15,6 +18,10 @@ use Rattle.protocol_trees.specs.Future.{ids_in, future_tree}
 -- from version 7 on a suspension waits for a tree, which it must have
 abbrev pub suspension_of_tree : SuspensionMessage → Option Suspension
 suspension_of_tree one = option_map (λ future. ForTree (future_tree future)) one.awaiting_on
+
+-- what an attempt waits for while its input is open, where it tells that
+abbrev pub awaited_tree : AwaitingOnMessage → Option (Trees.AwaitTree NotificationId)
+awaited_tree one = option_map future_tree one.awaiting_on
 
 -- before version 7 it waits for any of the ids in three lists
 abbrev pub suspension_of_lists : SuspensionMessageV6 → Suspension

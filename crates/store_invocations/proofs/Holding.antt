@@ -35,7 +35,7 @@ use Rattle.store_frames.specs.Commands.{request_in}
 use Rattle.store_frames.proofs.Types.{request_typed}
 use Rattle.protocol_laws.specs.Requests.{request_of_output, value_put_out}
 use Rattle.protocol_laws.proofs.Back.{result_back}
-use Rattle.store_frames.specs.Requests.{proposal_told, suspension_of_lists, suspension_of_tree}
+use Rattle.store_frames.specs.Requests.{awaited_tree, proposal_told, suspension_of_lists, suspension_of_tree}
 use Rattle.store_frames.specs.ReadFrames.{IsFrameRead}
 use Rattle.protocol_laws.specs.Fits.{output_command_fits}
 
@@ -118,9 +118,10 @@ module _ (value : NonEmptyValue) (name : Text) where
   held_by : (version : ℕ) (kind : FrameKind) (ty : MessageType) (asks : Bool) (payload : List ℕ) → IsOutput (frame_by version kind ty asks payload) → OutputCommandFits LEVELS (output_record value name)
   held_by version kinds.Command ty asks payload e = command_in ty payload e
   held_by version kinds.AwaitingOn ty asks payload e =
-      let awaited = (awaiting_on_of LEVELS (fields payload)).awaiting_on in
+      let one = awaiting_on_of LEVELS (fields payload) in
+      let frame = Frame.AwaitingOn (awaited_tree one) in
       let lacks = lacks_feature version features.AtLeast in
-      absurd (never records.AwaitingOn payload (unless_numbered lacks awaited Frame.AwaitingOn) (no_number lacks awaited Frame.AwaitingOn (λ is. cc)) e)
+      absurd (never records.AwaitingOn payload (unless_numbered lacks one.awaiting_on frame) (no_number lacks one.awaiting_on frame (λ is. cc)) e)
   held_by version kinds.Suspension ty asks payload e = absurd (no_suspension (lacks_feature version features.AwaitTree) (lacks_feature version features.AtLeast) payload e)
   held_by version kinds.Error ty asks payload e = absurd (never records.Error payload (error_frame version (error_of LEVELS (fields payload))) (λ is. cc) e)
   held_by version kinds.End ty asks payload e = absurd (never records.End payload Frame.End (λ is. cc) e)

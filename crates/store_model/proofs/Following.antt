@@ -339,7 +339,7 @@ follows_frame events id attempt (Frame.Error code message Pause delay) =
     follows_end events id attempt (Frame.Error code message Pause delay) (object_if (invocation_begun events id) (frames_of events id)) (way (invocation_begun events id) (frames_of events id))
     (Some (record { code = code; behavior = 1; delay = delay; message = message })) (option_map payload_of_suspension (suspension_of events id)) (handed_of events id)
     refl refl refl refl refl (handed_here events id attempt None)
-follows_frame events id attempt Frame.AwaitingOn = same_still events (Event.Move id attempt Frame.AwaitingOn) id refl refl
+follows_frame events id attempt (Frame.AwaitingOn awaited) = same_still events (Event.Move id attempt (Frame.AwaitingOn awaited)) id refl refl
 follows_frame events id attempt Frame.Broken = same_still events (Event.Move id attempt Frame.Broken) id refl refl
 follows_frame events id attempt Frame.TooDeep = same_still events (Event.Move id attempt Frame.TooDeep) id refl refl
 follows_frame events id attempt Frame.NotAccepted = same_still events (Event.Move id attempt Frame.NotAccepted) id refl refl

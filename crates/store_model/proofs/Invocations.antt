@@ -114,7 +114,7 @@ stays_one events event id x named ticks e = left events event x ticks (inl (is_n
 
 stays_frame : (events : List Event) (id x : Text) (attempt : ℕ) (frame : Frame) → list_any (bytes_eq x) (ids_of_frame id frame) ≡ false
     → progress_of (Event.Move id attempt frame ∷ events) x ≡ progress_of events x
-stays_frame events id x attempt Frame.AwaitingOn e = left events (Event.Move id attempt Frame.AwaitingOn) x refl (inr refl)
+stays_frame events id x attempt (Frame.AwaitingOn awaited) e = left events (Event.Move id attempt (Frame.AwaitingOn awaited)) x refl (inr refl)
 stays_frame events id x attempt Frame.Broken e = left events (Event.Move id attempt Frame.Broken) x refl (inr refl)
 stays_frame events id x attempt Frame.TooDeep e = left events (Event.Move id attempt Frame.TooDeep) x refl (inr refl)
 stays_frame events id x attempt Frame.NotAccepted e = left events (Event.Move id attempt Frame.NotAccepted) x refl (inr refl)

@@ -164,7 +164,7 @@ of_tick events now id accepted =
 of_frame : (events : List Event) (id x : Text) (attempt : ℕ) (frame : Frame)
     → filter (is_row_of id) (flat_map (rows_added events (Event.Move x attempt frame)) (ids_of_frame x frame))
     ≡ rows_behind events (Event.Move x attempt frame) id (added_to events (Event.Move x attempt frame) id)
-of_frame events id x attempt Frame.AwaitingOn = of_none events (Event.Move x attempt Frame.AwaitingOn) id refl refl
+of_frame events id x attempt (Frame.AwaitingOn awaited) = of_none events (Event.Move x attempt (Frame.AwaitingOn awaited)) id refl refl
 of_frame events id x attempt Frame.Broken = of_none events (Event.Move x attempt Frame.Broken) id refl refl
 of_frame events id x attempt Frame.TooDeep = of_none events (Event.Move x attempt Frame.TooDeep) id refl refl
 of_frame events id x attempt Frame.NotAccepted = of_none events (Event.Move x attempt Frame.NotAccepted) id refl refl

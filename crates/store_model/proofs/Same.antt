@@ -97,7 +97,7 @@ opened o frames = is_some o && not (list_any (closes (version_in o)) frames)
 
 opened-quiet : (o : Option NewInvocation) (frame : Option Frame) → none_or_quiet frame ≡ true → (frames : List Frame) → opened o (cons_option frame frames) ≡ opened o frames
 opened-quiet o None e frames = refl
-opened-quiet o (Some Frame.AwaitingOn) e frames = refl
+opened-quiet o (Some (Frame.AwaitingOn awaited)) e frames = refl
 opened-quiet o (Some Frame.Broken) e frames = refl
 opened-quiet o (Some Frame.TooDeep) e frames = refl
 opened-quiet o (Some Frame.NotAccepted) e frames = refl
@@ -108,7 +108,7 @@ closed_by o frames = option_and_then closing_frame (find (closes (version_in o))
 
 closed-quiet : (o : Option NewInvocation) (frame : Option Frame) → none_or_quiet frame ≡ true → (frames : List Frame) → closed_by o (cons_option frame frames) ≡ closed_by o frames
 closed-quiet o None e frames = refl
-closed-quiet o (Some Frame.AwaitingOn) e frames = refl
+closed-quiet o (Some (Frame.AwaitingOn awaited)) e frames = refl
 closed-quiet o (Some Frame.Broken) e frames = refl
 closed-quiet o (Some Frame.TooDeep) e frames = refl
 closed-quiet o (Some Frame.NotAccepted) e frames = refl
@@ -119,7 +119,7 @@ error_of frames = first_item (filter_map error_in frames)
 
 error-quiet : (frame : Option Frame) → none_or_quiet frame ≡ true → (frames : List Frame) → error_of (cons_option frame frames) ≡ error_of frames
 error-quiet None e frames = refl
-error-quiet (Some Frame.AwaitingOn) e frames = refl
+error-quiet (Some (Frame.AwaitingOn awaited)) e frames = refl
 error-quiet (Some Frame.Broken) e frames = refl
 error-quiet (Some Frame.TooDeep) e frames = refl
 error-quiet (Some Frame.NotAccepted) e frames = refl

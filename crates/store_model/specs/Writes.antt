@@ -31,7 +31,7 @@ invocation_writes events event id = map AddEntry (rows_added events event id) ++
 
 -- a frame by which its attempt only tells that it waits, and one that is never accepted, leave the records as they are
 abbrev pub ids_of_frame : Text → Frame → List Text
-ids_of_frame id Frame.AwaitingOn = []
+ids_of_frame id (Frame.AwaitingOn awaited) = []
 ids_of_frame id Frame.Broken = []
 ids_of_frame id Frame.TooDeep = []
 ids_of_frame id Frame.NotAccepted = []

@@ -81,7 +81,7 @@ module _ (events : List Event) (id : Text) (number : ℕ) where
   pub tests_same : (frame : Frame) (read : AttemptFrame) → IsByRow frame → IsFrame frame read
       → refusal_by (tests_left events id number frame) ≡ refusal_by (tests_of_told (progress_of events id) (is_input_closed events id) read)
   tests_same (Frame.Command request) (told.Command command) unread h = command_same request command unread h
-  tests_same Frame.AwaitingOn told.AwaitingOn unread h = refl
+  tests_same (Frame.AwaitingOn awaited) told.AwaitingOn unread h = refl
   tests_same (Frame.Suspend None) told.Broken unread h = refl
   tests_same (Frame.Suspend (Some suspension)) (told.Suspension payload) unread h = refl
   tests_same (Frame.Error code message behavior delay) (told.Error told_code told_message told_behavior told_delay) unread h = refl

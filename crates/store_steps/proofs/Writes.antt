@@ -222,7 +222,7 @@ module _ (events : List Event) (accepted : IsAccepted events) (id : Text) (numbe
       → IsTakenIn frame → IsByRow frame → IsFrame frame read → refusal_by (tests_of_told (progress_of events id) attempt.is_input_closed read) ≡ None
       → writes_of events (Event.Move id number frame) ≡ writes_of_told id kept (version_of events id) attempt is_awake (progress_of events id) read
   written kept attempt is_awake (Frame.Command request) (told.Command command) of live awake none unread h e = command_written kept request command of none unread h
-  written kept attempt is_awake Frame.AwaitingOn told.AwaitingOn of live awake none unread h e = nothing_written (object Frame.AwaitingOn)
+  written kept attempt is_awake (Frame.AwaitingOn awaited) told.AwaitingOn of live awake none unread h e = nothing_written (object (Frame.AwaitingOn awaited))
   written kept attempt is_awake (Frame.Suspend None) told.Broken of live awake none unread h e = cc
   written kept attempt is_awake (Frame.Suspend (Some suspension)) (told.Suspension payload) of live awake none unread h e =
       only_progress (Frame.Suspend (Some suspension)) (after_suspension payload attempt is_awake (progress_of events id)) false none refl
@@ -256,7 +256,7 @@ module _ (events : List Event) (accepted : IsAccepted events) (id : Text) (numbe
   pub replied : (is_closed : Bool) (frame : Frame) (read : AttemptFrame) → IsByRow frame → IsFrame frame read → refusal_by (tests_of_told (progress_of events id) is_closed read) ≡ None
       → IsReply events id frame (reply_to_told (progress_of events id) read)
   replied is_closed (Frame.Command request) (told.Command command) unread h e = refl
-  replied is_closed Frame.AwaitingOn told.AwaitingOn unread h e = tt
+  replied is_closed (Frame.AwaitingOn awaited) told.AwaitingOn unread h e = tt
   replied is_closed (Frame.Suspend None) told.Broken unread h e = absurd cc
   replied is_closed (Frame.Suspend (Some suspension)) (told.Suspension payload) unread h e = tt
   replied is_closed (Frame.Error code message behavior delay) (told.Error told_code told_message told_behavior told_delay) unread h e = tt

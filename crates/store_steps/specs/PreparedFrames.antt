@@ -42,7 +42,7 @@ IsAwakeAtOnce events id _ is_awake = Unit {0}
 abbrev pub IsReply : List Event → Text → Frame → FrameReply → Type 0
 IsReply events id (Frame.Command request) (replies.Recorded place) = place ≡ 1 + length (entries_of events id)
 IsReply events id (Frame.RunOutcome n value is_acknowledged) (replies.Recorded place) = place ≡ 1 + length (entries_of events id)
-IsReply events id Frame.AwaitingOn replies.Noted = Unit {0}
+IsReply events id (Frame.AwaitingOn awaited) replies.Noted = Unit {0}
 IsReply events id (Frame.Suspend suspension) replies.Suspended = Unit {0}
 IsReply events id (Frame.Error code message behavior delay) replies.Failed = Unit {0}
 IsReply events id Frame.End replies.Ended = Unit {0}

@@ -23,7 +23,7 @@ use Rattle.vm_attempt_laws.specs.Machine.{IsCopy, out_of_memory}
 use Rattle.vm_attempt_laws.specs.OutputOfAttempt.{frame_meant, Sent}
 use Rattle.vm_attempt_laws.specs.OverAttempts.{by_error, IsClosedEarly, IsOverBy}
 use Rattle.vm_attempt_laws.specs.TurnReports.{arrivals_told, early, AnswersError, FailsSo, IsAttemptTold, lacks, memory, Told, TurnsTell, TurnTells, TurnTellsNow}
-use Rattle.vm_attempt_laws.specs.TurnsInRun.{GoesOnBehind, ProposesAs, TurnKeeps, turns_answered, TurnsBehind, TurnServes}
+use Rattle.vm_attempt_laws.specs.TurnsInRun.{GoesOnBehind, ProposesAs, TellsAwaited, TurnKeeps, turns_answered, TurnsBehind, TurnServes}
 use Rattle.vm_attempt_laws.specs.Words.{after_reading, after_turn, Arrival, arrivals_carried, attempt_begun, AttemptInRun, AttemptStart, Bytes, CarriesInput, Error, Frame, handed_bytes, Handler, Input, input_bytes, InputMessage, Machine, machine_at_start, piece_of, Queued, Request, requests_carried, requests_sent, Version, VMOptions}
 use Rattle.vm_attempt_laws.proofs.ArrivalsCome.{arrivals_read, read_journal}
 use Rattle.vm_attempt_laws.proofs.Beginning.{bytes_append, none_more}
@@ -279,7 +279,7 @@ module _ {H : Type 0} (function : H → Handler) (next : Handler) (version : Ver
         stands : Stands (turned_host more now) after
 
       -- one that is over, or has failed before
-      silent : (now : Told) → after ≡ a → TurnTellsNow next start host.told host.told.over ran turn now → WritesWhere version start host host.told.over turn [] now → Stands (turned_host [] now) after → TurnedSo
+      silent : (now : Told) → after ≡ a → TurnTellsNow next start host.told host.told.over ran turn now → WritesWhere version start host next host.told.over turn [] now → Stands (turned_host [] now) after → TurnedSo
       silent now same tells writes stands = record {
         more = [];
         now = now;
@@ -292,7 +292,7 @@ module _ {H : Type 0} (function : H → Handler) (next : Handler) (version : Ver
       turned_last last so over =
           let it = turned_over function ran last a turn after over turns in
           silent host.told it.1 (subst (λ (o : Option Turn). TurnTellsNow next start host.told o ran turn host.told) (sym so) (it.0, refl))
-          (subst (λ (o : Option Turn). WritesWhere version start host o turn [] host.told) (sym so) refl) (is_over last so (subst (λ (b : Attempt H). IsOverBy last b) (sym it.1) over))
+          (subst (λ (o : Option Turn). WritesWhere version start host next o turn [] host.told) (sym so) refl) (is_over last so (subst (λ (b : Attempt H). IsOverBy last b) (sym it.1) over))
 
       abbrev failed_now : Error → Told
       failed_now error = record host.told { over = Some (Turn.Failed error) }
@@ -301,7 +301,7 @@ module _ {H : Type 0} (function : H → Handler) (next : Handler) (version : Ver
           → TurnTellsNow next start host.told host.told.over ran turn (failed_now error) → TurnedSo
       turned_failing kept error so going failed copies is same tells =
           silent (failed_now error) same tells
-          (subst (λ (o : Option Turn). WritesWhere version start host o turn [] (failed_now error)) (sym so) (subst (λ (one : Turn). WritesBy version start host one [] (failed_now error)) (sym is) refl))
+          (subst (λ (o : Option Turn). WritesWhere version start host next o turn [] (failed_now error)) (sym so) (subst (λ (one : Turn). WritesBy version start host next one [] (failed_now error)) (sym is) refl))
           (is_over (Turn.Failed error) refl
           (by_error kept error (ap (λ (b : Attempt H). b.over) same ∙ going) (ap (λ (b : Attempt H). b.vm.state.phase) same ∙ failed) copies refl))
 
@@ -355,7 +355,7 @@ module _ {H : Type 0} (function : H → Handler) (next : Handler) (version : Ver
             (subst (λ (asked : List Request). SendsOfRun next start.given (arrivals_carried (s.live.read ++ kept_turn.makes.some)) host.told.is_closed asked frames) (asked_is s)
             (writes_send next start.given (arrivals_carried (s.live.read ++ kept_turn.makes.some)) host.told.is_closed (requests_asked_by (live_now s)) frames writes))
 
-        writes_by : (sends : List Sent) (one : Turn) (b : Behind sends one) (tells : Tells sends one b) → ProposesAs one (map (frame_meant version) sends) → WritesBy version start host one (map (frame_meant version) sends) tells.now
+        writes_by : (sends : List Sent) (one : Turn) (b : Behind sends one) (tells : Tells sends one b) → ProposesAs one (map (frame_meant version) sends) → WritesBy version start host next one (map (frame_meant version) sends) tells.now
         writes_by sends Turn.RanBody b tells proposes = (
           b.body.completion,
           b.value,
@@ -365,7 +365,10 @@ module _ {H : Type 0} (function : H → Handler) (next : Handler) (version : Ver
         writes_by sends Turn.Suspended b tells proposes = (b.3.suspension, b.3.frames_are)
         writes_by sends Turn.Ended b tells proposes = b.2
         writes_by sends Turn.Answered b tells proposes = b.4
-        writes_by sends Turn.Waiting b tells proposes = b.2
+        writes_by sends Turn.Waiting b tells proposes =
+            subst (λ (arrivals : List Arrival). TellsAwaited next start.given arrivals (requests_asked version start host) (map (frame_meant version) sends))
+            (sym (arrivals_read function next version options host.told.is_closed (live_now s) a s.proposed host.told s.bodies s.serves s.is_told))
+            (subst (λ (asked : List Request). TellsAwaited next start.given (arrivals_carried s.live.read) asked (map (frame_meant version) sends)) (asked_is s) b.2)
         writes_by sends (Turn.Failed error) b tells proposes = proposes
 
         -- it goes on, as it was told
@@ -404,7 +407,7 @@ module _ {H : Type 0} (function : H → Handler) (next : Handler) (version : Ver
             tells = subst (λ (o : Option Turn). TurnTellsNow next start host.told o ran turn tells_turn.now) (sym so) (inr tells_turn.tells);
             fit = kept_turn.fit;
             of_run = turn_of_run (map (frame_meant version) kept_turn.sent) kept_turn.makes.writes;
-            writes = subst (λ (o : Option Turn). WritesWhere version start host o turn kept_turn.sent tells_turn.now) (sym so) (writes_by kept_turn.sent turn kept_turn.behind tells_turn kept_turn.proposes);
+            writes = subst (λ (o : Option Turn). WritesWhere version start host next o turn kept_turn.sent tells_turn.now) (sym so) (writes_by kept_turn.sent turn kept_turn.behind tells_turn kept_turn.proposes);
             errors = kept_turn.errors;
           };
           wrote = kept_turn.output;

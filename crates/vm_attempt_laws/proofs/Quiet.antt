@@ -1,12 +1,13 @@
 -- Frames that propose no outcome of a run.
-use Rattle.std.proofs.Common.{◌≡◌, ◌∙◌, inl, inr, ℕ, Bool, true, false, true≢false, List, [], ◌∷◌, ◌++◌, map, Option, refl, sym, ap, subst}
+use Rattle.std.proofs.Common.{◌≡◌, ◌∙◌, inl, inr, ℕ, Bool, true, false, List, [], ◌∷◌, ◌++◌, map, Option, refl, sym, ap, subst}
 use Rattle.std.specs.List.{AllByRecursion}
 use Rattle.vm_waiting.specs.WaitsFor.{waits_as}
 use Rattle.vm_waiting.specs.declared.waits_for.WaitsFor.{WaitsFor}
 use Rattle.vm_waiting.specs.declared.waits_for.WaitsFor.TheVariants.{Future, Child}
+use Rattle.vm_output_laws.specs.TurnFrames.{leaves_over}
 use Rattle.vm_attempt_laws.specs.AttemptInvariants.{IsNoError, IsNoFailure}
 use Rattle.vm_attempt_laws.specs.Bodies.{outcomes_in}
-use Rattle.vm_attempt_laws.specs.TurnsInRun.{AsksAlone, TellsAwaited}
+use Rattle.vm_attempt_laws.specs.TurnsInRun.{AsksAlone}
 use Rattle.vm_attempt_laws.specs.Words.{Answer, Answered, AwaitTree, Frame, Machine, NotificationId, Request, SendsReply, SendsWaiting}
 
 -- commands close nothing
@@ -28,26 +29,22 @@ commands_none (request ∷ requests) = commands_none requests
 
 waiting_quiet : (version : ℕ) (is_closed : Bool) (tree : AwaitTree (Option NotificationId)) (frames : List Frame) → SendsWaiting version is_closed tree frames → outcomes_in frames ≡ []
 waiting_quiet version false tree frames (inl none) = ap outcomes_in none
-waiting_quiet version false tree frames (inr told) = ap outcomes_in told
+waiting_quiet version false tree frames (inr told) = ap outcomes_in told.1
 waiting_quiet version true tree frames sends = ap outcomes_in sends.1
 
 waiting_calm : (version : ℕ) (is_closed : Bool) (tree : AwaitTree (Option NotificationId)) (frames : List Frame) → SendsWaiting version is_closed tree frames → AllByRecursion IsNoError frames
 waiting_calm version false tree frames (inl none) = subst (AllByRecursion IsNoError) (sym none) tt
-waiting_calm version false tree frames (inr told) = subst (AllByRecursion IsNoError) (sym told) (tt, tt)
+waiting_calm version false tree frames (inr told) = subst (AllByRecursion IsNoError) (sym told.1) (tt, tt)
 waiting_calm version true tree frames sends = subst (AllByRecursion IsNoError) (sym sends.1) (tt, tt)
 
-waiting_tells : (version : ℕ) (is_closed : Bool) (tree : AwaitTree (Option NotificationId)) (frames : List Frame) → is_closed ≡ false → SendsWaiting version is_closed tree frames → TellsAwaited frames
-waiting_tells version false tree frames opened sends = sends
-waiting_tells version true tree frames opened sends = absurd (true≢false opened)
-
 module _ (version : ℕ) (is_closed : Bool) (m : Machine) (frames : List Frame) where
-  -- an answer sends requests alone, and while the input is open nothing is sent where it waits but what is awaited
+  -- an answer sends requests alone
   pub answer_asks : (answer : Answer) (after : Machine) → SendsReply version is_closed m (Answered answer after) frames → AsksAlone frames
   answer_asks answer after sends = (sends.0, sends.2)
 
-  pub waits_tell : (waits : WaitsFor) (whole : Machine) → is_closed ≡ false → SendsReply version is_closed m (waits_as waits whole) frames → TellsAwaited frames
-  waits_tell (Future left) whole opened sends = waiting_tells version is_closed _ frames opened sends
-  waits_tell (Child child) whole opened sends = waiting_tells version is_closed _ frames opened sends
+  pub waits_tell : (waits : WaitsFor) (whole : Machine) → SendsReply version is_closed m (waits_as waits whole) frames → SendsWaiting version is_closed (leaves_over whole.slots waits) frames
+  waits_tell (Future left) whole sends = sends
+  waits_tell (Child child) whole sends = sends
 
   -- no error is sent but by a call that fails
   pub answer_calm : (answer : Answer) (after : Machine) → SendsReply version is_closed m (Answered answer after) frames → AllByRecursion IsNoError frames

@@ -26,7 +26,6 @@ accepted_of version (Fails error ∷ coming) all = (tt, accepted_of version comi
 accepted_of version (Ends ∷ coming) all = (tt, accepted_of version coming all.1)
 
 note_accepted : (frame : Frame) → IsNote frame → IsAccepted frame
-note_accepted Frame.AwaitingOn note = tt
 note_accepted (Frame.RunOutcome completion value told) note = tt
 note_accepted (Frame.Error code message behavior delay) note = tt
 note_accepted _ note = absurd note
@@ -46,7 +45,7 @@ commands_accepted (request ∷ requests) texts = by_first (list_all is_utf8 (key
 
 waiting_accepted : (version : ℕ) (is_closed : Bool) (tree : AwaitTree (Option NotificationId)) (frames : List Frame) → SendsWaiting version is_closed tree frames → AllByRecursion IsAccepted frames
 waiting_accepted version false tree frames (inl none) = subst (AllByRecursion IsAccepted) (sym none) tt
-waiting_accepted version false tree frames (inr told) = subst (AllByRecursion IsAccepted) (sym told) (tt, tt)
+waiting_accepted version false tree frames (inr told) = subst (AllByRecursion IsAccepted) (sym told.1) (tt, tt)
 waiting_accepted version true tree frames sends = subst (AllByRecursion IsAccepted) (sym sends.1) (tt, tt)
 
 reply_accepted : (version : ℕ) (is_closed : Bool) (m : Machine) (reply : Reply) (frames : List Frame) → HasTexts reply → SendsReply version is_closed m reply frames → AllByRecursion IsAccepted frames

@@ -292,7 +292,7 @@ module _ (next : Handler) (version : Version) (options : VMOptions) (is_closed :
       subst (λ (b : Bool). SendsFor b (reply_at next live vm n.at) new.active.output) (sym still_open)
       (subst (λ (some : Reply). SendsFor false some new.active.output) (sym w.replies)
       (sends_for false (waits_as w.waits w.machine) w.resolved.output new.active.output (ap (λ (o : Written). o.version) w.unwritten ∙ of_output) (ap (λ (o : Written). o.bytes) w.unwritten)
-      (turns_send.stays told tt live.machine w.machine w.waits w.resolved new.active (ap (λ (o : Written). o.is_closed) w.unwritten ∙ opened)
+      (turns_send.stays told tt live.machine w.machine w.waits w.resolved new.active (ap (λ (o : Written). o.is_closed) w.unwritten ∙ opened) slots
       ((is_told w.waits w.machine w.replies).fits w.resolved slots)
       (spoken_as (awaited_ids w.resolved w.waits) w.resolved.output.version (ap (λ (o : Written). o.version) w.unwritten ∙ of_output) ((is_told w.waits w.machine w.replies).spoken w.resolved slots)) w.tells)))
 

@@ -1,8 +1,9 @@
 -- Each turn of an attempt, by what its machine does.
-use Rattle.std.proofs.Common.{◌≡◌, ◌⊎◌, inl, inr, ◌∙◌, ℕ, suc, Bool, true, false, List, [], ◌∷◌, ◌++◌, map, Option, Some, refl, sym, ap, subst}
+use Rattle.std.proofs.Common.{◌≡◌, ◌⊎◌, inl, inr, ◌∙◌, ℕ, suc, Bool, true, false, List, [], ◌∷◌, ◌++◌, append-nil, map, Option, Some, refl, sym, ap, subst}
 use Rattle.std.proofs.Math.Path.{fun_ext}
 use Rattle.std.specs.List.{AllByRecursion}
 use Rattle.journal_model.specs.AwaitTree.{map_leaves}
+use Rattle.journal_model.specs.Event.{Suspension, ForTree}
 use Rattle.journal_model.specs.History.{stands_for}
 use Rattle.journal_model.specs.Future.{tree_of}
 use Rattle.journal_model.specs.declared.notification.NotificationId.TheVariants.{CompletionId}
@@ -10,9 +11,12 @@ use Rattle.vm_runs.specs.Runs.{Runs}
 use Rattle.vm_waiting.specs.WaitsFor.{waits_as}
 use Rattle.vm_waiting.specs.declared.waits_for.WaitsFor.{WaitsFor}
 use Rattle.vm_waiting.specs.declared.waits_for.WaitsFor.TheVariants.{Future, Child}
+use Rattle.run_laws.specs.SuspensionContent.{TellsAwaitedTree, WaitsAll}
 use Rattle.run_laws.proofs.Awaits.{awaits_tell, children_tell}
+use Rattle.input_laws.proofs.News.{requests_carried-append}
+use Rattle.vm_output_laws.specs.TurnFrames.{leaves_over}
 use Rattle.vm_outcomes.proofs.Failing.{none_put}
-use Rattle.vm_attempt_laws.specs.Bodies.{Executor, IsReplayed, KeepsBodies, NonEmptyValue, outcomes_in, RunOutcome}
+use Rattle.vm_attempt_laws.specs.Bodies.{requests_asked_by, Executor, IsReplayed, KeepsBodies, NonEmptyValue, outcomes_in, RunOutcome}
 use Rattle.vm_attempt_laws.specs.AttemptInvariants.{IsNoError, TellsErrorBy}
 use Rattle.vm_attempt_laws.specs.AttemptSimulation.{HasNumbers, HasRead, HasBodies, Serves, finished, machine_failed}
 use Rattle.vm_attempt_laws.proofs.Notes.{answers_kept, waits_more}
@@ -26,8 +30,8 @@ use Rattle.vm_attempt_laws.specs.Attempts.{output_of, FinishesBy, TakesAnswer, A
 use Rattle.vm_attempt_laws.specs.Machine.{MachineState, Written, out_of_memory, CoreVM, Answers, Waits, Suspends, Ends, Fails, NoMemory, IsDriven}
 use Rattle.vm_attempt_laws.specs.InputOfAttempt.{Kind}
 use Rattle.vm_attempt_laws.specs.OutputOfAttempt.{Sent, sent_stream, frame_meant}
-use Rattle.vm_attempt_laws.specs.Words.{are_by_text, Error, Version, version_number, Answer, Answered, Input, NotificationId, Frame, answers_of, Request, Handler, Progress, run, arrivals_carried, requests_carried, Machine, Reply, AttemptInRun, after_turn, VMOptions, slot_of, AnswersNext, RepliesAsRun, SendsReply, goes_on}
-use Rattle.vm_attempt_laws.specs.TurnsInRun.{turns_answered, GoesOnBehind, FailsBy, FailsFor, SuspendsWith, ProposesAs, TurnsBehind, TurnKeeps}
+use Rattle.vm_attempt_laws.specs.Words.{are_by_text, Error, Version, version_number, Answer, Answered, Input, NotificationId, Frame, answers_of, Request, Handler, Progress, run, arrivals_carried, requests_carried, Machine, Reply, AttemptInRun, after_turn, VMOptions, slot_of, AnswersNext, RepliesAsRun, SendsReply, SendsWaiting, goes_on}
+use Rattle.vm_attempt_laws.specs.TurnsInRun.{turns_answered, GoesOnBehind, FailsBy, FailsFor, SuspendsWith, ProposesAs, TellsAwaited, TurnsBehind, TurnKeeps}
 use Rattle.vm_attempt_laws.proofs.Failing.{fails_so}
 use Rattle.vm_attempt_laws.proofs.Now.{Now, call_of, reply_at}
 use Rattle.vm_attempt_laws.proofs.Stored.{sent_of_store}
@@ -146,28 +150,43 @@ module _ {H : Type 0} (function : H → Handler) (next : Handler) (version : Ver
             (keeps_turn vm after (ap (λ (a : Attempt H). a.front ++ a.behind) is) (ap (λ (a : Attempt H). a.vm.state) is) so.sends (Turn.Failed out_of_memory) quiet (memory_told (version_number version) (map (frame_meant version) so.sends.coming)) calm
             (inl (no_memory so.sends.coming after), finished finishes.OutOfMemory (ap (λ (a : Attempt H). a.over) is), λ kept none. inr refl))
 
-    -- what is written where it is suspended
-    suspends_with : (waits : WaitsFor) (whole : Machine) → reply_at next live before.vm.state n.at ≡ waits_as waits whole → whole.written ≡ live.machine.written
-        → (frames : List Frame) → SendsReply live.start.given.version true live.machine (waits_as waits whole) frames → SuspendsWith next live frames
-    suspends_with (Future left) whole e same frames (suspension, frames_are, tells) =
+    -- what tells what its call waits for tells what the run waits for
+    waits_with : (waits : WaitsFor) (whole : Machine) → reply_at next live before.vm.state n.at ≡ waits_as waits whole → whole.written ≡ live.machine.written
+        → (suspension : Suspension) → TellsAwaitedTree live.start.given.version (leaves_over whole.slots waits) (Some suspension)
+        → WaitsAll next live.start.given (arrivals_carried live.read) (requests_carried live.read ++ live.machine.written) (Some suspension)
+    waits_with (Future left) whole e same suspension tells =
         let waits = subst (RepliesAsRun next live.start.given (requests_carried live.read) (arrivals_carried live.read) live.calls) e n.as_run in
         let handles : slot_of whole.slots ≡ stands_for (run next live.start.given (arrivals_carried live.read) live.calls).steps =
         fun_ext (λ handle. waits.stands.tables.handles handle ∙ ap (λ (p : Progress). stands_for p.steps handle) (sym waits.stands.going)) in
-        record {
-          suspension = suspension;
-          frames_are = frames_are;
-          waits = awaits_tell next live.start.given (arrivals_carried live.read) live.calls (requests_carried live.read ++ live.machine.written) waits.ids (map_leaves (slot_of whole.slots) (tree_of left)) suspension
-              (ap (λ (p : Progress). p.ending) n.at.stands.going) waits.waits (waits.exactly ∙ ap (λ (written : List Request). requests_carried live.read ++ written) same)
-              (ap (λ (leaf : ℕ → Option NotificationId). map_leaves leaf (tree_of left)) handles ∙ waits.rest) tells;
-        }
-    suspends_with (Child child) whole e same frames (suspension, frames_are, tells) =
+        awaits_tell next live.start.given (arrivals_carried live.read) live.calls (requests_carried live.read ++ live.machine.written) waits.ids (map_leaves (slot_of whole.slots) (tree_of left)) suspension
+        (ap (λ (p : Progress). p.ending) n.at.stands.going) waits.waits (waits.exactly ∙ ap (λ (written : List Request). requests_carried live.read ++ written) same)
+        (ap (λ (leaf : ℕ → Option NotificationId). map_leaves leaf (tree_of left)) handles ∙ waits.rest) tells
+    waits_with (Child child) whole e same suspension tells =
         let waits = subst (RepliesAsRun next live.start.given (requests_carried live.read) (arrivals_carried live.read) live.calls) e n.as_run in
-        record {
-          suspension = suspension;
-          frames_are = frames_are;
-          waits = children_tell next live.start.given (arrivals_carried live.read) (suc live.calls) (requests_carried live.read ++ live.machine.written) (Some (CompletionId child)) suspension waits.waits
-              (waits.exactly ∙ ap (λ (written : List Request). requests_carried live.read ++ written) same) tells;
-        }
+        children_tell next live.start.given (arrivals_carried live.read) (suc live.calls) (requests_carried live.read ++ live.machine.written) (Some (CompletionId child)) suspension waits.waits
+        (waits.exactly ∙ ap (λ (written : List Request). requests_carried live.read ++ written) same) tells
+
+    -- what is written where it is suspended
+    suspends_with : (waits : WaitsFor) (whole : Machine) → reply_at next live before.vm.state n.at ≡ waits_as waits whole → whole.written ≡ live.machine.written
+        → (frames : List Frame) → SendsWaiting live.start.given.version true (leaves_over whole.slots waits) frames → SuspendsWith next live frames
+    suspends_with waits whole e same frames (suspension, frames_are, tells) = record { suspension = suspension; frames_are = frames_are; waits = waits_with waits whole e same suspension tells }
+
+    -- what was asked for by then is all that was asked for, since all of the journal is read
+    all_asked : requests_carried live.read ++ live.machine.written ≡ requests_asked_by live
+    all_asked =
+        ap (λ (some : List Request). some ++ live.machine.written)
+        (sym (requests_carried-append live.read live.unread ∙ ap (λ (some : List Request). requests_carried live.read ++ some) n.at.all_read ∙ append-nil (requests_carried live.read)))
+
+    -- and where it waits
+    stays_with : (waits : WaitsFor) (whole : Machine) → reply_at next live before.vm.state n.at ≡ waits_as waits whole → whole.written ≡ live.machine.written
+        → (frames : List Frame) → SendsWaiting live.start.given.version false (leaves_over whole.slots waits) frames
+        → TellsAwaited next live.start.given (arrivals_carried live.read) (requests_asked_by live) frames
+    stays_with waits whole e same frames (inl none) = inl none
+    stays_with waits whole e same frames (inr (awaited, frames_are, tells)) = inr (
+      awaited,
+      frames_are,
+      subst (λ (asked : List Request). WaitsAll next live.start.given (arrivals_carried live.read) asked (Some (ForTree awaited))) all_asked (waits_with waits whole e same (ForTree awaited) tells),
+    )
 
     pub waiting : Waits live.start.given live.machine (call_of next live n.at) before.vm.state vm.state → turn ≡ Turn.Waiting → after ≡ record before { vm = vm } → Keeps turn after
     waiting p is_turn is = subst (λ (t : Turn). Keeps t after) (sym is_turn) (keeps_turn vm after front state_is so Turn.Waiting quiet calm calm (
@@ -181,7 +200,9 @@ module _ {H : Type 0} (function : H → Handler) (next : Handler) (version : Ver
             (subst (λ (runs : Runs). KeepsBodies runs (record b.executor { machine = p.machine })) (sym same_runs) (keeps_with before.vm.state.runs b.executor p.machine w.keeps)) (inr told.left) (ap (goes_on live.calls) p.replies ∙ waits_on p.waits p.machine),
         input,
       ),
-      waits_tell live.start.given.version is_closed live.machine (map (frame_meant version) so.coming) p.waits p.machine (sym (ap (λ (k : Kind). k.is_input_closed) n.kind) ∙ is_open) sends,
+      stays_with p.waits p.machine p.replies p.written (map (frame_meant version) so.coming)
+          (subst (λ (b : Bool). SendsWaiting live.start.given.version b (leaves_over p.machine.slots p.waits) (map (frame_meant version) so.coming)) (sym (ap (λ (k : Kind). k.is_input_closed) n.kind) ∙ is_open)
+          (waits_tell live.start.given.version is_closed live.machine (map (frame_meant version) so.coming) p.waits p.machine sends)),
     ))
       where
         -- nothing is being executed between turns, so more can come
@@ -239,7 +260,8 @@ module _ {H : Type 0} (function : H → Handler) (next : Handler) (version : Ver
           waits_others next version options is_closed live before.vm.state n proposed b.executor w p.waits p.machine p.replies p.none p.written,
           finished finishes.Suspended (ap (λ (a : Attempt H). a.over) is),
           suspends_with p.waits p.machine p.replies p.written (map (frame_meant version) sends.coming)
-              (subst (λ (b : Bool). SendsReply live.start.given.version b live.machine (waits_as p.waits p.machine) (map (frame_meant version) sends.coming)) closed sent),
+              (subst (λ (b : Bool). SendsWaiting live.start.given.version b (leaves_over p.machine.slots p.waits) (map (frame_meant version) sends.coming)) closed
+              (waits_tell live.start.given.version is_closed live.machine (map (frame_meant version) sends.coming) p.waits p.machine sent)),
         ))
 
     pub ended : Ends live.start.given live.machine (call_of next live n.at) before.vm.state vm.state → FinishesBy finishes.Ended (record before { vm = vm }) turn after → Keeps turn after

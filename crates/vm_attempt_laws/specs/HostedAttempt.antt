@@ -74,20 +74,20 @@ module _ (version : Version) (start : AttemptStart) (host : Hosted) where
     pub early : (more ≡ []) ⊎ (HasJournal start host.told.bytes → ⊥)
 
   -- where it suspends, ends or has executed a body, it writes the one frame that tells so; where it has answered requests alone; where it waits
-  -- nothing, or what is awaited; and where it fails no outcome of a body
-  abbrev pub WritesBy : Turn → List Frame → (now : Told) → Type 0
-  WritesBy Turn.Suspended frames now = (suspension : Suspension) × (frames ≡ Frame.Suspend (Some suspension) ∷ [])
-  WritesBy Turn.Ended frames now = frames ≡ Frame.End ∷ []
-  WritesBy Turn.RanBody frames now =
+  -- nothing, or what the run waits for over the arrivals that have come; and where it fails no outcome of a body
+  abbrev pub WritesBy : Handler → Turn → List Frame → (now : Told) → Type 0
+  WritesBy next Turn.Suspended frames now = (suspension : Suspension) × (frames ≡ Frame.Suspend (Some suspension) ∷ [])
+  WritesBy next Turn.Ended frames now = frames ≡ Frame.End ∷ []
+  WritesBy next Turn.RanBody frames now =
       (completion : ℕ) × (value : NonEmptyValue) × (frames ≡ outcome_frame (version_number version) completion value ∷ []) × (now.proposed ≡ host.told.proposed ++ (completion, value) ∷ [])
-  WritesBy Turn.Answered frames now = AsksAlone frames
-  WritesBy Turn.Waiting frames now = TellsAwaited frames
-  WritesBy turn frames now = ProposesAs turn frames
+  WritesBy next Turn.Answered frames now = AsksAlone frames
+  WritesBy next Turn.Waiting frames now = TellsAwaited next start.given (arrivals_told start host.told) requests_asked frames
+  WritesBy next turn frames now = ProposesAs turn frames
 
   -- one that is over writes nothing more, and neither does one that fails since there was no memory for its input, or since that was closed early
-  abbrev pub WritesWhere : Option Turn → Turn → List Sent → (now : Told) → Type 0
-  WritesWhere (Some last) turn more now = more ≡ []
-  WritesWhere None turn more now = WritesBy turn (map (frame_meant version) more) now
+  abbrev pub WritesWhere : Handler → Option Turn → Turn → List Sent → (now : Told) → Type 0
+  WritesWhere next (Some last) turn more now = more ≡ []
+  WritesWhere next None turn more now = WritesBy next turn (map (frame_meant version) more) now
 
   -- A turn tells where the run stands over the arrivals that have come, and what it has written is of that run: each request that it writes is,
   -- behind all that was asked for by then, a beginning of the requests that the run makes over these arrivals; where it suspends and where it
@@ -96,7 +96,7 @@ module _ (version : Version) (start : AttemptStart) (host : Hosted) where
     pub tells : TurnTellsNow next start host.told host.told.over ran turn now
     pub fit : AllFit version more
     pub of_run : SendsOfRun next start.given (arrivals_told start host.told) host.told.is_closed requests_asked (map (frame_meant version) more)
-    pub writes : WritesWhere host.told.over turn more now
+    pub writes : WritesWhere next host.told.over turn more now
     -- an error among its frames is the one that it has failed by
     pub errors : AllByRecursion (TellsErrorBy (version_number version) turn) (map (frame_meant version) more)
 

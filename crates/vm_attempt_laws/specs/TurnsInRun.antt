@@ -2,7 +2,7 @@
 -- failed for a cause.
 use Rattle.std.specs.Prelude.{Bool, ◌≡◌, ◌⊎◌, ◌+◌, ℕ, suc, true, false, List, [], ◌∷◌, ◌++◌, map, length, Option, Some, None}
 use Rattle.std.specs.List.{AllByRecursion}
-use Rattle.journal_model.specs.Event.{Suspension, Frame}
+use Rattle.journal_model.specs.Event.{Suspension, ForTree, Frame}
 use Rattle.journal_model.specs.Run.{Handler, Invocation, Ending, RefusedCall, Ended, run}
 use Rattle.run_laws.specs.SuspensionContent.{WaitsAll}
 use Rattle.vm_awaits.specs.Views.{slots_of}
@@ -14,7 +14,7 @@ use Rattle.vm_attempt_laws.specs.AttemptInvariants.{FailsWith, IsNoFailure, Tell
 use Rattle.vm_attempt_laws.specs.Machine.{MachineState, out_of_memory, told_error, Cause, ByFault, TooDeep, NoReplay, NoMemory, HasPut, FailsWhen}
 pub use Rattle.vm_attempt_laws.specs.BodyExecution.{RunWaitsFor, RunComesTo, WaitsForOthers, ExecutesFirst, tried_by, OutcomeIs, FailsByBody, IsBodyCode, MayNotEnd}
 use Rattle.vm_attempt_laws.specs.OutputOfAttempt.{Sent, Asks, Fails, sent_stream, AllFit, frame_meant, IsOfStore}
-use Rattle.vm_attempt_laws.specs.Words.{internal, unsupported_feature, Error, Version, version_number, Call, Input, Arrival, Request, arrivals_carried, requests_carried, Machine, Refused, ShowsStart, AttemptInRun, HasReadJournal, after_turn, VMOptions, Queued, TurnsOfRun, requests_sent}
+use Rattle.vm_attempt_laws.specs.Words.{internal, unsupported_feature, Error, Version, version_number, Call, Input, AwaitTree, NotificationId, Arrival, Request, arrivals_carried, requests_carried, Machine, Refused, ShowsStart, AttemptInRun, HasReadJournal, after_turn, VMOptions, Queued, TurnsOfRun, requests_sent}
 
 -- of a handler that wrote the journal, over the arrivals that were asked for, the run itself refuses the call, or waits for what is nested too
 -- deep to be told, or there is no number or no room for what it makes, or no memory
@@ -66,9 +66,11 @@ ProposesAs turn frames = outcomes_in frames ≡ []
 abbrev pub AsksAlone : List Frame → Type 0
 AsksAlone frames = (more : List Request) × (frames ≡ map Frame.Command more)
 
--- there is none, or one that tells what is awaited
-abbrev pub TellsAwaited : List Frame → Type 0
-TellsAwaited frames = (frames ≡ []) ⊎ (frames ≡ Frame.AwaitingOn ∷ [])
+-- there is none, or one that tells what the run over these arrivals waits for with just these requests
+abbrev pub TellsAwaited : Handler → Invocation → List Arrival → List Request → List Frame → Type 0
+TellsAwaited next given arrivals requests frames =
+    (frames ≡ [])
+    ⊎ ((awaited : AwaitTree NotificationId) × (frames ≡ Frame.AwaitingOn (Some awaited) ∷ []) × WaitsAll next given arrivals requests (Some (ForTree awaited)))
 
 module _ {H : Type 0} (function : H → Handler) (next : Handler) (version : Version) (options : VMOptions) (is_closed : Bool) where
   -- the live attempt goes on, which has proposed these outcomes
@@ -125,7 +127,8 @@ module _ {H : Type 0} (function : H → Handler) (next : Handler) (version : Ver
           × GoesOnBehind live (map (frame_meant version) sent) calls machine proposed after × AsksAlone (map (frame_meant version) sent)
       TurnsBehind sent Turn.RanBody after = RunsOne sent after
       TurnsBehind sent Turn.Waiting after =
-          MayWait × ((machine : Machine) × GoesOnBehind live (map (frame_meant version) sent) live.calls machine proposed after × (after.input ≡ before.input)) × TellsAwaited (map (frame_meant version) sent)
+          MayWait × ((machine : Machine) × GoesOnBehind live (map (frame_meant version) sent) live.calls machine proposed after × (after.input ≡ before.input))
+          × TellsAwaited next live.start.given (arrivals_carried live.read) (requests_asked_by live) (map (frame_meant version) sent)
       TurnsBehind sent Turn.Suspended after =
           (is_closed ≡ true) × RunWaits × IsOver after × SuspendsWith next live (map (frame_meant version) sent)
       TurnsBehind sent Turn.Ended after = RunComes Ended × IsOver after × (map (frame_meant version) sent ≡ Frame.End ∷ [])

@@ -58,7 +58,7 @@ use Rattle.protocol_laws.proofs.Notifications.{suspensions_spelled}
 use Rattle.protocol_laws.proofs.Told.{output_told}
 use Rattle.vm_commands.specs.RecordedCommands.{unless_wrong, request_read}
 use Rattle.store_frames.specs.FrameMeanings.{unless_faulty, read_as, command_or_broken, error_frame, unless_numbered, suspension_frame, awaiting_frame, outcome_or_broken, frame_of}
-use Rattle.store_frames.specs.Requests.{suspension_of_tree, suspension_of_lists, outcome_told, proposal_told}
+use Rattle.store_frames.specs.Requests.{awaited_tree, suspension_of_tree, suspension_of_lists, outcome_told, proposal_told}
 use Rattle.store_frames.proofs.Payloads.{lists_payload as lists_spelled}
 use Rattle.vm_start.specs.Failure.{told_error}
 use Rattle.vm_proposals.specs.ProposalEffects.{proposal, proposal_message}
@@ -69,7 +69,7 @@ use Rattle.vm_request_laws.proofs.Records.{output_fits}
 use Rattle.vm_request_laws.proofs.Requests.{payload_read}
 use Rattle.vm_request_laws.specs.Trees.{IsSpoken, TreeFits}
 use Rattle.vm_output_laws.proofs.Told.{told_number}
-use Rattle.vm_output_laws.specs.SentFrames.{Sent, Asks, Proposes, Awaits, Suspends, Fails, Ends, sent_payload, sent_frame, sent_message, SuspendedFits, SentFits, suspension_told, frame_meant}
+use Rattle.vm_output_laws.specs.SentFrames.{Sent, Asks, Proposes, Awaits, Suspends, Fails, Ends, sent_payload, sent_frame, sent_message, SuspendedFits, SentFits, tree_told, suspension_told, frame_meant}
 use Rattle.vm_output_laws.specs.OutputMeaning.{FramesAreRead, ErrorsAreMeant}
 use Rattle.vm_request_laws.proofs.RequestBounds.{future_fits}
 use Rattle.vm_output_laws.proofs.Fitting.{completions_listed, signals_listed, names_listed}
@@ -142,14 +142,14 @@ numbered version tree frame allowed =
     (ap (λ (b : Bool). lacks_feature version AtLeast && b) (told_number tree) ∙ swapped (lacks_feature version AtLeast) (has_number tree) ∙ allowed)
 
 awaiting_read : (version : ℕ) (tree : AwaitTree NotificationId) → TreeFits tree → IsSpoken version tree → length (awaiting_on_payload tree false) < 2 ^ 32
-    → awaiting_frame (lacks_feature version AtLeast) (awaiting_on_payload tree false) ≡ Frame.AwaitingOn
+    → awaiting_frame (lacks_feature version AtLeast) (awaiting_on_payload tree false) ≡ Frame.AwaitingOn (Some (tree_told tree))
 awaiting_read version tree h allowed short =
     let lacks = lacks_feature version AtLeast in
     let is = spelled_read records.AwaitingOn awaiting_on_of awaiting_on_parts _ awaiting_on_reads (awaiting_on_record tree false) (awaiting_on_payload tree false)
     (record { level = omega arith; awaiting_on = future_fits (LEVELS - 1) tree h.leaves h.levels }) (awaiting_on_spelled tree false) short in
-    read_sound records.AwaitingOn (λ fs. unless_numbered lacks (awaiting_on_of LEVELS fs).awaiting_on Frame.AwaitingOn) (awaiting_on_payload tree false) is.sound
-    ∙ ap (λ (one : AwaitingOnMessage). unless_numbered lacks one.awaiting_on Frame.AwaitingOn) (sym is.value)
-    ∙ numbered version tree Frame.AwaitingOn allowed
+    read_sound records.AwaitingOn (λ fs. unless_numbered lacks (awaiting_on_of LEVELS fs).awaiting_on (Frame.AwaitingOn (awaited_tree (awaiting_on_of LEVELS fs)))) (awaiting_on_payload tree false) is.sound
+    ∙ ap (λ (one : AwaitingOnMessage). unless_numbered lacks one.awaiting_on (Frame.AwaitingOn (awaited_tree one))) (sym is.value)
+    ∙ numbered version tree (Frame.AwaitingOn (Some (tree_told tree))) allowed
 
 abbrev lists_record : AwaitTree NotificationId → SuspensionMessageV6
 lists_record tree = record { waiting_completions = leaves_by_node completions_in tree; waiting_signals = leaves_by_node signals_in tree; waiting_named_signals = leaves_by_node names_in tree }

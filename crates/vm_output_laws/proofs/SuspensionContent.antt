@@ -6,16 +6,16 @@ use Rattle.protocol_types.specs.Feature.{lacks_feature}
 use Rattle.journal_model.specs.declared.notification.NotificationId.{NotificationId}
 use Rattle.journal_model.specs.declared.notification.NotificationId.TheVariants as ids
 use Rattle.journal_model.specs.AwaitTree.{AwaitTree, AwaitState, Pending, Single, Combined, AwaitTrees, no_trees, and_trees, is_awake}
+use Rattle.journal_model.specs.Event.{ForTree}
 use Rattle.journal_model.specs.Spelling.{completions_in, signals_in, names_in}
 use Rattle.journal_model.specs.PrunedTrees.{only_leaves, only_children}
 use Rattle.journal_laws.proofs.Leaving.{or-false}
-use Rattle.protocol_stream.specs.Records.{future_record}
-use Rattle.protocol_trees.specs.Future.{ids_in, future_tree}
+use Rattle.protocol_trees.specs.Future.{ids_in}
 use Rattle.vm_waiting.specs.SuspensionFrames.{below, leaves_by_node}
 use Rattle.run_laws.specs.SuspensionContent.{TellsAwaitedTree, leaf_ids, leaf_ids_of_trees}
 use Rattle.run_laws.proofs.SameTrees.{same_awake}
 use Rattle.run_laws.proofs.Suspending.{tells_leaf, tells_ids}
-use Rattle.vm_output_laws.specs.SentFrames.{suspension_told}
+use Rattle.vm_output_laws.specs.SentFrames.{tree_told, suspension_told}
 use Rattle.vm_output_laws.specs.SuspensionContent.{SuspensionsTell}
 use Rattle.vm_output_laws.proofs.Told.{node_same, leaf_told}
 
@@ -138,15 +138,18 @@ module _ (test : NotificationId → Bool) where
 -- ---- both
 
 -- the tree that is told is awake where the tree itself is
-told_awake : (version : ℕ) (tree : AwaitTree NotificationId) (states : NotificationId → AwaitState) → is_awake (future_tree (future_record tree)) states ≡ is_awake tree states
+told_awake : (version : ℕ) (tree : AwaitTree NotificationId) (states : NotificationId → AwaitState) → is_awake (tree_told tree) states ≡ is_awake tree states
 told_awake version (Single id) states =
     ap (λ (t : AwaitTree NotificationId). is_awake t states) (leaf_told id) ∙ tells_leaf version id states
 told_awake version (Combined combinator children) states = sym (same_awake states (node_same combinator children))
 
+pub trees_tell : (version : ℕ) (tree : AwaitTree (Option NotificationId)) → TellsAwaitedTree version tree (Some (ForTree (tree_told (only_leaves (λ leaf. leaf) tree))))
+trees_tell version tree = λ states. told_awake version (only_leaves (λ leaf. leaf) tree) states
+
 by_version : (version : ℕ) (has_lists : Bool) (tree : AwaitTree (Option NotificationId)) → lacks_feature version TellsTrees ≡ has_lists → is_awake tree (λ leaf. Pending) ≡ false
     → TellsAwaitedTree version tree (Some (suspension_told has_lists (only_leaves (λ leaf. leaf) tree)))
 by_version version true tree lists asleep = tells_ids version tree _ lists asleep (λ test some. all_listed test tree (only_leaves (λ leaf. leaf) tree) refl some)
-by_version version false tree lists asleep = λ states. told_awake version (only_leaves (λ leaf. leaf) tree) states
+by_version version false tree lists asleep = trees_tell version tree
 
 pub suspensions_tell : SuspensionsTell
 suspensions_tell version tree asleep = by_version version (lacks_feature version TellsTrees) tree refl asleep

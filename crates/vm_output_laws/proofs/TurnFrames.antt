@@ -8,7 +8,7 @@ use Rattle.protocol_types.specs.Version.{version_number}
 use Rattle.protocol_types.specs.Feature.{lacks_feature}
 use Rattle.journal_model.specs.declared.notification.NotificationId.{NotificationId}
 use Rattle.journal_model.specs.AwaitTree.{AwaitTree}
-use Rattle.journal_model.specs.Event.{Frame}
+use Rattle.journal_model.specs.Event.{ForTree, Frame}
 use Rattle.journal_model.specs.Future.{tree_of}
 use Rattle.journal_model.specs.Request.{Request}
 use Rattle.journal_model.specs.PrunedTrees.{only_leaves}
@@ -16,6 +16,7 @@ use Rattle.attempt_model.specs.Results.{Slots, slot_of}
 use Rattle.attempt_model.specs.Machine.{Machine}
 use Rattle.live_laws.specs.Replies.{SendsReply, SendsWaiting}
 use Rattle.run_laws.specs.SuspensionContent.{TellsAwaitedTree}
+use Rattle.vm_awaits.specs.Views.{slots_of}
 use Rattle.vm_context.specs.Output.{Written}
 use Rattle.vm_calls.specs.declared.active.Active.{Active}
 use Rattle.vm_waiting.specs.WaitsFor.{ids_over, awaited_ids, waits_as}
@@ -24,11 +25,11 @@ use Rattle.vm_waiting.specs.declared.waits_for.WaitsFor.TheVariants.{Future, Chi
 use Rattle.vm_waiting.proofs.TellsAsRun.{left_out}
 use Rattle.vm_start.specs.Failure.{told_error}
 use Rattle.vm_request_laws.specs.RequestBounds.{RequestFits}
-use Rattle.vm_output_laws.specs.SentFrames.{Asks, Awaits, Suspends, Fails, Ends, sent_stream, AllFit, is_recorded, suspension_told, frame_meant}
+use Rattle.vm_output_laws.specs.SentFrames.{Asks, Awaits, Suspends, Fails, Ends, sent_stream, AllFit, is_recorded, tree_told, suspension_told, frame_meant}
 use Rattle.vm_output_laws.specs.WrittenFrames.{Sends}
 use Rattle.vm_output_laws.specs.TurnFrames.{AnswersSend, ProposalsSend, leaves_over, StaysSend, SuspensionsSend, EndsSend, FailuresSend, StopsSend, TurnsSend}
 use Rattle.vm_output_laws.proofs.Streams.{streams_join}
-use Rattle.vm_output_laws.proofs.SuspensionContent.{suspensions_tell}
+use Rattle.vm_output_laws.proofs.SuspensionContent.{trees_tell, suspensions_tell}
 use Rattle.vm_output_laws.proofs.WrittenFrames.{frames_are_written}
 
 all_told : (version : Version) (requests : List Request) → AllByRecursion RequestFits requests → AllFit version (map Asks requests)
@@ -73,16 +74,24 @@ waiting_sends : (version : ℕ) (is_closed : Bool) (m after : Machine) (waits : 
 waiting_sends version is_closed m after (Future left) sent sends = sends
 waiting_sends version is_closed m after (Child completion) sent sends = sends
 
+same_ids : (after : Machine) (waits : WaitsFor) (old : Active) → slots_of old.results ≡ after.slots → only_leaves (λ (leaf : Option NotificationId). leaf) (leaves_over after.slots waits) ≡ awaited_ids old waits
+same_ids after waits old slots = told_of after.slots waits ∙ ap (λ (s : Slots). ids_over s waits) (sym slots)
+
 stays_send : StaysSend
-stays_send true done m after waits old new opens fits allowed tells =
-    let one = frames_are_written.awaits (awaited_ids old waits) done old new opens fits allowed tells in
+stays_send true done m after waits old new opens slots fits allowed tells =
+    let version = version_number old.output.version in
+    let ids = awaited_ids old waits in
+    let one = frames_are_written.awaits ids done old new opens fits allowed tells in
+    let tells_it : TellsAwaitedTree version (leaves_over after.slots waits) (Some (ForTree (tree_told ids))) =
+    subst (λ (t : AwaitTree NotificationId). TellsAwaitedTree version (leaves_over after.slots waits) (Some (ForTree (tree_told t)))) (same_ids after waits old slots)
+    (trees_tell version (leaves_over after.slots waits)) in
     record {
-      coming = Awaits (awaited_ids old waits) ∷ [];
+      coming = Awaits ids ∷ [];
       fit = (one.fits, tt);
       written = one.sends;
-      sends = waiting_sends (version_number old.output.version) false m after waits (Frame.AwaitingOn ∷ []) (inr refl);
+      sends = waiting_sends version false m after waits (Frame.AwaitingOn (Some (tree_told ids)) ∷ []) (inr (tree_told ids, refl, tells_it));
     }
-stays_send false done m after waits old new opens fits allowed tells =
+stays_send false done m after waits old new opens slots fits allowed tells =
     record {
       coming = [];
       fit = tt;
@@ -96,10 +105,8 @@ suspensions_send m after waits old new opens slots fits allowed asleep shallow i
     let ids = awaited_ids old waits in
     let one = frames_are_written.suspensions ids old new opens fits allowed shallow is in
     let told = suspension_told (lacks_feature version TellsTrees) ids in
-    let same : only_leaves (λ (leaf : Option NotificationId). leaf) (leaves_over after.slots waits) ≡ ids =
-    told_of after.slots waits ∙ ap (λ (s : Slots). ids_over s waits) (sym slots) in
     let tells : TellsAwaitedTree version (leaves_over after.slots waits) (Some told) =
-    subst (λ (t : AwaitTree NotificationId). TellsAwaitedTree version (leaves_over after.slots waits) (Some (suspension_told (lacks_feature version TellsTrees) t))) same
+    subst (λ (t : AwaitTree NotificationId). TellsAwaitedTree version (leaves_over after.slots waits) (Some (suspension_told (lacks_feature version TellsTrees) t))) (same_ids after waits old slots)
     (suspensions_tell version (leaves_over after.slots waits) asleep) in
     record {
       coming = Suspends ids ∷ [];

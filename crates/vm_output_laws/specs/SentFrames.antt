@@ -114,15 +114,19 @@ abbrev pub IsOfStore : Sent → Type 0
 IsOfStore (Asks request) = (is_recorded request ≡ true) × (list_all is_utf8 (keys_of request) ≡ true)
 IsOfStore _ = Unit {0}
 
+-- a tree as it is read of its record
+abbrev pub tree_told : AwaitTree NotificationId → AwaitTree NotificationId
+tree_told tree = future_tree (future_record tree)
+
 -- from version 7 on a suspension tells the tree, and before that the three lists of its ids
 abbrev pub suspension_told : (has_lists : Bool) → AwaitTree NotificationId → Suspension
 suspension_told true tree = ForAny (ids_in (leaves_by_node completions_in tree) (leaves_by_node signals_in tree) (leaves_by_node names_in tree))
-suspension_told false tree = ForTree (future_tree (future_record tree))
+suspension_told false tree = ForTree (tree_told tree)
 
 abbrev pub frame_meant : Version → Sent → Frame
 frame_meant version (Asks request) = if is_recorded request then Frame.Command request else Frame.NotAccepted
 frame_meant version (Proposes n value) = Frame.RunOutcome n value (has_feature (version_number version) Acknowledgement)
-frame_meant version (Awaits tree) = Frame.AwaitingOn
+frame_meant version (Awaits tree) = Frame.AwaitingOn (Some (tree_told tree))
 frame_meant version (Suspends tree) = Frame.Suspend (Some (suspension_told (lacks_feature (version_number version) TellsTrees) tree))
 frame_meant version (Fails error) = error_frame (version_number version) error
 frame_meant version Ends = Frame.End

@@ -53,7 +53,7 @@ leaves_over slots (Child completion) = Single (Some (CompletionId completion))
 
 -- an await that stays, which may be told or not
 abbrev pub StaysSend : Type 0
-StaysSend = (told : Bool) (done : Unit {0}) (m after : Machine) (waits : WaitsFor) (old new : Active) → old.output.is_closed ≡ false → LeavesFit (awaited_ids old waits) → IsSpoken (version_number old.output.version) (awaited_ids old waits)
+StaysSend = (told : Bool) (done : Unit {0}) (m after : Machine) (waits : WaitsFor) (old new : Active) → old.output.is_closed ≡ false → slots_of old.results ≡ after.slots → LeavesFit (awaited_ids old waits) → IsSpoken (version_number old.output.version) (awaited_ids old waits)
     → TellsIf told (awaited_ids old waits) old (Ok done) new → TurnSends false m (waits_as waits after) old.output new.output
 
 -- an await that is suspended, for what the machine's reply waits for; a child alone is not awake by itself
