@@ -316,7 +316,7 @@ async def told(worker: Worker, word: str, words: List[Any], with_steps: bool = F
     elif word == "show":
         return await shown(worker, words[0], with_steps)
     else:
-        return lines_of([[printed(it.id), printed(it.object), await status_of(worker, it.id, it.status), it.attempts, it.entries] for it in await worker.store.list()])
+        return lines_of([[printed(it.id), printed(it.object), await status_of(worker, it.id, it.went), it.attempts, it.entries] for it in await worker.store.list()])
     return "done"
 
 

@@ -6,15 +6,16 @@ import json
 import logging
 from collections import defaultdict
 from contextlib import asynccontextmanager
-from typing import AbstractSet, Any, AsyncIterator, Awaitable, Callable, DefaultDict, Dict, FrozenSet, Hashable, List, Optional, Set, Tuple
+from typing import AbstractSet, Any, AsyncIterator, Awaitable, Callable, DefaultDict, Dict, FrozenSet, Hashable, List, Optional, Set, Tuple, TypeVar
 
 from . import pb
 from .futures import told_of
 from .promises import COMPLETE_PROMISE, GET_PROMISE, PEEK_PROMISE, Promises, brought, text_in
 from .services import CALLER, OWN_HEADERS, OWN_NAME, App, Handler, Service, Target, child_of, id_of, named, object_of, space_of
-from .store import OPEN, Arrival, OpenRequest, Recorded, Refused, Shown, Store, StoreGone, Value
+from .store import OPEN, Arrival, Ending, OpenRequest, Recorded, Refused, Shown, Store, StoreGone, Value
 
 log = logging.getLogger("hengomaru")
+T = TypeVar("T")
 
 CALL, SEND, SIGNAL, ATTACH, GET_OUTPUT, AWAKEABLE = 0x040D, 0x040E, 0x040F, 0x0411, 0x0412, 0x0413
 # The requests that are answered by nothing, and those that others answer.
@@ -169,12 +170,19 @@ class Delivery:
         return self.objects[id]
 
     async def is_known(self, id: str) -> bool:
-        return await self.show(id) is not None
+        return await self.ending(id) is not None
 
     async def show(self, id: str) -> Optional[Shown]:
         """What is recorded of an invocation, or None where there is none."""
+        return await self.known(self.store.show(id))
+
+    async def ending(self, id: str) -> Optional[Ending]:
+        """The same, of its answer alone."""
+        return await self.known(self.store.ending(id))
+
+    async def known(self, told: Awaitable[T]) -> Optional[T]:
         try:
-            return await self.store.show(id)
+            return await told
         except Refused as refused:
             if refused.name in ("S2", "S4"):
                 return None
@@ -209,8 +217,8 @@ class Delivery:
         return asked
 
     async def is_open(self, id: str) -> bool:
-        shown = await self.show(id)
-        return shown is not None and shown.is_open
+        ending = await self.ending(id)
+        return ending is not None and ending.is_open
 
     async def fail_request(self, id: str, request: OpenRequest, error: BaseException) -> None:
         """What cannot be delivered fails for whoever has asked, and is told once."""
@@ -285,10 +293,10 @@ class Delivery:
         if completion is None:
             return
         self.waiting[child].add(id)
-        shown = await self.show(child)
-        if shown is not None and not shown.is_open:
+        ending = await self.ending(child)
+        if ending is not None and not ending.is_open:
             self.waiting[child].discard(id)
-            await self.bring(id, completion, b"" if shown.answer is None else shown.answer)
+            await self.bring(id, completion, b"" if ending.answer is None else ending.answer)
 
     async def invoke_later(self, child: str, target: Target, body: bytes, headers: Dict[str, str], at: int) -> None:
         told = {"at": at, "id": child, "target": target, "body": body.hex(), "headers": headers}
@@ -325,9 +333,9 @@ class Delivery:
             await self.bring_answer(id, request.first, other)
 
     async def tell_output(self, id: str, request: OpenRequest, fields: Fields, is_last: bool, blocked: Set[str]) -> None:
-        shown = await self.show(attached(fields))
-        is_ready = shown is not None and not shown.is_open
-        await self.bring(id, request.first, (b"" if shown.answer is None else shown.answer) if shown and is_ready else None)
+        ending = await self.ending(attached(fields))
+        is_ready = ending is not None and not ending.is_open
+        await self.bring(id, request.first, (b"" if ending.answer is None else ending.answer) if ending and is_ready else None)
 
     async def promise(self, id: str, request: OpenRequest, fields: Fields, is_last: bool, blocked: Set[str]) -> None:
         found = dict(fields)

@@ -147,11 +147,11 @@ class Forgetting(Recovery):
     async def forget_one(self, id: str, tried: List[bool]) -> None:
         async with self.purging, self.opening:
             self.touched.clear()
-            shown = await self.show(id)
-            if shown is None and tried:  # it was done, and the answer was lost
+            ending = await self.ending(id)
+            if ending is None and tried:  # it was done, and the answer was lost
                 return
-            if shown is None or shown.is_open:
-                raise Refused("S4" if shown is None else "S1", f"forget {id}")
+            if ending is None or ending.is_open:
+                raise Refused("S4" if ending is None else "S1", f"forget {id}")
             called = id[: -len(LATER)]
             if id.endswith(LATER) and await self.is_known(called):
                 raise Awaited(f"{id} goes with {called}, which it has called")

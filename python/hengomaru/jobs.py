@@ -13,10 +13,12 @@ from .delivery import BUSY, KNOWN, LATER, Delivery, content_in, missing
 from .futures import TerminalError
 from .serdes import BYTES, JSON, Serde, from_json, spelled
 from .services import OWN_NAME, Handler, Target, check_headers, check_id, id_of, named, object_of, target_of
-from .store import Shown, StoreGone, Value
+from .store import Ending, Shown, StoreGone, Value
 
 T = TypeVar("T")
 COUNT = itertools.count()
+# How one stands that waits for its moment, or its object.
+WAITS = Ending(None, True)
 
 
 class Busy(Exception):
@@ -93,32 +95,35 @@ class Jobs(Delivery):
 
     async def shown(self, id: str) -> Shown:
         """What is recorded; LookupError where there is no such invocation. One that waits for its moment, or its object, is open."""
-        shown = await self.retried(self.show, id)
-        if shown is None and await self.retried(self.is_known, id + LATER):
-            return Shown([], [], None, True)
-        if shown is None:
-            raise LookupError(f"there is no invocation {id}")
-        return shown
+        return await self.look_up(self.show, id, Shown([], [], None, True))
+
+    async def look_up(self, look: Callable[[str], Awaitable[Optional[T]]], id: str, later: T) -> T:
+        told = await self.retried(look, id)
+        if told is not None:
+            return told
+        if await self.retried(self.is_known, id + LATER):
+            return later
+        raise LookupError(f"there is no invocation {id}")
 
     async def status(self, id: str) -> Status:
         """LookupError where there is none."""
-        shown = await self.shown(id)
-        return Status(shown.is_open, *answer_in(shown.answer))
+        ending = await self.look_up(self.ending, id, WAITS)
+        return Status(ending.is_open, *answer_in(ending.answer))
 
     async def answered(self, id: str) -> Status:
         """How an invocation has ended, once it has."""
         return Status(False, *answer_in((await self.outcome(id)).answer))
 
-    async def outcome(self, id: str) -> Shown:
-        """What is recorded of an invocation, once it has ended."""
+    async def outcome(self, id: str) -> Ending:
+        """What an invocation answers, once it has ended."""
         with self.reading(id):
             while True:
                 waits = asyncio.get_running_loop().create_future()
                 self.asked.setdefault(id, []).append(waits)
                 try:
-                    shown = await self.shown(id)
-                    if not shown.is_open:
-                        return shown
+                    ending = await self.look_up(self.ending, id, WAITS)
+                    if not ending.is_open:
+                        return ending
                     await waits
                 finally:
                     left = self.asked.get(id, [])

@@ -137,12 +137,12 @@ class Recovery(Jobs):
                     self.put_off(id, self.interval(id), is_fault=False)
                 continue
             try:
-                shown = await self.show(id)
+                ending = await self.ending(id)
             except StoreGone:
                 self.cut_off.update(cut_off)
                 return
-            if shown is not None and not shown.is_open:
-                self.end_of(id, shown.answer, session.caller, self.app.find(session.target))
+            if ending is not None and not ending.is_open:
+                self.end_of(id, ending.answer, session.caller, self.app.find(session.target))
 
     async def pause(self, id: str) -> None:
         """Stops an invocation until `resume`, also for a worker that begins later: its last error says so."""

@@ -93,14 +93,27 @@ class Shown(NamedTuple):
     is_open: bool
 
 
+class Ending(NamedTuple):
+    """What an invocation answers, as of `Shown`, and whether it is open."""
+
+    answer: Value
+    is_open: bool
+
+
 class Listed(NamedTuple):
-    """An invocation: `status` is live, due, suspended, ended or failed."""
+    """An invocation: `status` is live, due, suspended, ended or failed; `answer` is none, value or failure."""
 
     id: str
     object: str
     status: str
     attempts: int
     entries: int
+    answer: str
+
+    @property
+    def went(self) -> str:
+        """As its status, but `failed` also where its handler has put out a failure."""
+        return "failed" if self.answer == "failure" else self.status
 
 
 def escaped(content: Union[str, bytes]) -> str:
@@ -372,6 +385,10 @@ class Store:
         [[_, *ids]] = await self.ask("due")
         return [unescaped(it).decode() for it in ids]
 
+    async def is_due(self, id: str) -> bool:
+        [[_, *ids]] = await self.ask("due", word(id))
+        return bool(ids)
+
     async def next_moment(self) -> Optional[int]:
         return number((await self.ask("next"))[0][1])
 
@@ -381,6 +398,11 @@ class Store:
         requests = [Recorded(int(it[0]), int(it[2], 16), digits(it[3])) for it in rows if it[1] == "request"]
         arrivals = [read_arrival(int(it[0]), *it[2:]) for it in rows if it[1] == "arrival"]
         return Shown(requests, arrivals, read_answer(*lines[-2][1:]), lines[-1][0] == "open")
+
+    async def ending(self, id: str) -> Ending:
+        """As `show` ends, without what is recorded."""
+        answer, openness = await self.ask("answer", word(id), last=("open", "closed"))
+        return Ending(read_answer(*answer[1:]), openness[0] == "open")
 
     async def state(self, object: str) -> Dict[bytes, bytes]:
         lines = await self.ask("state", word(object), last=("end",))
@@ -398,7 +420,7 @@ class Store:
     async def page(self, after: str = "", most: int = 1000) -> List[Listed]:
         """The first invocations behind an id."""
         rows = (await self.ask("list", word(after), most, last=("end",)))[:-1]
-        return [Listed(unescaped(id).decode(), unescaped(object).decode(), status, int(attempts), int(entries)) for _, id, object, status, attempts, entries in rows]
+        return [Listed(unescaped(it[1]).decode(), unescaped(it[2]).decode(), it[3], int(it[4]), int(it[5]), it[6]) for it in rows]
 
     async def rows(self) -> AsyncIterator[Listed]:
         """All invocations, by id, a page at a time."""

@@ -26,7 +26,7 @@ from urllib.parse import parse_qs, unquote
 from .endpoint import Receive, Scope, Send
 from .journal import steps_of
 from .services import MILLISECOND, OWN_HEADERS, Target, named, span_of
-from .store import Listed, Refused, Shown, StoreGone, TooLong
+from .store import Ending, Listed, Refused, Shown, StoreGone, TooLong
 from .worker import NEVER, Awaited, Busy, Worker
 
 log = logging.getLogger("hengomaru")
@@ -217,7 +217,7 @@ class Web:
                 return of_json({"invocationId": id, "status": "Accepted" if is_new else "PreviouslyAccepted"}, 202, [("x-restate-id", word_of(id))])
             return told_answer(await self.outcome(request, id), id, it.output.content_type)
 
-    async def outcome(self, request: Request, id: str) -> Shown:
+    async def outcome(self, request: Request, id: str) -> Ending:
         """What an invocation has come to, once it has ended, as long as somebody waits for it. It goes on also where nobody does."""
         waits, gone = asyncio.ensure_future(self.worker.outcome(id)), asyncio.ensure_future(request.gone())
         try:
@@ -299,7 +299,7 @@ class Web:
 
     def row(self, it: Listed) -> Dict[str, Any]:
         until = self.worker.not_before.get(it.id)
-        status = it.status if until is None or it.status != "due" else "paused" if until == NEVER else "again"
+        status = it.went if until is None or it.status != "due" else "paused" if until == NEVER else "again"
         return {"id": it.id, "object": it.object, "status": status, "attempts": it.attempts, "entries": it.entries, "until": None if until in (None, NEVER) else until}
 
     async def listed(self, after: str, only: str, most: int) -> Dict[str, Any]:
@@ -344,10 +344,10 @@ def told_of(shown: Shown) -> str:
     return shown.answer.decode(errors="replace") if isinstance(shown.answer, bytes) else ""
 
 
-def told_answer(shown: Shown, id: str, content_type: str = "application/json") -> Answer:
+def told_answer(ending: Ending, id: str, content_type: str = "application/json") -> Answer:
     """The answer of an invocation that has ended. A failure is told by its code, where that is one of HTTP's."""
     headers = [("x-restate-id", word_of(id))]
-    if isinstance(shown.answer, tuple):
-        code, message = shown.answer
+    if isinstance(ending.answer, tuple):
+        code, message = ending.answer
         return of_json({"code": code, "message": message}, code if 400 <= code < 600 else 500, headers)
-    return Answer(200, shown.answer if isinstance(shown.answer, bytes) else b"", content_type, headers)
+    return Answer(200, ending.answer if isinstance(ending.answer, bytes) else b"", content_type, headers)

@@ -11,7 +11,7 @@ import subprocess
 import sys
 from pathlib import Path
 
-MANY = {"show": ("open", "closed"), "state": ("end",), "requests": ("end",), "list": ("end",)}
+MANY = {"show": ("open", "closed"), "answer": ("open", "closed"), "state": ("end",), "requests": ("end",), "list": ("end",)}
 
 
 def write(file, told):

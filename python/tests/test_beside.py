@@ -14,7 +14,7 @@ from hengomaru import forgetting, pb, recovery
 from hengomaru.delivery import CALL
 from hengomaru.promises import COMPLETE_PROMISE, GET_PROMISE
 from hengomaru.services import CALLER
-from hengomaru.store import Arrival, Listed, OpenRequest, Recorded, Refused, Shown, Store, StoreGone
+from hengomaru.store import Arrival, Ending, Listed, OpenRequest, Recorded, Refused, Shown, Store, StoreGone
 from hengomaru.worker import Worker
 
 SEEDS = int(os.environ.get("HENGOMARU_SEEDS", "20"))
@@ -232,6 +232,10 @@ class StandIn:
 
         return await self.trip(ask)
 
+    async def ending(self, id):
+        shown = await self.show(id)
+        return Ending(shown.answer, shown.is_open)
+
     async def requests(self, id):
         def ask():
             found = []
@@ -248,7 +252,7 @@ class StandIn:
         def ask():
             found = sorted((id for id in self.invocations if id.encode() > after.encode()), key=str.encode)[:5]
             status = lambda it: "ended" if not it.is_open else "live" if it.live else "due" if it.is_awake else "suspended"
-            return [Listed(id, self.invocations[id].object, status(self.invocations[id]), self.invocations[id].attempts, self.invocations[id].count()) for id in found]
+            return [Listed(id, self.invocations[id].object, status(self.invocations[id]), self.invocations[id].attempts, self.invocations[id].count(), "value" if self.invocations[id].answer else "none") for id in found]
 
         return await self.trip(ask)
 

@@ -114,7 +114,7 @@ class Commands(unittest.TestCase):
         ended = set(self.asked("worker", it, app_name).splitlines())
         self.assertEqual(ended, {"j1: 3", "j3: failed (418) no\\nx: \\u202e"})
         self.assertEqual(self.asked("pause", it, "j2"), "done")
-        self.assertEqual([row.split()[2] for row in self.asked("list", it).splitlines()], ["ended", "paused", "ended"])
+        self.assertEqual([row.split()[2] for row in self.asked("list", it).splitlines()], ["ended", "paused", "failed"])
         self.assertEqual(self.asked("signal", it, "j2", "go", "7"), "done")
         self.assertEqual(self.asked("worker", it, app_name), "")
         self.assertEqual(self.asked("show", it, "j2"), "j2: open")

@@ -267,6 +267,10 @@ class Features(unittest.TestCase):
 
     def test_a_failure_is_the_answer(self):
         self.assertEqual(self.run_one(fails, "top"), (418, "no: top"))
+        [row] = self.worker.listed()
+        self.assertEqual((row.status, row.answer, row.went), ("ended", "failure", "failed"))
+        self.assertEqual(self.worker.do(self.worker.worker.store.ending("i")), ((418, "no: top"), False))
+        self.assertFalse(self.worker.do(self.worker.worker.store.is_due("i")))
 
     def test_several_together(self):
         self.assertEqual(self.run_one(together), [["fast", 1], [2, 1], [3, 4], 5, [6, 7], "no: all", 8, 9])

@@ -13,7 +13,7 @@ from hengomaru.delivery import AS_ID, ATTACH, CALL, SEND
 from hengomaru.promises import COMPLETE_PROMISE
 from hengomaru.recovery import NEVER
 from hengomaru.services import MILLISECOND, span_of
-from hengomaru.store import Arrival, Listed, OpenRequest, Recorded, Refused, Shown, Store
+from hengomaru.store import Arrival, Ending, Listed, OpenRequest, Recorded, Refused, Shown, Store
 from hengomaru.web import Web
 from hengomaru.worker import Worker
 from tests.needs import lacks
@@ -77,7 +77,7 @@ class StandIn:
     async def page(self, after="", most=1000):
         await asyncio.sleep(0)
         found = sorted((it for it in self.invocations if it.encode() > after.encode()), key=str.encode)
-        return [Listed(it, *self.invocations[it][:2], 1, 1) for it in found[:3]]
+        return [Listed(it, *self.invocations[it][:2], 1, 1, "none") for it in found[:3]]
 
     def found(self, id):
         if id not in self.invocations:
@@ -89,6 +89,10 @@ class StandIn:
         _, status, _, completed = self.found(id)
         asked = [Recorded(n, COMPLETE_PROMISE, pb.record((1, name), (2, pb.record((1, b"1"))), (11, n))) for n, name in enumerate(completed)]
         return Shown(asked, [Arrival(9, f"c{n}", "void", None) for n in range(len(completed))], b"", status == "due")
+
+    async def ending(self, id):
+        await asyncio.sleep(0)
+        return Ending(b"", self.found(id)[1] == "due")
 
     async def requests(self, id):
         await asyncio.sleep(0)

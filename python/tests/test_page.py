@@ -98,7 +98,7 @@ class PageTests(unittest.TestCase):
         # The list has both, each text as it is.
         browser.open(self.at + "/ui")
         browser.wait("document.querySelectorAll('tbody tr').length === 2")
-        browser.wait("document.querySelector('.status.ended')")
+        browser.wait("document.querySelector('.status.failed')")
         self.assertIn("1 ended since the worker began", self.text())
         shown = browser.value("[...document.querySelectorAll('tbody a')].map(it => decodeURIComponent(it.hash.slice(1)))")
         self.assertIn(id, shown)

@@ -1,4 +1,5 @@
 """Records, words of the store's process, names of invocations, and what futures together come to: none needs a program."""
+import asyncio
 import pathlib
 import re
 import unittest
@@ -13,7 +14,7 @@ from hengomaru.machine import ALL_COMPLETED, ALL_SUCCEEDED, AT_LEAST, FAILURE, F
 from hengomaru.promises import brought
 from hengomaru.serdes import from_json, to_json
 from hengomaru.services import Service, Target, VirtualObject, Workflow, app, id_of, object_of, target_in, target_of
-from hengomaru.store import Refused, digits, escaped, read_answer, read_arrival, unescaped, value_word, word
+from hengomaru.store import Ending, Listed, Refused, Store, digits, escaped, read_answer, read_arrival, unescaped, value_word, word
 
 
 class Refusals(unittest.TestCase):
@@ -72,6 +73,41 @@ class Words(unittest.TestCase):
     def test_json(self):
         self.assertEqual([from_json(to_json(it)) for it in (None, "é", [1, {"a": 2.5}])], [None, "é", [1, {"a": 2.5}]])
         self.assertEqual(from_json(b""), None)
+
+
+class Answering(Store):
+    """A store's process that answers so."""
+
+    def __init__(self, *lines):
+        super().__init__(":memory:", "none")
+        self.lines, self.asked = lines, None
+
+    async def ask(self, *words, last=()):
+        self.asked = " ".join(map(str, words)), tuple(last)
+        return [it.split(" ") for it in self.lines]
+
+
+class Answers(unittest.TestCase):
+    def told(self, call, asked, *lines):
+        store = Answering(*lines)
+        told = asyncio.run(call(store))
+        self.assertEqual(store.asked, asked)
+        return told
+
+    def test_whether_one_is_due(self):
+        self.assertEqual([self.told(lambda it: it.is_due("a b"), ("due a%20b", ()), line) for line in ("due", "due a%20b")], [False, True])
+
+    def test_how_one_ends(self):
+        asked = "answer i", ("open", "closed")
+        ending = lambda *lines: self.told(lambda it: it.ending("i"), asked, *lines)
+        self.assertEqual(ending("answer none", "open"), Ending(None, True))
+        self.assertEqual(ending("answer value 6f6b", "closed"), Ending(b"ok", False))
+        self.assertEqual(ending("answer failure 409 -", "closed"), Ending((409, ""), False))
+
+    def test_what_is_listed(self):
+        rows = self.told(lambda it: it.page("a", 2), ("list a 2", ("end",)), "invocation b o%25 ended 1 3 failure", "invocation c c due 0 1 none", "end")
+        self.assertEqual(rows, [Listed("b", "o%", "ended", 1, 3, "failure"), Listed("c", "c", "due", 0, 1, "none")])
+        self.assertEqual([it.went for it in rows], ["failed", "due"])
 
 
 class Names(unittest.TestCase):

@@ -20,7 +20,7 @@ use Rattle.script_lines.specs.Word.{IsWordByte, mode_word}
 use Rattle.server_lines.specs.Word.{IsByte, IsKey, IsValue, escaped, key_word, text_word, value_word}
 use Rattle.server_lines.specs.Request.{IsRequest, header_words, words_of}
 use Rattle.server_lines.specs.declared.request.Request.{Request}
-use Rattle.server_lines.specs.declared.request.Request.TheVariants.{Invoke, Result, Signal, Cancel, Tick, Begin, Input, Output, Close, Stop, Forget, Due, DueAfter, Next, Show, State, Error, List as ListRequest, Requests}
+use Rattle.server_lines.specs.declared.request.Request.TheVariants.{Invoke, Result, Signal, Cancel, Tick, Begin, Input, Output, Close, Stop, Forget, Due, DueOne, DueAfter, Next, Show, Answer, State, Error, List as ListRequest, Requests}
 use Rattle.server_lines.proofs.Escapes.{escaped-AreWordBytes, digits-AreWordBytes}
 
 -- ---- words without a space are those between the spaces
@@ -125,9 +125,11 @@ words-no_space (Close id attempt) h = (letters (codes "close") refl, (text-no_sp
 words-no_space (Stop id attempt) h = (letters (codes "stop") refl, (text-no_space id, (number-no_space attempt h.1, tt)))
 words-no_space (Forget ids) h = (letters (codes "forget") refl, ids-no_space ids)
 words-no_space Due h = (letters (codes "due") refl, tt)
+words-no_space (DueOne id) h = named-no_space (codes "due") id (letters (codes "due") refl)
 words-no_space (DueAfter after most) h = (letters (codes "due") refl, (text-no_space after, (number-no_space most h.1, tt)))
 words-no_space Next h = (letters (codes "next") refl, tt)
 words-no_space (Show id) h = named-no_space (codes "show") id (letters (codes "show") refl)
+words-no_space (Answer id) h = named-no_space (codes "answer") id (letters (codes "answer") refl)
 words-no_space (State object) h = named-no_space (codes "state") object (letters (codes "state") refl)
 words-no_space (Error id) h = named-no_space (codes "error") id (letters (codes "error") refl)
 words-no_space (ListRequest after most) h = (letters (codes "list") refl, (text-no_space after, (number-no_space most h.1, tt)))

@@ -15,6 +15,8 @@ use Rattle.server_lines.specs.declared.reply.ErrorReply.{ErrorReply}
 use Rattle.server_lines.specs.declared.reply.ErrorReply.TheVariants.{Missing, Told}
 use Rattle.server_lines.specs.declared.reply.InvocationStatus.{InvocationStatus}
 use Rattle.server_lines.specs.declared.reply.InvocationStatus.TheVariants as status
+use Rattle.server_lines.specs.declared.reply.AnswerKind.{AnswerKind}
+use Rattle.server_lines.specs.declared.reply.AnswerKind.TheVariants as kind
 use Rattle.server_lines.specs.declared.reply.InvocationReply.{InvocationReply}
 use Rattle.server_lines.specs.declared.reply.OpenRequestReply.{OpenRequestReply}
 
@@ -96,13 +98,19 @@ status_word status.Suspended = codes "suspended"
 status_word status.Ended = codes "ended"
 status_word status.Failed = codes "failed"
 
--- an invocation: its id, its object, how it stands, how many attempts were begun, and how many entries are recorded
-abbrev pub invocation_line : List ℕ → List ℕ → InvocationStatus → ℕ → ℕ → List ℕ
-invocation_line id object how attempts entries =
+abbrev pub answer_word : AnswerKind → List ℕ
+answer_word kind.Missing = codes "none"
+answer_word kind.Value = codes "value"
+answer_word kind.Failure = codes "failure"
+
+-- an invocation: its id, its object, how it stands, how many attempts were begun, how many entries are recorded, and what it answers
+abbrev pub invocation_line : List ℕ → List ℕ → InvocationStatus → ℕ → ℕ → AnswerKind → List ℕ
+invocation_line id object how attempts entries answer =
     codes "invocation " ++ text_word id ++ codes " " ++ text_word object ++ codes " " ++ status_word how ++ codes " " ++ decimal attempts ++ codes " " ++ decimal entries
+    ++ codes " " ++ answer_word answer
 
 abbrev pub invocation_text : InvocationReply → List ℕ
-invocation_text reply = invocation_line reply.id.now reply.object.now reply.status reply.attempts reply.entries
+invocation_text reply = invocation_line reply.id.now reply.object.now reply.status reply.attempts reply.entries reply.answer
 
 -- a frame's type as two bytes, and its payload
 unfoldable pub frame_digits_text : ℕ → List ℕ → List ℕ

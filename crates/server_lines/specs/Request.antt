@@ -6,7 +6,7 @@ use Rattle.script_lines.specs.Word.{mode_word}
 use Rattle.journal_model.specs.declared.call.Header.{Header}
 use Rattle.journal_model.specs.declared.invocation.NewInvocation.{NewInvocation}
 use Rattle.server_lines.specs.declared.request.Request.{Request}
-use Rattle.server_lines.specs.declared.request.Request.TheVariants.{Invoke, Result, Signal, Cancel, Tick, Begin, Input, Output, Close, Stop, Forget, Due, DueAfter, Next, Show, State, Error, List as ListRequest, Requests}
+use Rattle.server_lines.specs.declared.request.Request.TheVariants.{Invoke, Result, Signal, Cancel, Tick, Begin, Input, Output, Close, Stop, Forget, Due, DueOne, DueAfter, Next, Show, Answer, State, Error, List as ListRequest, Requests}
 use Rattle.server_lines.specs.Word.{IsByte, IsKey, IsText, IsValue, key_word, text_word, value_word}
 use Rattle.server_lines.specs.RequestReader.{request_of}
 
@@ -29,9 +29,11 @@ words_of (Close id attempt) = codes "close" ∷ text_word id ∷ decimal attempt
 words_of (Stop id attempt) = codes "stop" ∷ text_word id ∷ decimal attempt ∷ []
 words_of (Forget ids) = codes "forget" ∷ map text_word ids
 words_of Due = codes "due" ∷ []
+words_of (DueOne id) = codes "due" ∷ text_word id ∷ []
 words_of (DueAfter after most) = codes "due" ∷ text_word after ∷ decimal most ∷ []
 words_of Next = codes "next" ∷ []
 words_of (Show id) = codes "show" ∷ text_word id ∷ []
+words_of (Answer id) = codes "answer" ∷ text_word id ∷ []
 words_of (State object) = codes "state" ∷ text_word object ∷ []
 words_of (Error id) = codes "error" ∷ text_word id ∷ []
 words_of (ListRequest after most) = codes "list" ∷ text_word after ∷ decimal most ∷ []
@@ -66,9 +68,11 @@ IsRequest (Close id attempt) = IsText id × (attempt < 2 ^ 32)
 IsRequest (Stop id attempt) = IsText id × (attempt < 2 ^ 32)
 IsRequest (Forget ids) = (1 ≤ length ids) × AllByRecursion IsText ids
 IsRequest Due = Unit {0}
+IsRequest (DueOne id) = IsText id
 IsRequest (DueAfter after most) = IsText after × (most < 2 ^ 32)
 IsRequest Next = Unit {0}
 IsRequest (Show id) = IsText id
+IsRequest (Answer id) = IsText id
 IsRequest (State object) = IsText object
 IsRequest (Error id) = IsText id
 IsRequest (ListRequest after most) = IsText after × (most < 2 ^ 32)

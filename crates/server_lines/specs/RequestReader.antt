@@ -7,7 +7,7 @@ use Rattle.script_lines.specs.LineReader.{◌>>=◌, mode_of, number_below}
 use Rattle.server_lines.specs.declared.command.Command.{Command}
 use Rattle.server_lines.specs.declared.command.Command.TheVariants as command
 use Rattle.server_lines.specs.declared.request.Request.{Request}
-use Rattle.server_lines.specs.declared.request.Request.TheVariants.{Invoke, Result, Signal, Cancel, Tick, Begin, Input, Output, Close, Stop, Forget, Due, DueAfter, Next, Show, State, Error, List as ListRequest, Requests}
+use Rattle.server_lines.specs.declared.request.Request.TheVariants.{Invoke, Result, Signal, Cancel, Tick, Begin, Input, Output, Close, Stop, Forget, Due, DueOne, DueAfter, Next, Show, Answer, State, Error, List as ListRequest, Requests}
 use Rattle.server_lines.specs.WordReader.{word_bytes_of, digits_of, key_of, text_of, word_value_of}
 
 unfoldable pub header_read : List ℕ → List ℕ → Option Header
@@ -111,6 +111,11 @@ show_of id = do
   id ← text_of id
   Some (Show id)
 
+unfoldable pub answer_of : List ℕ → Option Request
+answer_of id = do
+  id ← text_of id
+  Some (Answer id)
+
 unfoldable pub state_of : List ℕ → Option Request
 state_of object = do
   object ← text_of object
@@ -131,6 +136,11 @@ list_of after most = do
   most ← number_below (2 ^ 32) most
   after ← text_of after
   Some (ListRequest after most)
+
+unfoldable pub due_one_of : List ℕ → Option Request
+due_one_of id = do
+  id ← text_of id
+  Some (DueOne id)
 
 unfoldable pub due_after_of : List ℕ → List ℕ → Option Request
 due_after_of after most = do
@@ -160,9 +170,10 @@ unfoldable pub of_invoke : List (List ℕ) → Option Request
 of_invoke (a ∷ b ∷ c ∷ d ∷ e ∷ f ∷ headers) = invoke_of a b c d e f headers
 of_invoke words = None
 
--- all; or behind an id, at most so many
+-- all; or whether one is; or behind an id, at most so many
 unfoldable pub of_due : List (List ℕ) → Option Request
 of_due [] = Some Due
+of_due (a ∷ []) = due_one_of a
 of_due (a ∷ b ∷ []) = due_after_of a b
 of_due words = None
 
@@ -193,10 +204,11 @@ asking_of word =
     if bytes_eq word (codes "due") then Some command.Due else
     (if bytes_eq word (codes "next") then Some command.Next else
     (if bytes_eq word (codes "show") then Some command.Show else
+    (if bytes_eq word (codes "answer") then Some command.Answer else
     (if bytes_eq word (codes "state") then Some command.State else
     (if bytes_eq word (codes "error") then Some command.Error else
     (if bytes_eq word (codes "list") then Some command.List else
-    (if bytes_eq word (codes "requests") then Some command.Requests else None))))))
+    (if bytes_eq word (codes "requests") then Some command.Requests else None)))))))
 
 unfoldable pub request_command_of : List ℕ → Option Command
 request_command_of word = option_or (bringing_of word) (asking_of word)
@@ -216,6 +228,7 @@ arguments_of command.Forget = forget_of
 arguments_of command.Due = of_due
 arguments_of command.Next = of_none Next
 arguments_of command.Show = of_one show_of
+arguments_of command.Answer = of_one answer_of
 arguments_of command.State = of_one state_of
 arguments_of command.Error = of_one error_of
 arguments_of command.List = of_list

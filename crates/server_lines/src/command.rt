@@ -20,6 +20,7 @@ pub enum Command {
     Due,
     Next,
     Show,
+    Answer,
     State,
     Error,
     List,
@@ -69,6 +70,8 @@ fn parse_asking(word: &[u8]) -> Option<Command>
         Some(Command::Next)
     } else if word == b"show".as_slice() {
         Some(Command::Show)
+    } else if word == b"answer".as_slice() {
+        Some(Command::Answer)
     } else if word == b"state".as_slice() {
         Some(Command::State)
     } else if word == b"error".as_slice() {

@@ -2,7 +2,7 @@
 //! (`script_lines::text::LineReply`), and so are the lines of `show` and `state`.
 
 ghost use Rattle.std.specs.Prelude.{Some, option_map};
-ghost use Rattle.server_lines.specs.Reply.{begun_text, completions_text, due_text, error_text, frame_digits_text, frame_text, frames_text, input_text, invocation_text, next_text, not_understood_text, open_request_text, output_text, frame_refusal_text, status_word, words_text};
+ghost use Rattle.server_lines.specs.Reply.{answer_word, begun_text, completions_text, due_text, error_text, frame_digits_text, frame_text, frames_text, input_text, invocation_text, next_text, not_understood_text, open_request_text, output_text, frame_refusal_text, status_word, words_text};
 
 use crate::word::Word;
 use bytes::ByteStr;
@@ -239,6 +239,27 @@ impl fmt::Display for InvocationStatus {
     }
 }
 
+/// What an invocation answers, by its kind.
+#[derive(Clone, Copy)]
+pub enum AnswerKind {
+    /// It is open, or has ended with no output.
+    Missing,
+    Value,
+    Failure,
+}
+
+impl fmt::Display for AnswerKind {
+    ghost output = { λ kind. Some (answer_word kind) };
+
+    fn fmt<W: fmt::Write>(&self, f: &mut fmt::Formatter<W>) -> fmt::Result {
+        match self {
+            AnswerKind::Missing => write!(f, "none"),
+            AnswerKind::Value => write!(f, "value"),
+            AnswerKind::Failure => write!(f, "failure"),
+        }
+    }
+}
+
 /// An invocation, as it is known without its journal.
 #[derive(Clone, Copy)]
 pub struct InvocationReply<'a> {
@@ -249,6 +270,7 @@ pub struct InvocationReply<'a> {
     pub attempts: u32,
     /// How many entries are recorded.
     pub entries: u32,
+    pub answer: AnswerKind,
 }
 
 impl fmt::Display for InvocationReply<'_> {
@@ -260,7 +282,11 @@ impl fmt::Display for InvocationReply<'_> {
         let status = self.status;
         let attempts = self.attempts;
         let entries = self.entries;
-        write!(f, "invocation {id} {object} {status} {attempts} {entries}")
+        let answer = self.answer;
+        write!(
+            f,
+            "invocation {id} {object} {status} {attempts} {entries} {answer}"
+        )
     }
 }
 

@@ -4,7 +4,7 @@ ghost use Rattle.std.specs.Prelude.{◌≡◌, ◌==◌, map, IfOk};
 ghost use Rattle.std.specs.List.{slice_split};
 ghost use Rattle.script_lines.specs.LineReader.{Gives};
 ghost use Rattle.server_lines.specs.declared.request.Request.TheVariants as asked;
-ghost use Rattle.server_lines.specs.RequestReader.{begin_of, cancel_of, close_of, due_after_of, error_of, forget_of, header_read, headers_of, ids_of, input_of, invoke_of, list_of, of_due, of_invoke, of_list, of_none, of_one, of_three, of_two, output_request, request_spelled, request_of, requests_of, result_request_of, show_of, signal_of, state_of, stop_request_of, tick_of};
+ghost use Rattle.server_lines.specs.RequestReader.{answer_of, begin_of, cancel_of, close_of, due_after_of, due_one_of, error_of, forget_of, header_read, headers_of, ids_of, input_of, invoke_of, list_of, of_due, of_invoke, of_list, of_none, of_one, of_three, of_two, output_request, request_spelled, request_of, requests_of, result_request_of, show_of, signal_of, state_of, stop_request_of, tick_of};
 
 use crate::command::{Command, parse_command};
 use crate::word::{parse_bytes, parse_digits, parse_key, parse_text, parse_value};
@@ -72,6 +72,10 @@ pub enum Request {
     },
     /// Asks which invocations are due.
     Due,
+    /// Asks whether an invocation is due.
+    DueOne {
+        id: ByteStr,
+    },
     /// Asks which are due of those behind an id, at most so many.
     DueAfter {
         after: ByteStr,
@@ -81,6 +85,10 @@ pub enum Request {
     Next,
     /// Asks what is recorded of an invocation.
     Show {
+        id: ByteStr,
+    },
+    /// Asks what an invocation answers, and whether it is open.
+    Answer {
         id: ByteStr,
     },
     /// Asks for the state of an object.
@@ -307,6 +315,14 @@ fn parse_forget(alloc: Global, arguments: &[&[u8]]) -> Result<Request, LineError
     Ok(Request::Forget { ids })
 }
 
+#[tactic(auto, unfolding(crate::specs::RequestReader::due_one_of, script_lines::specs::LineReader::then_read))]
+fn parse_due_one(alloc: Global, id: &[u8]) -> Result<Request, LineError>
+    ensures { Gives result (due_one_of id.now) }
+{
+    let id = parse_text(alloc, id)?;
+    Ok(Request::DueOne { id })
+}
+
 #[tactic(auto, unfolding(crate::specs::RequestReader::due_after_of, script_lines::specs::LineReader::then_read))]
 fn parse_due_page(alloc: Global, after: &[u8], most: &[u8]) -> Result<Request, LineError>
     ensures { Gives result (due_after_of after.now most.now) }
@@ -322,6 +338,7 @@ fn parse_due(alloc: Global, arguments: &[&[u8]]) -> Result<Request, LineError>
 {
     match arguments {
         [] => Ok(Request::Due),
+        [id] => parse_due_one(alloc, id),
         [after, most] => parse_due_page(alloc, after, most),
         _ => Err(LineError::NotUnderstood),
     }
@@ -382,6 +399,17 @@ fn parse_show(alloc: Global, arguments: &[&[u8]]) -> Result<Request, LineError>
     Ok(Request::Show { id })
 }
 
+#[tactic(auto, unfolding(crate::specs::RequestReader::of_one, crate::specs::RequestReader::answer_of, script_lines::specs::LineReader::then_read))]
+fn parse_answer(alloc: Global, arguments: &[&[u8]]) -> Result<Request, LineError>
+    ensures { Gives result (of_one answer_of (map (λ word. word.now) arguments.now)) }
+{
+    let [id] = arguments else {
+        return Err(LineError::NotUnderstood);
+    };
+    let id = parse_text(alloc, id)?;
+    Ok(Request::Answer { id })
+}
+
 #[tactic(auto, unfolding(crate::specs::RequestReader::of_one, crate::specs::RequestReader::state_of, script_lines::specs::LineReader::then_read))]
 fn parse_state(alloc: Global, arguments: &[&[u8]]) -> Result<Request, LineError>
     ensures { Gives result (of_one state_of (map (λ word. word.now) arguments.now)) }
@@ -426,6 +454,7 @@ fn parse_words(alloc: Global, words: &[&[u8]]) -> Result<Request, LineError>
         Command::Due => parse_due(alloc, arguments),
         Command::Next => parse_next(arguments),
         Command::Show => parse_show(alloc, arguments),
+        Command::Answer => parse_answer(alloc, arguments),
         Command::State => parse_state(alloc, arguments),
         Command::Error => parse_error(alloc, arguments),
         Command::List => parse_list(alloc, arguments),

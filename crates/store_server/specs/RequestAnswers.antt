@@ -1,8 +1,11 @@
 -- What a request does to what the store stands for, and its answer with the line feed.
-use Rattle.std.specs.Prelude.{◌≡◌, ℕ, List, [], ◌∷◌, ◌++◌, map, Option, Some, None, option_map, Result, Ok, Err, IfOk}
-use Rattle.journal_model.specs.Notification.{Bytes}
+use Rattle.std.specs.Prelude.{◌≡◌, ℕ, Bool, true, false, List, [], ◌∷◌, ◌++◌, map, Option, Some, None, option_map, Result, Ok, Err, IfOk}
+use Rattle.journal_model.specs.Notification.{Bytes, Text}
+use Rattle.journal_model.specs.declared.value.NonEmptyValue.{NonEmptyValue}
 use Rattle.journal_model.specs.Event.{Event}
-use Rattle.journal_model.specs.Attempt.{due}
+use Rattle.journal_model.specs.Journal.{is_open}
+use Rattle.journal_model.specs.Attempt.{due, is_due}
+use Rattle.journal_model.specs.Cause.{those_that_hold}
 use Rattle.protocol_types.specs.Version.{version_content_type}
 use Rattle.due_laws.specs.NextMoment.{IsNextMoment}
 use Rattle.script_lines.specs.Text.{reply_text, refused_text}
@@ -10,14 +13,18 @@ use Rattle.script_lines.specs.declared.text.LineReply.TheVariants.{Done, Placed,
 use Rattle.server_lines.specs.declared.reply.TakenFrame.{TakenFrame}
 use Rattle.server_lines.specs.declared.reply.TakenFrame.TheVariants as frame
 use Rattle.server_lines.specs.declared.request.Request.{Request}
-use Rattle.server_lines.specs.declared.request.Request.TheVariants.{Invoke, Result as ResultRequest, Signal, Cancel, Tick, Begin, Input, Output, Close, Stop, Forget, Due, DueAfter, Next, Show, State, Error, List as ListRequest, Requests}
+use Rattle.server_lines.specs.declared.request.Request.TheVariants.{Invoke, Result as ResultRequest, Signal, Cancel, Tick, Begin, Input, Output, Close, Stop, Forget, Due, DueOne, DueAfter, Next, Show, Answer, State, Error, List as ListRequest, Requests}
 use Rattle.server_lines.specs.Reply.{begun_line, due_line, error_line, input_line, next_line, no_error_text, not_understood_text, output_line}
 use Rattle.server_lines.specs.RequestReader.{request_of}
-use Rattle.shown_records.specs.ShownTexts.{Shows, TellsState}
+use Rattle.shown_records.specs.Invocation.{shown_text}
+use Rattle.shown_records.specs.ShownTexts.{IsKnown, Shows, TellsState}
 use Rattle.store_refusals.specs.declared.refusal.Refusal.{Refusal}
 use Rattle.store_refusals.specs.Names.{refusal_name_of}
+use Rattle.store_refusals.specs.RefusalConditions.{IsRefused}
 use Rattle.store_tables.specs.declared.row.LastError.{LastError}
 use Rattle.store_model.specs.Progress.{last_error_of}
+use Rattle.store_invocations.specs.InvocationAnswers.{answer_told}
+use Rattle.store_invocations.specs.Rows.{known_tests}
 use Rattle.store_reads.specs.DuePage.{due_after}
 use Rattle.store_reads.specs.Page.{invocations_after}
 use Rattle.store_reads.specs.OpenRequests.{open_requests}
@@ -84,6 +91,15 @@ taken_line taken = line_of (output_line (map taken_frame taken.0) (option_map re
 abbrev pub ids_line : List (List ℕ) → List ℕ
 ids_line ids = line_of (due_line ids)
 
+-- of one invocation, its id where it is due
+abbrev pub id_if : Bool → List ℕ → List (List ℕ)
+id_if true id = id ∷ []
+id_if false id = []
+
+-- the last two lines of what is shown: what an invocation answers, and whether it is open
+abbrev pub answered_text : Option NonEmptyValue × Bool → List ℕ
+answered_text told = shown_text [] told.0 told.1
+
 abbrev pub moment_line : Option ℕ → List ℕ
 moment_line moment = line_of (next_line moment)
 
@@ -93,6 +109,14 @@ last_error_text (Some error) = error_line error.code error.behavior error.delay 
 
 abbrev pub last_error_line : Option LastError → List ℕ
 last_error_line error = line_of (last_error_text error)
+
+-- ---- what is told of an invocation that is known, or not
+
+abbrev pub HasAnswer : Text → Option NonEmptyValue → Bool → List Event → Type 0
+HasAnswer id answer is_open_now events = IsKnown id events × (answer ≡ answer_told events id) × (is_open_now ≡ is_open events id)
+
+abbrev pub IsUnknown : Text → Refusal → List Event → Type 0
+IsUnknown id why events = IsRefused (those_that_hold (known_tests events id)) why
 
 -- ---- the requests
 
@@ -110,9 +134,11 @@ DoesRequest (Close id attempt) = Answers done_line (ClosesStoredInput id attempt
 DoesRequest (Stop id attempt) = Answers done_line (Stops id attempt)
 DoesRequest (Forget ids) = Answers done_line (Forgets ids)
 DoesRequest Due = Answers ids_line (Tells (λ events ids. ids ≡ due events))
+DoesRequest (DueOne id) = Answers (λ told. ids_line (id_if told id)) (TellsKnown id (λ events told. told ≡ is_due events id))
 DoesRequest (DueAfter after most) = Answers ids_line (Tells (λ events ids. ids ≡ due_after events after most))
 DoesRequest Next = Answers moment_line (Tells IsNextMoment)
 DoesRequest (Show id) = λ text. Shown (Shows id text)
+DoesRequest (Answer id) = Answers answered_text (TellsKnown id (λ events told. told ≡ (answer_told events id, is_open events id)))
 DoesRequest (State object) = λ text. Shown (TellsState object text)
 DoesRequest (Error id) = Answers last_error_line (TellsKnown id (λ events error. error ≡ last_error_of events id))
 DoesRequest (ListRequest after most) = Answers (λ listed. all_listed_text listed ++ end_line) (Tells (λ events listed. listed ≡ map (listed_of events) (invocations_after events (Some after) most)))

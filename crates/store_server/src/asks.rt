@@ -1,15 +1,17 @@
 //! Requests that only ask. All is asked for before a text is made of it.
-ghost use Rattle.std.specs.Prelude.{◌≡◌, ◌++◌, map, IfErr, IfOk, Ok, Some, string_bytes};
-ghost use Rattle.journal_model.specs.Attempt.{due};
+ghost use Rattle.std.specs.Prelude.{◌≡◌, ◌++◌, map, [], IfErr, IfOk, Ok, Some, string_bytes};
+ghost use Rattle.journal_model.specs.Attempt.{due, is_due};
+ghost use Rattle.journal_model.specs.Journal.{is_open};
 ghost use Rattle.due_laws.specs.NextMoment.{IsNextMoment};
 ghost use Rattle.server_lines.specs.Reply.{error_text};
 ghost use Rattle.shown_records.specs.ShownTexts.{HasEntries, HasRecords, RefusesShow, Shows, TellsState};
 ghost use Rattle.store_model.specs.Progress.{last_error_of};
+ghost use Rattle.store_invocations.specs.InvocationAnswers.{answer_told};
 ghost use Rattle.store_reads.specs.DuePage.{due_after};
 ghost use Rattle.store_reads.specs.Page.{invocations_after};
 ghost use Rattle.store_reads.specs.OpenRequests.{open_requests};
 ghost use Rattle.store_server.specs.StoreChanges.{CommitsNothing, ReachesStore, Tells, TellsKnown, items_told};
-ghost use Rattle.store_server.specs.RequestAnswers.{Answers, MakesAnswer, Shown, ids_line, last_error_line, last_error_text, line_of, moment_line};
+ghost use Rattle.store_server.specs.RequestAnswers.{Answers, HasAnswer, IsUnknown, MakesAnswer, Shown, answered_text, id_if, ids_line, last_error_line, last_error_text, line_of, moment_line};
 ghost use Rattle.store_server.specs.Rows.{all_listed_text, end_line, listed_of, open_requests_text};
 
 use crate::answer::refused;
@@ -20,6 +22,7 @@ use server_lines::reply::{DueReply, ErrorReply, NextReply};
 use shown_records::{ShownEntry, ShownInvocation, ShownStates, read_entries};
 use sqlite::Alter;
 use std::alloc::{AllocError, Global};
+use std::slice::from_ref;
 
 fn due_line(alloc: Global, ids: &[ByteStr]) -> Result<String, AllocError>
     ensures { IfOk result (λ text. string_bytes text ≡ ids_line ids.now) }
@@ -40,6 +43,56 @@ pub(crate) fn due<S: Alter + Drop>(
             drop(ids);
             text
         }
+        Err(refusal) => refused(alloc, refusal),
+    }
+}
+
+/// Whether an id is among those that are due.
+fn is_listed<S: Alter + Drop>(store: &mut Store<S>, id: &ByteStr) -> Result<bool, Refusal>
+    ensures { ReachesStore S.Store CommitsNothing (Tells (λ events told. told ≡ is_due events id.now) result) store.old store.new }
+{
+    match store.due() {
+        Ok(ids) => {
+            let is_among = ids.as_slice().contains(id);
+            drop(ids);
+            Ok(is_among)
+        }
+        Err(refusal) => Err(refusal),
+    }
+}
+
+/// Whether an invocation is due.
+fn is_due<S: Alter + Drop>(store: &mut Store<S>, id: &ByteStr) -> Result<bool, Refusal>
+    ensures { ReachesStore S.Store CommitsNothing (TellsKnown id.now (λ events told. told ≡ is_due events id.now) result) store.old store.new }
+{
+    let is_open = store.is_open(id)?;
+    if is_open {
+        is_listed(store, id)
+    } else {
+        Ok(false)
+    }
+}
+
+/// One that is due is told as all that are due would be.
+fn due_one_line(alloc: Global, id: &ByteStr, is_due: bool) -> Result<String, AllocError>
+    ensures { IfOk result (λ text. string_bytes text ≡ ids_line (id_if is_due id.now)) }
+{
+    if is_due {
+        due_line(alloc, from_ref(id))
+    } else {
+        due_line(alloc, &[])
+    }
+}
+
+pub(crate) fn due_one<S: Alter + Drop>(
+    alloc: Global,
+    store: &mut Store<S>,
+    id: &ByteStr,
+) -> Result<String, AllocError>
+    ensures { MakesAnswer string_bytes result (λ text. ReachesStore S.Store CommitsNothing (Answers (λ told. ids_line (id_if told id.now)) (TellsKnown id.now (λ events told. told ≡ is_due events id.now)) text) store.old store.new) }
+{
+    match is_due(store, id) {
+        Ok(told) => due_one_line(alloc, id, told),
         Err(refusal) => refused(alloc, refusal),
     }
 }
@@ -125,6 +178,44 @@ pub(crate) fn show<S: Alter + Drop>(
     ensures { MakesAnswer string_bytes result (λ text. ReachesStore S.Store CommitsNothing (Shown (Shows id.now text)) store.old store.new) }
 {
     match shown(alloc, store, id) {
+        Ok(shown) => {
+            let text = format!(in alloc; "{shown}");
+            drop(shown);
+            text
+        }
+        Err(refusal) => refused(alloc, refusal),
+    }
+}
+
+/// What an invocation answers, and whether it is open.
+fn found_answer<S: Alter + Drop>(
+    alloc: Global,
+    store: &mut Store<S>,
+    id: &ByteStr,
+) -> Result<ShownInvocation, Refusal>
+    ensures ok { IfOk result (λ shown. (shown.entries.items ≡ []) × ReachesStore S.Store CommitsNothing (Shown (HasAnswer id.now shown.answer shown.is_open)) store.old store.new) }
+    ensures err { IfErr result (λ refusal. ReachesStore S.Store CommitsNothing (Shown (IsUnknown id.now refusal)) store.old store.new) }
+{
+    let is_open = store.is_open(id)?;
+    match store.answer(id) {
+        Ok(answer) => Ok(ShownInvocation {
+            entries: Vec::new(alloc),
+            answer,
+            is_open,
+        }),
+        Err(refusal) => Err(refusal),
+    }
+}
+
+/// As `show` ends, without the journal.
+pub(crate) fn answered<S: Alter + Drop>(
+    alloc: Global,
+    store: &mut Store<S>,
+    id: &ByteStr,
+) -> Result<String, AllocError>
+    ensures { MakesAnswer string_bytes result (λ text. ReachesStore S.Store CommitsNothing (Answers answered_text (TellsKnown id.now (λ events told. told ≡ (answer_told events id.now, is_open events id.now))) text) store.old store.new) }
+{
+    match found_answer(alloc, store, id) {
         Ok(shown) => {
             let text = format!(in alloc; "{shown}");
             drop(shown);

@@ -1,22 +1,25 @@
 //! Invocations, and what one has asked of others, as lines show them.
-ghost use Rattle.std.specs.Prelude.{◌≡◌, map, is_some, IfErr, IfOk, Some};
+ghost use Rattle.std.specs.Prelude.{◌≡◌, is_some, Some};
+ghost use Rattle.store_invocations.specs.InvocationAnswers.{answer_told};
 ghost use Rattle.server_lines.specs.Reply.{invocation_line, invocation_text, open_request_line, open_request_text};
 ghost use Rattle.protocol_types.specs.MessageType.{type_number};
-ghost use Rattle.store_refusals.specs.declared.refusal.Refusal.TheVariants.{OutOfMemory};
-ghost use Rattle.store_server.specs.Rows.{all_listed_text, listed_by, open_requests_text, row_status};
+ghost use Rattle.store_server.specs.StoreChanges.{CommitsNothing, ReachesStore, TellsKnown, items_told};
+ghost use Rattle.store_server.specs.RequestAnswers.{Shown};
+ghost use Rattle.store_server.specs.Rows.{ListsRow, ListsRows, TellsKind, all_listed_text, answer_kind, open_requests_text, row_status};
 
 use bytes::ByteStr;
-use journal_store::{Closing, InvocationRow, OpenRequest, Refusal, Store};
-use server_lines::reply::{InvocationReply, InvocationStatus, OpenRequestReply};
+use journal_store::{Closing, InvocationRow, NonEmptyValue, OpenRequest, Refusal, Store};
+use server_lines::reply::{AnswerKind, InvocationReply, InvocationStatus, OpenRequestReply};
 use sqlite::Alter;
 use std::alloc::Global;
 use std::fmt;
 
-/// An invocation, and how it stands.
+/// An invocation, how it stands, and what it answers.
 #[derive(Drop)]
 pub struct ListedInvocation {
     pub row: InvocationRow,
     pub status: InvocationStatus,
+    pub answer: AnswerKind,
 }
 
 /// Invocations, a line each.
@@ -26,7 +29,7 @@ pub struct ShownInvocations {
 }
 
 fn invocation_reply(listed: &ListedInvocation) -> InvocationReply<'_>
-    ensures { invocation_text result ≡ invocation_line listed.now.row.id listed.now.row.object listed.now.status listed.now.row.progress.attempts listed.now.row.progress.entries }
+    ensures { invocation_text result ≡ invocation_line listed.now.row.id listed.now.row.object listed.now.status listed.now.row.progress.attempts listed.now.row.progress.entries listed.now.answer }
 {
     let row = &listed.row;
     InvocationReply {
@@ -35,6 +38,7 @@ fn invocation_reply(listed: &ListedInvocation) -> InvocationReply<'_>
         status: listed.status,
         attempts: row.progress.attempts,
         entries: row.progress.entries,
+        answer: listed.answer,
     }
 }
 
@@ -101,25 +105,79 @@ fn status_of(row: &InvocationRow, is_live: bool) -> InvocationStatus
     }
 }
 
-fn listed_row<S: Alter + Drop>(store: &Store<S>, row: InvocationRow) -> ListedInvocation
-    ensures { result ≡ listed_by store.now.live.attempts row }
+fn kind_of(answer: &Option<NonEmptyValue>) -> AnswerKind
+    ensures { result ≡ answer_kind answer.now }
 {
-    let status = status_of(&row, store.is_attempt_live(&row.id));
-    ListedInvocation { row, status }
+    match answer {
+        None => AnswerKind::Missing,
+        Some(NonEmptyValue::Success(_)) => AnswerKind::Value,
+        Some(NonEmptyValue::Failure(_)) => AnswerKind::Failure,
+    }
 }
 
-/// Invocations, each with how it stands.
+/// The kind of what an invocation answers.
+fn ended_kind<S: Alter + Drop>(store: &mut Store<S>, id: &ByteStr) -> Result<AnswerKind, Refusal>
+    ensures told { ReachesStore S.Store CommitsNothing (TellsKnown id.now (λ events kind. kind ≡ answer_kind (answer_told events id.now)) result) store.old store.new }
+    ensures live { store.new.live ≡ store.old.live }
+{
+    match store.answer(id) {
+        Ok(answer) => {
+            let kind = kind_of(&answer);
+            drop(answer);
+            Ok(kind)
+        }
+        Err(refusal) => Err(refusal),
+    }
+}
+
+/// The same, by the row where that tells it: it is read only of one that its handler has ended.
+fn row_kind<S: Alter + Drop>(
+    store: &mut Store<S>,
+    row: &InvocationRow,
+) -> Result<AnswerKind, Refusal>
+    ensures told { ReachesStore S.Store CommitsNothing (Shown (TellsKind row.now result)) store.old store.new }
+    ensures live { store.new.live ≡ store.old.live }
+{
+    match &row.progress.closing {
+        Some(Closing::Ended) => ended_kind(store, &row.id),
+        Some(Closing::Failed) => Ok(AnswerKind::Failure),
+        None => Ok(AnswerKind::Missing),
+    }
+}
+
+fn listed_row<S: Alter + Drop>(
+    store: &mut Store<S>,
+    row: InvocationRow,
+) -> Result<ListedInvocation, Refusal>
+    ensures told { ReachesStore S.Store CommitsNothing (Shown (ListsRow store.old.live.attempts row result)) store.old store.new }
+    ensures live { store.new.live ≡ store.old.live }
+{
+    let status = status_of(&row, store.is_attempt_live(&row.id));
+    match row_kind(store, &row) {
+        Ok(answer) => Ok(ListedInvocation {
+            row,
+            status,
+            answer,
+        }),
+        Err(refusal) => {
+            drop(row);
+            Err(refusal)
+        }
+    }
+}
+
+/// Invocations, each with how it stands and what it answers. Nothing is read but what those answer that have ended.
 pub(crate) fn listed<S: Alter + Drop>(
     alloc: Global,
-    store: &Store<S>,
+    store: &mut Store<S>,
     rows: Vec<InvocationRow>,
 ) -> Result<Vec<ListedInvocation>, Refusal>
-    ensures ok { IfOk result (λ listed. listed.items ≡ map (listed_by store.now.live.attempts) rows.items) }
-    ensures err { IfErr result (λ why. why ≡ OutOfMemory) }
+    ensures { ReachesStore S.Store CommitsNothing (Shown (ListsRows store.old.live.attempts rows.items (items_told (λ listed. listed.items) result))) store.old store.new }
 {
     let mut invocations = Vec::with_capacity(alloc, rows.len())?;
     for row in rows {
-        invocations.push(listed_row(store, row))?;
+        let one = listed_row(store, row)?;
+        invocations.push(one)?;
     }
     Ok(invocations)
 }

@@ -6,7 +6,7 @@ ghost use Rattle.store_server.specs.Lasting.{AnswersLine, AnswersRequest};
 ghost use Rattle.store_server.specs.Dialogue.{DoesGiven, GoesOn, Serves, StopsAtLine};
 
 use crate::answer::not_understood;
-use crate::asks::{due, due_page, error, list, next, requests, show, state};
+use crate::asks::{answered, due, due_one, due_page, error, list, next, requests, show, state};
 use crate::calls::{
     begin, cancel, close, complete, forget, input, invoke, output, signal, stop, tick,
 };
@@ -44,9 +44,11 @@ fn answer_request<S: Alter + Drop>(
         Request::Stop { id, attempt } => stop(alloc, store, &id, attempt),
         Request::Forget { ids } => forget(alloc, store, ids.as_slice()),
         Request::Due => due(alloc, store),
+        Request::DueOne { id } => due_one(alloc, store, &id),
         Request::DueAfter { after, most } => due_page(alloc, store, &after, most),
         Request::Next => next(alloc, store),
         Request::Show { id } => show(alloc, store, &id),
+        Request::Answer { id } => answered(alloc, store, &id),
         Request::State { object } => state(alloc, store, &object),
         Request::Error { id } => error(alloc, store, &id),
         Request::List { after, most } => list(alloc, store, &after, most),

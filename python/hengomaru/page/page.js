@@ -1,7 +1,7 @@
 // What is shown comes as JSON, and is put in as text alone: nothing of it is ever read as HTML.
 "use strict";
 const main = document.getElementById("main"), counts = document.getElementById("counts");
-const WORDS = { live: "working", due: "about to go on", suspended: "waits", waits: "waits", again: "tried again soon", paused: "paused", ended: "ended", failed: "ended for good" };
+const WORDS = { live: "working", due: "about to go on", suspended: "waits", waits: "waits", again: "tried again soon", paused: "paused", ended: "ended", failed: "failed" };
 const MOST = 400;
 let only = "", after = [""], shown = null;
 

@@ -8,7 +8,7 @@ pub returns-in-Ok : goal.returns-in-Ok
 returns-in-Ok g c =
     let asked = c.invocations in
     page_told g.S.Store c.args.after.now c.args.most c.in-Ok.rows.items c.args.store.now asked.new.self asked.ensures.crash asked.ensures.live c.in-Ok.ensures.told
-    (λ page. page.items) c.listed.result c.listed.ensures.ok c.listed.ensures.err
+    c.listed.new.store _ c.listed.ensures
 
 pub returns-in-Err : goal.returns-in-Err
 returns-in-Err g c =

@@ -39,6 +39,10 @@ returns-in-Forget g c = rw c.in-Forget.is (rw c.as_slice.ensures at c.forget.ens
 pub returns-in-Due : goal.returns-in-Due
 returns-in-Due g c = rw c.in-Due.is (answers_asked g.S.Store c.args.store.now c.due.new.store string_bytes c.due.result request.Due (λ text. tt) c.due.ensures)
 
+pub returns-in-DueOne : goal.returns-in-DueOne
+returns-in-DueOne g c =
+    rw c.in-DueOne.is (answers_asked g.S.Store c.args.store.now c.due_one.new.store string_bytes c.due_one.result (request.DueOne c.in-DueOne.id) (λ text. tt) c.due_one.ensures)
+
 pub returns-in-DueAfter : goal.returns-in-DueAfter
 returns-in-DueAfter g c =
     rw c.in-DueAfter.is
@@ -49,6 +53,10 @@ returns-in-Next g c = rw c.in-Next.is (answers_asked g.S.Store c.args.store.now 
 
 pub returns-in-Show : goal.returns-in-Show
 returns-in-Show g c = rw c.in-Show.is (answers_asked g.S.Store c.args.store.now c.show.new.store string_bytes c.show.result (request.Show c.in-Show.id) (λ text. tt) c.show.ensures)
+
+pub returns-in-Answer : goal.returns-in-Answer
+returns-in-Answer g c =
+    rw c.in-Answer.is (answers_asked g.S.Store c.args.store.now c.answered.new.store string_bytes c.answered.result (request.Answer c.in-Answer.id) (λ text. tt) c.answered.ensures)
 
 pub returns-in-State : goal.returns-in-State
 returns-in-State g c = rw c.in-State.is (answers_asked g.S.Store c.args.store.now c.state.new.store string_bytes c.state.result (request.State c.in-State.object) (λ text. tt) c.state.ensures)
