@@ -2,9 +2,10 @@
 //! is changed.
 //!
 //! A row is three scripts: NAME.first is what is stopped, a line of it prints one; NAME.shows shows what is recorded; NAME.again gives
-//! again what came from outside, and begins new attempts. A word of the call is a row, or says what befalls the rows behind it: `stopped`,
-//! `refused` or `broken`. The word `changed` has rows of its own. Where one allocation is refused is said by `.ci/refusing`: without it
-//! none is, and a row is one round.
+//! again what came from outside, and begins new attempts. Its lines behind a remark `# unless TEXT`, up to the next one, are left out where
+//! TEXT is shown. A word of the call is a row, or says what befalls the rows behind it: `stopped`, `refused`, `cut`, which is refused and
+//! has no line done behind that, or `broken`. The word `changed` has rows of its own. Where one allocation is refused is said by
+//! `.ci/refusing`: without it none is, and a row is one round.
 #![tactic(auto)]
 
 mod broken;
@@ -17,7 +18,7 @@ mod stops;
 
 use broken::break_row;
 use fault::Fault;
-use refusing::refuse_row;
+use refusing::{Lines, refuse_row};
 use row::Row;
 use std::process::ExitCode;
 use std::rt::{Env, Files};
@@ -29,6 +30,7 @@ use stops::stop_row;
 enum Befalls {
     Stop,
     Refusal,
+    Cut,
     Break,
 }
 
@@ -56,7 +58,8 @@ fn run_row<R: Files + Print + AllocGlobal>(
     let row = read_row(rt, name)?;
     match befalls {
         Befalls::Stop => stop_row(rt, name, &row),
-        Befalls::Refusal => refuse_row(rt, name, &row),
+        Befalls::Refusal => refuse_row(rt, name, &row, Lines::All),
+        Befalls::Cut => refuse_row(rt, name, &row, Lines::UntilRefused),
         Befalls::Break => break_row(rt, name, &row),
     }
 }
@@ -69,6 +72,7 @@ fn run_all<R: Files + Env + Print + AllocGlobal>(rt: &R) -> Result<(), Fault> {
         match word.as_str() {
             "stopped" => befalls = Befalls::Stop,
             "refused" => befalls = Befalls::Refusal,
+            "cut" => befalls = Befalls::Cut,
             "broken" => befalls = Befalls::Break,
             "changed" => changed::run(rt)?,
             name => run_row(rt, befalls, name)?,

@@ -1,14 +1,28 @@
 //! A row of which one allocation is refused, for each of them in turn: a round each. What is printed tells it by a name, or is as it is with
-//! no refusal; and gone on with, the row ends as with none.
+//! no refusal; and gone on with, the row ends as with none. Of a row whose arrivals have an order no line is done behind the one that tells
+//! it.
 use crate::disks::{open_copies, open_new};
 use crate::fault::Fault;
 use crate::row::{Ran, Row, Whole, go_on, lines_in, print_end, room, run_into, run_whole, text};
-use durable_script::ScriptFault;
+use durable_script::{ScriptEnd, ScriptFault, run_script};
+use journal_store::Store;
+use sqlite::Alter;
 use std::alloc::Global;
+use std::io;
+use std::io::{ErrorKind, Write};
 use test_rows::{begin_round, end_round};
 
 /// How many rounds there are at most.
 const MOST: u64 = 1_000_000;
+
+/// Which lines of a row are done in a round.
+#[derive(Clone, Copy)]
+pub enum Lines {
+    /// All of them.
+    All,
+    /// Those up to the one that tells a refusal.
+    UntilRefused,
+}
 
 /// What a refused allocation comes to.
 #[derive(Clone, Copy, PartialEq, Eq)]
@@ -71,8 +85,70 @@ fn comes_to(wanted: &[u8], printed: &[u8], reached: Result<(), ScriptFault>) -> 
     told_at_end(reached, lines_in(printed) != lines_in(wanted))
 }
 
+/// Takes what is printed, and fails at a line that tells a refusal.
+#[derive(Drop)]
+struct UntilRefused {
+    printed: Vec<u8>,
+}
+
+impl Write for UntilRefused {
+    fn write(&mut self, buf: &[u8]) -> io::Result<usize> {
+        self.printed.extend_from_slice(buf)?;
+        if told_by(text(buf).trim_end()) != Comes::Amiss {
+            return Err(io::Error::from(ErrorKind::Other));
+        }
+        Ok(buf.len())
+    }
+
+    fn flush(&mut self) -> io::Result<()> {
+        Ok(())
+    }
+}
+
+/// Runs a script up to the line that tells a refusal.
+fn run_until_refused<S: Alter + Drop>(
+    alloc: Global,
+    store: Store<S>,
+    lines: &[u8],
+    room: Vec<u8>,
+) -> Ran<S> {
+    let mut reader = lines;
+    let mut writer = UntilRefused { printed: room };
+    let ScriptEnd {
+        store,
+        script,
+        result,
+    } = run_script(alloc, &mut reader, &mut writer, store);
+    drop(script);
+    let UntilRefused { printed } = writer;
+    Ran {
+        printed,
+        result,
+        store,
+    }
+}
+
+/// Runs a row, all of it or up to the line that tells a refusal.
+fn run_row<S: Alter + Drop>(
+    alloc: Global,
+    store: Store<S>,
+    row: &Row,
+    room: Vec<u8>,
+    lines: Lines,
+) -> Ran<S> {
+    match lines {
+        Lines::All => run_into(alloc, store, row.first.as_bytes(), room),
+        Lines::UntilRefused => run_until_refused(alloc, store, row.first.as_bytes(), room),
+    }
+}
+
 /// One round: what it comes to, and whether an allocation was refused.
-fn one_round(alloc: Global, row: &Row, wanted: &Whole) -> Result<(Comes, bool), Fault> {
+fn one_round(
+    alloc: Global,
+    row: &Row,
+    wanted: &Whole,
+    lines: Lines,
+) -> Result<(Comes, bool), Fault> {
     let room = room(alloc)?;
     let store = open_new(alloc)?;
     begin_round(alloc);
@@ -80,7 +156,7 @@ fn one_round(alloc: Global, row: &Row, wanted: &Whole) -> Result<(Comes, bool), 
         printed,
         result,
         store,
-    } = run_into(alloc, store, row.first.as_bytes(), room);
+    } = run_row(alloc, store, row, room, lines);
     let is_refused = end_round(alloc);
     let (_shown, ended) = go_on(alloc, row, open_copies(alloc, store)?);
     if !wanted.ends_so(&ended) {
@@ -90,13 +166,18 @@ fn one_round(alloc: Global, row: &Row, wanted: &Whole) -> Result<(Comes, bool), 
 }
 
 /// Refuses each allocation of a row in turn, and goes on with it.
-pub fn refuse_row<R: Print + AllocGlobal>(rt: &R, name: &str, row: &Row) -> Result<(), Fault> {
+pub fn refuse_row<R: Print + AllocGlobal>(
+    rt: &R,
+    name: &str,
+    row: &Row,
+    lines: Lines,
+) -> Result<(), Fault> {
     let alloc = rt.alloc();
     let wanted = run_whole(alloc, row)?;
     let mut seen = [false; 7];
     let mut rounds = 0u64;
     for round in 1..MOST {
-        let (comes, is_refused) = one_round(alloc, row, &wanted)?;
+        let (comes, is_refused) = one_round(alloc, row, &wanted, lines)?;
         rounds = round;
         for (at, (each, _)) in TEXTS.iter().enumerate() {
             if *each == comes

@@ -10,6 +10,9 @@ use std::io;
 /// How many bytes what a script prints may take without a further allocation.
 const ROOM: usize = 10_000;
 
+/// How the remark begins in front of lines that are left out where the rest of the remark is shown.
+const UNLESS: &str = "# unless ";
+
 /// The scripts of a row.
 #[derive(Drop)]
 pub struct Row {
@@ -17,7 +20,7 @@ pub struct Row {
     pub first: String,
     /// What shows all that is recorded.
     pub shows: String,
-    /// What comes from outside, again, and new attempts, as many as it may need.
+    /// What comes from outside, again, and new attempts, as many as it may need. What may come once alone stands behind a remark.
     pub again: String,
 }
 
@@ -138,6 +141,35 @@ pub fn run_whole(alloc: Global, row: &Row) -> Result<Whole, Fault> {
     Ok(Whole { printed, shown })
 }
 
+/// Does the lines of a part, where its first line is not shown.
+fn do_unless_shown<S: Alter + Drop>(
+    alloc: Global,
+    row: &Row,
+    store: Store<S>,
+    part: &str,
+) -> Store<S> {
+    let (words, lines) = part.split_once('\n').unwrap_or((part, ""));
+    let (shown, store) = run(alloc, store, row.shows.as_bytes());
+    if text(&shown).find(words).is_some() {
+        return store;
+    }
+    let (told, store) = run(alloc, store, lines.as_bytes());
+    drop(told);
+    store
+}
+
+/// Gives again what came from outside.
+fn give_again<S: Alter + Drop>(alloc: Global, row: &Row, store: Store<S>) -> Store<S> {
+    let mut parts = row.again.split(UNLESS);
+    let always = parts.next().unwrap_or("");
+    let (told, mut store) = run(alloc, store, always.as_bytes());
+    drop(told);
+    for part in parts {
+        store = do_unless_shown(alloc, row, store, part);
+    }
+    store
+}
+
 /// What is shown, what is shown once the row was gone on with, and the store then.
 fn go_on_over<S: Alter + Drop>(
     alloc: Global,
@@ -145,8 +177,7 @@ fn go_on_over<S: Alter + Drop>(
     store: Store<S>,
 ) -> (Vec<u8>, Vec<u8>, Store<S>) {
     let (shown, store) = run(alloc, store, row.shows.as_bytes());
-    let (told, store) = run(alloc, store, row.again.as_bytes());
-    drop(told);
+    let store = give_again(alloc, row, store);
     let (ended, store) = run(alloc, store, row.shows.as_bytes());
     (shown, ended, store)
 }

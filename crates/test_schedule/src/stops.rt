@@ -80,6 +80,8 @@ fn finding(
 #[derive(Drop)]
 struct Findings {
     told: Vec<u8>,
+    /// How many there are of an opened store.
+    opened: u64,
     last: String,
     answered: Option<usize>,
     log: Vec<u8>,
@@ -90,6 +92,7 @@ impl Findings {
     fn new(alloc: Global) -> Result<Findings, Fault> {
         Ok(Findings {
             told: room(alloc)?,
+            opened: 0,
             last: String::new(alloc),
             answered: Some(usize::MAX),
             log: Vec::new(alloc),
@@ -117,6 +120,9 @@ impl Findings {
         if finding != self.last {
             self.told.extend_from_slice(finding.as_bytes())?;
             self.last = finding;
+            if self.answered.is_some() {
+                self.opened = self.opened.saturating_add(1);
+            }
         }
         Ok(())
     }
@@ -194,6 +200,10 @@ fn stop_each<R: Print + AllocGlobal>(
     let file = if is_log { "log" } else { "database" };
     println!(rt; "{file} stops, process ends:{}", text(&by_process.told))?;
     println!(rt; "{file} stops, machine ends:{}", text(&by_machine.told))?;
+    if is_log {
+        // of an opened store each commit makes one finding more
+        println!(rt; "commits: {}", by_machine.opened.saturating_sub(1))?;
+    }
     Ok(())
 }
 
