@@ -1,5 +1,5 @@
 -- The answer of a closed invocation stays until it is forgotten.
-use Rattle.std.proofs.Common.{true≢false, ◌≡◌, refl, sym, ap, ap₂, ◌∙◌, suc, Bool, true, false, not, ◌&&◌, if◌then◌else◌, List, [], ◌∷◌, ◌++◌, append-nil, Option, Some, None, is_some, option_map, option_and_then, unwrap_or}
+use Rattle.std.proofs.Common.{true≢false, ◌≡◌, refl, sym, ap, ap₂, ◌∙◌, Bool, true, false, not, ◌&&◌, if◌then◌else◌, List, [], ◌∷◌, ◌++◌, append-nil, Option, Some, None, is_some, option_map, option_and_then, unwrap_or}
 use Rattle.std.specs.List.{list_any, find}
 use Rattle.journal_model.specs.Notification.{Text}
 use Rattle.journal_model.specs.declared.notification.NotificationResult.{NotificationResult}
@@ -17,8 +17,7 @@ use Rattle.journal_laws.proofs.Leaving.{and-true}
 use Rattle.journal_laws.proofs.Several.{several_forget}
 use Rattle.input_laws.proofs.Events.{begun_same, requests_now, nothing_added, not_begun, closing_now, frames_other}
 use Rattle.delivery_laws.specs.Delivery.{DeliveryRules}
-use Rattle.delivery_laws.specs.Outbox.{drop_edit, put_all, rows_put}
-use Rattle.delivery_laws.specs.Log.{Logged, Found, Came, Delivered, Forgot, events_of, outbox_of}
+use Rattle.delivery_laws.specs.Log.{Logged, Found, Came, Delivered, Forgot, events_of}
 use Rattle.delivery_laws.specs.Posted.{IsPosted}
 use Rattle.delivery_laws.specs.Answers.{as_result, is_over, answer_told, is_forgotten}
 use Rattle.delivery_laws.proofs.Posted.{posted_accepted, told_others}
@@ -113,11 +112,9 @@ module _ (id : Text) where
   answers_stay rules [] log result posted f e = e
   answers_stay rules (Found events ∷ later) log result posted f e = absurd (none_told (none_behind later log posted.0.first) e)
   answers_stay rules (Came event ∷ later) log result posted f e =
-      let log' : List Logged = later ++ log in
-      told_stays (put_all (rows_put (events_of log') (suc (outbox_of log').given) event)) (event ∷ events_of log') result (posted_accepted rules (Came event ∷ log') posted)
-      (told_stays (event ∷ []) (events_of log') result (posted.0.causes, posted_accepted rules log' posted.1) (answers_stay rules later log result posted.1 f e))
+      told_stays (event ∷ []) (events_of (later ++ log)) result (posted.0.causes, posted_accepted rules (later ++ log) posted.1) (answers_stay rules later log result posted.1 f e)
   answers_stay rules (Delivered row brought ∷ later) log result posted f e =
-      told_stays (drop_edit row.number ∷ brought) (events_of (later ++ log)) result (posted_accepted rules (Delivered row brought ∷ (later ++ log)) posted)
+      told_stays brought (events_of (later ++ log)) result (posted_accepted rules (Delivered row brought ∷ (later ++ log)) posted)
       (answers_stay rules later log result posted.1 f e)
   answers_stay rules (Forgot ids ∷ later) log result posted f e =
       let both = or_false (is_among ids id) (is_forgotten later id) f in

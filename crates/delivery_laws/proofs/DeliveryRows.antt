@@ -1,6 +1,6 @@
--- Worked rows: equal signals of two senders, with a kill between; one that is forgotten, and its id used again; and a job that sends itself on,
--- whose object is its own until it ends.
-use Rattle.std.proofs.Common.{◌≡◌, refl, true, false, List, [], ◌∷◌, length, map, Some, None, is_some, option_map, codes}
+-- Worked rows: equal signals of two senders, with a kill between; one that is forgotten, and its id used again; and what a job would bring that
+-- sends itself on, whose object is its own until it ends.
+use Rattle.std.proofs.Common.{◌≡◌, refl, true, false, List, [], ◌∷◌, ◌++◌, length, map, Option, Some, None, is_some, option_map, codes}
 use Rattle.journal_model.specs.Notification.{Text}
 use Rattle.journal_model.specs.declared.invocation.NewInvocation.{NewInvocation}
 use Rattle.journal_model.specs.declared.invocation.StateMode.{StateMode}
@@ -8,10 +8,12 @@ use Rattle.journal_model.specs.declared.notification.NotificationResult.{Notific
 use Rattle.journal_model.specs.declared.notification.SignalKey.{SignalKey}
 use Rattle.journal_model.specs.Request.{Request, CallRecord, SignalValue}
 use Rattle.journal_model.specs.Event.{Frame, Event}
-use Rattle.journal_model.specs.Journal.{object_state, is_open, invocation_begun, recorded_arrivals}
+use Rattle.journal_model.specs.Journal.{invocation_begun, recorded_arrivals}
 use Rattle.delivery_laws.specs.Targets.{object_for}
-use Rattle.delivery_laws.specs.Log.{Logged, Found, events_of, outbox_of, owes, times_delivered}
-use Rattle.delivery_laws.specs.Delivery.{DeliveryRules, Step, Asked, Deliver, Forget, after_steps}
+use Rattle.delivery_laws.specs.Message.{Makes}
+use Rattle.delivery_laws.specs.Outbox.{outbox_state}
+use Rattle.delivery_laws.specs.Log.{Logged, Found, events_of, kept_of, outbox_of, owes, times_delivered}
+use Rattle.delivery_laws.specs.Delivery.{bring, DeliveryRules, Step, Asked, Deliver, Forget, after_steps}
 
 abbrev rules : DeliveryRules
 rules = record { seed = λ id. 0; awakeable = λ text. None }
@@ -86,9 +88,16 @@ log_found =
 found-settled : (owes log_found s 1 ≡ false) × (owes log_found s 2 ≡ true) × (length (recorded_arrivals (events_of log_found) r) ≡ 0)
 found-settled = (refl, refl, refl)
 
--- the outbox is the state of the object whose name is empty
-kept-rows : object_state (events_of log_sent) [] ≡ ([], codes "0000000000000002") ∷ (codes "0000000000000002", codes "00000001t") ∷ []
+-- the outbox as the state of the object whose name is empty
+kept-rows : outbox_state (outbox_of log_sent) ≡ ([], codes "0000000000000002") ∷ (codes "0000000000000002", codes "00000001t") ∷ []
 kept-rows = refl
+
+-- a signal that its target refuses, as one that was not begun, brings nothing and is delivered
+abbrev log_nobody : List Logged
+log_nobody = after_steps rules log_sent (Asked (Event.Move s 1 (Frame.Command (Request.SendSignal (codes "u") (SignalKey.ByName (codes "go")) SignalValue.Empty []))) ∷ Deliver 3 [] ∷ [])
+
+reached-nobody : (times_delivered log_nobody s 2 ≡ 1) × (owes log_nobody s 2 ≡ false) × (length (recorded_arrivals (events_of log_nobody) (codes "u")) ≡ 0)
+reached-nobody = (refl, refl, refl)
 
 -- a job sends itself on, and ends
 abbrev on : CallRecord
@@ -107,38 +116,38 @@ abbrev next_id : Text
 next_id = codes "~1"
 
 abbrev log_busy : List Logged
-log_busy = after_steps rules [] (Asked (Event.Invoke (job s (codes "x/k"))) ∷ asks s (Request.OneWayCall on 0 1 []) (Deliver 1 next_id ∷ []))
+log_busy = after_steps rules [] (Asked (Event.Invoke (job s (codes "x/k"))) ∷ asks s (Request.OneWayCall on 0 1 []) [])
 
--- its object is busy: it waits, and is owed
-waits-busy : (times_delivered log_busy s 1 ≡ 0) × (owes log_busy s 1 ≡ true) × (is_some (invocation_begun (events_of log_busy) next_id) ≡ false)
-waits-busy = (refl, refl, refl)
-
--- once it has ended the next one is made, though nobody listens for its id
 abbrev log_ended : List Logged
-log_ended = after_steps rules log_busy (Asked (Event.Move s 1 Frame.End) ∷ Deliver 1 next_id ∷ Deliver 1 (codes "~2") ∷ [])
+log_ended = after_steps rules log_busy (Asked (Event.Move s 1 Frame.End) ∷ [])
 
-made-behind : (times_delivered log_ended s 1 ≡ 1) × (is_open (events_of log_ended) next_id ≡ true) × (is_open (events_of log_ended) s ≡ false) × (is_some (invocation_begun (events_of log_ended) (codes "~2")) ≡ false)
-made-behind = (refl, refl, refl, refl)
+-- what it has sent has no row, so it can be forgotten
+no-row : (owes log_busy s 1 ≡ false) × (length (outbox_of log_busy).rows ≡ 0) × (is_some (invocation_begun (events_of (after_steps rules log_ended (Forget (s ∷ []) ∷ []))) s) ≡ false)
+no-row = (refl, refl, refl)
 
--- a signal to one that was named and is not made waits for it
-abbrev log_named : List Logged
-log_named =
-    after_steps rules log_busy
-    (Asked (Event.Result s 1 (NotificationResult.InvocationId next_id))
-    ∷ Asked (Event.Move s 1 (Frame.Command (Request.SendSignal next_id (SignalKey.ByName (codes "go")) SignalValue.Empty []))) ∷ Deliver 2 [] ∷ [])
+-- what it would bring: nothing while its object is busy
+waits-busy : bring rules (kept_of log_busy) s next_id (Makes on 0 1) ≡ None
+waits-busy = refl
 
-waits-unmade : (owes log_named s 3 ≡ true) × (times_delivered log_named s 3 ≡ 0)
-waits-unmade = (refl, refl)
+-- once it has ended the next one, of the recorded target and parameter, though nobody listens for its id
+abbrev made : Option (List Event)
+made = bring rules (kept_of log_ended) s next_id (Makes on 0 1)
 
-abbrev log_reached : List Logged
-log_reached = after_steps rules log_named (Asked (Event.Move s 1 Frame.End) ∷ Deliver 2 [] ∷ Deliver 1 next_id ∷ Deliver 2 [] ∷ [])
+abbrev next : List Event → Option NewInvocation
+next brought = invocation_begun (brought ++ events_of log_ended) next_id
 
-reached-made : (times_delivered log_reached s 3 ≡ 1) × (length (recorded_arrivals (events_of log_reached) next_id) ≡ 1)
-reached-made = (refl, refl)
+made-behind : option_map length made ≡ Some 1
+made-behind = refl
 
--- of the recorded target and parameter
-made-as_recorded : (option_map (λ (new : NewInvocation). new.input) (invocation_begun (events_of log_ended) next_id) ≡ Some (codes "2")) × (option_map (λ (new : NewInvocation). new.object) (invocation_begun (events_of log_ended) next_id) ≡ Some (codes "x/k"))
+made-as_recorded : (option_map (λ (brought : List Event). option_map (λ (new : NewInvocation). new.input) (next brought)) made ≡ Some (Some (codes "2"))) × (option_map (λ (brought : List Event). option_map (λ (new : NewInvocation). new.object) (next brought)) made ≡ Some (Some (codes "x/k")))
 made-as_recorded = (refl, refl)
+
+-- under the id that was told, and no other
+abbrev log_told : List Logged
+log_told = after_steps rules log_busy (Asked (Event.Result s 1 (NotificationResult.InvocationId next_id)) ∷ Asked (Event.Move s 1 Frame.End) ∷ [])
+
+named-so : (option_map length (bring rules (kept_of log_told) s next_id (Makes on 0 1)) ≡ Some 1) × (bring rules (kept_of log_told) s (codes "~2") (Makes on 0 1) ≡ None)
+named-so = (refl, refl)
 
 -- a name that has a stroke is no two names
 names-apart : object_for (record on { service_name = codes "a/b"; key = codes "~c" }) s ≡ codes "a%2Fb/%7Ec"

@@ -1,6 +1,6 @@
 pub mod Texts
 pub mod Rows
-pub mod Edits
+pub mod Named
 pub mod Posted
 pub mod Messages
 pub mod Outbox

@@ -16,7 +16,7 @@ use Rattle.journal_laws.proofs.ObjectState.{no_entries}
 use Rattle.journal_laws.proofs.Leaving.{and-true}
 use Rattle.input_laws.proofs.Events.{added_by, entries_first, entries_now, no_request, not_begun, nothing_added}
 use Rattle.delivery_laws.specs.Message.{Message, Makes, Tells, Completes, entry_at, entry_behind, message_at, message_in, message_of}
-use Rattle.delivery_laws.specs.Outbox.{is_row_of, OwedRow, put_all, put_edits, rows_put}
+use Rattle.delivery_laws.specs.Outbox.{is_row_of, OwedRow, rows_put}
 use Rattle.delivery_laws.specs.Log.{Kept}
 use Rattle.delivery_laws.specs.Delivery.{DeliveryRules, bring, bring_call, id_told, if_accepted, is_to_be_made, may_name, new_for, signal_brought, value_brought}
 use Rattle.delivery_laws.proofs.Posted.{items, message_stays}
@@ -251,10 +251,6 @@ module _ (sender : Text) (place : ℕ) where
       by_named : (o : Option (Text × ℕ)) → AreQuiet (value_brought kept.events o result)
       by_named None = tt
       by_named (Some named) = signal_quiet kept.events named.0 (SignalKey.ByIndex named.1) result
-
-  pub rows_quiet : (rows : List OwedRow) → AreQuiet (put_all rows)
-  rows_quiet [] = tt
-  rows_quiet (row ∷ rows) = both_quiet (put_all rows) (put_edits row) (rows_quiet rows) (refl, (refl, tt))
 
   -- ---- what is settled is recorded
 

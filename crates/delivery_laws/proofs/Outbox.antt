@@ -14,11 +14,11 @@ use Rattle.journal_laws.proofs.ObjectState.{no_entries}
 use Rattle.journal_laws.proofs.Leaving.{and-true}
 use Rattle.journal_laws.proofs.Several.{several_forget}
 use Rattle.delivery_laws.specs.Message.{Message, message_at, message_of}
-use Rattle.delivery_laws.specs.Outbox.{drop_edit, has_number, IsOutboxOf, is_row_of, no_messages, Outbox, OwedRow, put_all, rows_put, with_rows}
+use Rattle.delivery_laws.specs.Outbox.{has_number, is_row_of, Outbox, OwedRow, rows_put, with_rows}
 use Rattle.delivery_laws.specs.Log.{Logged, Found, Came, Delivered, Forgot, events_of, kept_of, is_delivered, is_found, is_settled, outbox_of, owes, times_delivered}
 use Rattle.delivery_laws.specs.Delivery.{DeliveryRules, after_steps, may_forget, Step}
 use Rattle.delivery_laws.specs.Posted.{are_apart, ascend_to, IsPosted, IsReached, ReachesOnce}
-use Rattle.delivery_laws.proofs.Messages.{all_same, at_place, bring_quiet, event_puts, none_at, puts_free, rows_quiet, there_still}
+use Rattle.delivery_laws.proofs.Messages.{all_same, at_place, bring_quiet, event_puts, none_at, puts_free, there_still}
 use Rattle.delivery_laws.proofs.Messages as messages
 use Rattle.delivery_laws.proofs.Posted.{first_posted, message_left, message_stays, posted_accepted, steps_posted}
 use Rattle.delivery_laws.proofs.Rows.{any_without, apart_behind, apart_kept, ascend_kept, found_row, itself, no_not, put_behind, rows_behind, same_message}
@@ -31,25 +31,17 @@ module _ (rules : DeliveryRules) where
     abbrev puts : List Event → ℕ → Event → Bool
     puts events number event = messages.puts sender place events number event
 
-    -- with what an event adds
-    came_there : (event : Event) (log : List Logged) → IsPosted rules (Came event ∷ log)
-        → is_there (events_of (Came event ∷ log)) ≡ is_there (event ∷ events_of log)
-    came_there event log posted =
-        all_same sender place (put_all (rows_put (events_of log) (suc (outbox_of log).given) event)) (event ∷ events_of log) (posted_accepted rules (Came event ∷ log) posted)
-        (rows_quiet sender place (rows_put (events_of log) (suc (outbox_of log).given) event))
-
     delivered_there : (row : OwedRow) (brought : List Event) (log : List Logged) → IsPosted rules (Delivered row brought ∷ log)
         → is_there (events_of (Delivered row brought ∷ log)) ≡ is_there (events_of log)
     delivered_there row brought log posted =
-        all_same sender place (drop_edit row.number ∷ brought) (events_of log) (posted_accepted rules (Delivered row brought ∷ log) posted)
-        (refl, bring_quiet sender place rules (kept_of log) row.sender posted.0.id posted.0.message brought posted.0.brings)
+        all_same sender place brought (events_of log) (posted_accepted rules (Delivered row brought ∷ log) posted)
+        (bring_quiet sender place rules (kept_of log) row.sender posted.0.id posted.0.message brought posted.0.brings)
 
     found_there : (log : List Logged) → IsPosted rules log → is_found log sender place ≡ true → is_there (events_of log) ≡ true
     found_there [] posted e = cc
     found_there (Found events ∷ log) posted e = e
     found_there (Came event ∷ log) posted e =
-        came_there event log posted
-        ∙ there_still sender place (events_of log) (event ∷ []) (posted.0.causes, posted_accepted rules log posted.1) (found_there log posted.1 e)
+        there_still sender place (events_of log) (event ∷ []) (posted.0.causes, posted_accepted rules log posted.1) (found_there log posted.1 e)
     found_there (Delivered row brought ∷ log) posted e = delivered_there row brought log posted ∙ found_there log posted.1 e
     found_there (Forgot ids ∷ log) posted e =
         let both = and-true (not (is_among ids sender)) (is_found log sender place) e in
@@ -143,12 +135,11 @@ module _ (rules : DeliveryRules) where
       where
         stay : (message : Message) → message_at (events_of log) sender place ≡ Some message → message_at (events_of (Came event ∷ log)) sender place ≡ Some message
         stay message f =
-            message_stays (event ∷ events_of log) (put_all (rows_put (events_of log) (suc (outbox_of log).given) event)) sender place message (posted_accepted rules (Came event ∷ log) posted)
-            (message_stays (events_of log) (event ∷ []) sender place message (posted.0.causes, posted_accepted rules log posted.1) f)
+            message_stays (events_of log) (event ∷ []) sender place message (posted.0.causes, posted_accepted rules log posted.1) f
     delivered_reached (Delivered row brought ∷ log) posted e = by_same (is_row_of sender place row) refl (delivered_reached log posted.1) e
       where
         stay : (message : Message) → message_at (events_of log) sender place ≡ Some message → message_at (events_of (Delivered row brought ∷ log)) sender place ≡ Some message
-        stay message = message_stays (events_of log) (drop_edit row.number ∷ brought) sender place message (posted_accepted rules (Delivered row brought ∷ log) posted)
+        stay message = message_stays (events_of log) brought sender place message (posted_accepted rules (Delivered row brought ∷ log) posted)
 
         by_same : (b : Bool) → is_row_of sender place row ≡ b → (is_delivered log sender place ≡ true → IsReached rules log sender place)
             → (b || is_delivered log sender place) ≡ true → IsReached rules (Delivered row brought ∷ log) sender place
@@ -189,8 +180,7 @@ module _ (rules : DeliveryRules) where
         ∙ list_any-append (is_row_of sender place) outbox.rows rows
         ∙ ap (λ (b : Bool). b || put) before
         ∙ came_bools put there settled (puts_free sender place (suc outbox.given) event (events_of log)) (settled_there log posted.1)
-        ∙ sym (ap (λ (b : Bool). b && not settled)
-        (came_there event log posted ∙ event_puts sender place (suc outbox.given) event (events_of log) (posted.0.causes, posted_accepted rules log posted.1)))
+        ∙ sym (ap (λ (b : Bool). b && not settled) (event_puts sender place (suc outbox.given) event (events_of log) (posted.0.causes, posted_accepted rules log posted.1)))
 
     delivered_rows : (row : OwedRow) (brought : List Event) (log : List Logged) → IsPosted rules (Delivered row brought ∷ log) → ascend_to 0 (outbox_of log).given (outbox_of log).rows ≡ true
         → are_apart (outbox_of log).rows ≡ true → any log ≡ owes log sender place → any (Delivered row brought ∷ log) ≡ owes (Delivered row brought ∷ log) sender place
@@ -286,11 +276,11 @@ once rules (Forgot ids ∷ log) posted sender place = by_among (is_among ids sen
     by_among true before = refl
     by_among false before = before
 
-pub reaches_once : (rules : DeliveryRules) (before : List Event) (steps : List Step) → IsAccepted before → IsOutboxOf before no_messages → (sender : Text) (place : ℕ)
+pub reaches_once : (rules : DeliveryRules) (before : List Event) (steps : List Step) → IsAccepted before → (sender : Text) (place : ℕ)
     → ReachesOnce rules (after_steps rules (Found before ∷ []) steps) sender place
-reaches_once rules before steps accepted none sender place =
+reaches_once rules before steps accepted sender place =
     let log : List Logged = after_steps rules (Found before ∷ []) steps in
-    let posted : IsPosted rules log = steps_posted rules steps (Found before ∷ []) (first_posted rules before accepted none) in
+    let posted : IsPosted rules log = steps_posted rules steps (Found before ∷ []) (first_posted rules before accepted) in
     record { times = once rules log posted sender place; reached = delivered_reached rules sender place log posted }
 
 -- ---- numbers

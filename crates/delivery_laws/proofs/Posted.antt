@@ -19,11 +19,10 @@ use Rattle.journal_laws.proofs.Several.{several_forget}
 use Rattle.input_laws.proofs.Events.{arrivals_now, entries_now, itself, not_begun}
 use Rattle.input_laws.proofs.Events as now
 use Rattle.delivery_laws.specs.Message.{Message, Makes, Tells, Completes, entry_at, entry_behind, message_at, message_in}
-use Rattle.delivery_laws.specs.Outbox.{has_number, is_edit_of, IsOutboxOf, asks_others, no_messages, number_causes, Outbox, outbox_object, OwedRow, put_all, put_edits, rows_put}
+use Rattle.delivery_laws.specs.Outbox.{has_number, is_edit_of, asks_others, number_causes, Outbox, outbox_object, OwedRow}
 use Rattle.delivery_laws.specs.Log.{Kept, Logged, Found, Came, Delivered, Forgot, events_of, kept_of, outbox_of}
 use Rattle.delivery_laws.specs.Delivery.{DeliveryRules, after_delivery, after_message, after_step, after_steps, bring, bring_call, came, causes_in, id_told, if_accepted, is_to_be_made, logged, may_forget, may_name, new_for, signal_brought, Step, Asked, Deliver, Forget, value_brought}
 use Rattle.delivery_laws.specs.Posted.{Arrives, ArrivesAt, IsPosted, ValueArrives}
-use Rattle.delivery_laws.proofs.Edits.{drop_accepted, put_accepted}
 
 -- ---- what was accepted
 
@@ -72,21 +71,12 @@ bring_accepted rules kept sender id (Completes text result) brought f accepted =
     by_named None = accepted
     by_named (Some named) = signal_accepted kept.events named.0 (SignalKey.ByIndex named.1) result accepted
 
--- what an event puts of rows is accepted behind it
-pub rows_accepted : (rows : List OwedRow) (events : List Event) → IsAccepted events → IsAccepted (put_all rows ++ events)
-rows_accepted [] events accepted = accepted
-rows_accepted (row ∷ rows) events accepted =
-    subst (λ (all : List Event). IsAccepted all) (sym (append_assoc (put_all rows) (put_edits row) events))
-    (rows_accepted rows (put_edits row ++ events) (put_accepted row events accepted))
-
 pub posted_accepted : (rules : DeliveryRules) (log : List Logged) → IsPosted rules log → IsAccepted (events_of log)
 posted_accepted rules [] posted = tt
 posted_accepted rules (Found events ∷ log) posted = posted.0.accepted
-posted_accepted rules (Came event ∷ log) posted =
-    rows_accepted (rows_put (events_of log) (suc (outbox_of log).given) event) (event ∷ events_of log) (posted.0.causes, posted_accepted rules log posted.1)
+posted_accepted rules (Came event ∷ log) posted = (posted.0.causes, posted_accepted rules log posted.1)
 posted_accepted rules (Delivered row brought ∷ log) posted =
-    drop_accepted row.number (brought ++ events_of log)
-    (bring_accepted rules (kept_of log) row.sender posted.0.id posted.0.message brought posted.0.brings (posted_accepted rules log posted.1))
+    bring_accepted rules (kept_of log) row.sender posted.0.id posted.0.message brought posted.0.brings (posted_accepted rules log posted.1)
 posted_accepted rules (Forgot ids ∷ log) posted = (several_forget (events_of log) ids).accepted (posted_accepted rules log posted.1)
 
 -- ---- steps
@@ -179,8 +169,8 @@ pub steps_posted : (rules : DeliveryRules) (steps : List Step) (log : List Logge
 steps_posted rules [] log posted = posted
 steps_posted rules (step ∷ steps) log posted = steps_posted rules steps (after_step rules log step) (step_posted rules log step posted)
 
-pub first_posted : (rules : DeliveryRules) (before : List Event) → IsAccepted before → IsOutboxOf before no_messages → IsPosted rules (Found before ∷ [])
-first_posted rules before accepted none = (record { accepted = accepted; none = none; first = refl }, tt)
+pub first_posted : (rules : DeliveryRules) (before : List Event) → IsAccepted before → IsPosted rules (Found before ∷ [])
+first_posted rules before accepted = (record { accepted = accepted; first = refl }, tt)
 
 -- ---- what is recorded stays
 

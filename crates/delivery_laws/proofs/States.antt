@@ -9,23 +9,18 @@ use Rattle.std.proofs.lemmas.Bool.{eq-eqb, eqb-true, leb-false, ltb-false, ltb-t
 use Rattle.std.proofs.lemmas.List.Elements.{filter-append}
 use Rattle.std.proofs.lemmas.List.{map-append}
 use Rattle.journal_model.specs.Notification.{Bytes, Text}
-use Rattle.journal_model.specs.declared.notification.NotificationResult.{NotificationResult}
-use Rattle.journal_model.specs.declared.notification.SignalKey.{SignalKey}
 use Rattle.journal_model.specs.Request.{Request}
-use Rattle.journal_model.specs.State.{StateMap, bytes_cmp, with_value, without_key}
+use Rattle.journal_model.specs.State.{StateMap, bytes_cmp, state_after, state_change, with_value, without_key}
 use Rattle.journal_model.specs.declared.cause.Cause.{Cause}
 use Rattle.journal_model.specs.Event.{Event, Frame}
-use Rattle.journal_model.specs.Journal.{entries_of, object_state}
-use Rattle.journal_model.specs.Cause.{causes_of, IsAccepted, those_that_hold}
-use Rattle.journal_laws.proofs.Several.{several_forget}
-use Rattle.delivery_laws.specs.Message.{Message, Makes, Tells, Completes, message_of}
-use Rattle.delivery_laws.specs.Outbox.{given_entries, given_key, has_number, is_edit_of, IsOutboxOf, Outbox, outbox_object, outbox_state, OwedRow, put_all, row_entry, row_key, row_value, with_rows, without_number}
-use Rattle.delivery_laws.specs.Log.{Kept, Logged, Found, Came, Delivered, Forgot, events_of, kept_of, outbox_of}
-use Rattle.delivery_laws.specs.Delivery.{DeliveryRules, bring, bring_call, id_told, if_accepted, is_to_be_made, may_name, new_for, signal_brought, value_brought}
-use Rattle.delivery_laws.specs.Posted.{ascend_to, IsPosted}
-use Rattle.delivery_laws.proofs.Edits.{unchanged}
+use Rattle.journal_model.specs.Journal.{entries_of}
+use Rattle.journal_model.specs.Cause.{those_that_hold}
+use Rattle.delivery_laws.specs.Message.{message_of}
+use Rattle.delivery_laws.specs.Outbox.{drop_of, given_entries, given_key, has_number, Outbox, outbox_state, OwedRow, puts_of, row_entry, row_key, row_value, rows_put, with_rows, without_number}
+use Rattle.delivery_laws.specs.Log.{Logged, Found, Came, Delivered, Forgot, events_of, outbox_of}
+use Rattle.delivery_laws.specs.Delivery.{DeliveryRules}
+use Rattle.delivery_laws.specs.Posted.{ascend_to, IsPosted, OutboxIsState}
 use Rattle.delivery_laws.proofs.Outbox.{stands}
-use Rattle.delivery_laws.proofs.Posted.{bring_accepted, items, posted_accepted}
 use Rattle.delivery_laws.proofs.Rows.{is_between, IsBetween}
 use Rattle.delivery_laws.proofs.Texts.{key_is_above, keys_ascend, same_cmp}
 
@@ -154,88 +149,28 @@ given_small rules (Came event ∷ log) posted = given_small rules log posted.1
 given_small rules (Delivered row brought ∷ log) posted = given_small rules log posted.1
 given_small rules (Forgot ids ∷ log) posted = given_small rules log posted.1
 
--- ---- what is brought edits nothing
-
-abbrev ArePlain : List Event → Type 0
-ArePlain [] = Unit {0}
-ArePlain (event ∷ events) = (is_edit_of outbox_object event ≡ false) × ArePlain events
-
-plain_unchanged : (more events : List Event) → IsAccepted (more ++ events) → ArePlain more → object_state (more ++ events) outbox_object ≡ object_state events outbox_object
-plain_unchanged [] events accepted plain = refl
-plain_unchanged (event ∷ more) events accepted plain =
-    unchanged event (more ++ events) accepted.1 plain.0 ∙ plain_unchanged more events accepted.1 plain.1
-
-if_plain : (event : Event) (causes : List Cause) → is_edit_of outbox_object event ≡ false → ArePlain (if_accepted event causes)
-if_plain event [] e = (e, tt)
-if_plain event (cause ∷ causes) e = tt
-
-both_plain : (more events : List Event) → ArePlain more → ArePlain events → ArePlain (more ++ events)
-both_plain [] events plain others = others
-both_plain (event ∷ more) events plain others = (plain.0, both_plain more events plain.1 others)
-
-call_plain : (events : List Event) (invoke told : Event) (causes : List Cause) (brought : List Event) → is_edit_of outbox_object invoke ≡ false
-    → is_edit_of outbox_object told ≡ false → bring_call events invoke told causes ≡ Some brought → ArePlain brought
-call_plain events invoke told [] brought e g f =
-    subst (λ (added : List Event). ArePlain added) (ap items f)
-    (both_plain (if_accepted told (causes_of (invoke ∷ events) told)) (invoke ∷ []) (if_plain told (causes_of (invoke ∷ events) told) g) (e, tt))
-call_plain events invoke told (cause ∷ causes) brought e g f = cc
-
-bring_plain : (rules : DeliveryRules) (kept : Kept) (from id : Text) (message : Message) (brought : List Event) → bring rules kept from id message ≡ Some brought → ArePlain brought
-bring_plain rules kept from id (Makes call time m) brought f = by_name (may_name (id_told kept.events from m) id) f
-  where
-    invoke : Event
-    invoke = Event.Invoke (new_for rules kept.events from call id)
-
-    told : Event
-    told = Event.Result from m (NotificationResult.InvocationId id)
-
-    by_name : (b : Bool) → (if b then bring_call kept.events invoke told (causes_of kept.events invoke) else None) ≡ Some brought → ArePlain brought
-    by_name true g = call_plain kept.events invoke told (causes_of kept.events invoke) brought refl refl g
-    by_name false g = cc
-bring_plain rules kept from id (Tells target key result) brought f = by_waiting (is_to_be_made kept target) f
-  where
-    by_waiting : (b : Bool) → (if b then None else Some (signal_brought kept.events target key result)) ≡ Some brought → ArePlain brought
-    by_waiting true g = cc
-    by_waiting false g = subst (λ (added : List Event). ArePlain added) (ap items g) (if_plain (Event.Signal target key result) (causes_of kept.events (Event.Signal target key result)) refl)
-bring_plain rules kept from id (Completes text result) brought f =
-    subst (λ (added : List Event). ArePlain added) (ap items f) (by_named (rules.awakeable text))
-  where
-    by_named : (o : Option (Text × ℕ)) → ArePlain (value_brought kept.events o result)
-    by_named None = tt
-    by_named (Some named) =
-        if_plain (Event.Signal named.0 (SignalKey.ByIndex named.1) result) (causes_of kept.events (Event.Signal named.0 (SignalKey.ByIndex named.1) result)) refl
-
 -- ---- all together
 
-rows_state : (outbox : Outbox) (b : Bool) (row : OwedRow) (events : List Event) → row.number ≡ suc outbox.given → ascend_to 0 outbox.given outbox.rows ≡ true
-    → (b ≡ true → suc outbox.given < 2 ^ 64) → IsOutboxOf events outbox
-    → IsOutboxOf (put_all (if b then row ∷ [] else []) ++ events) (with_rows (if b then row ∷ [] else []) outbox)
-rows_state outbox false row events e up room is = is
-rows_state outbox true row events e up room is =
-    ap (λ (state : StateMap). with_value (with_value state given_key (row_key row.number)) (row_key row.number) (row_value row)) is
-    ∙ one_put outbox row e up (room refl)
+rows_state : (outbox : Outbox) (b : Bool) (row : OwedRow) → row.number ≡ suc outbox.given → ascend_to 0 outbox.given outbox.rows ≡ true → (b ≡ true → suc outbox.given < 2 ^ 64)
+    → state_after (puts_of (if b then row ∷ [] else [])) (outbox_state outbox) ≡ outbox_state (with_rows (if b then row ∷ [] else []) outbox)
+rows_state outbox false row e up room = refl
+rows_state outbox true row e up room = one_put outbox row e up (room refl)
 
-pub outbox_is_state : (rules : DeliveryRules) (log : List Logged) → IsPosted rules log → IsOutboxOf (events_of log) (outbox_of log)
-outbox_is_state rules [] posted = refl
-outbox_is_state rules (Found events ∷ log) posted = posted.0.none
-outbox_is_state rules (Came (Event.Move id attempt (Frame.Command request)) ∷ log) posted =
-    let event : Event = Event.Move id attempt (Frame.Command request) in
-    rows_state (outbox_of log) (is_some (message_of request)) (record { number = suc (outbox_of log).given; sender = id; place = suc (length (entries_of (events_of log) id)) })
-    (event ∷ events_of log) refl (stands rules log posted.1).ascend
-    (room_of rules id attempt request log posted)
-    (unchanged event (events_of log) (posted_accepted rules log posted.1) posted.0.apart ∙ outbox_is_state rules log posted.1)
-outbox_is_state rules (Came (Event.Move id attempt frame) ∷ log) posted =
-    unchanged (Event.Move id attempt frame) (events_of log) (posted_accepted rules log posted.1) posted.0.apart ∙ outbox_is_state rules log posted.1
-outbox_is_state rules (Came event ∷ log) posted =
-    unchanged event (events_of log) (posted_accepted rules log posted.1) posted.0.apart ∙ outbox_is_state rules log posted.1
-outbox_is_state rules (Delivered row brought ∷ log) posted =
+came_state : (rules : DeliveryRules) (event : Event) (log : List Logged) → IsPosted rules (Came event ∷ log)
+    → state_after (puts_of (rows_put (events_of log) (suc (outbox_of log).given) event)) (outbox_state (outbox_of log)) ≡ outbox_state (outbox_of (Came event ∷ log))
+came_state rules (Event.Move id attempt (Frame.Command request)) log posted =
+    rows_state (outbox_of log) (is_some (message_of request)) (record { number = suc (outbox_of log).given; sender = id; place = suc (length (entries_of (events_of log) id)) }) refl
+    (stands rules log posted.1).ascend (room_of rules id attempt request log posted)
+came_state rules (Event.Move id attempt frame) log posted = refl
+came_state rules event log posted = refl
+
+delivered_state : (rules : DeliveryRules) (row : OwedRow) (brought : List Event) (log : List Logged) → IsPosted rules (Delivered row brought ∷ log)
+    → state_change (drop_of row.number) (outbox_state (outbox_of log)) ≡ outbox_state (outbox_of (Delivered row brought ∷ log))
+delivered_state rules row brought log posted =
     let small = given_small rules log posted.1 in
     let up = (stands rules log posted.1).ascend in
-    ap (λ (state : StateMap). without_key state (row_key row.number))
-    (plain_unchanged brought (events_of log)
-    (bring_accepted rules (kept_of log) row.sender posted.0.id posted.0.message brought posted.0.brings (posted_accepted rules log posted.1))
-    (bring_plain rules (kept_of log) row.sender posted.0.id posted.0.message brought posted.0.brings)
-    ∙ outbox_is_state rules log posted.1)
-    ∙ one_dropped (outbox_of log) row.number up small
+    one_dropped (outbox_of log) row.number up small
     (let given = found_given row.number 0 (outbox_of log).given (outbox_of log).rows row up posted.0.found in omega (arith, given, small))
-outbox_is_state rules (Forgot ids ∷ log) posted = (several_forget (events_of log) ids).states outbox_object ∙ outbox_is_state rules log posted.1
+
+pub outbox_is_state : (rules : DeliveryRules) → OutboxIsState rules
+outbox_is_state rules = record { put = came_state rules; dropped = delivered_state rules }

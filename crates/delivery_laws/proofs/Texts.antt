@@ -1,34 +1,10 @@
--- Numbers as hex texts: they are text, and ascend as the numbers do.
-use Rattle.std.proofs.Common.{arith, ◌≡◌, refl, sym, ap, ◌∙◌, ℕ, zero, suc, ◌+◌, ◌*◌, ◌/◌, ◌%◌, ◌^◌, ◌<◌, ◌==◌, subst, nat_lt, Bool, true, false, if◌then◌else◌, List, [], ◌∷◌, ◌++◌, length, IsUtf8, pow-suc, Ordering, Less, Equal, Greater}
-use Rattle.std.specs.Str.{IsAscii, is_utf8}
+-- Numbers as hex texts, which ascend as the numbers do.
+use Rattle.std.proofs.Common.{arith, ◌≡◌, refl, sym, ap, ◌∙◌, ℕ, zero, suc, ◌+◌, ◌*◌, ◌/◌, ◌%◌, ◌^◌, ◌<◌, ◌==◌, subst, nat_lt, Bool, true, false, if◌then◌else◌, List, [], ◌∷◌, ◌++◌, length, pow-suc, Ordering, Less, Equal, Greater}
 use Rattle.std.specs.Ordering.{nat_cmp, ordering_then, ordering_reverse}
 use Rattle.std.specs.Cmp.Lexicographic.{nat_list_cmp_total}
 use Rattle.std.proofs.lemmas.Bool.{eq-eqb, le-ltb, lt-ltb, ltb-false, ltb-true}
-use Rattle.std.proofs.lemmas.Str.{IsUtf8-append, IsUtf8-from_ascii, is_utf8-from_IsUtf8}
 use Rattle.journal_model.specs.State.{bytes_cmp}
 use Rattle.delivery_laws.specs.Outbox.{digit, hex_text, row_key}
-
--- ---- text
-
-digit_low : (n : ℕ) → n < 16 → digit n < 128
-digit_low n l = by_test (nat_lt n 10)
-  where
-    by_test : (b : Bool) → (if b then 48 + n else 87 + n) < 128
-    by_test true = omega (arith, l)
-    by_test false = omega (arith, l)
-
-one_low : (x : ℕ) → x < 128 → IsAscii (x ∷ [])
-one_low x l zero = l
-one_low x l (suc i) = omega arith
-
-pub hex_utf8 : (k n : ℕ) → IsUtf8 (hex_text k n)
-hex_utf8 zero n = IsUtf8-from_ascii [] (λ i. omega arith)
-hex_utf8 (suc k) n =
-    IsUtf8-append (hex_text k (n / 16)) (digit (n % 16) ∷ []) (hex_utf8 k (n / 16))
-    (IsUtf8-from_ascii (digit (n % 16) ∷ []) (one_low (digit (n % 16)) (digit_low (n % 16) (omega arith))))
-
-pub hex_is_utf8 : (k n : ℕ) → is_utf8 (hex_text k n) ≡ true
-hex_is_utf8 k n = is_utf8-from_IsUtf8 (hex_text k n) (hex_utf8 k n)
 
 -- ---- order
 

@@ -61,7 +61,8 @@ abbrev pub may_name : Option Text → Text → Bool
 may_name None id = true
 may_name (Some told) id = bytes_eq told id
 
--- whether an invocation is to be made yet: it was not begun, and its id was told to the sender of a call that is owed
+-- Whether an invocation is to be made yet: it was not begun, and its id was told to the sender of a call that is owed. None is while no call is a
+-- message, and no signal waits.
 abbrev pub calls_so : List Event → Text → Option Message → OwedRow → Bool
 calls_so events id (Some (Makes call time m)) row = is_named_so id (id_told events row.sender m)
 calls_so events id message row = false

@@ -5,7 +5,7 @@ use Rattle.journal_model.specs.Notification.{Text}
 use Rattle.journal_model.specs.Event.{Event}
 use Rattle.journal_laws.specs.Forgetting.{without_all, is_among}
 use Rattle.delivery_laws.specs.Message.{message_at}
-use Rattle.delivery_laws.specs.Outbox.{OwedRow, Outbox, drop_edit, is_row_of, no_messages, put_all, rows_put, with_rows, without_number}
+use Rattle.delivery_laws.specs.Outbox.{OwedRow, Outbox, is_row_of, no_messages, rows_put, with_rows, without_number}
 
 -- What a file had accepted whose host delivered by itself: nothing of it is owed. Behind that an event that was asked for; a row that was delivered,
 -- with the events that this brought; or invocations that were forgotten.
@@ -21,13 +21,13 @@ pub record Kept : Type 0 where
   pub outbox : Outbox
 
 abbrev pub with_event : Event → List OwedRow → Kept → Kept
-with_event event rows kept = record { events = put_all rows ++ event ∷ kept.events; outbox = with_rows rows kept.outbox }
+with_event event rows kept = record { events = event ∷ kept.events; outbox = with_rows rows kept.outbox }
 
 -- an event puts the row of its request, and a delivery drops its own
 abbrev pub kept_after : Logged → Kept → Kept
 kept_after (Found events) kept = record { events = events; outbox = no_messages }
 kept_after (Came event) kept = with_event event (rows_put kept.events (suc kept.outbox.given) event) kept
-kept_after (Delivered row brought) kept = record { events = drop_edit row.number ∷ (brought ++ kept.events); outbox = without_number row.number kept.outbox }
+kept_after (Delivered row brought) kept = record { events = brought ++ kept.events; outbox = without_number row.number kept.outbox }
 kept_after (Forgot ids) kept = record { events = without_all ids kept.events; outbox = kept.outbox }
 
 abbrev pub kept_of : List Logged → Kept

@@ -1,4 +1,5 @@
--- What recorded requests ask of other invocations.
+-- What recorded requests ask of other invocations, and a store delivers: signals, and the values of awakeables. What calls and sends ask for is made
+-- by whoever runs the store, so none of them is a message: no row is put for one, and none keeps its sender from being forgotten.
 use Rattle.std.specs.Prelude.{ℕ, zero, suc, List, [], ◌∷◌, Option, Some, None}
 use Rattle.journal_model.specs.Notification.{Text}
 use Rattle.journal_model.specs.declared.notification.NotificationResult.{NotificationResult}
@@ -8,7 +9,8 @@ use Rattle.journal_model.specs.Request.{Request, CallRecord, SignalValue}
 use Rattle.journal_model.specs.Event.{Event}
 use Rattle.journal_model.specs.Journal.{Entry, Recorded, Arrived, entries_of}
 
--- that one is made, its id to be told to a completion; that a signal comes to one; or that an awakeable is completed, which its text names
+-- that one is made, its id to be told to a completion, which no request asks of a store; that a signal comes to one; or that an awakeable is
+-- completed, which its text names
 pub data Message : Type 0 where
   Makes : CallRecord → (not_before : ℕ) → (completion : ℕ) → Message
   Tells : (target : Text) → SignalKey → NotificationResult → Message
@@ -19,8 +21,6 @@ result_of_signal SignalValue.Empty = NotificationResult.Void
 result_of_signal (SignalValue.Carries value) = result_of_value value
 
 abbrev pub message_of : Request → Option Message
-message_of (Request.CallService call m n name) = Some (Makes call 0 m)
-message_of (Request.OneWayCall call time m name) = Some (Makes call time m)
 message_of (Request.SendSignal target key value name) = Some (Tells target key (result_of_signal value))
 message_of (Request.CompleteAwakeable id value name) = Some (Completes id (result_of_value value))
 message_of _ = None

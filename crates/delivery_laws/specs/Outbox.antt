@@ -1,11 +1,11 @@
 -- An outbox: a row for each message that is owed. The rows are the state of the object whose name is empty, which is that of no invocation; so they
--- are kept as any state is, and edits change them.
+-- are kept as any state is. No event that is asked for changes them.
 use Rattle.std.specs.Prelude.{◌≡◌, ℕ, zero, suc, ◌+◌, ◌-◌, ◌/◌, ◌%◌, ◌^◌, nat_lt, nat_le, ◌==◌, Bool, false, not, ◌&&◌, if◌then◌else◌, List, [], ◌∷◌, ◌++◌, length, map, filter, is_some, bytes_eq}
 use Rattle.journal_model.specs.Notification.{Bytes, Text}
 use Rattle.journal_model.specs.Request.{Request}
 use Rattle.journal_model.specs.State.{StateMap}
 use Rattle.journal_model.specs.Event.{Frame, Event}
-use Rattle.journal_model.specs.Journal.{entries_of, object_state}
+use Rattle.journal_model.specs.Journal.{entries_of}
 use Rattle.journal_model.specs.declared.cause.Cause.{Cause}
 use Rattle.journal_model.specs.declared.cause.Cause.TheVariants.{NumbersUsedUp}
 use Rattle.journal_model.specs.Cause.{those_that_hold}
@@ -89,24 +89,14 @@ row_entry row = (row_key row.number, row_value row)
 abbrev pub outbox_state : Outbox → StateMap
 outbox_state outbox = given_entries outbox.given ++ map row_entry outbox.rows
 
--- what puts a row, the last one first, and what drops one
-abbrev pub edit : Request → Event
-edit request = Event.Edit outbox_object request
+-- what puts rows, the first one first, and what drops one
+abbrev pub puts_of : List OwedRow → List Request
+puts_of [] = []
+puts_of (row ∷ rows) = Request.SetState given_key (row_key row.number) [] ∷ Request.SetState (row_key row.number) (row_value row) [] ∷ puts_of rows
 
-abbrev pub put_edits : OwedRow → List Event
-put_edits row = edit (Request.SetState (row_key row.number) (row_value row) []) ∷ edit (Request.SetState given_key (row_key row.number) []) ∷ []
-
-abbrev pub put_all : List OwedRow → List Event
-put_all [] = []
-put_all (row ∷ rows) = put_all rows ++ put_edits row
-
-abbrev pub drop_edit : ℕ → Event
-drop_edit number = edit (Request.ClearState (row_key number) [])
+abbrev pub drop_of : ℕ → Request
+drop_of number = Request.ClearState (row_key number) []
 
 abbrev pub is_edit_of : Text → Event → Bool
 is_edit_of object (Event.Edit other request) = bytes_eq other object
 is_edit_of object _ = false
-
--- this outbox is the state of the object whose name is empty
-abbrev pub IsOutboxOf : List Event → Outbox → Type 0
-IsOutboxOf events outbox = object_state events outbox_object ≡ outbox_state outbox

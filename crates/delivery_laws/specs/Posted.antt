@@ -1,16 +1,18 @@
 -- The laws of deliveries.
-use Rattle.std.specs.Prelude.{◌≡◌, ℕ, suc, ◌≤◌, nat_lt, ◌&&◌, Bool, true, false, if◌then◌else◌, List, [], ◌∷◌, ◌++◌, not, Option, Some, None}
+use Rattle.std.specs.Prelude.{◌≡◌, ℕ, suc, ◌≤◌, nat_lt, ◌&&◌, Bool, true, false, if◌then◌else◌, List, [], ◌∷◌, ◌++◌, not, Option, Some, None, option_map}
 use Rattle.std.specs.List.{find, list_any, list_all}
 use Rattle.journal_model.specs.Notification.{Text}
 use Rattle.journal_model.specs.declared.notification.NotificationResult.{NotificationResult}
 use Rattle.journal_model.specs.declared.notification.SignalKey.{SignalKey}
 use Rattle.journal_model.specs.Request.{CallRecord}
+use Rattle.journal_model.specs.State.{state_after, state_change}
+use Rattle.journal_model.specs.declared.invocation.NewInvocation.{NewInvocation}
 use Rattle.journal_model.specs.Event.{Event}
-use Rattle.journal_model.specs.Journal.{invocation_begun, id_of_signal, recorded_arrivals}
+use Rattle.journal_model.specs.Journal.{invocation_begun, id_of_signal, is_text, recorded_arrivals}
 use Rattle.journal_model.specs.declared.cause.Cause.{Cause}
 use Rattle.journal_model.specs.Cause.{causes_of, IsAccepted}
 use Rattle.delivery_laws.specs.Message.{Message, Makes, Tells, Completes, message_at}
-use Rattle.delivery_laws.specs.Outbox.{IsOutboxOf, OwedRow, has_number, is_edit_of, is_row_of, no_messages, number_causes, outbox_object}
+use Rattle.delivery_laws.specs.Outbox.{drop_of, OwedRow, has_number, is_edit_of, is_row_of, number_causes, outbox_object, outbox_state, puts_of, rows_put}
 use Rattle.delivery_laws.specs.Log.{Kept, Logged, Found, Came, Delivered, Forgot, events_of, kept_of, outbox_of, times_delivered, is_delivered, owes}
 use Rattle.delivery_laws.specs.Delivery.{DeliveryRules, new_for, may_name, id_told, bring, may_forget, Step, Deliver, after_step, after_steps}
 
@@ -28,10 +30,9 @@ pub record HasCome (log : List Logged) (event : Event) : Type 0 where
   pub number : number_causes (outbox_of log) event ≡ []
   pub apart : is_edit_of outbox_object event ≡ false
 
--- what was found comes first, and there is no outbox in it
+-- what was found comes first
 pub record IsFound (log : List Logged) (events : List Event) : Type 0 where
   pub accepted : IsAccepted events
-  pub none : IsOutboxOf events no_messages
   pub first : log ≡ []
 
 abbrev pub IsItem : DeliveryRules → List Logged → Logged → Type 0
@@ -45,15 +46,11 @@ IsPosted rules [] = Unit {0}
 IsPosted rules (item ∷ log) = IsItem rules log item × IsPosted rules log
 
 abbrev pub StepsPost : Type 0
-StepsPost = (rules : DeliveryRules) (before : List Event) (steps : List Step) → IsAccepted before → IsOutboxOf before no_messages
+StepsPost = (rules : DeliveryRules) (before : List Event) (steps : List Step) → IsAccepted before
     → IsPosted rules (after_steps rules (Found before ∷ []) steps)
 
 abbrev pub PostedAreAccepted : Type 0
 PostedAreAccepted = (rules : DeliveryRules) (log : List Logged) → IsPosted rules log → IsAccepted (events_of log)
-
--- the accepted events, and the outbox as the state of the object whose name is empty
-abbrev pub OutboxIsState : Type 0
-OutboxIsState = (rules : DeliveryRules) (log : List Logged) → IsPosted rules log → IsOutboxOf (events_of log) (outbox_of log)
 
 -- where in a log a message was delivered; it is still recorded so
 pub record IsReached (rules : DeliveryRules) (log : List Logged) (sender : Text) (place : ℕ) : Type 0 where
@@ -72,7 +69,7 @@ pub record ReachesOnce (rules : DeliveryRules) (log : List Logged) (sender : Tex
   pub reached : is_delivered log sender place ≡ true → IsReached rules log sender place
 
 abbrev pub AllReachOnce : Type 0
-AllReachOnce = (rules : DeliveryRules) (before : List Event) (steps : List Step) → IsAccepted before → IsOutboxOf before no_messages
+AllReachOnce = (rules : DeliveryRules) (before : List Event) (steps : List Step) → IsAccepted before
     → (sender : Text) (place : ℕ) → ReachesOnce rules (after_steps rules (Found before ∷ []) steps) sender place
 
 -- what a delivered call has made, with the recorded target and parameter, under the id that its sender was told
@@ -136,6 +133,17 @@ NumbersAscend = (rules : DeliveryRules) (log : List Logged) → IsPosted rules l
 abbrev pub NumbersGrow : Type 0
 NumbersGrow = (rules : DeliveryRules) (item : Logged) (log : List Logged) → IsPosted rules (item ∷ log) → (outbox_of log).given ≤ (outbox_of (item ∷ log)).given
 
--- nothing is owed of events that never edited the outbox, as those of a file that no release with deliveries has written
-abbrev pub NothingIsOwed : Type 0
-NothingIsOwed = (events : List Event) → IsAccepted events → list_any (is_edit_of outbox_object) events ≡ false → IsOutboxOf events no_messages
+-- The outbox is the state of the object whose name is empty: what puts the rows of an event, and what drops the one that is delivered, leads from the
+-- state that it was to the state that it is then.
+pub record OutboxIsState (rules : DeliveryRules) : Type 0 where
+  pub put : (event : Event) (log : List Logged) → IsPosted rules (Came event ∷ log)
+      → state_after (puts_of (rows_put (events_of log) (suc (outbox_of log).given) event)) (outbox_state (outbox_of log)) ≡ outbox_state (outbox_of (Came event ∷ log))
+  pub dropped : (row : OwedRow) (brought : List Event) (log : List Logged) → IsPosted rules (Delivered row brought ∷ log)
+      → state_change (drop_of row.number) (outbox_state (outbox_of log)) ≡ outbox_state (outbox_of (Delivered row brought ∷ log))
+
+abbrev pub OutboxesAreStates : Type 0
+OutboxesAreStates = (rules : DeliveryRules) → OutboxIsState rules
+
+-- no invocation has that object, so no event but an edit of it changes its state
+abbrev pub NoneHasIt : Type 0
+NoneHasIt = (events : List Event) (id : Text) → IsAccepted events → is_text outbox_object (option_map (λ (new : NewInvocation). new.object) (invocation_begun events id)) ≡ false

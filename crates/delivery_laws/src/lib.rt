@@ -2,7 +2,7 @@
 #![tactic(auto)]
 
 ghost use Rattle.delivery_laws.specs.Answers.{AnswersStay};
-ghost use Rattle.delivery_laws.specs.Posted.{AllReachOnce, CallsAreMade, DeliveriesAdvance, NothingIsOwed, NumbersAscend, NumbersGrow, OutboxIsState, PostedAreAccepted, RowsAreApart, RowsAreOwed, SignalsArrive, StepsPost, ValuesArrive};
+ghost use Rattle.delivery_laws.specs.Posted.{AllReachOnce, CallsAreMade, DeliveriesAdvance, NoneHasIt, NumbersAscend, NumbersGrow, OutboxesAreStates, PostedAreAccepted, RowsAreApart, RowsAreOwed, SignalsArrive, StepsPost, ValuesArrive};
 
 /// Whatever is asked for, whatever deliveries are tried, whatever is forgotten, and wherever it ends, the log stays one whose deliveries are those
 /// of recorded requests that are owed, and all its events were accepted.
@@ -21,14 +21,14 @@ pub fn messages_reach_once()
 {}
 
 /// The rows of an outbox, each put with its request's frame and dropped with its delivery, are what is owed. No number comes twice. They are kept as
-/// the state of the object whose name is empty; where no event has edited that there are none.
+/// the state of the object whose name is empty, which no invocation has.
 pub fn rows_are_owed()
     ensures owed { RowsAreOwed }
     ensures apart { RowsAreApart }
     ensures ascend { NumbersAscend }
     ensures grow { NumbersGrow }
-    ensures kept { OutboxIsState }
-    ensures none { NothingIsOwed }
+    ensures kept { OutboxesAreStates }
+    ensures own { NoneHasIt }
 {}
 
 /// What a caller is told of one that is closed is its answer, whatever comes later, until it is forgotten.

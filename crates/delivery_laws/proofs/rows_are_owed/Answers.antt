@@ -1,5 +1,5 @@
--- The laws are proved in `Edits`, `Outbox` and `States`.
-use Rattle.delivery_laws.proofs.Edits.{none_edited}
+-- The laws are proved in `Named`, `Outbox` and `States`.
+use Rattle.delivery_laws.proofs.Named.{begun_named}
 use Rattle.delivery_laws.proofs.Outbox.{numbers_grow, stands}
 use Rattle.delivery_laws.proofs.States.{outbox_is_state}
 use Rattle.delivery_laws.proofs.rows_are_owed.Goals as goal
@@ -19,5 +19,5 @@ returns-clause-grow c = numbers_grow
 pub returns-clause-kept : goal.returns-clause-kept
 returns-clause-kept c = outbox_is_state
 
-pub returns-clause-none : goal.returns-clause-none
-returns-clause-none c = none_edited
+pub returns-clause-own : goal.returns-clause-own
+returns-clause-own c = begun_named
