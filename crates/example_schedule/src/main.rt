@@ -1,13 +1,12 @@
 //! `example_schedule`: a handler of one's own, stopped while it sleeps, by the schedule whose contract is the headline, and gone on with by
 //! the scheduler that this leaves; one that keeps something in its object's state; one that has something done outside; and one that makes
-//! every call that waits for nothing. In the end one of them is forgotten.
+//! every call that waits for nothing.
 #![tactic(auto)]
 
 mod attempt;
 mod calls;
 mod desk;
 mod every_call;
-mod forgetting;
 mod options;
 mod orders;
 mod payment;
@@ -23,7 +22,6 @@ use durable_schedule::{
     Alter, ByteStr, Bytes, Event, NewInvocation, NoRoom, Reply, Scheduler, Store, Straight,
     open_in_memory, run_new_schedule,
 };
-use forgetting::forget;
 use options::chosen_options;
 use orders::take_orders;
 use payment::pay;
@@ -102,8 +100,7 @@ fn do_all<R: Print, S: Alter + Drop>(
     wake(rt, scheduler)?;
     take_orders(rt, scheduler)?;
     pay(rt, scheduler)?;
-    make_calls(rt, scheduler)?;
-    forget(rt, scheduler)
+    make_calls(rt, scheduler)
 }
 
 fn run<R: Print>(rt: &R, alloc: Global) -> Result<()> {
